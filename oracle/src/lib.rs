@@ -1,0 +1,4 @@
+//! Runs books and scripts of diagram operations with the Rust of docs/src.
+
+pub mod diagrams;
+pub mod limits;
