@@ -10,7 +10,7 @@ pub const MEMORY_MIB: usize = 2048;
 pub const SECONDS: u64 = 60;
 /// Stack of the thread that runs a book.
 pub const STACK_MIB: usize = 1024;
-/// 01's bound on nesting, looked at after each line and at each state that a query reaches.
+/// 01's bound on nesting, looked at after each line: no book builds on a deeper state, so the stack suffices.
 pub const NESTING: u32 = 256;
 
 pub const STATUS: i32 = 3;
