@@ -53,8 +53,12 @@ module _ (𝓣 : Theory) where
         → ((τ : Store) → Ext σ τ → c′ τ ≡ c τ) → Runs 𝓣 c P σ → Runs 𝓣 c′ P σ
     runs-is {c} {c′} {P} {σ} q r =
         subst (Gives (Good 𝓣 c′ P σ)) (sym (q σ (ext-refl σ)))
-        (gives-map (λ τ a g. record { ext = g .ext; wf = g .wf; holds = g .holds;
-          stable = λ υ x w. q υ (ext-trans σ τ υ (g .ext) x) ∙ g .stable υ x w }) r)
+        (gives-map (λ τ a g. record {
+          ext = g .ext;
+          wf = g .wf;
+          holds = g .holds;
+          stable = λ υ x w. q υ (ext-trans σ τ υ (g .ext) x) ∙ g .stable υ x w;
+        }) r)
 
     -- an answer with no change
     pub runs-return : {P : Store → A → Type 0} {σ : Store} (a : A) → Wf σ → P σ a → Runs 𝓣 (return a) P σ
@@ -78,7 +82,8 @@ module _ (𝓣 : Theory) where
               ext = ext-trans σ τ υ (h .ext) (g2 .ext);
               wf = g2 .wf;
               holds = g2 .holds;
-              stable = λ ω x w. ap (λ (o : Outcome Store A). after o k) (h .stable ω (ext-trans τ υ ω (g2 .ext) x) w) ∙ g2 .stable ω x w })
+              stable = λ ω x w. ap (λ (o : Outcome Store A). after o k) (h .stable ω (ext-trans τ υ ω (g2 .ext) x) w) ∙ g2 .stable ω x w;
+            })
             (f τ a (h .ext) (h .wf) (h .holds))
 
 -- A store inside a larger one: `get` looks at it, `put` puts a later one in its place.
@@ -113,5 +118,6 @@ runs-on {𝓢} {𝓑} 𝓘 {A} {c} {P} {σ} w r = go (c (𝓘 .get σ)) r
           wf = 𝓘 .put-wf s σ w (h .wf) (h .ext);
           holds = subst (λ (z : 𝓢 .Store). P z a) (sym (𝓘 .get-put s σ)) (h .holds);
           stable = λ τ x v.
-            ap (placed (𝓘 .put) τ) (h .stable (𝓘 .get τ) (subst (λ (z : 𝓢 .Store). 𝓢 .Ext z (𝓘 .get τ)) (𝓘 .get-put s σ) (𝓘 .get-ext (𝓘 .put s σ) τ x)) (𝓘 .get-wf τ v))
-            ∙ ap (λ (z : 𝓑 .Store). given z a) (𝓘 .put-get τ) })
+              ap (placed (𝓘 .put) τ) (h .stable (𝓘 .get τ) (subst (λ (z : 𝓢 .Store). 𝓢 .Ext z (𝓘 .get τ)) (𝓘 .get-put s σ) (𝓘 .get-ext (𝓘 .put s σ) τ x)) (𝓘 .get-wf τ v))
+              ∙ ap (λ (z : 𝓑 .Store). given z a) (𝓘 .put-get τ);
+        })

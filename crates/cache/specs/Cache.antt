@@ -1,0 +1,111 @@
+-- A cache of results: slots of four words, the operation's code, two operands, the result. Code 0 is an empty slot.
+-- What a slot must satisfy is its user's (`Valid`). A cache is sound if each slot does; a step only notes slots that do.
+use mathlib.Core.Path.{_≡_, refl, sym, _∙_, subst}
+use mathlib.Core.Logic.{_⊎_, inl, inr}
+use mathlib.Core.List.{List}
+use Prim.Native.Nat.{ℕ, _+_, _*_, _<_}
+use native.Mathlib.Omega.{arith}
+use lib.ListN.{length, getD}
+use Rattle.cache.specs.declared.Looked.{Looked}
+use Rattle.cache.specs.declared.Looked.the-variants.{Hit, Miss}
+use Rattle.cache.specs.declared.LookedWide.{LookedWide}
+use Rattle.cache.specs.declared.LookedWide.the-variants.{HitWide, MissWide}
+
+-- of an operation's code, two operands and a result
+abbrev pub Valid : Type 1
+Valid = ℕ → ℕ → ℕ → ℕ → Type 0
+
+-- the four words of slot j satisfy P
+abbrev pub Slot : Valid → List ℕ → ℕ → Type 0
+Slot P m j = P (getD m (4 * j) 0) (getD m (4 * j + 1) 0) (getD m (4 * j + 2) 0) (getD m (4 * j + 3) 0)
+
+-- exactly these four words
+abbrev pub Exactly : ℕ → ℕ → ℕ → ℕ → Valid
+Exactly op a b r o x y z = (o ≡ op) × (x ≡ a) × (y ≡ b) × (z ≡ r)
+
+-- slot j of m′ is as in m
+abbrev pub Kept : List ℕ → List ℕ → ℕ → Type 0
+Kept m m′ j = Slot (Exactly (getD m (4 * j) 0) (getD m (4 * j + 1) 0) (getD m (4 * j + 2) 0) (getD m (4 * j + 3) 0)) m′ j
+
+pub record Sound (P : Valid) (m : List ℕ) : Type 0 where
+  pub slots : (j : ℕ) → 4 * j + 3 < length m → Slot P m j
+
+-- m′ is m with some slots written, each so that P holds of it
+pub record Notes (P : Valid) (m m′ : List ℕ) : Type 0 where
+  pub same : length m′ ≡ length m
+  pub slots : (j : ℕ) → 4 * j + 3 < length m → Kept m m′ j ⊎ Slot P m′ j
+
+-- some slot has these four words
+pub record Holds (m : List ℕ) (op a b r : ℕ) : Type 0 where
+  pub slot : ℕ
+  pub inside : 4 * slot + 3 < length m
+  pub words : Slot (Exactly op a b r) m slot
+
+-- what a look says
+abbrev pub Found : List ℕ → ℕ → ℕ → ℕ → Looked → Type 0
+Found m op a b (Hit r) = Holds m op a b r
+Found m op a b Miss = Unit
+
+abbrev pub FoundWide : List ℕ → ℕ → ℕ → LookedWide → Type 0
+FoundWide m op a (HitWide b r) = Holds m op a b r
+FoundWide m op a MissWide = Unit
+
+by-words : (P : Valid) {op a b r o x y z : ℕ} → Exactly op a b r o x y z → P op a b r → P o x y z
+by-words P {op} {a} {b} {r} {o} {x} {y} {z} e v =
+    subst (λ (k : ℕ). P k x y z) (sym (e .0))
+    (subst (λ (k : ℕ). P op k y z) (sym (e .1))
+    (subst (λ (k : ℕ). P op a k z) (sym (e .2))
+    (subst (λ (k : ℕ). P op a b k) (sym (e .3)) v)))
+
+notes-by : {P Q : Valid} {m m′ : List ℕ} → ((j : ℕ) → Slot P m′ j → Slot Q m′ j) → Notes P m m′ → Notes Q m m′
+notes-by {P} {Q} {m} {m′} f n = record { same = n .same; slots = λ j l. pick j (n .slots j l) }
+  where
+    pick : (j : ℕ) → Kept m m′ j ⊎ Slot P m′ j → Kept m m′ j ⊎ Slot Q m′ j
+    pick j (inl e) = inl e
+    pick j (inr v) = inr (f j v)
+
+module _ {P : Valid} where
+  pub sound-notes : {m m′ : List ℕ} → Sound P m → Notes P m m′ → Sound P m′
+  sound-notes {m} {m′} s n = record { slots = λ j l. go j (subst (λ (k : ℕ). 4 * j + 3 < k) (n .same) l) }
+    where
+      pick : (j : ℕ) → 4 * j + 3 < length m → Kept m m′ j ⊎ Slot P m′ j → Slot P m′ j
+      pick j l (inl e) = by-words P e (s .slots j l)
+      pick j l (inr v) = v
+
+      go : (j : ℕ) → 4 * j + 3 < length m → Slot P m′ j
+      go j l = pick j l (n .slots j l)
+
+  -- what is found is valid
+  pub sound-holds : {m : List ℕ} {op a b r : ℕ} → Sound P m → Holds m op a b r → P op a b r
+  sound-holds s h =
+      let e = h .words in
+      by-words P (sym (e .0), sym (e .1), sym (e .2), sym (e .3)) (s .slots (h .slot) (h .inside))
+
+  pub notes-refl : {m : List ℕ} → Notes P m m
+  notes-refl = record { same = refl; slots = λ j l. inl (refl, refl, refl, refl) }
+
+  pub notes-trans : {m m′ m″ : List ℕ} → Notes P m m′ → Notes P m′ m″ → Notes P m m″
+  notes-trans {m} {m′} {m″} n k = record { same = k .same ∙ n .same; slots = λ j l. go j l }
+    where
+      pick : (j : ℕ) → Kept m m′ j ⊎ Slot P m′ j → Kept m′ m″ j ⊎ Slot P m″ j → Kept m m″ j ⊎ Slot P m″ j
+      pick j x (inr v) = inr v
+      pick j (inl e) (inl f) = inl (f .0 ∙ e .0, f .1 ∙ e .1, f .2 ∙ e .2, f .3 ∙ e .3)
+      pick j (inr v) (inl f) = inr (by-words P f v)
+
+      go : (j : ℕ) → 4 * j + 3 < length m → Kept m m″ j ⊎ Slot P m″ j
+      go j l = pick j (n .slots j l) (k .slots j (subst (λ (z : ℕ). 4 * j + 3 < z) (sym (n .same)) l))
+
+  -- a cache of zeros, where an empty slot is valid
+  pub sound-zero : {m : List ℕ} → P 0 0 0 0 → ((i : ℕ) → i < length m → getD m i 0 ≡ 0) → Sound P m
+  sound-zero {m} v z = record { slots = λ j l. by-words P (z (4 * j) (omega arith), z (4 * j + 1) (omega arith), z (4 * j + 2) (omega arith), z (4 * j + 3) l) v }
+
+  -- one slot was noted, and it is valid
+  pub notes-one : {m m′ : List ℕ} {op a b r : ℕ} → Notes (Exactly op a b r) m m′ → P op a b r → Notes P m m′
+  notes-one n v = notes-by (λ j e. by-words P e v) n
+
+module _ {P Q : Valid} (f : (o x y z : ℕ) → P o x y z → Q o x y z) where
+  pub sound-map : {m : List ℕ} → Sound P m → Sound Q m
+  sound-map s = record { slots = λ j l. f _ _ _ _ (s .slots j l) }
+
+  pub notes-map : {m m′ : List ℕ} → Notes P m m′ → Notes Q m m′
+  notes-map n = notes-by (λ j v. f _ _ _ _ v) n

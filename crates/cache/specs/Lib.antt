@@ -1,0 +1,2 @@
+-- The cache: what its slots must satisfy, and what a look and a note do.
+pub mod Cache
