@@ -69,3 +69,6 @@ mod modules {
 pub use modules::aut;
 
 pub mod machine;
+
+/// aut.rs as it was compiled into this crate.
+pub const AUT_SOURCE: &str = include_str!(concat!(env!("OUT_DIR"), "/aut.rs"));

@@ -36,7 +36,7 @@ pub fn exact(text: &[u8], out: &mut dyn FnMut(&str)) -> Result<katch2_ordered::m
     out(&format!("fields {}\n", reader.fields));
     while let Some(instruction) = reader.next()? {
         let step = machine.step(&instruction);
-        if machine.nesting().iter().any(|&n| n > NESTING) { return Err(Stop::Nesting(reader.line())); }
+        if machine.new_nesting() > NESTING { return Err(Stop::Nesting(reader.line())); }
         let store = machine.aut.spp_store();
         match step {
             Step::Made(_) => {}
@@ -90,7 +90,7 @@ pub fn plain(text: &[u8], out: &mut dyn FnMut(&str)) -> Result<katch2::machine::
                 }
             }
         }
-        if machine.nesting().iter().any(|&n| n > NESTING) { return Err(Stop::Nesting(reader.line())); }
+        if machine.new_nesting() > NESTING { return Err(Stop::Nesting(reader.line())); }
     }
     Ok(machine)
 }
