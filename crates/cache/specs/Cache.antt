@@ -3,7 +3,7 @@
 use mathlib.Core.Path.{_≡_, refl, sym, _∙_, subst}
 use mathlib.Core.Logic.{_⊎_, inl, inr}
 use mathlib.Core.List.{List}
-use Prim.Native.Nat.{ℕ, _+_, _*_, _<_}
+use Prim.Native.Nat.{ℕ, _+_, _*_, _≤_, _<_}
 use native.Mathlib.Omega.{arith}
 use lib.ListN.{length, getD}
 use Rattle.cache.specs.declared.Looked.{Looked}
@@ -109,3 +109,28 @@ module _ {P Q : Valid} (f : (o x y z : ℕ) → P o x y z → Q o x y z) where
 
   pub notes-map : {m m′ : List ℕ} → Notes P m m′ → Notes Q m m′
   notes-map n = notes-by (λ j v. f _ _ _ _ v) n
+
+-- ---- the codes of one user: those from lo to hi
+
+-- to read: valid of these codes, whatever the slots of other users hold
+abbrev pub Of : ℕ → ℕ → Valid → Valid
+Of lo hi P op a b r = lo ≤ op → op ≤ hi → P op a b r
+
+-- to note: one of these codes, and valid
+pub record Own (lo hi : ℕ) (P : Valid) (op a b r : ℕ) : Type 0 where
+  pub from : lo ≤ op
+  pub to : op ≤ hi
+  pub valid : P op a b r
+
+module _ {lo hi : ℕ} {P Q : Valid} (f : (o x y z : ℕ) → P o x y z → Q o x y z) where
+  -- past notes of one's own
+  pub sound-own : {m m′ : List ℕ} → Sound (Of lo hi P) m → Notes (Own lo hi Q) m m′ → Sound (Of lo hi Q) m′
+  sound-own s n = sound-notes (sound-map (λ o x y z v l h. f o x y z (v l h)) s) (notes-map (λ o x y z w l h. w .valid) n)
+
+  -- past notes of another user, whose codes are others
+  pub sound-other : {lo′ hi′ : ℕ} {R : Valid} {m m′ : List ℕ} → ((o : ℕ) → lo ≤ o → o ≤ hi → lo′ ≤ o → o ≤ hi′ → ⊥)
+      → Sound (Of lo hi P) m → Notes (Own lo′ hi′ R) m m′ → Sound (Of lo hi Q) m′
+  sound-other apart s n = sound-notes (sound-map (λ o x y z v l h. f o x y z (v l h)) s) (notes-map (λ o x y z w l h. absurd (apart o l h (w .from) (w .to))) n)
+
+  pub notes-own : {m m′ : List ℕ} → Notes (Own lo hi P) m m′ → Notes (Own lo hi Q) m m′
+  notes-own n = notes-map (λ o x y z w. record { from = w .from; to = w .to; valid = f o x y z (w .valid) }) n

@@ -1,6 +1,9 @@
--- What meaning and steps share. Packets with their laws; what a step over a store comes to, and how to follow its code.
+-- What meaning and steps share. Packets with their laws; relations on packets with theirs; what a step over a store comes to, and how to
+-- follow its code.
 pub mod Packets
 pub mod PacketLaws
+pub mod Relations
+pub mod RelationLaws
 pub mod Outcome
 pub mod Follow
 pub mod Runs

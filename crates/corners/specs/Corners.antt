@@ -1,0 +1,49 @@
+-- 01, "Corners, file by file": the rows marked [C], as one table of what the steps come to and what 01 says, and the statement that
+-- every row of it holds. Rows that need more of aut.rs than stands here yet are missing from it; docs/PROOF.md lists them.
+use mathlib.Core.Path.{_≡_, refl}
+use mathlib.Core.List.{List, [], _∷_}
+use Prim.Native.Nat.{ℕ}
+use lib.ListN.{replicate}
+use Rattle.common.specs.Outcome.{Outcome, refused, given, Step}
+use Rattle.common.specs.Runs.{Table, table}
+use Rattle.sp_steps.specs.Word as Word
+use Rattle.sp_steps.specs.Model as Sp
+use Rattle.spp_steps.specs.Model as Spp
+
+-- a row: what is computed, and what 01 says
+pub record Row : Type 0 where
+  pub computed : List ℕ
+  pub said : List ℕ
+
+-- a table with no record in use
+abbrev fresh : ℕ → Table
+fresh k = table (replicate k 0) 0
+
+-- what a step gave: its numbers, and how many records are then in use; nothing if it was refused
+abbrev shown : {A : Type 0} → (A → List ℕ) → Outcome Table A → List ℕ
+shown f (refused number) = []
+shown f (given σ a) = σ .count ∷ f a
+
+abbrev constantsOf : Spp.Constants → List ℕ
+constantsOf c = c .zero ∷ c .one ∷ c .top ∷ []
+
+abbrev pub rows : List Row
+rows =
+    -- sp.rs: 3 fields: empty set 6, full set 7, 3 nodes
+    record { computed = shown (λ h. h ∷ Sp.complement h ∷ []) (Sp.constants 3 (fresh 6)); said = 3 ∷ 6 ∷ 7 ∷ [] }
+    -- spp.rs: 3 fields: zero 4, identity 7, top 10, 9 nodes
+    ∷ record { computed = shown constantsOf (Spp.constants 3 (fresh 36)); said = 9 ∷ 4 ∷ 7 ∷ 10 ∷ [] }
+    -- spp.rs: 0 fields: identity and top are both handle 1
+    ∷ record { computed = shown constantsOf (Spp.constants 0 (fresh 0)); said = 0 ∷ 0 ∷ 1 ∷ 1 ∷ [] }
+    -- spp.rs: star of zero is the identity (here of 3 fields; `star-zero` says it of every depth)
+    ∷ record { computed = shown (λ h. h ∷ []) (Spp.star 3 3 4 (fresh 36)); said = 0 ∷ 7 ∷ [] }
+    ∷ []
+
+abbrev pub Hold : List Row → Type 0
+Hold [] = Unit
+Hold (r ∷ rs) = (r .computed ≡ r .said) × Hold rs
+
+-- every row holds
+pub corners : Hold rows
+unfolding Sp.constants Sp.mk Sp.intern Sp.seek Sp.same Sp.kid Sp.room Sp.put Sp.complement Word.flip Spp.constants Spp.zeros Spp.ones Spp.tops Spp.zeroAt Spp.oneAt Spp.topAt Spp.mk Spp.seek Spp.same Spp.kid Spp.put Spp.room Spp.star Spp.starExit
+corners = (refl, (refl, (refl, (refl, tt))))

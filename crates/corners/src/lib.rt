@@ -1,0 +1,1 @@
+// 01's corner cases: no function of its own, only specs/.

@@ -1,0 +1,1 @@
+// Packet sets as mathematics: no function of its own, only specs/.
