@@ -1,0 +1,3 @@
+-- What the code's answers say of the steps' outcomes, and what its functions ask.
+pub mod Seen
+pub mod Frame

@@ -1,0 +1,61 @@
+-- What a call gives, in the words of `Stage`; and that an operation can be called in every store where its operands are handles.
+use mathlib.Core.Path.{_≡_, refl, sym, _∙_, ap, subst}
+use mathlib.Core.Bool.{Bool, true, false}
+use mathlib.Core.List.{List}
+use Prim.Native.Nat.{ℕ, suc, _+_, _*_, _≤_}
+use native.Mathlib.Omega.{arith}
+use lib.ListN.{length}
+use Rattle.common.specs.Packets.{Packet, bit, Relation}
+use Rattle.common.specs.Outcome.{Outcome, refused, given, Step}
+use Rattle.common.specs.Runs.{Table, table, Runs, runs-map}
+use Rattle.cache.specs.Stage.{Gave}
+use Rattle.cache.specs.Cache.{notes-refl}
+use Rattle.spp_steps.specs.Model.{Op, Quad, quad, kids, mem, mk, apply}
+use Rattle.spp_steps.specs.Laws.{Wf, Ext, At, Den, sppTheory, at-ext, den-mem}
+use Rattle.spp_steps.specs.Make.{mk-exact}
+use Rattle.spp_steps.specs.Apply.{apply-exact}
+use Rattle.spp.specs.Reuse.{Kept, sppMemo}
+use Rattle.spp.specs.Seen.{seen, Asked, Noted, Answer, Fits}
+use Rattle.spp.specs.declared.Made.{Made}
+use Rattle.spp.specs.declared.Made.the-variants.{Node, Full}
+use Rattle.spp.specs.declared.SPP.{SPP}
+
+module _ {N : ℕ} {c : Step Table ℕ} {σ : Table} {m t′ m′ : List ℕ} {r : Made} (z : Answer N c σ m r t′ m′) where
+  pub gave : {h : SPP} {n : ℕ} → r ≡ Node h n → Gave (sppMemo N) c σ m (table t′ n) m′ (h .0)
+  gave e = record { is = z .gives ∙ ap (λ (r : Made). seen r t′) e; notes = subst (λ (r : Made). Noted N m r t′ m′) e (z .notes) }
+
+  pub lost : r ≡ Full → c σ ≡ refused 21
+  lost e = z .gives ∙ ap (λ (r : Made). seen r t′) e
+
+-- a call that has no cache
+pub gave-alone : {N : ℕ} {c : Step Table ℕ} {σ σ1 : Table} {m : List ℕ} {h : ℕ} → c σ ≡ given σ1 h → Gave (sppMemo N) c σ m σ1 m h
+gave-alone e = record { is = e; notes = notes-refl }
+
+pub fits : {N n : ℕ} {t : List ℕ} → Wf N (table t n) → Fits t n
+fits w = record { fits = w .nodes .fits; small = w .nodes .small }
+
+-- where the children of a handle are
+pub inside : {N n : ℕ} {t : List ℕ} (d h : ℕ) → Wf N (table t n) → At (table t n) (suc d) h → (2 ≤ h) × (4 * h ≤ length t + 4)
+inside d h w a = (a .0, omega (arith, a .1, w .nodes .fits))
+
+pub at-kids : (σ : Table) (d h : ℕ) (A : Quad) → A ≡ kids (σ .words) h → At σ (suc d) h → (i j : Bool) → At σ d (A i j)
+at-kids σ d h A e a i j = subst (λ (X : Quad). At σ d (X i j)) (sym e) (a .2 i j)
+
+module _ (N d : ℕ) (deep : d ≤ N) {σ : Table} where
+  pub apply-can : (o : Op) (a b : ℕ) → At σ d a → At σ d b → (τ : Table) → Ext σ τ → Wf N τ → Runs (sppTheory N) (apply N o d a b) (λ τ h. At τ d h) τ
+  apply-can o a b x y τ e w =
+      runs-map (sppTheory N) (λ υ h _ _ D. D .at) (apply-exact N o d deep τ a b _ _ w (den-mem (at-ext e d a x)) (den-mem (at-ext e d b y)) .runs)
+
+-- the relation of four
+joined : List ℕ → (d : ℕ) → Quad → Relation (suc d)
+joined t d X (bit i p) (bit j q) = mem t d (X i j) p q
+
+pub mk-can : {N : ℕ} {σ : Table} (d : ℕ) (X : Quad) → Wf N σ → ((i j : Bool) → At σ d (X i j)) → Runs (sppTheory N) (mk X) (λ τ h. At τ (suc d) h) σ
+unfolding joined
+mk-can {N} {σ} d X w a = runs-map (sppTheory N) (λ υ h _ _ D. D .at) (mk-exact X (joined (σ .words) d X) w (λ i j. den-mem (a i j)) .runs)
+
+pub quad-at : (σ : Table) (d a b c e : ℕ) → At σ d a → At σ d b → At σ d c → At σ d e → (i j : Bool) → At σ d (quad a b c e i j)
+quad-at σ d a b c e x y z u false false = x
+quad-at σ d a b c e x y z u false true = y
+quad-at σ d a b c e x y z u true false = z
+quad-at σ d a b c e x y z u true true = u

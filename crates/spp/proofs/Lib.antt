@@ -1,0 +1,6 @@
+pub mod Levels
+pub mod Scan
+pub mod Nodes
+pub mod Calls
+pub mod Turn
+pub mod Rising

@@ -1,0 +1,94 @@
+-- What an answer says in the words of the steps, what the operations ask, and what they ensure.
+use mathlib.Core.Path.{_≡_}
+use mathlib.Core.Bool.{Bool, true, false}
+use mathlib.Core.List.{List}
+use Prim.Native.Nat.{ℕ, zero, suc, _*_, _≤_, _<_}
+use lib.ListN.{length}
+use Rattle.common.specs.Outcome.{Outcome, refused, given, Step, return, _>>=_}
+use Rattle.common.specs.Runs.{Table, table}
+use Rattle.cache.specs.Cache.{Of, Own, Sound, Notes}
+use Rattle.spp_steps.specs.Model as M
+use Rattle.spp_steps.specs.Model.{Quad, quad, cap}
+use Rattle.spp_steps.specs.Laws.{Wf, At}
+use Rattle.spp.specs.Reuse.{Kept}
+use Rattle.spp.specs.declared.Made.{Made}
+use Rattle.spp.specs.declared.Made.the-variants.{Node, Full}
+use Rattle.spp.specs.declared.Quick.{Quick}
+use Rattle.spp.specs.declared.Quick.the-variants.{Out, On}
+use Rattle.spp.specs.declared.Op.{Op}
+use Rattle.spp.specs.declared.Op.the-variants.{Union, Intersect, Xor, Difference, Not}
+use Rattle.spp.specs.declared.SPPnode.{SPPnode}
+use Rattle.spp.specs.declared.Started.{Started}
+use Rattle.spp.specs.declared.Started.the-variants.{Store, Short}
+
+-- a handle and the table at exit; or refusal 21
+abbrev pub seen : Made → List ℕ → Outcome Table ℕ
+seen (Node h n) t = given (table t n) (h .0)
+seen Full t = refused 21
+
+abbrev pub opOf : Op → M.Op
+opOf Union = M.union
+opOf Intersect = M.intersect
+opOf Xor = M.xor
+opOf Difference = M.difference
+opOf Not = M.not
+
+abbrev pub exitOf : Quick → M.Exit
+exitOf (Out h) = M.out (h .0)
+exitOf (On o x y) = M.on (opOf o) (x .0) (y .0)
+
+abbrev pub quadOf : SPPnode → Quad
+quadOf x = quad (x .x00 .0) (x .x01 .0) (x .x10 .0) (x .x11 .0)
+
+-- the entries of `assign` and of `test`
+abbrev pub entryOf : Bool → Bool → ℕ → ℕ → Quad
+entryOf true = M.assignEntry
+entryOf false = M.testEntry
+
+abbrev pub seenStart : Started → List ℕ → Outcome Table M.Constants
+seenStart (Store c n) t = given (table t n) (record { zero = c .zero .0; one = c .one .0; top = c .top .0 })
+seenStart Short t = refused 21
+
+abbrev pub beside : Bool → ℕ → ℕ → ℕ
+beside true x z = z
+beside false x z = x
+
+-- the constants of depth 1 to d, from x at depth 0: zeros, ones and tops are three of these
+unfoldable pub columns : ℕ → Bool → ℕ → ℕ → Step Table ℕ
+columns N diagonal x zero = return x
+columns N diagonal x (suc d) = columns N diagonal x d >>= λ y. M.mk (quad y (beside diagonal y (M.zeroAt N d)) (beside diagonal y (M.zeroAt N d)) y)
+
+-- what a search and a new node ask of a table
+pub record Fits (t : List ℕ) (n : ℕ) : Type 0 where
+  pub fits : 4 * n ≤ length t
+  pub small : n ≤ cap
+
+pub record ColumnAsked (t : List ℕ) (n d : ℕ) : Type 0 where
+  pub deep : d ≤ 31
+  pub fits : Fits t n
+
+-- a diagram of depth d with an entry at field f
+pub record FieldAsked (N : ℕ) (t : List ℕ) (n d f : ℕ) : Type 0 where
+  pub few : N ≤ 31
+  pub deep : d ≤ 31
+  pub below : f < d
+  pub fits : Fits t n
+
+-- what an operation on the relations a and b of depth d asks, with N fields, the nodes σ and the cache m
+pub record Asked (N d : ℕ) (σ : Table) (m : List ℕ) (a b : ℕ) : Type 0 where
+  pub few : N ≤ 31
+  pub deep : d ≤ N
+  pub wf : Wf N σ
+  pub at-a : At σ d a
+  pub at-b : At σ d b
+  pub sound : Sound (Of 3 9 (Kept N σ)) m
+
+-- what is noted in the cache, unless refused
+abbrev pub Noted : ℕ → List ℕ → Made → List ℕ → List ℕ → Type 0
+Noted N m (Node h n) t′ m′ = Notes (Own 3 9 (Kept N (table t′ n))) m m′
+Noted N m Full t′ m′ = Unit
+
+-- the answer r is what the steps c come to from the nodes σ, and all that is noted is right
+pub record Answer (N : ℕ) (c : Step Table ℕ) (σ : Table) (m : List ℕ) (r : Made) (t′ m′ : List ℕ) : Type 0 where
+  pub gives : c σ ≡ seen r t′
+  pub notes : Noted N m r t′ m′
