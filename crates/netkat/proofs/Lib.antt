@@ -1,0 +1,3 @@
+-- Instances: that what specs/ asks can be had.
+pub mod Book  -- 01's book
+pub mod Workshop  -- a store for the list operations
