@@ -1,7 +1,7 @@
 -- 01, "Corners, file by file": the rows marked [C], as one table of what the steps come to and what 01 says, and the statement that
--- every row of it holds. Rows that need more of aut.rs than stands here yet are missing from it; docs/PROOF.md lists them.
-use mathlib.Core.Path.{_≡_, refl}
-use mathlib.Core.List.{List, [], _∷_}
+-- every row of it holds. The rows of aut.rs that speak of delta and of the search are missing from it until these stand; docs/PROOF.md lists them.
+use mathlib.Core.Path.{_≡_, refl, ap}
+use mathlib.Core.List.{List, [], _∷_, _++_, map}
 use Prim.Native.Nat.{ℕ}
 use lib.ListN.{replicate}
 use Rattle.common.specs.Outcome.{Outcome, refused, given, Step}
@@ -9,6 +9,8 @@ use Rattle.common.specs.Runs.{Table, table}
 use Rattle.sp_steps.specs.Word as Word
 use Rattle.sp_steps.specs.Model as Sp
 use Rattle.spp_steps.specs.Model as Spp
+use Rattle.aut_steps.specs.Tables.{Aut}
+use Rattle.aut_steps.specs.Corners as Constructors
 
 -- a row: what is computed, and what 01 says
 pub record Row : Type 0 where
@@ -27,8 +29,17 @@ shown f (given σ a) = σ .count ∷ f a
 abbrev constantsOf : Spp.Constants → List ℕ
 constantsOf c = c .zero ∷ c .one ∷ c .top ∷ []
 
-abbrev pub rows : List Row
-rows =
+-- the same of all tables of the constructors: the answer, and every word
+abbrev shownAut : Outcome Aut ℕ → List ℕ
+shownAut (refused number) = []
+shownAut (given σ x) =
+    x ∷ σ .nodes .count ∷ σ .states .count ∷ σ .members .count ∷ (σ .nodes .words ++ (σ .states .words ++ σ .members .words))
+
+abbrev ofAut : Constructors.Row → Row
+ofAut r = record { computed = shownAut (r .run (r .from)); said = shownAut (r .comes) }
+
+abbrev pub diagrams : List Row
+diagrams =
     -- sp.rs: 3 fields: empty set 6, full set 7, 3 nodes
     record { computed = shown (λ h. h ∷ Sp.complement h ∷ []) (Sp.constants 3 (fresh 6)); said = 3 ∷ 6 ∷ 7 ∷ [] }
     -- spp.rs: 3 fields: zero 4, identity 7, top 10, 9 nodes
@@ -43,7 +54,22 @@ abbrev pub Hold : List Row → Type 0
 Hold [] = Unit
 Hold (r ∷ rs) = (r .computed ≡ r .said) × Hold rs
 
+-- and the rows of aut.rs on constructors, which stand in aut_steps/specs/Corners.antt
+abbrev pub rows : List Row
+rows = diagrams ++ map ofAut Constructors.rows
+
+holdDiagrams : Hold diagrams
+unfolding Sp.constants Sp.mk Sp.intern Sp.seek Sp.same Sp.kid Sp.room Sp.put Sp.complement Word.flip Spp.constants Spp.zeros Spp.ones Spp.tops Spp.zeroAt Spp.oneAt Spp.topAt Spp.mk Spp.seek Spp.same Spp.kid Spp.put Spp.room Spp.star Spp.starExit
+holdDiagrams = (refl, (refl, (refl, (refl, tt))))
+
+holdBoth : (l m : List Row) → Hold l → Hold m → Hold (l ++ m)
+holdBoth [] m h k = k
+holdBoth (r ∷ rs) m h k = (h .0, holdBoth rs m (h .1) k)
+
+holdAut : (l : List Constructors.Row) → Constructors.Hold l → Hold (map ofAut l)
+holdAut [] h = tt
+holdAut (r ∷ rs) h = (ap shownAut (h .0), holdAut rs (h .1))
+
 -- every row holds
 pub corners : Hold rows
-unfolding Sp.constants Sp.mk Sp.intern Sp.seek Sp.same Sp.kid Sp.room Sp.put Sp.complement Word.flip Spp.constants Spp.zeros Spp.ones Spp.tops Spp.zeroAt Spp.oneAt Spp.topAt Spp.mk Spp.seek Spp.same Spp.kid Spp.put Spp.room Spp.star Spp.starExit
-corners = (refl, (refl, (refl, (refl, tt))))
+corners = holdBoth diagrams (map ofAut Constructors.rows) holdDiagrams (holdAut Constructors.rows Constructors.corners)

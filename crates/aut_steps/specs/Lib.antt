@@ -1,0 +1,26 @@
+-- The states of aut.rs. Read in this order: the tables, how a state is interned, the constructors as steps in the Rust's order, runs of them that are
+-- computed; then what the tables keep (Good, Goes), the rule that a state stands for (Kinds, Meaning), and for each constructor that its step
+-- keeps the tables in order and that its state holds the strings that 01 says.
+pub mod Relations
+pub mod Tables
+pub mod Intern
+pub mod Lists
+pub mod Constructors
+pub mod Corners
+pub mod ListLaws
+pub mod Facts
+pub mod Scratch
+pub mod Kinds
+pub mod Good
+pub mod Goes
+pub mod InternLaws
+pub mod Languages
+pub mod Decide
+pub mod Meaning
+pub mod RelationLaws
+pub mod StateLaws
+pub mod UnionLaws
+pub mod Products
+pub mod IntersectLaws
+pub mod SequenceLaws
+pub mod Instance
