@@ -1,7 +1,7 @@
 -- What a call gives, in the words of `Stage`; and that an operation can be called in every store where its operands are handles.
 use mathlib.Core.Path.{_≡_, refl, sym, _∙_, ap, subst}
 use mathlib.Core.Bool.{Bool, true, false}
-use mathlib.Core.List.{List}
+use mathlib.Core.List.{List, [], _∷_}
 use Prim.Native.Nat.{ℕ, suc, _+_, _*_, _≤_}
 use native.Mathlib.Omega.{arith}
 use lib.ListN.{length}
@@ -15,21 +15,32 @@ use Rattle.spp_steps.specs.Laws.{Wf, Ext, At, Den, sppTheory, at-ext, den-mem}
 use Rattle.spp_steps.specs.Make.{mk-exact}
 use Rattle.spp_steps.specs.Apply.{apply-exact}
 use Rattle.spp.specs.Reuse.{Kept, sppMemo}
-use Rattle.spp.specs.Seen.{seen, Asked, Noted, Answer, Fits}
+use Rattle.spp.specs.Seen.{seen, Noted, Answer, Ats, Fits}
 use Rattle.spp.specs.declared.Made.{Made}
 use Rattle.spp.specs.declared.Made.the-variants.{Node, Full}
 use Rattle.spp.specs.declared.SPP.{SPP}
 
-module _ {N : ℕ} {c : Step Table ℕ} {σ : Table} {m t′ m′ : List ℕ} {r : Made} (z : Answer N c σ m r t′ m′) where
+module _ {R A : Type 0} {see : R → List ℕ → Outcome Table A} {N : ℕ} {c : Step Table A} {σ : Table} {m t′ m′ : List ℕ} {r : R} (z : Answer N see c σ m r t′ m′) where
+  pub gave-of : {τ : Table} {a : A} → see r t′ ≡ given τ a → Gave (sppMemo N) c σ m τ m′ a
+  gave-of e = record { is = z .gives ∙ e; notes = subst (λ (o : Outcome Table A). Noted N m o m′) e (z .notes) }
+
+  pub lost-of : see r t′ ≡ refused 21 → c σ ≡ refused 21
+  lost-of e = z .gives ∙ e
+
+module _ {N : ℕ} {c : Step Table ℕ} {σ : Table} {m t′ m′ : List ℕ} {r : Made} (z : Answer N seen c σ m r t′ m′) where
   pub gave : {h : SPP} {n : ℕ} → r ≡ Node h n → Gave (sppMemo N) c σ m (table t′ n) m′ (h .0)
-  gave e = record { is = z .gives ∙ ap (λ (r : Made). seen r t′) e; notes = subst (λ (r : Made). Noted N m r t′ m′) e (z .notes) }
+  gave e = gave-of z (ap (λ (r : Made). seen r t′) e)
 
   pub lost : r ≡ Full → c σ ≡ refused 21
-  lost e = z .gives ∙ ap (λ (r : Made). seen r t′) e
+  lost e = lost-of z (ap (λ (r : Made). seen r t′) e)
 
 -- a call that has no cache
 pub gave-alone : {N : ℕ} {c : Step Table ℕ} {σ σ1 : Table} {m : List ℕ} {h : ℕ} → c σ ≡ given σ1 h → Gave (sppMemo N) c σ m σ1 m h
 gave-alone e = record { is = e; notes = notes-refl }
+
+pub ats-ext : {σ τ : Table} (d : ℕ) (hs : List ℕ) → Ext σ τ → Ats σ d hs → Ats τ d hs
+ats-ext d [] e a = tt
+ats-ext d (h ∷ hs) e a = (at-ext e d h (a .0), ats-ext d hs e (a .1))
 
 pub fits : {N n : ℕ} {t : List ℕ} → Wf N (table t n) → Fits t n
 fits w = record { fits = w .nodes .fits; small = w .nodes .small }

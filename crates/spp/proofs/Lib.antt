@@ -2,5 +2,6 @@ pub mod Levels
 pub mod Scan
 pub mod Nodes
 pub mod Calls
+pub mod Quartet
 pub mod Turn
 pub mod Rising

@@ -1,7 +1,7 @@
 -- What an answer says in the words of the steps, what the operations ask, and what they ensure.
 use mathlib.Core.Path.{_≡_}
 use mathlib.Core.Bool.{Bool, true, false}
-use mathlib.Core.List.{List}
+use mathlib.Core.List.{List, [], _∷_}
 use Prim.Native.Nat.{ℕ, zero, suc, _*_, _≤_, _<_}
 use lib.ListN.{length}
 use Rattle.common.specs.Outcome.{Outcome, refused, given, Step, return, _>>=_}
@@ -74,21 +74,25 @@ pub record FieldAsked (N : ℕ) (t : List ℕ) (n d f : ℕ) : Type 0 where
   pub below : f < d
   pub fits : Fits t n
 
--- what an operation on the relations a and b of depth d asks, with N fields, the nodes σ and the cache m
-pub record Asked (N d : ℕ) (σ : Table) (m : List ℕ) (a b : ℕ) : Type 0 where
+-- all of hs are handles of depth d
+abbrev pub Ats : Table → ℕ → List ℕ → Type 0
+Ats σ d [] = Unit
+Ats σ d (h ∷ hs) = At σ d h × Ats σ d hs
+
+-- what an operation on the relations hs of depth d asks, with N fields, the nodes σ and the cache m
+pub record Asked (N d : ℕ) (σ : Table) (m : List ℕ) (hs : List ℕ) : Type 0 where
   pub few : N ≤ 31
   pub deep : d ≤ N
   pub wf : Wf N σ
-  pub at-a : At σ d a
-  pub at-b : At σ d b
+  pub at : Ats σ d hs
   pub sound : Sound (Of 3 9 (Kept N σ)) m
 
 -- what is noted in the cache, unless refused
-abbrev pub Noted : ℕ → List ℕ → Made → List ℕ → List ℕ → Type 0
-Noted N m (Node h n) t′ m′ = Notes (Own 3 9 (Kept N (table t′ n))) m m′
-Noted N m Full t′ m′ = Unit
+abbrev pub Noted : {A : Type 0} → ℕ → List ℕ → Outcome Table A → List ℕ → Type 0
+Noted N m (given τ a) m′ = Notes (Own 3 9 (Kept N τ)) m m′
+Noted N m (refused number) m′ = Unit
 
--- the answer r is what the steps c come to from the nodes σ, and all that is noted is right
-pub record Answer (N : ℕ) (c : Step Table ℕ) (σ : Table) (m : List ℕ) (r : Made) (t′ m′ : List ℕ) : Type 0 where
-  pub gives : c σ ≡ seen r t′
-  pub notes : Noted N m r t′ m′
+-- the answer r, seen with the nodes at exit, is what the steps c come to from σ, and all that is noted is right
+pub record Answer {R A : Type 0} (N : ℕ) (see : R → List ℕ → Outcome Table A) (c : Step Table A) (σ : Table) (m : List ℕ) (r : R) (t′ m′ : List ℕ) : Type 0 where
+  pub gives : c σ ≡ see r t′
+  pub notes : Noted N m (see r t′) m′

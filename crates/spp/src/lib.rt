@@ -1,6 +1,7 @@
 // Relations on packets (spp.rs): nodes of four words on a lent table, the handles x00, x01, x10, x11.
 ghost use mathlib.Core.Path.{_≡_};
 ghost use mathlib.Core.Bool.{true, false};
+ghost use mathlib.Core.List.{[], _∷_};
 ghost use Prim.Native.Nat.{ℕ, _+_, _*_, _≤_, _<_};
 ghost use lib.ListN.{length, getD};
 ghost use Rattle.common.specs.Runs.{table};
@@ -270,8 +271,8 @@ pub fn apply(
     a: SPP,
     b: SPP,
 ) -> Made
-    requires { ⌜ Asked fields depth (table (now nodes) count) (now cache) (a .0) (b .0) ⌝ }
-    ensures { λ r. ⌜ Answer fields (M.apply fields (opOf op) depth (a .0) (b .0)) (table (now (nodes .entry)) count) (now (cache .entry)) r (now (nodes .exit)) (now (cache .exit)) ⌝ }
+    requires { ⌜ Asked fields depth (table (now nodes) count) (now cache) (a .0 ∷ b .0 ∷ []) ⌝ }
+    ensures { λ r. ⌜ Answer fields seen (M.apply fields (opOf op) depth (a .0) (b .0)) (table (now (nodes .entry)) count) (now (cache .entry)) r (now (nodes .exit)) (now (cache .exit)) ⌝ }
 {
     let quick = exit(fields, op, depth, a, b);
     match quick {
@@ -318,8 +319,8 @@ pub fn union(
     a: SPP,
     b: SPP,
 ) -> Made
-    requires { ⌜ Asked fields depth (table (now nodes) count) (now cache) (a .0) (b .0) ⌝ }
-    ensures { λ r. ⌜ Answer fields (M.apply fields M.union depth (a .0) (b .0)) (table (now (nodes .entry)) count) (now (cache .entry)) r (now (nodes .exit)) (now (cache .exit)) ⌝ }
+    requires { ⌜ Asked fields depth (table (now nodes) count) (now cache) (a .0 ∷ b .0 ∷ []) ⌝ }
+    ensures { λ r. ⌜ Answer fields seen (M.apply fields M.union depth (a .0) (b .0)) (table (now (nodes .entry)) count) (now (cache .entry)) r (now (nodes .exit)) (now (cache .exit)) ⌝ }
 {
     apply(nodes, cache, count, fields, depth, Op::Union, a, b)
 }
@@ -333,8 +334,8 @@ pub fn intersect(
     a: SPP,
     b: SPP,
 ) -> Made
-    requires { ⌜ Asked fields depth (table (now nodes) count) (now cache) (a .0) (b .0) ⌝ }
-    ensures { λ r. ⌜ Answer fields (M.apply fields M.intersect depth (a .0) (b .0)) (table (now (nodes .entry)) count) (now (cache .entry)) r (now (nodes .exit)) (now (cache .exit)) ⌝ }
+    requires { ⌜ Asked fields depth (table (now nodes) count) (now cache) (a .0 ∷ b .0 ∷ []) ⌝ }
+    ensures { λ r. ⌜ Answer fields seen (M.apply fields M.intersect depth (a .0) (b .0)) (table (now (nodes .entry)) count) (now (cache .entry)) r (now (nodes .exit)) (now (cache .exit)) ⌝ }
 {
     apply(nodes, cache, count, fields, depth, Op::Intersect, a, b)
 }
@@ -348,8 +349,8 @@ pub fn xor(
     a: SPP,
     b: SPP,
 ) -> Made
-    requires { ⌜ Asked fields depth (table (now nodes) count) (now cache) (a .0) (b .0) ⌝ }
-    ensures { λ r. ⌜ Answer fields (M.apply fields M.xor depth (a .0) (b .0)) (table (now (nodes .entry)) count) (now (cache .entry)) r (now (nodes .exit)) (now (cache .exit)) ⌝ }
+    requires { ⌜ Asked fields depth (table (now nodes) count) (now cache) (a .0 ∷ b .0 ∷ []) ⌝ }
+    ensures { λ r. ⌜ Answer fields seen (M.apply fields M.xor depth (a .0) (b .0)) (table (now (nodes .entry)) count) (now (cache .entry)) r (now (nodes .exit)) (now (cache .exit)) ⌝ }
 {
     apply(nodes, cache, count, fields, depth, Op::Xor, a, b)
 }
@@ -363,8 +364,8 @@ pub fn difference(
     a: SPP,
     b: SPP,
 ) -> Made
-    requires { ⌜ Asked fields depth (table (now nodes) count) (now cache) (a .0) (b .0) ⌝ }
-    ensures { λ r. ⌜ Answer fields (M.apply fields M.difference depth (a .0) (b .0)) (table (now (nodes .entry)) count) (now (cache .entry)) r (now (nodes .exit)) (now (cache .exit)) ⌝ }
+    requires { ⌜ Asked fields depth (table (now nodes) count) (now cache) (a .0 ∷ b .0 ∷ []) ⌝ }
+    ensures { λ r. ⌜ Answer fields seen (M.apply fields M.difference depth (a .0) (b .0)) (table (now (nodes .entry)) count) (now (cache .entry)) r (now (nodes .exit)) (now (cache .exit)) ⌝ }
 {
     apply(nodes, cache, count, fields, depth, Op::Difference, a, b)
 }
@@ -377,8 +378,8 @@ pub fn complement(
     depth: u32,
     a: SPP,
 ) -> Made
-    requires { ⌜ Asked fields depth (table (now nodes) count) (now cache) (a .0) (a .0) ⌝ }
-    ensures { λ r. ⌜ Answer fields (M.complement fields depth (a .0)) (table (now (nodes .entry)) count) (now (cache .entry)) r (now (nodes .exit)) (now (cache .exit)) ⌝ }
+    requires { ⌜ Asked fields depth (table (now nodes) count) (now cache) (a .0 ∷ a .0 ∷ []) ⌝ }
+    ensures { λ r. ⌜ Answer fields seen (M.complement fields depth (a .0)) (table (now (nodes .entry)) count) (now (cache .entry)) r (now (nodes .exit)) (now (cache .exit)) ⌝ }
 {
     apply(nodes, cache, count, fields, depth, Op::Not, a, a)
 }

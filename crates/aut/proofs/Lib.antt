@@ -1,0 +1,3 @@
+-- What each turn of the searches and each way through the constructors comes to.
+pub mod Scan
+pub mod Intern
