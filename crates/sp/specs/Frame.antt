@@ -1,4 +1,4 @@
--- What packet sets ask of the cache and what they promise: they read valid slots of theirs (`SpValid`) and write no others (`SpNoted`).
+-- 01, "Forms that must change", memo maps in scratch: what packet sets ask of the cache and what they promise: they read valid slots of theirs (`SpValid`) and write no others (`SpNoted`).
 -- So a caller has its own slots as they were, and a cache of zeros is sound for all.
 use mathlib.Core.Path.{_≡_}
 use mathlib.Core.List.{List}
@@ -24,8 +24,8 @@ module _ {σ τ : Table} (e : Ext σ τ) where
   sound-own s n = sound-notes (sound-ext s) (notes-map (λ _ _ _ _ v. v .valid) n)
 
 -- what is asked of slots that are not of packet sets holds past an operation on packet sets
-pub sound-other : {P : Valid} {σ : Table} {m m′ : List ℕ} → ((op a b r : ℕ) → SpCode op → P op a b r) → Sound P m → Notes (SpNoted σ) m m′ → Sound P m′
-sound-other f s n = sound-notes s (notes-map (λ op a b r v. f op a b r (v .own)) n)
+pub other-sound : {P : Valid} {σ : Table} {m m′ : List ℕ} → ((op a b r : ℕ) → SpCode op → P op a b r) → Sound P m → Notes (SpNoted σ) m m′ → Sound P m′
+other-sound f s n = sound-notes s (notes-map (λ op a b r v. f op a b r (v .own)) n)
 
 -- and the slots of packet sets stay past whoever writes none of theirs
 pub sound-past : {P : Valid} {σ : Table} {m m′ : List ℕ} → ((op a b r : ℕ) → P op a b r → SpCode op → ⊥) → Sound (SpValid σ) m → Notes P m m′ → Sound (SpValid σ) m′

@@ -1,4 +1,4 @@
--- The operations on two sets: each exit is right, at depth 0 there is always one, and so every operation means what it should,
+-- 01, "Port order" 1, the operations on two sets: each exit is right, at depth 0 there is always one, and so every operation means what it should,
 -- in a well-formed later store, and gives the same handle with no change in every store later still. One law for all of them.
 use mathlib.Core.Path.{_≡_, refl, sym, _∙_, ap, ap₂, subst}
 use mathlib.Core.Bool.{Bool, true, false, not, _||_, or-self, or-true, or-false}

@@ -1,4 +1,4 @@
--- Packet sets: when a store is well formed, when one is later than another, which handles have which depth and what they mean.
+-- 01, "sp.rs" and promise 2, well-formed tables. Packet sets: when a store is well formed, when one is later than another, which handles have which depth and what they mean.
 -- Old handles keep their meaning; equal sets of one depth have one handle; the constants are where they should be.
 use mathlib.Core.Path.{_≡_, refl, sym, _∙_, ap, ap₂, subst}
 use mathlib.Core.Bool.{Bool, true, false, not, _&&_, _||_}

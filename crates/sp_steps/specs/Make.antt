@@ -1,4 +1,4 @@
--- `mk`: what it makes is a well-formed store that is later than the old one, and the one handle with the two children.
+-- 01, "sp.rs": a node's stored left child is always even. `mk`: what it makes is a well-formed store that is later than the old one, and the one handle with the two children.
 -- It is refused exactly if the node is not there and no record is left.
 use mathlib.Core.Path.{_≡_, refl, sym, _∙_, ap, ap₂, subst}
 use mathlib.Core.Bool.{Bool, true, false, not, _&&_, _||_}

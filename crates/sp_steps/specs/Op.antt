@@ -1,4 +1,4 @@
--- The two operations that go down both sides of two sets, and what each does to a packet's two bits of membership.
+-- 01, "Port order" 1, union and xor: the two operations that go down both sides of two sets, and what each does to a packet's two bits of membership.
 use mathlib.Core.Bool.{Bool, true, false, not, _||_}
 
 pub data Op : Type 0 where

@@ -1,4 +1,4 @@
--- What a result that is kept for reuse must say, so that reuse changes nothing: in this and in every later store, to go down with the
+-- 01, "Forms that must change", memo maps in scratch: what a result that is kept for reuse must say, so that reuse changes nothing: in this and in every later store, to go down with the
 -- operation on the two sets gives that result with no change; and a kept number is the number of packets. It survives every later store.
 use mathlib.Core.Path.{_≡_, refl, sym, _∙_, ap, subst}
 use mathlib.Core.Logic.{_⊎_, inl, inr}

@@ -1,4 +1,4 @@
--- Union, intersection, complement, symmetric difference and difference of packet sets mean just that; so do the tests for the empty and the full set.
+-- 01, "Port order" 1: union, intersection, complement, symmetric difference and difference of packet sets mean just that; so do the tests for the empty and the full set.
 use mathlib.Core.Path.{_≡_, refl, sym, _∙_, ap, subst}
 use mathlib.Core.Bool.{Bool, true, false, not, _&&_, _||_}
 use Prim.Native.Nat.{ℕ, zero, suc, _≤_}

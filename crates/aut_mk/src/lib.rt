@@ -1,0 +1,308 @@
+// mk_xor, mk_difference, mk_star and mk_sequence of aut.rs. They write no members and no lists: scratch lends its cache.
+use aut::Counts;
+use aut::Limits;
+use aut::State;
+use spp::Made;
+use spp::Op;
+use spp::SPP;
+ghost use mathlib.Core.Path.{_≡_};
+ghost use mathlib.Core.List.{[], _∷_};
+ghost use Prim.Native.Nat.{_+_, _*_, _≤_, _<_};
+ghost use lib.ListN.{length};
+ghost use Rattle.common.specs.Runs.{table};
+ghost use Rattle.aut_steps.specs.Tables.{op1};
+ghost use Rattle.aut_steps.specs.Relations.{zeroAt};
+ghost use Rattle.aut_steps.specs.Intern as M;
+ghost use Rattle.aut_steps.specs.Constructors as C;
+ghost use Rattle.aut.specs.Seen.{limitsOf, Fits, Ready1, Ready2};
+ghost use Rattle.aut_rel.specs.Seen.{RelateReady, Relates, SppReady, DoesSpp};
+ghost use Rattle.aut_mk.specs.Seen.{Enters, Makes, Asks, taskOf, knownOf, Because, Plans, Sequences};
+
+// the operations on relations that are no pointwise ones; star has its operand twice
+pub enum Task {
+    Sequence,
+    Star,
+}
+
+// what x; y is
+pub enum Known {
+    Relations,
+    First,
+    Second,
+    Zero,
+    Top,
+    New,
+}
+
+// x is e11; e12, or what x; y is
+pub enum Way {
+    Regroup(u32, u32),
+    Step(Known),
+}
+
+// ---- states that need no relation operation
+
+fn spp_zero(states: &mut [u32], c: Counts, fields: u32) -> State
+    requires { ⌜ Fits (now states) (c .states) × (fields ≤ 31) ⌝ }
+    ensures { λ r. ⌜ Enters (C.mk-spp (zeroAt fields)) r c (now (states .entry)) (now (states .exit)) ⌝ }
+{
+    let zero = spp::zero_at_depth(fields);
+    let put = aut::mk_spp(states, c.states, zero);
+    aut_rel::placed(put, c)
+}
+
+fn top(states: &mut [u32], c: Counts) -> State
+    requires { ⌜ Fits (now states) (c .states) ⌝ }
+    ensures { λ r. ⌜ Enters C.mk-top r c (now (states .entry)) (now (states .exit)) ⌝ }
+{
+    let put = aut::mk_top(states, c.states);
+    aut_rel::placed(put, c)
+}
+
+fn intern_one(states: &mut [u32], c: Counts, limits: Limits, kind: u32, x: u32) -> State
+    requires { ⌜ Ready1 (now states) (c .states) x ⌝ }
+    ensures { λ r. ⌜ Enters (M.intern1 (limitsOf limits) kind x) r c (now (states .entry)) (now (states .exit)) ⌝ }
+{
+    let put = aut::intern1(states, c.states, limits, kind, x);
+    aut_rel::placed(put, c)
+}
+
+fn intern_two(states: &mut [u32], c: Counts, limits: Limits, kind: u32, x: u32, y: u32) -> State
+    requires { ⌜ Ready2 (now states) (c .states) x y ⌝ }
+    ensures { λ r. ⌜ Enters (M.intern2 (limitsOf limits) kind x y) r c (now (states .entry)) (now (states .exit)) ⌝ }
+{
+    let put = aut::intern2(states, c.states, limits, kind, x, y);
+    aut_rel::placed(put, c)
+}
+
+// ---- exclusive or, and difference
+
+pub fn mk_xor(
+    nodes: &mut [u32],
+    states: &mut [u32],
+    scratch: &mut [u32],
+    c: Counts,
+    limits: Limits,
+    fields: u32,
+    x: u32,
+    y: u32,
+) -> State
+    requires { ⌜ Asks fields limits (now nodes) (now states) (now scratch) c (x ∷ y ∷ []) ⌝ }
+    ensures { λ r. ⌜ Makes fields (C.mk-xor fields (limitsOf limits) x y) r c (now (nodes .entry)) (now (states .entry)) (now (scratch .entry)) (now (nodes .exit)) (now (states .exit)) (now (scratch .exit)) ⌝ }
+{
+    if x == y {
+        return spp_zero(states, c, fields);
+    }
+    if aut_rel::both_relations(states, x, y) {
+        return aut_rel::spp_of(nodes, states, scratch, c, fields, Op::Xor, x, y);
+    }
+    if x < y {
+        return intern_two(states, c, limits, aut::kind::XOR, x, y);
+    }
+    intern_two(states, c, limits, aut::kind::XOR, y, x)
+}
+
+pub fn mk_difference(
+    nodes: &mut [u32],
+    states: &mut [u32],
+    scratch: &mut [u32],
+    c: Counts,
+    limits: Limits,
+    fields: u32,
+    x: u32,
+    y: u32,
+) -> State
+    requires { ⌜ Asks fields limits (now nodes) (now states) (now scratch) c (x ∷ y ∷ []) ⌝ }
+    ensures { λ r. ⌜ Makes fields (C.mk-difference fields (limitsOf limits) x y) r c (now (nodes .entry)) (now (states .entry)) (now (scratch .entry)) (now (nodes .exit)) (now (states .exit)) (now (scratch .exit)) ⌝ }
+{
+    if x == y {
+        return spp_zero(states, c, fields);
+    }
+    if aut_rel::both_relations(states, x, y) {
+        return aut_rel::spp_of(nodes, states, scratch, c, fields, Op::Difference, x, y);
+    }
+    intern_two(states, c, limits, aut::kind::DIFFERENCE, x, y)
+}
+
+// ---- star
+
+fn relate(
+    nodes: &mut [u32],
+    scratch: &mut [u32],
+    count: usize,
+    fields: u32,
+    task: Task,
+    a: SPP,
+    b: SPP,
+) -> Made
+    requires { ⌜ RelateReady fields (table (now nodes) count) (now scratch) (a .0) (b .0) ⌝ }
+    ensures { λ r. ⌜ Relates fields (taskOf fields task (a .0) (b .0)) (table (now (nodes .entry)) count) r (now (nodes .exit)) (now (scratch .entry)) (now (scratch .exit)) ⌝ }
+{
+    let at = aut_lists::LISTS;
+    match task {
+        Task::Sequence => spp_seq::sequence(nodes, &mut scratch[at..], count, fields, fields, a, b),
+        Task::Star => spp_seq::star(nodes, &mut scratch[at..], count, fields, fields, a),
+    }
+}
+
+// the state of what the task makes of x and y, which are relations
+fn spp_by(
+    nodes: &mut [u32],
+    states: &mut [u32],
+    scratch: &mut [u32],
+    c: Counts,
+    fields: u32,
+    task: Task,
+    x: u32,
+    y: u32,
+) -> State
+    requires { ⌜ SppReady fields (now nodes) (now states) (now scratch) c x y ⌝ }
+    ensures { λ r. ⌜ DoesSpp fields (taskOf fields task (op1 (now (states .entry)) x) (op1 (now (states .entry)) y)) r c (now (nodes .entry)) (now (states .entry)) (now (scratch .entry)) (now (nodes .exit)) (now (states .exit)) (now (scratch .exit)) ⌝ }
+{
+    let i = x as usize;
+    let j = y as usize;
+    let a = SPP(states[12 * i + 1]);
+    let b = SPP(states[12 * j + 1]);
+    let Made::Node(h, n) = relate(nodes, scratch, c.spp, fields, task, a, b) else {
+        return State::Refused(21);
+    };
+    let put = aut::mk_spp(states, c.states, h);
+    aut_rel::placed(
+        put,
+        Counts {
+            sp: c.sp,
+            spp: n,
+            states: c.states,
+            members: c.members,
+            transitions: c.transitions,
+        },
+    )
+}
+
+pub fn mk_star(
+    nodes: &mut [u32],
+    states: &mut [u32],
+    scratch: &mut [u32],
+    c: Counts,
+    limits: Limits,
+    fields: u32,
+    x: u32,
+) -> State
+    requires { ⌜ Asks fields limits (now nodes) (now states) (now scratch) c (x ∷ []) ⌝ }
+    ensures { λ r. ⌜ Makes fields (C.mk-star fields (limitsOf limits) x) r c (now (nodes .entry)) (now (states .entry)) (now (scratch .entry)) (now (nodes .exit)) (now (states .exit)) (now (scratch .exit)) ⌝ }
+{
+    let i = x as usize;
+    let kind = states[12 * i];
+    if kind == aut::kind::STAR {
+        return State::Is(x, c);
+    }
+    if kind == aut::kind::SPP {
+        return spp_by(nodes, states, scratch, c, fields, Task::Star, x, x);
+    }
+    if kind == aut::kind::TOP {
+        return top(states, c);
+    }
+    intern_one(states, c, limits, aut::kind::STAR, x)
+}
+
+// ---- sequence
+
+// whether x is the relation h
+fn is_relation(states: &[u32], x: u32, h: SPP) -> bool
+    requires { ⌜ 12 * x + 11 < length (now states) ⌝ }
+    ensures { λ r. ⌜ C.is-relation (now (states .entry)) x (h .0) ≡ r ⌝ }
+{
+    let i = x as usize;
+    if states[12 * i] != aut::kind::SPP {
+        return false;
+    }
+    states[12 * i + 1] == h.0
+}
+
+fn plan(states: &[u32], fields: u32, x: u32, y: u32) -> Way
+    requires { ⌜ (12 * x + 11 < length (now states)) × (12 * y + 11 < length (now states)) × (fields ≤ 31) ⌝ }
+    ensures { λ r. ⌜ Plans fields (now (states .entry)) x y r ⌝ }
+{
+    if aut_rel::both_relations(states, x, y) {
+        return Way::Step(Known::Relations);
+    }
+    let one = spp::one_at_depth(fields, fields);
+    let zero = spp::zero_at_depth(fields);
+    if is_relation(states, x, one) {
+        return Way::Step(Known::Second);
+    }
+    if is_relation(states, x, zero) {
+        return Way::Step(Known::Zero);
+    }
+    if is_relation(states, y, one) {
+        return Way::Step(Known::First);
+    }
+    if is_relation(states, y, zero) {
+        return Way::Step(Known::Zero);
+    }
+    let i = x as usize;
+    let j = y as usize;
+    let kind = states[12 * i];
+    if kind == aut::kind::SEQUENCE {
+        return Way::Regroup(states[12 * i + 1], states[12 * i + 2]);
+    }
+    if kind != aut::kind::TOP {
+        return Way::Step(Known::New);
+    }
+    if states[12 * j] != aut::kind::TOP {
+        return Way::Step(Known::New);
+    }
+    Way::Step(Known::Top)
+}
+
+// x; y where it is not regrouped
+fn joined(
+    nodes: &mut [u32],
+    states: &mut [u32],
+    scratch: &mut [u32],
+    c: Counts,
+    limits: Limits,
+    fields: u32,
+    way: Known,
+    x: u32,
+    y: u32,
+) -> State
+    requires { ⌜ Asks fields limits (now nodes) (now states) (now scratch) c (x ∷ y ∷ []) × Because (now states) x y way ⌝ }
+    ensures { λ r. ⌜ Makes fields (knownOf fields (limitsOf limits) way x y) r c (now (nodes .entry)) (now (states .entry)) (now (scratch .entry)) (now (nodes .exit)) (now (states .exit)) (now (scratch .exit)) ⌝ }
+{
+    match way {
+        Known::Relations => spp_by(nodes, states, scratch, c, fields, Task::Sequence, x, y),
+        Known::First => State::Is(x, c),
+        Known::Second => State::Is(y, c),
+        Known::Zero => spp_zero(states, c, fields),
+        Known::Top => top(states, c),
+        Known::New => intern_two(states, c, limits, aut::kind::SEQUENCE, x, y),
+    }
+}
+
+// (e11; e12); y is e11; (e12; y), nested as deep as x is
+pub fn mk_sequence(
+    nodes: &mut [u32],
+    states: &mut [u32],
+    scratch: &mut [u32],
+    c: Counts,
+    limits: Limits,
+    fields: u32,
+    x: u32,
+    y: u32,
+) -> State
+    requires { ⌜ Asks fields limits (now nodes) (now states) (now scratch) c (x ∷ y ∷ []) ⌝ }
+    ensures { λ r. ⌜ Sequences fields (limitsOf limits) x y r c (now (nodes .entry)) (now (states .entry)) (now (scratch .entry)) (now (nodes .exit)) (now (states .exit)) (now (scratch .exit)) ⌝ }
+{
+    let way = plan(states, fields, x, y);
+    match way {
+        Way::Step(k) => joined(nodes, states, scratch, c, limits, fields, k, x, y),
+        Way::Regroup(e11, e12) => {
+            let tmp = mk_sequence(nodes, states, scratch, c, limits, fields, e12, y);
+            match tmp {
+                State::Refused(e) => State::Refused(e),
+                State::Is(z, d) => mk_sequence(nodes, states, scratch, d, limits, fields, e11, z),
+            }
+        }
+    }
+}

@@ -1,0 +1,6 @@
+-- what the proofs of several functions use
+pub mod Exits
+pub mod Halves
+pub mod Turn
+pub mod ProjectTurn
+pub mod LeadTurn
