@@ -12,22 +12,7 @@ use Rattle.common.specs.Outcome.{if_then_else_}
 use Rattle.aut_steps.specs.Tables.{kindOf, op1, op2, nest, words}
 use Rattle.aut_steps.specs.Intern.{seek, same2, sameAt, sameL, nestL}
 use Rattle.aut_steps.specs.Facts.{words-length}
-use Rattle.aut.specs.Region.{left-of, words-at, words-none}
-
--- ---- the first that holds
-
-module _ (f : ℕ → Bool) (n i : ℕ) where
-  pub scan-hit : i < n → f i ≡ true → seek f i (n - i) ≡ i
-  unfolding seek
-  scan-hit l e = ap (seek f i) (left-of n i l) ∙ ap (λ (c : Bool). if c then i else seek f (i + 1) (n - (i + 1))) e
-
-  pub scan-skip : i < n → f i ≡ false → seek f i (n - i) ≡ seek f (i + 1) (n - (i + 1))
-  unfolding seek
-  scan-skip l e = ap (seek f i) (left-of n i l) ∙ ap (λ (c : Bool). if c then i else seek f (i + 1) (n - (i + 1))) e
-
-  pub scan-end : n ≤ i → seek f i (n - i) ≡ i
-  unfolding seek
-  scan-end m = ap (seek f i) {x = n - i} {y = 0} (omega arith)
+use Rattle.aut_steps.specs.Scratch.{words-on, words-done}
 
 -- ---- is_at2
 
@@ -56,12 +41,12 @@ module _ (m s : List ℕ) (a base k j : ℕ) (l : j < k) where
   pub at-is : (c : Bool) → eqb (getD m (a + j) 0) (getD s (base + j) 0) ≡ c → sameAt m (a + j) (words s (base + j) (k - j)) ≡ (if c then sameAt m (a + (j + 1)) (words s (base + (j + 1)) (k - (j + 1))) else false)
   unfolding sameAt
   at-is c e =
-      ap (sameAt m (a + j)) (words-at s base k j l)
+      ap (sameAt m (a + j)) (words-on s base k j l)
       ∙ ap₂ (λ (c : Bool) (b : ℕ). if c then sameAt m b (words s (base + (j + 1)) (k - (j + 1))) else false) {x = eqb (getD m (a + j) 0) (getD s (base + j) 0)} {y = c} {u = a + j + 1} {v = a + (j + 1)} e (omega arith)
 
 pub at-end : (m s : List ℕ) (a b k j : ℕ) → k ≤ j → sameAt m a (words s b (k - j)) ≡ true
 unfolding sameAt
-at-end m s a b k j l = ap (sameAt m a) (words-none s b k j l)
+at-end m s a b k j l = ap (sameAt m a) (words-done s b k j l)
 
 -- ---- is_at_list
 
@@ -85,20 +70,20 @@ module _ (st s : List ℕ) (base k j h : ℕ) (l : j < k) where
   pub nest-step : (e : ℕ) → e ≡ nest st (getD s (base + j) 0) → (h′ : ℕ) → h′ ≡ max h e → nestL st h (words s (base + j) (k - j)) ≡ nestL st h′ (words s (base + (j + 1)) (k - (j + 1)))
   unfolding nestL
   nest-step e q h′ p =
-      ap (nestL st h) (words-at s base k j l)
+      ap (nestL st h) (words-on s base k j l)
       ∙ ap (λ (z : ℕ). nestL st z (words s (base + (j + 1)) (k - (j + 1)))) {x = max h (nest st (getD s (base + j) 0))} {y = h′} (omega (arith, p, q))
 
 pub nest-end : (st s : List ℕ) (b k j h : ℕ) → k ≤ j → nestL st h (words s b (k - j)) ≡ h
 unfolding nestL
-nest-end st s b k j h l = ap (nestL st h) (words-none s b k j l)
+nest-end st s b k j h l = ap (nestL st h) (words-done s b k j l)
 
 -- ---- copy
 
 pub copy-step : (m s : List ℕ) (a base k j : ℕ) → j < k
     → sets m (a + j) (words s (base + j) (k - j)) ≡ sets (set m (a + j) (getD s (base + j) 0)) (a + (j + 1)) (words s (base + (j + 1)) (k - (j + 1)))
 copy-step m s a base k j l =
-    ap (sets m (a + j)) (words-at s base k j l)
+    ap (sets m (a + j)) (words-on s base k j l)
     ∙ ap (λ (b : ℕ). sets (set m (a + j) (getD s (base + j) 0)) b (words s (base + (j + 1)) (k - (j + 1)))) {x = suc (a + j)} {y = a + (j + 1)} (omega arith)
 
 pub copy-end : (m s : List ℕ) (a b k j : ℕ) → k ≤ j → sets m a (words s b (k - j)) ≡ m
-copy-end m s a b k j l = ap (sets m a) (words-none s b k j l)
+copy-end m s a b k j l = ap (sets m a) (words-done s b k j l)

@@ -10,9 +10,16 @@ use Rattle.common.specs.Runs.{Table, table}
 use Rattle.spp_steps.specs.Laws.{Wf, Ext, ext-refl, ext-trans}
 use Rattle.aut_steps.specs.Tables.{words}
 use Rattle.aut_steps.specs.ListLaws.{All, all-map}
+use Rattle.common.specs.Packets.{Relation}
+use Rattle.aut_steps.specs.RelationLaws.{Made, Makes, lacks, makes}
 use Rattle.aut_steps.specs.Constructors.{each}
-use Rattle.aut.specs.Region.{words-at, words-none, from-0, all-word}
+use Rattle.aut_steps.specs.Scratch.{words-on, words-done, from-0, all-word}
 use Rattle.aut_rel.specs.Behind.{LISTS, Left, Backed, left-refl, left-trans, left-wide, backed-left}
+
+-- what an operation on relations makes
+pub makes-gives : {N : ℕ} {R : Relation N} {t : Table} {o : Outcome Table ℕ} → Makes N R t o → Gives (Made N R t) o
+makes-gives (lacks e w k) = refusal
+makes-gives (makes m) = gives m
 
 -- later nodes, well formed, and a value of which I holds
 pub record Grows (N : ℕ) {A : Type 0} (I : Table → A → Type 0) (t t′ : Table) (a : A) : Type 0 where
@@ -75,7 +82,7 @@ module _ {N : ℕ} {A : Type 0} {one : ℕ → A → Step Table A} {X : Table �
       next : {o : Outcome Table A} → one (getD s (from + i) 0) a t ≡ o → each one (words s₀ from k) a₀ t₀ ≡ after o (each one (words s₀ (from + (i + 1)) (k - (i + 1))))
       unfolding each
       next e =
-          v .is ∙ ap (λ (xs : List ℕ). each one xs a t) (words-at s₀ from k i l)
+          v .is ∙ ap (λ (xs : List ℕ). each one xs a t) (words-on s₀ from k i l)
           ∙ ap (λ (o : Outcome Table A). after o (each one (words s₀ (from + (i + 1)) (k - (i + 1))))) (ap (λ (x : ℕ). one x a t) (sym (read l)) ∙ e)
 
       pub stuck : {number : ℕ} → one (getD s (from + i) 0) a t ≡ refused number → each one (words s₀ from k) a₀ t₀ ≡ refused number
@@ -99,4 +106,4 @@ module _ {N : ℕ} {A : Type 0} {one : ℕ → A → Step Table A} {X : Table �
 
     pub end : k ≤ i → each one (words s₀ from k) a₀ t₀ ≡ given t a
     unfolding each
-    end l = v .is ∙ ap (λ (xs : List ℕ). each one xs a t) (words-none s₀ (from + i) k i l)
+    end l = v .is ∙ ap (λ (xs : List ℕ). each one xs a t) (words-done s₀ (from + i) k i l)

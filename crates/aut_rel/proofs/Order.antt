@@ -13,8 +13,8 @@ use Rattle.spp_steps.specs.Laws.{Wf, Ext, At, at-ext}
 use Rattle.aut_steps.specs.Tables.{SPP, UNION, INTERSECT, kindOf, op1, op2, words, Limits, Aut, stateCap}
 use Rattle.aut_steps.specs.Kinds.{form}
 use Rattle.aut_steps.specs.ListLaws.{All, all-map}
-use Rattle.aut_steps.specs.Facts.{words-length}
-use Rattle.aut_steps.specs.Good.{states, kind, first, second, Ok, Grown, Good}
+use Rattle.aut_steps.specs.Products.{union-size}
+use Rattle.aut_steps.specs.Good.{states, kind, first, second, ok-as, Grown, Good}
 use Rattle.aut_steps.specs.Goes.{Gone, Goes}
 use Rattle.aut_steps.specs.StateLaws as StateLaws
 use Rattle.aut.specs.declared.Counts.{Counts}
@@ -47,11 +47,11 @@ module _ {N : ℕ} {L : Limits} {σ : Aut} (g : Good N L σ) where
 
   union-inside : {x : ℕ} → x < states σ → kind σ x ≡ UNION → first σ x + second σ x ≤ length mem
   unfolding form
-  union-inside {x} l e = omega (arith, (subst (λ (k : ℕ). Ok (form {N = N} k) σ x) e (g .ok x l)) .inside, g .members-fit)
+  union-inside {x} l e = omega (arith, ok-as g UNION l e .inside, g .members-fit)
 
   intersect-inside : {x : ℕ} → x < states σ → kind σ x ≡ INTERSECT → first σ x + second σ x ≤ length mem
   unfolding form
-  intersect-inside {x} l e = omega (arith, (subst (λ (k : ℕ). Ok (form {N = N} k) σ x) e (g .ok x l)) .inside, g .members-fit)
+  intersect-inside {x} l e = omega (arith, ok-as g INTERSECT l e .inside, g .members-fit)
 
   pub open-union-at : (xs : List ℕ) → All (λ x. x < states σ) xs → All (OpenAt st mem UNION) xs
   open-union-at xs a = all-map xs (λ x l. record { state = in-table l; list = union-inside l }) a
@@ -62,7 +62,7 @@ module _ {N : ℕ} {L : Limits} {σ : Aut} (g : Good N L σ) where
   pub product-at : (xs : List ℕ) → All (λ x. x < states σ) xs → All (ProductAt st mem) xs
   product-at xs a = all-map xs (λ x l. record {
     state = in-table l;
-    some = λ e. omega (arith, g .unions x l e .some, words-length mem (first σ x) (second σ x));
+    some = λ e. omega (arith, union-size g l e);
     list = union-inside l;
   }) a
 

@@ -12,7 +12,7 @@ use Rattle.spp.specs.Reuse as Reuse
 use Rattle.spp.specs.Reuse.{sppMemo}
 use Rattle.aut_steps.specs.Tables.{words}
 use Rattle.aut_steps.specs.Facts.{words-same}
-use Rattle.aut.specs.Region.{Kept}
+use Rattle.aut_steps.specs.Scratch.{Kept}
 
 -- the words below are lists, those from here on the cache
 abbrev pub LISTS : ℕ
@@ -41,6 +41,12 @@ pub record Backed (N : ℕ) (t : Table) (s : List ℕ) : Type 0 where
   pub room : LISTS ≤ length s
   pub sound : Sound (Readable N t) (cached s)
 
+-- a write among the lists leaves the cache
+pub cached-kept : {a n : ℕ} {s s′ : List ℕ} → Kept a n s s′ → length s′ ≡ length s → a + n ≤ LISTS → cached s′ ≡ cached s
+cached-kept {s = s} {s′ = s′} k e l = ext-getD 0 (cached s′) (cached s)
+    (length-drop LISTS s′ ∙ ap (λ (z : ℕ). z - LISTS) e ∙ sym (length-drop LISTS s))
+    (λ i h. getD-drop LISTS s′ i 0 ∙ k .above (LISTS + i) (omega arith) ∙ sym (getD-drop LISTS s i 0))
+
 module _ {N : ℕ} where
   pub left-refl : (a n : ℕ) (t : Table) (s : List ℕ) → Left N a n t s s
   left-refl a n t s = record { below = λ i l. refl; above = λ i l m. refl; notes = notes-refl }
@@ -64,13 +70,16 @@ module _ {N : ℕ} where
   left-kept {a} {n} {t} {s} {s′} k e l = record {
     below = k .below;
     above = λ i m h. k .above i m;
-    notes = subst (Notes (Notable N t) (cached s)) (sym same) notes-refl;
+    notes = subst (Notes (Notable N t) (cached s)) (sym (cached-kept k e l)) notes-refl;
   }
-    where
-      same : cached s′ ≡ cached s
-      same = ext-getD 0 (cached s′) (cached s)
-          (length-drop LISTS s′ ∙ ap (λ (z : ℕ). z - LISTS) e ∙ sym (length-drop LISTS s))
-          (λ i h. getD-drop LISTS s′ i 0 ∙ k .above (LISTS + i) (omega arith) ∙ sym (getD-drop LISTS s i 0))
+
+  -- a write among the lists, and then a step
+  pub kept-left : {a n b m : ℕ} {t : Table} {s s′ s″ : List ℕ} → Kept b m s s′ → length s′ ≡ length s → a ≤ b → b + m ≤ a + n → a + n ≤ LISTS → Left N a n t s′ s″ → Left N a n t s s″
+  kept-left {a} {n} {t = t} {s = s} {s′ = s′} {s″ = s″} k e x y l p = record {
+    below = λ i h. p .below i h ∙ k .below i (omega arith);
+    above = λ i h j. p .above i h j ∙ k .above i (omega arith);
+    notes = subst (λ (z : List ℕ). Notes (Notable N t) z (cached s″)) (cached-kept k e (omega arith)) (p .notes);
+  }
 
   -- a list elsewhere is as it was
   pub words-before : {a n : ℕ} {t : Table} {s s′ : List ℕ} (b k : ℕ) → Left N a n t s s′ → b + k ≤ a → words s′ b k ≡ words s b k

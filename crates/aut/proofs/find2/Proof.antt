@@ -1,4 +1,4 @@
-use Rattle.aut.proofs.Scan.{scan-hit, scan-skip, scan-end}
+use Rattle.aut_steps.specs.Scratch.{seek-here, seek-on, seek-end}
 use Rattle.aut_steps.specs.Intern.{seek, same2}
 use borrow.Author.Needs.{needs}
 use native.Mathlib.Omega.{arith}
@@ -28,7 +28,7 @@ is-at2-requires c κs =
 
 returns : tie.Need-returns Inv-loop μ-loop
 returns c =
-    let g = c .before .before .before .before .before .args in sym (c .before .before .before .loop .inv .1 ∙ scan-hit (same2 (g .states .now) (g .kind) (g .x) (g .y)) (g .count) (c .before .before .before .loop .i) (c .before .before .loop-test .taken) (c .before .is-at2 .ensures ∙ c .if1 .taken))
+    let g = c .before .before .before .before .before .args in sym (c .before .before .before .loop .inv .1 ∙ seek-here (same2 (g .states .now) (g .kind) (g .x) (g .y)) (g .count) (c .before .before .before .loop .i) (c .before .before .loop-test .taken) (c .before .is-at2 .ensures ∙ c .if1 .taken))
 
 add-i : tie.Need-add-i Inv-loop μ-loop
 add-i c = search needs
@@ -38,11 +38,11 @@ loop-less c = search needs
 
 loop-again : tie.Need-loop-again Inv-loop μ-loop
 loop-again c =
-    let g = c .before .before .before .before .before .args in (omega arith, c .before .before .before .loop .inv .1 ∙ scan-skip (same2 (g .states .now) (g .kind) (g .x) (g .y)) (g .count) (c .before .before .before .loop .i) (c .before .before .loop-test .taken) (c .before .is-at2 .ensures ∙ c .if1 .left))
+    let g = c .before .before .before .before .before .args in (omega arith, c .before .before .before .loop .inv .1 ∙ seek-on (same2 (g .states .now) (g .kind) (g .x) (g .y)) (g .count) (c .before .before .before .loop .i) (c .before .before .loop-test .taken) (c .before .is-at2 .ensures ∙ c .if1 .left))
 
 returns-2 : tie.Need-returns-2 Inv-loop μ-loop
 returns-2 c =
-    let g = c .before .before .before .args in sym (c .before .loop .inv .1 ∙ scan-end (same2 (g .states .now) (g .kind) (g .x) (g .y)) (g .count) (c .before .loop .i) (c .loop-test .left))
+    let g = c .before .before .before .args in sym (c .before .loop .inv .1 ∙ seek-end (same2 (g .states .now) (g .kind) (g .x) (g .y)) (g .count) (c .before .loop .i) (c .loop-test .left))
 
 pub find2-spec : {M : Type 1} → statement M
 find2-spec =

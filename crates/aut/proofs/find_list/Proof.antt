@@ -1,4 +1,4 @@
-use Rattle.aut.proofs.Scan.{scan-hit, scan-skip, scan-end}
+use Rattle.aut_steps.specs.Scratch.{seek-here, seek-on, seek-end}
 use Rattle.aut_steps.specs.Intern.{seek, sameL}
 use Rattle.aut_steps.specs.Tables.{words}
 use borrow.Author.Needs.{needs}
@@ -29,7 +29,7 @@ is-at-list-requires c κs =
 
 returns : tie.Need-returns Inv-loop μ-loop
 returns c =
-    let g = c .before .before .before .before .before .before .before .args in sym (c .before .before .before .loop .inv .1 ∙ scan-hit (sameL (g .states .now) (g .members .now) (g .kind) (words (g .scratch .now) (g .base) (g .k))) (g .count) (c .before .before .before .loop .i) (c .before .before .loop-test .taken) (c .before .is-at-list .ensures ∙ c .if1 .taken))
+    let g = c .before .before .before .before .before .before .before .args in sym (c .before .before .before .loop .inv .1 ∙ seek-here (sameL (g .states .now) (g .members .now) (g .kind) (words (g .scratch .now) (g .base) (g .k))) (g .count) (c .before .before .before .loop .i) (c .before .before .loop-test .taken) (c .before .is-at-list .ensures ∙ c .if1 .taken))
 
 add-i : tie.Need-add-i Inv-loop μ-loop
 add-i c = omega arith
@@ -39,11 +39,11 @@ loop-less c = omega arith
 
 loop-again : tie.Need-loop-again Inv-loop μ-loop
 loop-again c =
-    let g = c .before .before .before .before .before .before .before .args in (omega arith, c .before .before .before .loop .inv .1 ∙ scan-skip (sameL (g .states .now) (g .members .now) (g .kind) (words (g .scratch .now) (g .base) (g .k))) (g .count) (c .before .before .before .loop .i) (c .before .before .loop-test .taken) (c .before .is-at-list .ensures ∙ c .if1 .left))
+    let g = c .before .before .before .before .before .before .before .args in (omega arith, c .before .before .before .loop .inv .1 ∙ seek-on (sameL (g .states .now) (g .members .now) (g .kind) (words (g .scratch .now) (g .base) (g .k))) (g .count) (c .before .before .before .loop .i) (c .before .before .loop-test .taken) (c .before .is-at-list .ensures ∙ c .if1 .left))
 
 returns-2 : tie.Need-returns-2 Inv-loop μ-loop
 returns-2 c =
-    let g = c .before .before .before .before .before .args in sym (c .before .loop .inv .1 ∙ scan-end (sameL (g .states .now) (g .members .now) (g .kind) (words (g .scratch .now) (g .base) (g .k))) (g .count) (c .before .loop .i) (c .loop-test .left))
+    let g = c .before .before .before .before .before .args in sym (c .before .loop .inv .1 ∙ seek-end (sameL (g .states .now) (g .members .now) (g .kind) (words (g .scratch .now) (g .base) (g .k))) (g .count) (c .before .loop .i) (c .loop-test .left))
 
 pub find-list-spec : {M : Type 1} → statement M
 find-list-spec =
