@@ -1,4 +1,5 @@
--- What the calls of each function come to; the ways of mk_sequence; its regrouping.
+-- What the calls of each function come to; the tables after a constructor; the ways of mk_sequence, and its regrouping.
 pub mod Join
+pub mod After
 pub mod Ways
 pub mod Regroup

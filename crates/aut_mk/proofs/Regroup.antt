@@ -11,8 +11,8 @@ use Rattle.spp_steps.specs.Laws.{Ext}
 use Rattle.aut_steps.specs.Tables.{SEQUENCE, nest, Limits, Aut}
 use Rattle.aut_steps.specs.Kinds.{form}
 use Rattle.aut_steps.specs.Constructors.{sequence-with, sequence-by, mk-sequence}
-use Rattle.aut_steps.specs.Good.{Good, Two, ok-as, nesting-grown, state-grown}
-use Rattle.aut_steps.specs.Goes.{Gone, Goes, came}
+use Rattle.aut_steps.specs.Good.{Two, ok-as, nesting-grown, state-grown}
+use Rattle.aut_steps.specs.Goes.{Gone, Goes}
 use Rattle.aut_steps.specs.Meaning as Meaning
 use Rattle.aut_steps.specs.Meaning.{Holds}
 use Rattle.aut_steps.specs.SequenceLaws.{mk-sequence-goes}
@@ -24,10 +24,10 @@ use Rattle.aut.specs.declared.State.the-variants.{Is, Refused}
 use Rattle.aut_rel.specs.Behind.{Left, left-trans}
 use Rattle.aut_rel.specs.Seen.{autOf, seenAut, Beside, LeftBy}
 use Rattle.aut_rel.proofs.Join.{beside-more}
-use Rattle.aut_rel.proofs.Order.{ready-after}
 use Rattle.aut_mk.specs.declared.Known.{Known}
 use Rattle.aut_mk.specs.declared.Way.{Way}
 use Rattle.aut_mk.specs.declared.Way.the-variants as way
+use Rattle.aut_mk.proofs.After.{gone, left-of, beside-of, ready-of}
 use Rattle.aut_mk.specs.Seen.{Makes, Asks, knownOf, wayOf, Since, Plans, Sequences}
 
 -- what holds of every depth from the nesting of x on
@@ -51,13 +51,6 @@ module _ {N : ℕ} {L : Limits} {x y : ℕ} {r : State} {c : Counts} {t st s t�
       → Beside r c → LeftBy N 0 0 r t′ s s′ → Sequences N L x y r c t st s t′ st′ s′
   unfolding mk-sequence
   sequences f b l = record { made = record { is = λ mem. f (nest st x) (omega arith) mem; beside = b; left = l }; by = f }
-
-  -- the tables after a call, if it is not refused
-  gone : {mem : List ℕ} → Good N L (autOf t st mem c) → x < c .states → y < c .states → Sequences N L x y r c t st s t′ st′ s′ → {z : ℕ} {d : Counts} → r ≡ Is z d
-      → Gone N L (Meaning.Is N (Join (Holds N (autOf t st mem c) x) (Holds N (autOf t st mem c) y))) (autOf t st mem c) (autOf t′ st′ mem d) z
-  gone {mem} g l m o {z} {d} e =
-      came (subst (Goes N L (Meaning.Is N (Join (Holds N (autOf t st mem c) x) (Holds N (autOf t st mem c) y))) (autOf t st mem c))
-      (o .made .is mem ∙ ap (λ (r : State). seenAut r t′ st′ mem) e) (mk-sequence-goes g l m))
 
 -- scratch after two calls
 left-both : {N : ℕ} {t1 : Table} (r : State) (t2 : List ℕ) {s s1 : List ℕ} (s2 : List ℕ) → ((i : ℕ) (d : Counts) → r ≡ Is i d → Ext t1 (table t2 (d .spp))) → Left N 0 0 t1 s s1 → LeftBy N 0 0 r t2 s1 s2 → LeftBy N 0 0 r t2 s s2
@@ -108,25 +101,22 @@ module _ {N : ℕ} {l : Bounds} {t st s : List ℕ} {c : Counts} {x y : ℕ} (a 
           sequences (by-calls N L x y (Refused n) c t st t1 st1 (omega (arith, less-1)) (λ depth le mem. is-1 depth le mem ∙ ap (λ (r : State). after (seenAut r t1 st1 mem) (sequence-by N L depth e11)) q)) tt tt
 
       module _ {z : ℕ} {d : Counts} (q : r1 ≡ Is z d) (len : length s1 ≡ length s) where
-        came-1 : Gone N L (Meaning.Is N (Join (Holds N σ e12) (Holds N σ y))) σ (autOf t1 st1 (a .members) d) z
-        came-1 = gone (a .ready .good) has-2 (a .has .1 .0) o1 q
+        law-1 : Goes N L (Meaning.Is N (Join (Holds N σ e12) (Holds N σ y))) σ (mk-sequence N L e12 y σ)
+        law-1 = mk-sequence-goes (a .ready .good) has-2 (a .has .1 .0)
 
-        left-1 : Left N 0 0 (table t1 (d .spp)) s s1
-        left-1 = subst (λ (r : State). LeftBy N 0 0 r t1 s s1) q (o1 .made .left)
-
-        beside-1 : Beside (Is z d) c
-        beside-1 = subst (λ (r : State). Beside r c) q (o1 .made .beside)
+        gone-1 : Gone N L (Meaning.Is N (Join (Holds N σ e12) (Holds N σ y))) σ (autOf t1 st1 (a .members) d) z
+        gone-1 = gone (o1 .made) q law-1
 
         asks-2 : Asks N l t1 st1 s1 d (e11 ∷ z ∷ [])
-        asks-2 = record { members = a .members; ready = ready-after (a .ready) (came-1 .grown) (came-1 .good) left-1 len; has = (state-grown (came-1 .grown) has-1, (came-1 .holds .state, tt)) }
+        asks-2 = record { members = a .members; ready = ready-of (o1 .made) q (a .ready) law-1 len; has = (state-grown (gone-1 .grown) has-1, (gone-1 .holds .state, tt)) }
 
         pub ready-2 : {m : ℕ} → nest st x ≡ m → (nest st1 e11 < m) × Asks N l t1 st1 s1 d (e11 ∷ z ∷ [])
-        ready-2 k = (omega (arith, less-1, nesting-grown (came-1 .grown) e11 has-1), asks-2)
+        ready-2 k = (omega (arith, less-1, nesting-grown (gone-1 .grown) e11 has-1), asks-2)
 
         pub regroup-done : {r2 : State} {t2 st2 s2 : List ℕ} → Sequences N L e11 z r2 d t1 st1 s1 t2 st2 s2 → Sequences N L x y r2 c t st s t2 st2 s2
         regroup-done {r2} {t2} {st2} {s2} o2 =
             sequences
             (by-calls N L x y r2 c t st t2 st2 (omega (arith, less-1)) (λ depth le mem. is-1 depth le mem ∙ ap (λ (r : State). after (seenAut r t1 st1 mem) (sequence-by N L depth e11)) q
-            ∙ o2 .by depth (omega (arith, less-1, nesting-grown (came-1 .grown) e11 has-1)) mem))
-            (beside-more r2 c d (o2 .made .beside) (beside-1 .0) (beside-1 .1))
-            (left-both r2 t2 s2 (λ i d2 k. gone (came-1 .good) (asks-2 .has .0) (asks-2 .has .1 .0) o2 k .grown .nodes) left-1 (o2 .made .left))
+            ∙ o2 .by depth (omega (arith, less-1, nesting-grown (gone-1 .grown) e11 has-1)) mem))
+            (beside-more r2 c d (o2 .made .beside) (beside-of (o1 .made) q .0) (beside-of (o1 .made) q .1))
+            (left-both r2 t2 s2 (λ i d2 k. gone (o2 .made) k (mk-sequence-goes (gone-1 .good) (asks-2 .has .0) (asks-2 .has .1 .0)) .grown .nodes) (left-of (o1 .made) q) (o2 .made .left))

@@ -280,7 +280,7 @@ fn joined(
     }
 }
 
-// (e11; e12); y is e11; (e12; y), nested as deep as x is
+// (e11; e12); y is e11; (e12; y): it calls itself at most as deep as x is nested
 pub fn mk_sequence(
     nodes: &mut [u32],
     states: &mut [u32],

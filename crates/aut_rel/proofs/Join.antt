@@ -2,9 +2,9 @@
 use mathlib.Core.Path.{_≡_, refl, sym, _∙_, ap, ap₂, subst}
 use mathlib.Core.Bool.{Bool, true, false, _&&_}
 use mathlib.Core.List.{List}
-use Prim.Native.Nat.{ℕ, _*_}
+use Prim.Native.Nat.{ℕ, _*_, _≤_}
 use lib.Dec.{eqb}
-use lib.ListN.{getD}
+use lib.ListN.{length, getD}
 use borrow.Author.Tests.{eq-eqb, ne-eqb}
 use Rattle.common.specs.Outcome.{Outcome, refused, given, Step, after}
 use Rattle.common.specs.Runs.{Table, table, placed}
@@ -16,8 +16,11 @@ use Rattle.aut.specs.declared.Put.{Put}
 use Rattle.aut.specs.declared.Put.the-variants as put
 use Rattle.aut.specs.declared.State.{State}
 use Rattle.aut.specs.declared.State.the-variants.{Is, Refused}
-use Rattle.aut_rel.specs.Behind.{Left}
-use Rattle.aut_rel.specs.Seen.{autOf, seenAut, Beside, LeftBy, SameNodes, Places, DoesSpp}
+use Rattle.spp.specs.Seen.{seen, Noted}
+use Rattle.spp.specs.declared.Made.{Made}
+use Rattle.spp.specs.declared.Made.the-variants.{Node, Full}
+use Rattle.aut_rel.specs.Behind.{LISTS, Left, lent, back, left-back}
+use Rattle.aut_rel.specs.Seen.{autOf, seenAut, Beside, LeftBy, SameNodes, MadeLeft, Places}
 
 -- both_relations
 module _ (st : List ℕ) (x y : ℕ) where
@@ -33,6 +36,11 @@ module _ (st : List ℕ) (x y : ℕ) where
     pub yes-both : getD st (12 * y) 0 ≡ SPP → relations st x y ≡ true
     unfolding kindOf
     yes-both p = simp (eq-eqb (getD st (12 * x) 0) SPP e, eq-eqb (getD st (12 * y) 0) SPP p)
+
+-- what is left of scratch by an operation that took the cache
+pub made-left : (N : ℕ) (r : Made) (t′ s m′ : List ℕ) → LISTS ≤ length s → Noted N (lent s) (seen r t′) m′ → MadeLeft N r t′ s (back s m′)
+made-left N (Node h n) t′ s m′ l v = left-back s m′ l v
+made-left N Full t′ s m′ l v = tt
 
 -- what is left of scratch, where the nodes are as they were
 pub same-left : (N a n : ℕ) (r : State) (c : Counts) (t s s′ : List ℕ) → SameNodes r c → Left N a n (table t (c .spp)) s s′ → LeftBy N a n r t s s′

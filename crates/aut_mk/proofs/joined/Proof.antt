@@ -42,13 +42,16 @@ intern-two-requires c κs =
     join.ready-both (c .before .before .before .before .before .before .pre .0)
 
 same-length : tie.Need-same-length
-same-length c = search needs
+same-length c =
+    c .before .before .before .before .before .before .spp-by .kept .0
 
 same-length-2 : tie.Need-same-length-2
-same-length-2 c = search needs
+same-length-2 c =
+    c .before .before .before .before .before .before .spp-by .kept .1 .0
 
 same-length-3 : tie.Need-same-length-3
-same-length-3 c = search needs
+same-length-3 c =
+    c .before .before .before .before .before .before .spp-by .kept .1 .1 .0
 
 returns : tie.Need-returns
 returns c =
@@ -63,21 +66,24 @@ returns-3 c =
     let g = c .before .before .before .before .before .args in join.as-known (g .fields) (limitsOf (g .limits)) (g .x) (g .y) (c .enum-told3 .given .1) (join.stays (g .y) (λ mem. refl))
 
 same-length-4 : tie.Need-same-length-4
-same-length-4 c = search needs
+same-length-4 c =
+    c .before .before .spp-zero .kept .0
 
 returns-4 : tie.Need-returns-4
 returns-4 c =
     let g = c .before .before .before .before .before .before .before .before .before .args in join.as-known (g .fields) (limitsOf (g .limits)) (g .x) (g .y) (c .before .before .before .before .enum-told4 .given .1) (join.entered (λ mem. refl) (c .before .before .spp-zero .ensures))
 
 same-length-5 : tie.Need-same-length-5
-same-length-5 c = search needs
+same-length-5 c =
+    c .before .before .top .kept .0
 
 returns-5 : tie.Need-returns-5
 returns-5 c =
     let g = c .before .before .before .before .before .before .before .before .before .args in join.as-known (g .fields) (limitsOf (g .limits)) (g .x) (g .y) (c .before .before .before .before .enum-told5 .given .1) (join.entered (λ mem. refl) (c .before .before .top .ensures))
 
 same-length-6 : tie.Need-same-length-6
-same-length-6 c = search needs
+same-length-6 c =
+    c .before .before .intern-two .kept .0
 
 returns-6 : tie.Need-returns-6
 returns-6 c =

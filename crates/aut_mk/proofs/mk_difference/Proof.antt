@@ -2,7 +2,6 @@ use mathlib.Core.Path.{_∙_}
 use Rattle.aut.specs.Seen.{limitsOf}
 use Rattle.aut_rel.specs.Seen.{autOf}
 use Rattle.aut_mk.proofs.Join as join
-use borrow.Author.Needs.{needs}
 use Rattle.aut_mk.proofs.mk_difference.Statement.{statement}
 use Rattle.aut_mk.proofs.mk_difference.Tie as tie
 
@@ -11,7 +10,8 @@ spp-zero-requires c κs =
     (join.fits-of (c .before .before .before .before .before .pre), c .before .before .before .before .before .pre .ready .few)
 
 same-length : tie.Need-same-length
-same-length c = search needs
+same-length c =
+    c .before .before .spp-zero .kept .0
 
 returns : tie.Need-returns
 returns c =
@@ -27,13 +27,16 @@ spp-of-requires c κs =
     join.relations-ready (c .before .before .before .before .before .before .before .before .before .before .pre) (c .before .before .before .before .both-relations .ensures ∙ c .before .before .before .if2 .taken)
 
 same-length-2 : tie.Need-same-length-2
-same-length-2 c = search needs
+same-length-2 c =
+    c .before .before .before .before .before .before .spp-of .kept .0
 
 same-length-3 : tie.Need-same-length-3
-same-length-3 c = search needs
+same-length-3 c =
+    c .before .before .before .before .before .before .spp-of .kept .1 .0
 
 same-length-4 : tie.Need-same-length-4
-same-length-4 c = search needs
+same-length-4 c =
+    c .before .before .before .before .before .before .spp-of .kept .1 .1 .0
 
 returns-2 : tie.Need-returns-2
 returns-2 c =
@@ -45,7 +48,8 @@ intern-two-requires c κs =
     join.ready-both (c .before .before .before .before .before .before .before .before .pre)
 
 same-length-5 : tie.Need-same-length-5
-same-length-5 c = search needs
+same-length-5 c =
+    c .before .before .intern-two .kept .0
 
 returns-3 : tie.Need-returns-3
 returns-3 c =

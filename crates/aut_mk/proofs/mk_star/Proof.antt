@@ -24,13 +24,16 @@ spp-by-requires c κs =
     join.relation-x (c .before .before .before .before .before .before .before .before .before .pre) (c .before .before .before .if2 .taken)
 
 same-length : tie.Need-same-length
-same-length c = search needs
+same-length c =
+    c .before .before .before .before .before .before .spp-by .kept .0
 
 same-length-2 : tie.Need-same-length-2
-same-length-2 c = search needs
+same-length-2 c =
+    c .before .before .before .before .before .before .spp-by .kept .1 .0
 
 same-length-3 : tie.Need-same-length-3
-same-length-3 c = search needs
+same-length-3 c =
+    c .before .before .before .before .before .before .spp-by .kept .1 .1 .0
 
 returns-2 : tie.Need-returns-2
 returns-2 c =
@@ -42,7 +45,8 @@ top-requires c κs =
     join.fits-of (c .before .before .before .before .before .before .before .before .pre)
 
 same-length-4 : tie.Need-same-length-4
-same-length-4 c = search needs
+same-length-4 c =
+    c .before .before .top .kept .0
 
 returns-3 : tie.Need-returns-3
 returns-3 c =
@@ -54,7 +58,8 @@ intern-one-requires c κs =
     join.ready-x (c .before .before .before .before .before .before .before .before .pre)
 
 same-length-5 : tie.Need-same-length-5
-same-length-5 c = search needs
+same-length-5 c =
+    c .before .before .intern-one .kept .0
 
 returns-4 : tie.Need-returns-4
 returns-4 c =

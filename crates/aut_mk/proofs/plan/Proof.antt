@@ -5,41 +5,48 @@ use Rattle.aut_mk.proofs.plan.Statement.{statement}
 use Rattle.aut_mk.proofs.plan.Tie as tie
 
 both-relations-requires : tie.Need-both-relations-requires
-both-relations-requires c κs = search needs
+both-relations-requires c κs =
+    (c .before .pre .0, c .before .pre .1)
 
 returns : tie.Need-returns
 returns c =
     let g = c .before .before .before .args in ways.by-relations (g .fields) (g .states .now) (g .x) (g .y) (c .before .both-relations .ensures ∙ c .if1 .taken)
 
 one-at-depth-requires : tie.Need-one-at-depth-requires
-one-at-depth-requires c κs = search needs
+one-at-depth-requires c κs =
+    (c .before .before .before .pre .2, c .before .before .before .pre .2)
 
 zero-at-depth-requires : tie.Need-zero-at-depth-requires
-zero-at-depth-requires c κs = search needs
+zero-at-depth-requires c κs =
+    c .before .before .before .before .pre .2
 
 is-relation-requires : tie.Need-is-relation-requires
-is-relation-requires c κs = search needs
+is-relation-requires c κs =
+    c .before .before .before .before .before .pre .0
 
 returns-2 : tie.Need-returns-2
 returns-2 c =
     let g = c .before .before .before .before .before .before .before .args in ways.one-first (g .fields) (g .states .now) (g .x) (g .y) (c .before .before .before .before .before .both-relations .ensures ∙ c .before .before .before .before .if1 .left) (c .before .before .before .one-at-depth .ensures) (c .before .before .zero-at-depth .ensures (g .fields)) (c .before .is-relation .ensures ∙ c .if2 .taken)
 
 is-relation-requires-2 : tie.Need-is-relation-requires-2
-is-relation-requires-2 c κs = search needs
+is-relation-requires-2 c κs =
+    c .before .before .before .before .before .before .before .pre .0
 
 returns-3 : tie.Need-returns-3
 returns-3 c =
     let g = c .before .before .before .before .before .before .before .before .before .args in ways.zero-first (g .fields) (g .states .now) (g .x) (g .y) (c .before .before .before .before .before .before .before .both-relations .ensures ∙ c .before .before .before .before .before .before .if1 .left) (c .before .before .before .before .before .one-at-depth .ensures) (c .before .before .before .before .zero-at-depth .ensures (g .fields)) (c .before .before .before .is-relation .ensures ∙ c .before .before .if2 .left) (c .before .is-relation2 .ensures ∙ c .if3 .taken)
 
 is-relation-requires-3 : tie.Need-is-relation-requires-3
-is-relation-requires-3 c κs = search needs
+is-relation-requires-3 c κs =
+    c .before .before .before .before .before .before .before .before .before .pre .1
 
 returns-4 : tie.Need-returns-4
 returns-4 c =
     let g = c .before .before .before .before .before .before .before .before .before .before .before .args in ways.one-second (g .fields) (g .states .now) (g .x) (g .y) (c .before .before .before .before .before .before .before .before .before .both-relations .ensures ∙ c .before .before .before .before .before .before .before .before .if1 .left) (c .before .before .before .before .before .before .before .one-at-depth .ensures) (c .before .before .before .before .before .before .zero-at-depth .ensures (g .fields)) (c .before .before .before .before .before .is-relation .ensures ∙ c .before .before .before .before .if2 .left) (c .before .before .before .is-relation2 .ensures ∙ c .before .before .if3 .left) (c .before .is-relation3 .ensures ∙ c .if4 .taken)
 
 is-relation-requires-4 : tie.Need-is-relation-requires-4
-is-relation-requires-4 c κs = search needs
+is-relation-requires-4 c κs =
+    c .before .before .before .before .before .before .before .before .before .before .before .pre .1
 
 returns-5 : tie.Need-returns-5
 returns-5 c =

@@ -1,25 +1,15 @@
 use mathlib.Core.Path.{_≡_, sym, subst}
-use mathlib.Core.List.{List}
-use Prim.Native.Nat.{ℕ, _≤_}
-use lib.ListN.{length}
 use native.Mathlib.Omega.{arith}
 use Rattle.common.specs.Runs.{table}
-use Rattle.cache.specs.Cache.{Sound, Notes}
-use Rattle.spp.specs.Seen.{seen, Noted}
-use Rattle.spp.specs.declared.Made.{Made}
-use Rattle.spp.specs.declared.Made.the-variants.{Node, Full}
-use Rattle.aut_rel.specs.Behind.{Readable, lent, lent-is, back, left-back, LISTS}
-use Rattle.aut_rel.specs.Seen.{MadeLeft}
+use Rattle.cache.specs.Cache.{Sound}
+use Rattle.aut_rel.specs.Behind.{Readable, lent-is}
+use Rattle.aut_rel.proofs.Join as join
 use borrow.Author.Needs.{needs}
 use Rattle.aut_rel.proofs.apply.Statement.{statement}
 use Rattle.aut_rel.proofs.apply.Tie as tie
 use Rattle.aut_rel.proofs.apply.Reads as reads
 use Rattle.aut_rel.proofs.apply.Lts as lts
 use Rattle.spp.proofs.apply.Reads as apply-reads
-
-made-left : (N : ℕ) (r : Made) (t′ s m′ : List ℕ) → LISTS ≤ length s → Noted N (lent s) (seen r t′) m′ → MadeLeft N r t′ s (back s m′)
-made-left N (Node h n) t′ s m′ l v = left-back s m′ l v
-made-left N Full t′ s m′ l v = tt
 
 -- src/lib.rt:15:23
 mul-apply : tie.Need-mul-apply
@@ -54,7 +44,7 @@ same-length-2 c = search needs
 -- src/lib.rt:10:1
 returns : tie.Need-returns
 returns c =
-    let g = c .before .before .before .before .before .before .before .before .before .args in record { gives = c .before .before .before .before .apply .ensures .gives; left = made-left (g .fields) (c .before .before .before .before .apply .result) (c .before .before .before .before .apply .last .0) (g .scratch .now) (c .before .before .before .before .apply .last .1 .0) (c .before .before .before .before .before .before .before .before .before .pre .backed .room) (c .before .before .before .before .apply .ensures .notes) }
+    let g = c .before .before .before .before .before .before .before .before .before .args in record { gives = c .before .before .before .before .apply .ensures .gives; left = join.made-left (g .fields) (c .before .before .before .before .apply .result) (c .before .before .before .before .apply .last .0) (g .scratch .now) (c .before .before .before .before .apply .last .1 .0) (c .before .before .before .before .before .before .before .before .before .pre .backed .room) (c .before .before .before .before .apply .ensures .notes) }
 
 pub apply-spec : {M : Type 1} → statement M
 apply-spec =

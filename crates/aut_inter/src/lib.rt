@@ -1,0 +1,202 @@
+// mk_intersect_n and mk_intersect of aut.rs: products of a list with Union members are made one by one, never stored.
+use aut::Counts;
+use aut::Limits;
+use aut::State;
+use aut_lists::Counted;
+use aut_lists::Listed;
+use spp::Op;
+ghost use mathlib.Core.Path.{_≡_};
+ghost use mathlib.Core.List.{List, [], _∷_};
+ghost use Prim.Native.Nat.{ℕ, _+_, _*_, _≤_, _<_};
+ghost use Rattle.aut_steps.specs.Tables.{words};
+ghost use Rattle.aut_steps.specs.Constructors as C;
+ghost use Rattle.aut.specs.Seen.{limitsOf};
+ghost use Rattle.aut_rel.specs.Seen.{autOf, Ready, Does};
+ghost use Rattle.aut_union.specs.Seen.{ListAt, PairAt};
+ghost use Rattle.aut_inter.specs.Seen.{BaseReady, BasesReady, Bases};
+
+// the counts after all products
+pub enum Based {
+    Done(Counts),
+    Refused(u32),
+}
+
+// the intersection of product i of the k states at OPENED
+fn base(
+    nodes: &mut [u32],
+    states: &mut [u32],
+    members: &mut [u32],
+    scratch: &mut [u32],
+    c: Counts,
+    limits: Limits,
+    fields: u32,
+    k: usize,
+    i: usize,
+) -> State
+    requires { ⌜ BaseReady fields limits (autOf (now nodes) (now states) (now members) c) (now scratch) k i ⌝ }
+    ensures { λ r. ⌜ Does fields 192 384 (C.base fields (limitsOf limits) (words (now (scratch .entry)) 64 k) i (autOf (now (nodes .entry)) (now (states .entry)) (now (members .entry)) c)) r c (now (nodes .exit)) (now (states .exit)) (now (members .exit)) (now (scratch .entry)) (now (scratch .exit)) ⌝ }
+{
+    aut_lists::product(
+        states,
+        members,
+        scratch,
+        aut_lists::OPENED,
+        k,
+        i,
+        aut_lists::PRODUCT,
+    );
+    aut_meet::mk_intersect_n_base(
+        nodes,
+        states,
+        members,
+        scratch,
+        c,
+        limits,
+        fields,
+        aut_lists::PRODUCT,
+        k,
+    )
+}
+
+// of n products of the k states at OPENED; the states go to RESULTS
+fn bases(
+    nodes: &mut [u32],
+    states: &mut [u32],
+    members: &mut [u32],
+    scratch: &mut [u32],
+    c: Counts,
+    limits: Limits,
+    fields: u32,
+    k: usize,
+    n: usize,
+) -> Based
+    requires { ⌜ BasesReady fields limits (autOf (now nodes) (now states) (now members) c) (now scratch) k n ⌝ }
+    ensures { λ r. ⌜ Bases fields n limits (autOf (now (nodes .entry)) (now (states .entry)) (now (members .entry)) c) (C.bases fields (limitsOf limits) (words (now (scratch .entry)) 64 k) 0 n [] (autOf (now (nodes .entry)) (now (states .entry)) (now (members .entry)) c)) r c (now (nodes .exit)) (now (states .exit)) (now (members .exit)) (now (scratch .entry)) (now (scratch .exit)) ⌝ }
+{
+    let mut d = c;
+    let mut i = 0;
+    while i < n {
+        let made = base(nodes, states, members, scratch, d, limits, fields, k, i);
+        match made {
+            State::Refused(e) => {
+                return Based::Refused(e);
+            }
+            State::Is(z, d1) => {
+                scratch[aut_lists::RESULTS + i] = z;
+                d = d1;
+            }
+        }
+        i += 1;
+    }
+    Based::Done(d)
+}
+
+// the union of the products of the k states at OPENED
+fn distribute(
+    nodes: &mut [u32],
+    states: &mut [u32],
+    members: &mut [u32],
+    scratch: &mut [u32],
+    c: Counts,
+    limits: Limits,
+    fields: u32,
+    k: usize,
+) -> State
+    requires { ⌜ Ready fields limits (autOf (now nodes) (now states) (now members) c) (now scratch) × ListAt (now scratch) (c .states) 64 k 128 ⌝ }
+    ensures { λ r. ⌜ Does fields 128 448 (C.intersectOpened fields (limitsOf limits) (C.within (words (now (scratch .entry)) 64 k)) (autOf (now (nodes .entry)) (now (states .entry)) (now (members .entry)) c)) r c (now (nodes .exit)) (now (states .exit)) (now (members .exit)) (now (scratch .entry)) (now (scratch .exit)) ⌝ }
+{
+    let Counted::Products(n) = aut_lists::count_all(
+        states,
+        scratch,
+        limits.products,
+        aut_lists::OPENED,
+        k,
+    ) else {
+        return State::Refused(7);
+    };
+    let based = bases(nodes, states, members, scratch, c, limits, fields, k, n);
+    match based {
+        Based::Refused(e) => State::Refused(e),
+        Based::Done(d) => aut_union::mk_union_n(
+            nodes,
+            states,
+            members,
+            scratch,
+            d,
+            limits,
+            fields,
+            aut_lists::RESULTS,
+            n,
+        ),
+    }
+}
+
+// the intersection of the k states at from
+pub fn mk_intersect_n(
+    nodes: &mut [u32],
+    states: &mut [u32],
+    members: &mut [u32],
+    scratch: &mut [u32],
+    c: Counts,
+    limits: Limits,
+    fields: u32,
+    from: usize,
+    k: usize,
+) -> State
+    requires { ⌜ Ready fields limits (autOf (now nodes) (now states) (now members) c) (now scratch) × ListAt (now scratch) (c .states) from k 64 ⌝ }
+    ensures { λ r. ⌜ Does fields 64 512 (C.mk-intersect-n fields (limitsOf limits) (words (now (scratch .entry)) from k) (autOf (now (nodes .entry)) (now (states .entry)) (now (members .entry)) c)) r c (now (nodes .exit)) (now (states .exit)) (now (members .exit)) (now (scratch .entry)) (now (scratch .exit)) ⌝ }
+{
+    if k > limits.list {
+        return State::Refused(6);
+    }
+    if k == 1 {
+        return State::Is(scratch[from], c);
+    }
+    let Listed::List(m) = aut_lists::open(
+        states,
+        members,
+        scratch,
+        limits.list,
+        from,
+        k,
+        aut_lists::OPENED,
+    ) else {
+        return State::Refused(6);
+    };
+    distribute(nodes, states, members, scratch, c, limits, fields, m)
+}
+
+pub fn mk_intersect(
+    nodes: &mut [u32],
+    states: &mut [u32],
+    members: &mut [u32],
+    scratch: &mut [u32],
+    c: Counts,
+    limits: Limits,
+    fields: u32,
+    x: u32,
+    y: u32,
+) -> State
+    requires { ⌜ Ready fields limits (autOf (now nodes) (now states) (now members) c) (now scratch) × PairAt (c .states) x y ⌝ }
+    ensures { λ r. ⌜ Does fields 0 576 (C.mk-intersect fields (limitsOf limits) x y (autOf (now (nodes .entry)) (now (states .entry)) (now (members .entry)) c)) r c (now (nodes .exit)) (now (states .exit)) (now (members .exit)) (now (scratch .entry)) (now (scratch .exit)) ⌝ }
+{
+    if x == y {
+        return State::Is(x, c);
+    }
+    if aut_rel::both_relations(states, x, y) {
+        return aut_rel::spp_of(nodes, states, scratch, c, fields, Op::Intersect, x, y);
+    }
+    scratch[aut_lists::GIVEN] = x;
+    scratch[aut_lists::GIVEN + 1] = y;
+    mk_intersect_n(
+        nodes,
+        states,
+        members,
+        scratch,
+        c,
+        limits,
+        fields,
+        aut_lists::GIVEN,
+        2,
+    )
+}

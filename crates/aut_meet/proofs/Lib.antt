@@ -1,0 +1,3 @@
+-- Gathering the relations of a list; the chain of calls of an intersection.
+pub mod Gather
+pub mod Chain
