@@ -40,7 +40,7 @@ module _ (N : ℕ) where
     lacks : {number : ℕ} {t′ : Table} → Ext t t′ → Wf N t′ → Lacks number t′ → Makes R t (refused number)
     makes : {t′ : Table} {h : ℕ} → Made R t t′ h → Makes R t (given t′ h)
 
-  made : {R : Relation N} {c : Step Table ℕ} {t : Table} → Exact (sppLimits N) c (λ τ h. Den τ N h R) t → Makes R t (c t)
+  pub made : {R : Relation N} {c : Step Table ℕ} {t : Table} → Exact (sppLimits N) c (λ τ h. Den τ N h R) t → Makes R t (c t)
   made {R} {c} {t} e = at (c t) (e .runs) (e .stops)
     where
       at : (o : Outcome Table ℕ) → Gives (Runs.Good (sppTheory N) c (λ τ h. Den τ N h R) t) o → Stops (sppLimits N) t o → Makes R t o
