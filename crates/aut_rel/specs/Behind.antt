@@ -1,4 +1,4 @@
--- Scratch as the steps on relations leave it: lists stand below word 1024, and behind them lies the cache, in which only right results are noted.
+-- Scratch as the steps on relations leave it: lists stand below word 1152, and behind them lies the cache, in which only right results are noted.
 use mathlib.Core.Path.{_≡_, refl, sym, _∙_, ap, subst}
 use mathlib.Core.List.{List, [], _∷_, _++_, append-nil}
 use Prim.Native.Nat.{ℕ, zero, suc, _+_, _*_, _-_, _≤_, _<_}
@@ -16,7 +16,7 @@ use Rattle.aut_steps.specs.Scratch.{Kept}
 
 -- the words below are lists, those from here on the cache
 abbrev pub LISTS : ℕ
-LISTS = 1024
+LISTS = 1152
 
 abbrev pub cached : List ℕ → List ℕ
 cached s = drop LISTS s

@@ -10,6 +10,7 @@ use lib.ListN.{length, getD}
 use borrow.Author.Tests.{leb-true, leb-false}
 use Rattle.common.specs.Outcome.{Outcome, refused, given, Step, return, after, if_then_else_}
 use Rattle.common.specs.Runs.{Table, table, placed}
+use Rattle.netkat.specs.ListSteps.{Edge}
 use Rattle.spp_steps.specs.Laws.{Wf, Ext, ext-refl, by-test}
 use Rattle.spp_steps.specs.Make.{Lacks}
 use Rattle.aut_steps.specs.Tables.{UNION, INTERSECT, words, Limits, stateCap, memberCap, roomS, roomM, put4, Aut, aut, putNodes, onNodes}
@@ -45,6 +46,8 @@ pub data Why (L : Limits) (τ : Aut) : ℕ → Type 0 where
   no-state : roomS (τ .states) ≡ false → Why L τ 22
   -- there is no room for this list
   no-members : (xs : List ℕ) → All (λ x. x < states τ) xs → length xs ≤ L .list → roomM (τ .members) (length xs) ≡ false → Why L τ 23
+  -- this transition list is as long as the limit allows, and one more is to go in
+  full-list : (es : List Edge) → L .transitions ≤ length es → Why L τ 9
 
 -- What a step from σ comes to. It is refused only from tables that have grown and are in order, and with the right number.
 pub data Goes (N : ℕ) (L : Limits) {A : Type 0} (P : Aut → A → Type 0) (σ : Aut) : Outcome Aut A → Type 0 where

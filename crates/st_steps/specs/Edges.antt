@@ -1,0 +1,43 @@
+-- 01, "Lent tables": a transition is 2 words, target and label. A list of transitions as words, in the table or in scratch; and when its targets and labels are
+-- in order.
+use mathlib.Core.List.{List, [], _∷_}
+use Prim.Native.Nat.{ℕ, zero, suc, _+_, _*_, _<_}
+use lib.ListN.{getD}
+use Rattle.netkat.specs.ListSteps.{Edge, edge}
+use Rattle.spp_steps.specs.Laws.{At, at-ext}
+use Rattle.aut_steps.specs.Tables.{Aut}
+use Rattle.aut_steps.specs.Good.{states, Grown, state-grown}
+
+-- the k transitions from record a on
+unfoldable pub edges : List ℕ → ℕ → ℕ → List Edge
+edges t a zero = []
+edges t a (suc k) = edge (getD t (2 * a) 0) (getD t (2 * a + 1) 0) ∷ edges t (a + 1) k
+
+-- a list's words
+unfoldable pub flat : List Edge → List ℕ
+flat [] = []
+flat (e ∷ es) = e .target ∷ e .label ∷ flat es
+
+-- the target is a state, the label a relation of N fields
+pub record EdgeAt (N : ℕ) (σ : Aut) (e : Edge) : Type 0 where
+  pub state : e .target < states σ
+  pub relation : At (σ .nodes) N (e .label)
+
+pub data EdgesAt (N : ℕ) (σ : Aut) : List Edge → Type 0 where
+  none : EdgesAt N σ []
+  also : {e : Edge} {es : List Edge} → EdgeAt N σ e → EdgesAt N σ es → EdgesAt N σ (e ∷ es)
+
+module _ {N : ℕ} {σ : Aut} where
+  pub first-at : {e : Edge} {es : List Edge} → EdgesAt N σ (e ∷ es) → EdgeAt N σ e
+  first-at (also p q) = p
+
+  pub rest-at : {e : Edge} {es : List Edge} → EdgesAt N σ (e ∷ es) → EdgesAt N σ es
+  rest-at (also p q) = q
+
+module _ {N : ℕ} {σ τ : Aut} (g : Grown σ τ) where
+  pub edge-grown : {e : Edge} → EdgeAt N σ e → EdgeAt N τ e
+  edge-grown {e} p = record { state = state-grown g (p .state); relation = at-ext (g .nodes) N (e .label) (p .relation) }
+
+  pub edges-grown : {es : List Edge} → EdgesAt N σ es → EdgesAt N τ es
+  edges-grown none = none
+  edges-grown (also p q) = also (edge-grown p) (edges-grown q)
