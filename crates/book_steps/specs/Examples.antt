@@ -1,0 +1,83 @@
+-- 01's book and lines that are not of their form, read: computed.
+use mathlib.Core.Path.{_≡_, refl}
+use mathlib.Core.List.{List, [], _∷_}
+use mathlib.Core.Option.{Option, none, some}
+use mathlib.Core.Bool.{true}
+use Prim.Native.Nat.{ℕ}
+use Prim.Native.String.{String}
+use Rattle.line_steps.specs.Lines as Lines
+use Rattle.line_steps.specs.Lines.{test, seq, union}
+use Rattle.book_steps.specs.Text.{bytes, Cut, line, unended, cut, words, same, digits, reading, number, decimalBy, decimal}
+use Rattle.book_steps.specs.Reader.{Header, header, Said, bit, pair, listed, query, empty, find, numbers, exact, said, Told, makes, asks, refuses, giving, tell}
+
+abbrev read : String → Option Said
+read t = said (words (bytes t))
+
+pub record Row : Type 0 where
+  pub text : String
+  pub says : Option Said
+
+abbrev row : String → Option Said → Row
+row t r = record { text = t; says = r }
+
+abbrev pub rows : List Row
+rows =
+    row "test 0 1" (some (bit test 0 1))
+    ∷ row "seq 0 1" (some (pair seq 0 1))
+    ∷ row "empty 2" (some (query empty 2))
+    ∷ row "union" (some (listed union []))
+    ∷ row "union " none
+    ∷ row "union 3 3 0" (some (listed union (3 ∷ 3 ∷ 0 ∷ [])))
+    ∷ row "" none
+    ∷ row "dup 0" none
+    ∷ row "not" none
+    ∷ row "or 0  1" none
+    ∷ row " top" none
+    ∷ row "not 00" none
+    ∷ row "not 01" none
+    ∷ row "not +1" none
+    ∷ row "test 18446744073709551616 0" none
+    ∷ row "test 18446744073709551615 0" (some (bit test 18446744073709551615 0))
+    ∷ []
+
+abbrev AllRead : List Row → Type 0
+AllRead [] = Unit
+AllRead (r ∷ rs) = (read (r .text) ≡ r .says) × AllRead rs
+
+pub all-read : AllRead rows
+unfolding words same digits reading number find numbers exact said
+all-read = (refl, (refl, (refl, (refl, (refl, (refl, (refl, (refl, (refl, (refl, (refl, (refl, (refl, (refl, (refl, (refl, tt))))))))))))))))
+
+-- the first line
+pub first-line : header (words (bytes "fields 1 budget 10")) ≡ some (record { fields = 1; budget = 10 })
+unfolding words same digits reading number header
+first-line = refl
+
+-- refusals 4 and 5, with two lines before, the second of them a query
+abbrev before : List (Option ℕ)
+before = some 7 ∷ none ∷ []
+
+pub names-query : tell 3 before (pair seq 0 1) ≡ refuses 4
+unfolding tell
+names-query = refl
+
+pub names-itself : tell 3 before (listed union (0 ∷ 2 ∷ [])) ≡ refuses 4
+unfolding tell giving
+names-itself = refl
+
+pub names-line : tell 3 before (pair seq 0 0) ≡ makes (Lines.pair seq 7 7)
+unfolding tell
+names-line = refl
+
+pub field-past : tell 3 before (bit test 3 0) ≡ refuses 5
+unfolding tell
+field-past = refl
+
+pub value-past : tell 3 before (bit test 2 2) ≡ refuses 5
+unfolding tell
+value-past = refl
+
+-- numbers are written as they are read
+pub written : decimal 18446744073709551615 ≡ bytes "18446744073709551615"
+unfolding decimal decimalBy
+written = refl

@@ -1,0 +1,1 @@
+// A book as text: what its lines say. No function of its own, only specs/.
