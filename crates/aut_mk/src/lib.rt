@@ -126,7 +126,7 @@ pub fn mk_difference(
 
 // ---- star
 
-fn relate(
+pub fn relate(
     nodes: &mut [u32],
     scratch: &mut [u32],
     count: usize,

@@ -2,4 +2,5 @@
 pub mod Text
 pub mod Reader
 pub mod TextLaws
+pub mod Answers
 pub mod Examples

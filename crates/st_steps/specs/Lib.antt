@@ -3,3 +3,4 @@
 pub mod Operations
 pub mod Edges
 pub mod ListGoes
+pub mod EachSteps

@@ -196,28 +196,28 @@ module _ {N : ℕ} {L : Limits} where
 
   -- ---- what is made of a transition
 
-  return-makes : (σ : Aut) → Maker N L σ return
+  pub return-makes : (σ : Aut) → Maker N L σ return
   return-makes σ τ e w v p = goes-return e v p
 
-  follow-makes : {σ : Aut} {x : ℕ} → State σ x → Maker N L σ (followedBy (ops N L) x)
+  pub follow-makes : {σ : Aut} {x : ℕ} → State σ x → Maker N L σ (followedBy (ops N L) x)
   follow-makes i τ e w v p =
       goes-bind (mk-sequence-goes v (p .state) (state-grown w i)) (λ υ z w′ v′ b. goes-return _ v′ (record { state = b .state; relation = label-grown w′ (relation-of p) .at }))
 
-  meet-with-makes : {σ : Aut} {x : ℕ} → State σ x → Maker N L σ (metWith (ops N L) x)
+  pub meet-with-makes : {σ : Aut} {x : ℕ} → State σ x → Maker N L σ (metWith (ops N L) x)
   meet-with-makes i τ e w v p =
       goes-bind (mk-intersect-goes v (p .state) (state-grown w i)) (λ υ z w′ v′ b. goes-return _ v′ (record { state = b .state; relation = label-grown w′ (relation-of p) .at }))
 
-  complement-makes : (σ : Aut) → Maker N L σ (complementOf (ops N L))
+  pub complement-makes : (σ : Aut) → Maker N L σ (complementOf (ops N L))
   complement-makes σ τ e w v p =
       goes-bind (mk-complement-goes v (p .state)) (λ υ z w′ v′ b. goes-return _ v′ (record { state = b .state; relation = label-grown w′ (relation-of p) .at }))
 
-  after-makes : {σ : Aut} {l : ℕ} → Label N σ l → Maker N L σ (St.after (ops N L) l)
+  pub after-makes : {σ : Aut} {l : ℕ} → Label N σ l → Maker N L σ (St.after (ops N L) l)
   after-makes a τ e w v p = goes-bind (sequence-goes v (label-grown w a) (relation-of p)) (λ υ m w′ v′ b. goes-return _ v′ (record { state = state-grown w′ (p .state); relation = b .at }))
 
-  rest-makes : {σ : Aut} {sum : ℕ} → Label N σ sum → Maker N L σ (restOf (ops N L) sum)
+  pub rest-makes : {σ : Aut} {sum : ℕ} → Label N σ sum → Maker N L σ (restOf (ops N L) sum)
   rest-makes a τ e w v p = goes-bind (difference-goes v (relation-of p) (label-grown w a)) (λ υ m w′ v′ b. goes-return _ v′ (record { state = state-grown w′ (p .state); relation = b .at }))
 
-  meet-makes : (σ : Aut) (t : Edge) → EdgeAt N σ t → Maker N L σ (meetOf (ops N L) t)
+  pub meet-makes : (σ : Aut) (t : Edge) → EdgeAt N σ t → Maker N L σ (meetOf (ops N L) t)
   meet-makes σ t q τ e w v p =
       goes-bind (mk-intersect-goes v (state-grown w (q .state)) (p .state)) (λ τ₁ x w₁ v₁ b₁.
       goes-bind (intersect-goes v₁ (relation-of (edge-grown (grown-trans w w₁) q)) (relation-of (edge-grown w₁ p))) (λ τ₂ m w₂ v₂ b₂.
@@ -294,7 +294,7 @@ module _ {N : ℕ} {L : Limits} where
 
   -- ---- st_complement
 
-  coverAll-goes : {σ : Aut} → Good N L σ → (ts : List Edge) → EdgesAt N σ ts → {sum : ℕ} → Label N σ sum → Goes N L (Label N) σ (coverAll (ops N L) ts sum σ)
+  pub coverAll-goes : {σ : Aut} → Good N L σ → (ts : List Edge) → EdgesAt N σ ts → {sum : ℕ} → Label N σ sum → Goes N L (Label N) σ (coverAll (ops N L) ts sum σ)
   unfolding coverAll
   coverAll-goes g [] a {sum} p = goes-return sum g p
   coverAll-goes g (t ∷ ts) a p = goes-bind (union-goes g p (relation-of (first-at a))) (λ τ m w v b. coverAll-goes v ts (edges-grown w (rest-at a)) b)

@@ -1,0 +1,61 @@
+-- 01, "The book and its answers": the lines of an answer. `fields`: N. `empty`: the line named, verdict (yes, no, spent), pairs taken. `live`: line, live packets, and their
+-- share of 2^N in thousandths, the half rounded up. `pruned`: line, number of transitions; each `pair`: target state number, packet pairs in the label.
+use mathlib.Core.Path.{_≡_, refl, _∙_}
+use mathlib.Core.List.{List, [], _∷_, _++_}
+use Prim.Native.Nat.{ℕ, suc, _+_, _*_, _/_, _^_, _≤_, _<_}
+use native.Mathlib.Nat.{mul-div-le, lt-mul-div-succ}
+use native.Mathlib.Omega.{arith}
+use lib.ListN.{length}
+use Rattle.netkat.specs.Search.{Verdict, yes, no, spent}
+use Rattle.book_steps.specs.Text.{bytes, decimalBy, decimal}
+
+-- words with single spaces between them, and byte 10
+unfoldable pub say : List (List ℕ) → List ℕ
+say [] = 10 ∷ []
+say (w ∷ []) = w ++ 10 ∷ []
+say (w ∷ v ∷ ws) = w ++ 32 ∷ say (v ∷ ws)
+
+abbrev pub verdictWord : Verdict → List ℕ
+verdictWord yes = bytes "yes"
+verdictWord no = bytes "no"
+verdictWord spent = bytes "spent"
+
+-- thousandths, the half rounded up
+unfoldable pub share : ℕ → ℕ → ℕ
+share count total = (2000 * count + total) / (2 * total)
+
+abbrev pub fieldsAnswer : ℕ → List ℕ
+fieldsAnswer N = say (bytes "fields" ∷ decimal N ∷ [])
+
+abbrev pub emptyAnswer : ℕ → Verdict → ℕ → List ℕ
+emptyAnswer line verdict count = say (bytes "empty" ∷ decimal line ∷ verdictWord verdict ∷ decimal count ∷ [])
+
+-- of packets with N bits
+abbrev pub liveAnswer : ℕ → ℕ → ℕ → List ℕ
+liveAnswer N line count = say (bytes "live" ∷ decimal line ∷ decimal count ∷ decimal (share count (2 ^ N)) ∷ [])
+
+pub record Pairs : Type 0 where
+  pub target : ℕ
+  pub number : ℕ
+
+unfoldable pub pairLines : List Pairs → List ℕ
+pairLines [] = []
+pairLines (p ∷ ps) = say (bytes "pair" ∷ decimal (p .target) ∷ decimal (p .number) ∷ []) ++ pairLines ps
+
+abbrev pub prunedAnswer : ℕ → List Pairs → List ℕ
+prunedAnswer line pairs = say (bytes "pruned" ∷ decimal line ∷ decimal (length pairs) ∷ []) ++ pairLines pairs
+
+-- ---- the share is the nearest thousandth, of two that are equally near the larger
+
+pub share-is : (count total : ℕ) → 0 < total
+    → (2 * total * share count total ≤ 2000 * count + total) × (2000 * count + total < 2 * total * (share count total + 1))
+unfolding share
+share-is count total l = (mul-div-le (2000 * count + total) (2 * total), lt-mul-div-succ (2000 * count + total) (omega arith))
+
+pub sixteenth : share 1 16 ≡ 63
+unfolding share
+sixteenth = refl
+
+pub thirty-second : share 1 32 ≡ 31
+unfolding share
+thirty-second = refl
