@@ -1,0 +1,2 @@
+-- What a replay keeps: tables and scratch in order.
+pub mod Kept
