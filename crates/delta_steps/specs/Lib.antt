@@ -12,6 +12,7 @@ pub mod Noted
 pub mod Worked
 pub mod Operands
 pub mod EpsilonLaws
+pub mod EpsilonReads
 pub mod DeltaLists
 pub mod Stored
 pub mod ListGoes

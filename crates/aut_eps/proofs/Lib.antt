@@ -1,0 +1,4 @@
+-- What is kept of a state, and its operands; a loop over members; what the values come to when they are put together; the loop over operands.
+pub mod Shapes
+pub mod Together
+pub mod Turns
