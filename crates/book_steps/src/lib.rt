@@ -1,1 +1,1 @@
-// A book as text: what its lines say. No function of its own, only specs/.
+// A whole book: its text, its outcome, what it means and what is promised of it. No function of its own, only specs/.

@@ -12,7 +12,7 @@ use borrow.Author.Tests.{eqb-true, eqb-false, ltb-true}
 use Rattle.common.specs.Packets.{Packet, Set, Relation, any}
 use Rattle.common.specs.Relations.{starts}
 use Rattle.common.specs.RelationLaws.{starts-of, starts-to}
-use Rattle.common.specs.Outcome.{Outcome, refused, given, return, Gives, refusal, gives, if_then_else_}
+use Rattle.common.specs.Outcome.{Outcome, Gives, refusal, gives, if_then_else_}
 use Rattle.common.specs.Follow.{call, branch}
 use Rattle.common.specs.Runs.{Table, placed}
 use Rattle.netkat.specs.Rules.{Rule, Language}
@@ -30,7 +30,7 @@ use Rattle.aut_steps.specs.Meaning.{Holds, rule, rule-grown}
 use Rattle.delta_steps.specs.Epsilon.{epsilon}
 use Rattle.delta_steps.specs.Delta.{countOf, Store, onAut, listAt, delta}
 use Rattle.delta_steps.specs.Fits.{tables as readings}
-use Rattle.delta_steps.specs.Agree.{Agree, come}
+use Rattle.delta_steps.specs.Agree.{Agree, stop, come}
 use Rattle.delta_steps.specs.Worked.{Means, Worked, Stored, same-list}
 use Rattle.delta_steps.specs.Stored.{Went}
 use Rattle.delta_steps.specs.DeltaRuns.{Halted, Stepped, Deltaed, epsilon-step}
@@ -108,27 +108,27 @@ starts-same {R = R} {S = S} i j p =
 
 -- ---- epsilon and delta as steps on all tables
 
-module _ {N : ℕ} {L : Limits} {σ : Tables} (o : Ordered N L σ) {s : ℕ} (k : s < states (σ .base .aut)) where
-  pub epsilon-stepped : Gives (Steps N L (λ τ e. Means N (τ .base .aut .nodes) e (Holds N (σ .base .aut) s)) σ) (onBase (onAut (epsilon N s)) σ)
-  epsilon-stepped = go (onAut (epsilon N s) (σ .base)) (epsilon-step (o .worked) k)
-    where
-      go : (r : Outcome Store ℕ) → Agree (Halted N L (σ .base)) (Stepped N L (λ τ e. Means N (τ .nodes) e (Holds N (σ .base .aut) s)) (σ .base)) r r
-          → Gives (Steps N L (λ τ e. Means N (τ .base .aut .nodes) e (Holds N (σ .base .aut) s)) σ) (placed putBase σ r)
-      go (refused number) x = refusal
-      go (given b e) (come f) = gives (record { gone = gone-base (f .went); ordered = ordered-base o (f .went) (f .worked); holds = f .holds })
+module _ {N : ℕ} {L : Limits} {σ : Tables} (o : Ordered N L σ) where
+  pub base-stepped : {X : Type 0} {P : Aut → X → Type 0} {r : Outcome Store X} → Agree (Halted N L (σ .base)) (Stepped N L P (σ .base)) r r → Gives (Steps N L (λ τ v. P (τ .base .aut) v) σ) (placed putBase σ r)
+  base-stepped (stop h) = refusal
+  base-stepped (come f) = gives (record { gone = gone-base (f .went); ordered = ordered-base o (f .went) (f .worked); holds = f .holds })
 
-  -- the list is a delta of the state, and is stored
-  pub delta-stepped : Gives (Steps N L (λ τ es. Stored (τ .base) s es × IsList (readings N L) (Holds N (σ .base .aut) s) (τ .base .aut) es) σ) (onBase (delta N L s) σ)
-  delta-stepped = go (delta N L s (σ .base)) (delta-goes (o .worked) k)
-    where
-      go : (r : Outcome Store (List Edge)) → Agree (Halted N L (σ .base)) (Deltaed N L s (σ .base)) r r
-          → Gives (Steps N L (λ τ es. Stored (τ .base) s es × IsList (readings N L) (Holds N (σ .base .aut) s) (τ .base .aut) es) σ) (placed putBase σ r)
-      go (refused number) x = refusal
-      go (given b es) (come d) = gives (record {
-        gone = gone-base (d .listed .went);
-        ordered = ordered-base o (d .listed .went) (d .listed .worked);
-        holds = (d .stored, d .listed .list);
-      })
+  module _ {s : ℕ} (k : s < states (σ .base .aut)) where
+    pub epsilon-stepped : Gives (Steps N L (λ τ e. Means N (τ .base .aut .nodes) e (Holds N (σ .base .aut) s)) σ) (onBase (onAut (epsilon N s)) σ)
+    epsilon-stepped = base-stepped (epsilon-step (o .worked) k)
+
+    -- the list is a delta of the state, and is stored
+    pub delta-stepped : Gives (Steps N L (λ τ es. Stored (τ .base) s es × IsList (readings N L) (Holds N (σ .base .aut) s) (τ .base .aut) es) σ) (onBase (delta N L s) σ)
+    delta-stepped = go (delta-goes (o .worked) k)
+      where
+        go : {r : Outcome Store (List Edge)} → Agree (Halted N L (σ .base)) (Deltaed N L s (σ .base)) r r
+            → Gives (Steps N L (λ τ es. Stored (τ .base) s es × IsList (readings N L) (Holds N (σ .base .aut) s) (τ .base .aut) es) σ) (placed putBase σ r)
+        go (stop h) = refusal
+        go (come d) = gives (record {
+          gone = gone-base (d .listed .went);
+          ordered = ordered-base o (d .listed .went) (d .listed .worked);
+          holds = (d .stored, d .listed .list);
+        })
 
 -- the targets of a list are known
 pub targets-known : {N : ℕ} {L : Limits} {a : Aut} {es : List Edge} {A : Language N} → IsList (readings N L) A a es → (e : Edge) → List·Memᴰ e es → e .target < states a

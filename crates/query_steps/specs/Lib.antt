@@ -9,3 +9,4 @@ pub mod LiveExamples
 pub mod ExploreLaws
 pub mod SettleLaws
 pub mod LiveLaws
+pub mod PrunedLaws

@@ -2,6 +2,7 @@
 -- reached; the tables are in order again, and what was worked out is as it was. So the search says `yes` exactly if the live set is empty.
 use mathlib.Core.Path.{_≡_, refl, sym, _∙_, ap, subst}
 use mathlib.Core.Logic.{_↔_, _≢_, _⊎_, inl, inr, ⊎-elim}
+use mathlib.Core.Bool.{Bool, true, false}
 use mathlib.Core.List.{List, [], _∷_, List·Memᴰ, List·Memᴰ·head, List·Memᴰ·tail, List·Memᴰ·not-nil, List·Memᴰ·cases-cons}
 use Prim.Native.Nat.{ℕ, _+_, _*_, _-_, _≤_, _<_}
 use native.Mathlib.Omega.{arith}
@@ -29,7 +30,7 @@ use Rattle.delta_steps.specs.Delta.{startOf, countOf, Store, store, listAt}
 use Rattle.delta_steps.specs.Noted.{written, written-other, written-here, written-count, written-grown, written-good}
 use Rattle.delta_steps.specs.Worked.{epsilons-grown, extt-refl, Worked, SameWords, same-list, worked-aut}
 use Rattle.delta_steps.specs.Stored.{Went, went-refl}
-use Rattle.query_steps.specs.Tables.{Tables, liveOf, LiveSet, live-same, Lives, Ordered, live-there, Gone, Later, later-refl, later-trans, gone-later}
+use Rattle.query_steps.specs.Tables.{Tables, liveOf, LiveSet, is-live-same, live-same, Lives, Ordered, live-there, Gone, Later, later-refl, later-trans, gone-later}
 use Rattle.query_steps.specs.Search.{capacity}
 use Rattle.query_steps.specs.SearchLaws.{gives-map, Searched}
 use Rattle.query_steps.specs.Live.{keepIn, keepLives, found, live-anew, live-packets}
@@ -198,15 +199,18 @@ module _ {N : ℕ} {L : Limits} (lent : ℕ) {σ : Tables} (o : Ordered N L σ) 
       v : ℕ
       v = liveOf (σ .base .aut .states .words) x
 
-      go : (b : _) → ltb 0 v ≡ b → Gives (Lived N L x σ) (if b then given σ (v - 1) else live-anew N L lent x σ)
-      go mathlib.Core.Bool.true q =
+      go : (b : Bool) → ltb 0 v ≡ b → Gives (Lived N L x σ) (if b then given σ (v - 1) else live-anew N L lent x σ)
+      go true q =
           let e : v ≡ v - 1 + 1 = omega (arith, ltb-true 0 v q) in
           gives (record { later = later-refl σ; ordered = o; kept = e; set = o .lives .kept x k (v - 1) e })
-      go mathlib.Core.Bool.false q = anew-goes
+      go false q = anew-goes
 
 -- ---- search and live set answer alike
 
--- The search for s from σ and the live set of s in later tables: `yes` exactly if it is empty.
-pub search-live : {N : ℕ} {L : Limits} {lent budget s : ℕ} {σ τ : Tables} {r : Verdict × ℕ} → Searched N L lent budget s σ τ r → {l : ℕ} {t : Table} (v : LiveSet N t l (Holds N (σ .base .aut) s))
-    → ¬ (r .0 ≡ spent) → (r .0 ≡ yes) ↔ (¬ T (inhabited (v .set)))
-search-live q v u = q .demanded .live-alike (v .set) (v .is) u
+-- Of one state, the search from σ and the live set that was given in υ, before or after: `yes` exactly if the live set is empty.
+module _ {N : ℕ} {L : Limits} {lent budget s : ℕ} {σ τ : Tables} {r : Verdict × ℕ} (q : Searched N L lent budget s σ τ r) {υ₀ υ : Tables} {l : ℕ} (v : Lived N L s υ₀ υ l) (u : ¬ (r .0 ≡ spent)) where
+  pub live-before : s < states (υ .base .aut) → Later υ σ → (r .0 ≡ yes) ↔ (¬ T (inhabited (v .set .set)))
+  live-before k f = q .demanded .live-alike (v .set .set) (is-live-same (≈-sym (holds-grown (v .ordered .worked .good) (f .grown) k)) (v .set .is)) u
+
+  pub live-after : Ordered N L σ → s < states (σ .base .aut) → Later σ υ → (r .0 ≡ yes) ↔ (¬ T (inhabited (v .set .set)))
+  live-after o k f = q .demanded .live-alike (v .set .set) (is-live-same (holds-grown (o .worked .good) (f .grown) k) (v .set .is)) u

@@ -83,17 +83,16 @@ pub record LiveSet (N : ℕ) (t : Table) (l : ℕ) (A : Language N) : Type 0 whe
 pub live-ext : {N : ℕ} {t u : Table} {l : ℕ} {A : Language N} → SpLaws.Ext t u → LiveSet N t l A → LiveSet N u l A
 live-ext e m = record { set = m .set; den = SpLaws.den-ext e (m .den); is = m .is }
 
-pub live-same : {N : ℕ} {t : Table} {l : ℕ} {A B : Language N} → A ≈ B → LiveSet N t l A → LiveSet N t l B
-live-same f m = record {
-  set = m .set;
-  den = m .den;
-  is = record {
-    live = λ a. (
-      λ t. let s = m .is .live a .0 t in record { hops = s .hops; end = s .end; held = f _ .0 (s .held) },
-      λ s. m .is .live a .1 (record { hops = s .hops; end = s .end; held = f _ .1 (s .held) }),
-    );
-  };
+pub is-live-same : {N : ℕ} {x : Set N} {A B : Language N} → A ≈ B → IsLive x A → IsLive x B
+is-live-same f i = record {
+  live = λ a. (
+    λ t. let s = i .live a .0 t in record { hops = s .hops; end = s .end; held = f _ .0 (s .held) },
+    λ s. i .live a .1 (record { hops = s .hops; end = s .end; held = f _ .1 (s .held) }),
+  );
 }
+
+pub live-same : {N : ℕ} {t : Table} {l : ℕ} {A B : Language N} → A ≈ B → LiveSet N t l A → LiveSet N t l B
+live-same f m = record { set = m .set; den = m .den; is = is-live-same f (m .is) }
 
 -- Word 7 of a state: what it keeps is the state's live set. Then its list is stored, and the live sets of the targets are kept too.
 pub record Lives (N : ℕ) (σ : Tables) : Type 0 where
@@ -160,7 +159,7 @@ later-trans p q = record {
 }
 
 module _ {σ τ : Tables} (g : Gone σ τ) where
-  live-word : (i : ℕ) → liveOf (τ .base .aut .states .words) i ≡ liveOf (σ .base .aut .states .words) i
+  pub live-word : (i : ℕ) → liveOf (τ .base .aut .states .words) i ≡ liveOf (σ .base .aut .states .words) i
   unfolding liveOf
   live-word i = g .went .others i 7 (omega arith) (omega arith)
 

@@ -1,0 +1,2 @@
+-- Books with their whole outcomes, computed from the definition.
+pub mod Vectors

@@ -1,0 +1,1 @@
+// Books with their whole outcomes: no function of its own, only specs/.
