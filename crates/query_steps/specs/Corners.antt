@@ -3,7 +3,7 @@
 use mathlib.Core.Path.{_≡_, refl}
 use mathlib.Core.Bool.{true}
 use mathlib.Core.List.{List, [], _∷_}
-use Prim.Native.Nat.{ℕ, zero, suc, _+_, _*_, _/_, _≤_}
+use Prim.Native.Nat.{ℕ, zero, suc, _+_, _*_, _/_}
 use native.Mathlib.Omega.{arith}
 use lib.ListN.{length, getD, replicate}
 use Rattle.common.specs.Outcome.{Outcome, refused, given, Step, _>>=_}
@@ -16,14 +16,14 @@ use Rattle.sp_steps.specs.Model as Sp
 use Rattle.spp_steps.specs.Model as Spp
 use Rattle.spp_steps.specs.Model.{test}
 use Rattle.spp_steps.specs.ImageModel as Images
-use Rattle.aut_steps.specs.Tables.{Limits, limits01, aut, onStates, kindOf, op1, op2, nest, words, roomS, roomM, put4, SPP, INTERSECT, SEQUENCE, DUP}
+use Rattle.aut_steps.specs.Tables.{limits01, aut, onStates, kindOf, op1, op2, nest, words, roomS, roomM, put4, SPP, INTERSECT, SEQUENCE, DUP}
 use Rattle.aut_steps.specs.Intern.{intern0, intern1, intern2, internL, putL, put, seek, same2, sameAt, sameL, store as storeMembers, nestL}
 use Rattle.aut_steps.specs.Lists.{least, rise}
 use Rattle.aut_steps.specs.Constructors.{spp-of, mk-spp, mk-dup, mk-top, mk-union, mk-union-n, mk-intersect-n, mk-intersect, mk-intersect-n-base, mk-complement, mk-sequence, sequence-by, sequence-with, mk-star, mk-until, unite, meet, openUnion, openAll, opened, extend, each, countAll, countOne, product, base, bases, finish, addRelation, uniteOne, meetOne, meetFinish, addLast}
 use Rattle.aut_steps.specs.Corners.{filled}
 use Rattle.delta_steps.specs.Epsilon.{epsilonOf, setWord, keepEpsilon, eachOf, uniteAll, meetAll, epsilon-by-kind, epsilon-with, epsilon-by, epsilon}
 use Rattle.st_steps.specs.Edges.{edges, flat}
-use Rattle.delta_steps.specs.Delta.{startOf, countOf, store, onAut, roomT, append, listAt, keepList, unionAll, intersectAll, sequenceList, starList, untilList, dupList, topList, delta-by-kind, delta-with, delta-by, delta}
+use Rattle.delta_steps.specs.Delta.{startOf, countOf, onAut, roomT, append, listAt, keepList, unionAll, intersectAll, sequenceList, starList, untilList, dupList, topList, delta-by-kind, delta-with, delta-by, delta}
 use Rattle.delta_steps.specs.Examples as Delta
 use Rattle.delta_steps.specs.Examples.{state}
 use Rattle.query_steps.specs.Tables.{Tables, tables, onBase, Ordered, begun-ordered}

@@ -2,19 +2,18 @@
 -- without hops. It stops only when no state waits: each visit needs an entry, so as many visits as entries are enough.
 use mathlib.Core.Path.{_≡_, refl, sym, _∙_, ap, subst}
 use mathlib.Core.Logic.{_⊎_, inl, inr, ⊎-elim}
-use mathlib.Core.Bool.{Bool, true, false, _||_}
+use mathlib.Core.Bool.{Bool, true, _||_}
 use mathlib.Core.List.{List, [], _∷_, _++_, List·Memᴰ, List·Memᴰ·head, List·Memᴰ·tail, List·Memᴰ·not-nil, List·Memᴰ·cases-cons, Memᴰ·append-left, Memᴰ·append-right, List·Memᴰ·append-cases}
 use Prim.Native.Nat.{ℕ, zero, suc, _+_, _≤_, _<_}
 use native.Mathlib.Omega.{arith}
-use lib.Dec.{T, eqb, ltb}
+use lib.Dec.{eqb, ltb}
 use lib.ListN.{length, length-append}
-use borrow.Author.Tests.{eqb-true, eqb-false, ltb-true}
-use Rattle.common.specs.Packets.{Packet, Set, Relation, any}
+use borrow.Author.Tests.{eqb-true, eqb-false, ltb-true, ltb-false}
+use Rattle.common.specs.Packets.{Packet, Relation, any}
 use Rattle.common.specs.Relations.{starts}
 use Rattle.common.specs.RelationLaws.{starts-of, starts-to}
-use Rattle.common.specs.Outcome.{Outcome, Gives, refusal, gives, if_then_else_}
-use Rattle.common.specs.Follow.{call, branch}
-use Rattle.common.specs.Runs.{Table, placed}
+use Rattle.common.specs.Outcome.{given, if_then_else_}
+use Rattle.common.specs.Runs.{Table}
 use Rattle.netkat.specs.Rules.{Rule, Language}
 use Rattle.netkat.specs.Derivatives as Derivatives
 use Rattle.netkat.specs.Hops.{IsEpsilon}
@@ -23,22 +22,18 @@ use Rattle.netkat.specs.Laws.Derivatives.{epsilon-true}
 use Rattle.sp_steps.specs.Laws as SpLaws
 use Rattle.spp_steps.specs.Laws.{by-test, false-true}
 use Rattle.spp_steps.specs.Relations.{tests-equal}
-use Rattle.spp_steps.specs.Results.{bwd-runs}
+use Rattle.spp_steps.specs.Images.{bwd-exact}
 use Rattle.aut_steps.specs.Tables.{Limits, Aut}
 use Rattle.aut_steps.specs.Good.{states, state-grown}
 use Rattle.aut_steps.specs.Meaning.{Holds, rule, rule-grown}
-use Rattle.delta_steps.specs.Epsilon.{epsilon}
-use Rattle.delta_steps.specs.Delta.{countOf, Store, onAut, listAt, delta}
+use Rattle.delta_steps.specs.Delta.{countOf, Store, listAt}
 use Rattle.delta_steps.specs.Fits.{tables as readings}
-use Rattle.delta_steps.specs.Agree.{Agree, stop, come}
 use Rattle.delta_steps.specs.Worked.{Means, Worked, Stored, same-list}
 use Rattle.delta_steps.specs.Stored.{Went}
-use Rattle.delta_steps.specs.DeltaRuns.{Halted, Stepped, Deltaed, epsilon-step}
-use Rattle.delta_steps.specs.DeltaLaws.{delta-goes}
-use Rattle.query_steps.specs.Tables.{Tables, putBase, onBase, Ordered, both-wf, Gone}
+use Rattle.query_steps.specs.Tables.{Tables, diagrams, Ordered, both-wf, Gone}
 use Rattle.query_steps.specs.Search.{capacity}
-use Rattle.query_steps.specs.SearchLaws.{gone-refl, gone-trans, gone-base, gives-map, ordered-base, Steps, images-step}
-use Rattle.query_steps.specs.Live.{liveAt, Found, found, enqueue, explore}
+use Rattle.query_steps.specs.Steps.{gone-refl, gone-trans, no-entry, stopped-here, Ends, halts, comes, Steps, ends-map, ends-bind, ends-call, ends-branch, ends-same, images-step, epsilon-ends, delta-ends}
+use Rattle.query_steps.specs.Live.{liveAt, Found, found, Visit, enqueue, visit, explore}
 
 -- ---- lists of states
 
@@ -82,15 +77,24 @@ module _ (room : ℕ) (visited : List ℕ) where
       first s (inl m) = inl m
       first s (inr m) = inr (e, List·Memᴰ·head refl, ⊎-elim (λ q. q) (λ n. absurd (List·Memᴰ·not-nil n)) (List·Memᴰ·cases-cons m))
 
-  pub enqueue-gives : (list : List Edge) (waiting : List ℕ) (σ : Tables) → Gives (λ τ w. (τ ≡ σ) × Queued room list visited waiting w) (enqueue room list visited waiting σ)
+module _ {N : ℕ} {L : Limits} (lent : ℕ) (visited : List ℕ) {σ : Tables} (o : Ordered N L σ) where
+  -- it is refused only if all entries are taken
+  pub enqueue-ends : (list : List Edge) (waiting : List ℕ) → ((s : ℕ) → List·Memᴰ s (visited ++ waiting) → s < states (σ .base .aut)) → ((e : Edge) → List·Memᴰ e list → e .target < states (σ .base .aut))
+      → Ends N L lent (λ τ w. (τ ≡ σ) × Queued (capacity lent) list visited waiting w) σ (enqueue (capacity lent) list visited waiting σ)
   unfolding enqueue
-  enqueue-gives [] waiting σ = gives (refl, record { has = λ s m. m; all = λ e m. absurd (List·Memᴰ·not-nil m); only = λ s m. inl m; fits = λ l. l })
-  enqueue-gives (e ∷ es) waiting σ =
-      branch (any (eqb (e .target)) (visited ++ waiting)) _ _ σ
-      (λ t. gives-map (λ τ w Q. (Q .0, queued-there (any-mem (e .target) (visited ++ waiting) t) (Q .1))) (enqueue-gives es waiting σ))
-      (λ _. branch (ltb (length (visited ++ waiting)) room) _ _ σ
-      (λ t. gives-map (λ τ w Q. (Q .0, queued-new (ltb-true (length (visited ++ waiting)) room t) (Q .1))) (enqueue-gives es (waiting ++ e .target ∷ []) σ))
-      (λ _. refusal))
+  enqueue-ends [] waiting f g = comes (refl, record { has = λ s m. m; all = λ e m. absurd (List·Memᴰ·not-nil m); only = λ s m. inl m; fits = λ l. l })
+  enqueue-ends (e ∷ es) waiting f g =
+      ends-branch (any (eqb (e .target)) (visited ++ waiting)) _ _ σ
+      (λ t. ends-map (λ τ w Q. (Q .0, queued-there (capacity lent) visited (any-mem (e .target) (visited ++ waiting) t) (Q .1))) (enqueue-ends es waiting f (λ d m. g d (List·Memᴰ·tail m))))
+      (λ _. ends-branch (ltb (length (visited ++ waiting)) (capacity lent)) _ _ σ
+      (λ t. ends-map (λ τ w Q. (Q .0, queued-new (capacity lent) visited (ltb-true (length (visited ++ waiting)) (capacity lent) t) (Q .1))) (enqueue-ends es (waiting ++ e .target ∷ []) more (λ d m. g d (List·Memᴰ·tail m))))
+      (λ t. halts (stopped-here o (no-entry (visited ++ waiting) f (ltb-false (length (visited ++ waiting)) (capacity lent) t)))))
+    where
+      more : (s : ℕ) → List·Memᴰ s (visited ++ (waiting ++ e .target ∷ [])) → s < states (σ .base .aut)
+      more s m = ⊎-elim (λ k. f s (Memᴰ·append-left waiting k)) (λ k. ⊎-elim
+          (λ k. f s (Memᴰ·append-right visited k))
+          (λ k. ⊎-elim (λ q. subst (λ (s : ℕ). s < states (σ .base .aut)) (sym q) (g e (List·Memᴰ·head refl))) (λ n. absurd (List·Memᴰ·not-nil n)) (List·Memᴰ·cases-cons k))
+          (List·Memᴰ·append-cases waiting k)) (List·Memᴰ·append-cases visited m)
 
 -- ---- the starts of a state's strings without hops
 
@@ -105,30 +109,6 @@ starts-same {R = R} {S = S} i j p =
     tests-equal (starts R p) (starts S p)
     (λ t. let (z, u) = starts-to R p t in starts-of S p z (j .ends p z .0 (i .ends p z .1 u)))
     (λ t. let (z, u) = starts-to S p t in starts-of R p z (i .ends p z .0 (j .ends p z .1 u)))
-
--- ---- epsilon and delta as steps on all tables
-
-module _ {N : ℕ} {L : Limits} {σ : Tables} (o : Ordered N L σ) where
-  pub base-stepped : {X : Type 0} {P : Aut → X → Type 0} {r : Outcome Store X} → Agree (Halted N L (σ .base)) (Stepped N L P (σ .base)) r r → Gives (Steps N L (λ τ v. P (τ .base .aut) v) σ) (placed putBase σ r)
-  base-stepped (stop h) = refusal
-  base-stepped (come f) = gives (record { gone = gone-base (f .went); ordered = ordered-base o (f .went) (f .worked); holds = f .holds })
-
-  module _ {s : ℕ} (k : s < states (σ .base .aut)) where
-    pub epsilon-stepped : Gives (Steps N L (λ τ e. Means N (τ .base .aut .nodes) e (Holds N (σ .base .aut) s)) σ) (onBase (onAut (epsilon N s)) σ)
-    epsilon-stepped = base-stepped (epsilon-step (o .worked) k)
-
-    -- the list is a delta of the state, and is stored
-    pub delta-stepped : Gives (Steps N L (λ τ es. Stored (τ .base) s es × IsList (readings N L) (Holds N (σ .base .aut) s) (τ .base .aut) es) σ) (onBase (delta N L s) σ)
-    delta-stepped = go (delta-goes (o .worked) k)
-      where
-        go : {r : Outcome Store (List Edge)} → Agree (Halted N L (σ .base)) (Deltaed N L s (σ .base)) r r
-            → Gives (Steps N L (λ τ es. Stored (τ .base) s es × IsList (readings N L) (Holds N (σ .base .aut) s) (τ .base .aut) es) σ) (placed putBase σ r)
-        go (stop h) = refusal
-        go (come d) = gives (record {
-          gone = gone-base (d .listed .went);
-          ordered = ordered-base o (d .listed .went) (d .listed .worked);
-          holds = (d .stored, d .listed .list);
-        })
 
 -- the targets of a list are known
 pub targets-known : {N : ℕ} {L : Limits} {a : Aut} {es : List Edge} {A : Language N} → IsList (readings N L) A a es → (e : Edge) → List·Memᴰ e es → e .target < states a
@@ -193,84 +173,119 @@ module _ {N : ℕ} {L : Limits} where
         drop : (s : ℕ) → List·Memᴰ s (visited ++ []) → List·Memᴰ s visited
         drop s m = ⊎-elim (λ k. k) (λ k. absurd (List·Memᴰ·not-nil k)) (List·Memᴰ·append-cases visited m)
 
-    pub explore-goes : (most : ℕ) (visited waiting : List ℕ) (live : ℕ → ℕ) {σ : Tables} → Exploring N L (capacity lent) σ visited waiting live → capacity lent ≤ most + length visited
-        → Gives (Explored N L (capacity lent) (visited ++ waiting) σ) (explore N L lent most visited waiting live σ)
+    -- ---- a visit
+
+    module _ {σ : Tables} {visited waiting : List ℕ} {s : ℕ} {live : ℕ → ℕ} (E : Exploring N L (capacity lent) σ visited (s ∷ waiting) live) where
+      k : s < states (σ .base .aut)
+      k = E .known s (List·Memᴰ·head refl)
+
+      -- the states go on
+      onward : (waiting′ : List ℕ) {list : List Edge} → Queued (capacity lent) list (visited ++ s ∷ []) waiting waiting′ → (t : ℕ) → List·Memᴰ t (visited ++ s ∷ waiting) → List·Memᴰ t ((visited ++ s ∷ []) ++ waiting′)
+      onward waiting′ Q t m = ⊎-elim
+          (λ k. Memᴰ·append-left waiting′ (Memᴰ·append-left (s ∷ []) k))
+          (λ k. ⊎-elim (λ q. Memᴰ·append-left waiting′ (Memᴰ·append-right visited (List·Memᴰ·head q))) (λ k. Memᴰ·append-right (visited ++ s ∷ []) (Q .has t k)) (List·Memᴰ·cases-cons k))
+          (List·Memᴰ·append-cases visited m)
+
+      -- all states are known
+      all-known : (t : ℕ) → List·Memᴰ t ((visited ++ s ∷ []) ++ waiting) → t < states (σ .base .aut)
+      all-known t m = ⊎-elim
+          (λ n. ⊎-elim (λ n. E .links t n .known) (λ n. ⊎-elim (λ q. subst (λ (t : ℕ). t < states (σ .base .aut)) (sym q) k) (λ n. absurd (List·Memᴰ·not-nil n)) (List·Memᴰ·cases-cons n)) (List·Memᴰ·append-cases visited n))
+          (λ n. E .known t (List·Memᴰ·tail n))
+          (List·Memᴰ·append-cases (visited ++ s ∷ []) m)
+
+      module _ (σ₁ σ₂ σ₃ : Tables) (e h : ℕ) (list : List Edge) (waiting′ : List ℕ)
+          (A : Steps N L (λ τ e. Means N (τ .base .aut .nodes) e (Holds N (σ .base .aut) s)) σ σ₁ e)
+          (B : Steps N L (λ τ h. (τ .base ≡ σ₁ .base) × SpLaws.Den (τ .sets) N h (starts (A .holds .relation))) σ₁ σ₂ h)
+          (D : Steps N L (λ τ es. Stored (τ .base) s es × IsList (readings N L) (Holds N (σ₂ .base .aut) s) (τ .base .aut) es) σ₂ σ₃ list)
+          (Q : Queued (capacity lent) list (visited ++ s ∷ []) waiting waiting′)
+        where
+          g : Gone σ σ₃
+          g = gone-trans (gone-trans (A .gone) (B .gone)) (D .gone)
+
+          here : Linked (σ₃ .base) ((visited ++ s ∷ []) ++ waiting′) s
+          here = record {
+            known = state-grown (g .went .grown) k;
+            marked = D .holds .0 .marked;
+            leads = λ e m. Q .all e (subst (List·Memᴰ e) (D .holds .0 .reads) m);
+          }
+
+          before : (t : ℕ) → (s ≡ t → ⊥) → List·Memᴰ t (visited ++ s ∷ []) → List·Memᴰ t visited
+          before t n m = ⊎-elim (λ k. k) (λ k. ⊎-elim (λ q. absurd (n (sym q))) (λ j. absurd (List·Memᴰ·not-nil j)) (List·Memᴰ·cases-cons k)) (List·Memᴰ·append-cases visited m)
+
+          set : SpLaws.Den (σ₃ .sets) N h (starts (ends N (σ₃ .base .aut) s))
+          set = ends-set (E .ordered) g k (SpLaws.den-map (starts-same (A .holds .is) (ends-are N (σ .base .aut) s)) (SpLaws.den-ext (D .gone .sets) (B .holds .1)))
+
+          set-here : (t : ℕ) → s ≡ t → eqb s t ≡ true → SpLaws.Den (σ₃ .sets) N (liveAt s h live t) (starts (ends N (σ₃ .base .aut) t))
+          set-here t q b =
+              subst (λ (v : ℕ). SpLaws.Den (σ₃ .sets) N v (starts (ends N (σ₃ .base .aut) t))) (sym (ap (λ (b : Bool). if b then h else live t) b))
+              (subst (λ (t : ℕ). SpLaws.Den (σ₃ .sets) N h (starts (ends N (σ₃ .base .aut) t))) q set)
+
+          next : Exploring N L (capacity lent) σ₃ (visited ++ s ∷ []) waiting′ (liveAt s h live)
+          next = record {
+            ordered = D .ordered;
+            links = λ t m. ⊎-elim
+                (λ n. linked-went (E .ordered .worked) (g .went) (onward waiting′ Q) (E .links t n))
+                (λ n. ⊎-elim (λ q. subst (Linked (σ₃ .base) ((visited ++ s ∷ []) ++ waiting′)) (sym q) here) (λ n. absurd (List·Memᴰ·not-nil n)) (List·Memᴰ·cases-cons n))
+                (List·Memᴰ·append-cases visited m);
+            sets = λ t m. by-test (eqb s t)
+                (λ q. set-here t (eqb-true s t q) q)
+                (λ q. subst (λ (v : ℕ). SpLaws.Den (σ₃ .sets) N v (starts (ends N (σ₃ .base .aut) t))) (sym (ap (λ (b : Bool). if b then h else live t) q))
+                (ends-set (E .ordered) g (E .links t (before t (eqb-false s t q) m) .known) (SpLaws.den-ext (g .sets) (E .sets t (before t (eqb-false s t q) m)))));
+            known = λ t m. ⊎-elim
+                (λ n. state-grown (g .went .grown) (E .known t (List·Memᴰ·tail n)))
+                (λ n. subst (λ (t : ℕ). t < states (σ₃ .base .aut)) (sym (n .2)) (targets-known (D .holds .1) (n .0) (n .1)))
+                (Q .only t m);
+            some = λ t. by-test (eqb s t)
+                (λ q. subst (SpLaws.At (σ₃ .sets) N) (sym (ap (λ (b : Bool). if b then h else live t) q)) (SpLaws.at-ext (D .gone .sets) N h (B .holds .1 .at)))
+                (λ q. subst (SpLaws.At (σ₃ .sets) N) (sym (ap (λ (b : Bool). if b then h else live t) q)) (SpLaws.at-ext (g .sets) N (live t) (E .some t)));
+            fits = Q .fits (omega (arith, E .fits, length-append visited (s ∷ waiting), length-append (visited ++ s ∷ []) waiting, length-append visited (s ∷ [])));
+          }
+
+      -- what a visit comes to
+      pub record VisitedTo (τ : Tables) (v : Visit) : Type 0 where
+        pub gone : Gone σ τ
+        pub next : Exploring N L (capacity lent) τ (visited ++ s ∷ []) (v .waiting) (liveAt s (v .ends) live)
+        pub onward : (t : ℕ) → List·Memᴰ t (visited ++ s ∷ waiting) → List·Memᴰ t ((visited ++ s ∷ []) ++ v .waiting)
+
+      pub visit-ends : Ends N L lent VisitedTo σ (visit N L lent s visited waiting σ)
+      visit-ends =
+          ends-call (epsilon-ends (E .ordered) k) (λ σ₁ e A.
+          ends-call (images-step (A .ordered) (λ t h. SpLaws.Den t N h (starts (A .holds .relation))) (bwd-exact N N (omega arith) (diagrams σ₁) e (A .holds .relation) (both-wf (A .ordered)) (A .holds .den))) (λ σ₂ h B.
+          let g₂ = gone-trans (A .gone) (B .gone) in
+          ends-call (delta-ends (B .ordered) (state-grown (g₂ .went .grown) k)) (λ σ₃ list D.
+          ends-bind (enqueue-ends lent (visited ++ s ∷ []) (D .ordered) list waiting (λ t m. state-grown (gone-trans g₂ (D .gone) .went .grown) (all-known t m)) (targets-known (D .holds .1))) (λ σ₄ waiting′ Q. (
+            subst (λ (υ : Tables). Gone σ₃ υ) (sym (Q .0)) (gone-refl σ₃),
+            subst (λ (υ : Tables). Ends N L lent VisitedTo υ (given υ (record { ends = h; waiting = waiting′ }))) (sym (Q .0))
+                (comes (record { gone = gone-trans g₂ (D .gone); next = next σ₁ σ₂ σ₃ e h list waiting′ A B D (Q .1); onward = onward waiting′ (Q .1) })),
+          )))))
+
+    -- ---- all visits
+
+    explored-from : {σ τ υ : Tables} {first later : List ℕ} {f : Found} → Gone σ τ → ((t : ℕ) → List·Memᴰ t first → List·Memᴰ t later) → Explored N L (capacity lent) later τ υ f → Explored N L (capacity lent) first σ υ f
+    explored-from g h X = record { gone = gone-trans g (X .gone); ordered = X .ordered; has = λ t m. X .has t (h t m); links = X .links; sets = X .sets; some = X .some; fits = X .fits }
+
+    pub explore-ends : (most : ℕ) (visited waiting : List ℕ) (live : ℕ → ℕ) {σ : Tables} → Exploring N L (capacity lent) σ visited waiting live → capacity lent ≤ most + length visited
+        → Ends N L lent (Explored N L (capacity lent) (visited ++ waiting) σ) σ (explore N L lent most visited waiting live σ)
     unfolding explore
-    explore-goes zero visited [] live E l = gives (explored E)
-    explore-goes zero visited (s ∷ waiting) live E l = absurd (omega (arith, E .fits, length-append visited (s ∷ waiting)))
-    explore-goes (suc most) visited [] live E l = gives (explored E)
-    explore-goes (suc most) visited (s ∷ waiting) live {σ} E l =
-        let k : s < states (σ .base .aut) = E .known s (List·Memᴰ·head refl) in
-        call (epsilon-stepped (E .ordered) k) (λ σ₁ e A.
-        call (images-step (A .ordered) (λ t h. SpLaws.Den t N h (starts (A .holds .relation))) (bwd-runs N (both-wf (A .ordered)) (omega arith) (A .holds .den))) (λ σ₂ h B.
-        let g₂ = gone-trans (A .gone) (B .gone) in
-        call (delta-stepped (B .ordered) (state-grown (g₂ .went .grown) k)) (λ σ₃ list D.
-        call (enqueue-gives (capacity lent) (visited ++ s ∷ []) list waiting σ₃) (λ σ₄ waiting′ Q.
-        let g₃ = gone-trans g₂ (D .gone) in
-        subst (λ (υ : Tables). Gives (Explored N L (capacity lent) (visited ++ s ∷ waiting) σ) (explore N L lent most (visited ++ s ∷ []) waiting′ (liveAt s h live) υ)) (sym (Q .0))
-        (gives-map (λ τ f X. record {
-          gone = gone-trans g₃ (X .gone);
-          ordered = X .ordered;
-          has = λ t m. X .has t (onward waiting′ (Q .1) t m);
-          links = X .links;
-          sets = X .sets;
-          some = X .some;
-          fits = X .fits;
-        })
-        (explore-goes most (visited ++ s ∷ []) waiting′ (liveAt s h live)
-        (next σ₁ σ₂ σ₃ e h list waiting′ A B D (Q .1))
-        (omega (arith, l, length-append visited (s ∷ [])))))))))
-      where
-        -- the states go on
-        onward : (waiting′ : List ℕ) {list : List Edge} → Queued (capacity lent) list (visited ++ s ∷ []) waiting waiting′ → (t : ℕ) → List·Memᴰ t (visited ++ s ∷ waiting) → List·Memᴰ t ((visited ++ s ∷ []) ++ waiting′)
-        onward waiting′ Q t m = ⊎-elim
-            (λ k. Memᴰ·append-left waiting′ (Memᴰ·append-left (s ∷ []) k))
-            (λ k. ⊎-elim (λ q. Memᴰ·append-left waiting′ (Memᴰ·append-right visited (List·Memᴰ·head q))) (λ k. Memᴰ·append-right (visited ++ s ∷ []) (Q .has t k)) (List·Memᴰ·cases-cons k))
-            (List·Memᴰ·append-cases visited m)
+    explore-ends zero visited [] live E l = comes (explored E)
+    explore-ends zero visited (s ∷ waiting) live E l = absurd (omega (arith, E .fits, length-append visited (s ∷ waiting)))
+    explore-ends (suc most) visited [] live E l = comes (explored E)
+    explore-ends (suc most) visited (s ∷ waiting) live {σ} E l =
+        ends-bind (visit-ends E) (λ τ v Z. (
+          Z .gone,
+          ends-map (λ υ f X. explored-from (Z .gone) (Z .onward) X)
+              (explore-ends most (visited ++ s ∷ []) (v .waiting) (liveAt s (v .ends) live) (Z .next) (omega (arith, l, length-append visited (s ∷ [])))),
+        ))
 
-        next : (σ₁ σ₂ σ₃ : Tables) (e h : ℕ) (list : List Edge) (waiting′ : List ℕ)
-            → (A : Steps N L (λ τ e. Means N (τ .base .aut .nodes) e (Holds N (σ .base .aut) s)) σ σ₁ e)
-            → (B : Steps N L (λ τ h. (τ .base ≡ σ₁ .base) × SpLaws.Den (τ .sets) N h (starts (A .holds .relation))) σ₁ σ₂ h)
-            → Steps N L (λ τ es. Stored (τ .base) s es × IsList (readings N L) (Holds N (σ₂ .base .aut) s) (τ .base .aut) es) σ₂ σ₃ list
-            → Queued (capacity lent) list (visited ++ s ∷ []) waiting waiting′
-            → Exploring N L (capacity lent) σ₃ (visited ++ s ∷ []) waiting′ (liveAt s h live)
-        next σ₁ σ₂ σ₃ e h list waiting′ A B D Q = record {
-          ordered = D .ordered;
-          links = λ t m. ⊎-elim
-              (λ n. linked-went (E .ordered .worked) (g .went) (onward waiting′ Q) (E .links t n))
-              (λ n. ⊎-elim (λ q. subst (Linked (σ₃ .base) ((visited ++ s ∷ []) ++ waiting′)) (sym q) here) (λ n. absurd (List·Memᴰ·not-nil n)) (List·Memᴰ·cases-cons n))
-              (List·Memᴰ·append-cases visited m);
-          sets = λ t m. by-test (eqb s t)
-              (λ q. set-here t (eqb-true s t q) q)
-              (λ q. subst (λ (v : ℕ). SpLaws.Den (σ₃ .sets) N v (starts (ends N (σ₃ .base .aut) t))) (sym (ap (λ (b : Bool). if b then h else live t) q))
-              (ends-set (E .ordered) g (E .links t (before t (eqb-false s t q) m) .known) (SpLaws.den-ext (g .sets) (E .sets t (before t (eqb-false s t q) m)))));
-          known = λ t m. ⊎-elim (λ n. state-grown (g .went .grown) (E .known t (List·Memᴰ·tail n))) (λ n. subst (λ (t : ℕ). t < states (σ₃ .base .aut)) (sym (n .2)) (targets-known (D .holds .1) (n .0) (n .1))) (Q .only t m);
-          some = λ t. by-test (eqb s t)
-              (λ q. subst (SpLaws.At (σ₃ .sets) N) (sym (ap (λ (b : Bool). if b then h else live t) q)) (SpLaws.at-ext (D .gone .sets) N h (B .holds .1 .at)))
-              (λ q. subst (SpLaws.At (σ₃ .sets) N) (sym (ap (λ (b : Bool). if b then h else live t) q)) (SpLaws.at-ext (g .sets) N (live t) (E .some t)));
-          fits = Q .fits (omega (arith, E .fits, length-append visited (s ∷ waiting), length-append (visited ++ s ∷ []) waiting, length-append visited (s ∷ [])));
-        }
-          where
-            g : Gone σ σ₃
-            g = gone-trans (gone-trans (A .gone) (B .gone)) (D .gone)
-
-            k : s < states (σ .base .aut)
-            k = E .known s (List·Memᴰ·head refl)
-
-            here : Linked (σ₃ .base) ((visited ++ s ∷ []) ++ waiting′) s
-            here = record {
-              known = state-grown (g .went .grown) k;
-              marked = D .holds .0 .marked;
-              leads = λ e m. Q .all e (subst (List·Memᴰ e) (D .holds .0 .reads) m);
-            }
-
-            before : (t : ℕ) → (s ≡ t → ⊥) → List·Memᴰ t (visited ++ s ∷ []) → List·Memᴰ t visited
-            before t n m = ⊎-elim (λ k. k) (λ k. ⊎-elim (λ q. absurd (n (sym q))) (λ j. absurd (List·Memᴰ·not-nil j)) (List·Memᴰ·cases-cons k)) (List·Memᴰ·append-cases visited m)
-
-            set : SpLaws.Den (σ₃ .sets) N h (starts (ends N (σ₃ .base .aut) s))
-            set = ends-set (E .ordered) g k (SpLaws.den-map (starts-same (A .holds .is) (ends-are N (σ .base .aut) s)) (SpLaws.den-ext (D .gone .sets) (B .holds .1)))
-
-            set-here : (t : ℕ) → s ≡ t → eqb s t ≡ true → SpLaws.Den (σ₃ .sets) N (liveAt s h live t) (starts (ends N (σ₃ .base .aut) t))
-            set-here t q b =
-                subst (λ (v : ℕ). SpLaws.Den (σ₃ .sets) N v (starts (ends N (σ₃ .base .aut) t))) (sym (ap (λ (b : Bool). if b then h else live t) b))
-                (subst (λ (t : ℕ). SpLaws.Den (σ₃ .sets) N h (starts (ends N (σ₃ .base .aut) t))) q set)
+    -- more visits change nothing: the bound cuts nothing off
+    pub explore-more : (most more : ℕ) (visited waiting : List ℕ) (live : ℕ → ℕ) {σ : Tables} → Exploring N L (capacity lent) σ visited waiting live → capacity lent ≤ most + length visited → capacity lent ≤ more + length visited
+        → explore N L lent most visited waiting live σ ≡ explore N L lent more visited waiting live σ
+    unfolding explore
+    explore-more zero zero visited waiting live E l m = refl
+    explore-more zero (suc more) visited [] live E l m = refl
+    explore-more (suc most) zero visited [] live E l m = refl
+    explore-more (suc most) (suc more) visited [] live E l m = refl
+    explore-more zero (suc more) visited (s ∷ waiting) live E l m = absurd (omega (arith, E .fits, length-append visited (s ∷ waiting)))
+    explore-more (suc most) zero visited (s ∷ waiting) live E l m = absurd (omega (arith, E .fits, length-append visited (s ∷ waiting)))
+    explore-more (suc most) (suc more) visited (s ∷ waiting) live {σ} E l m =
+        ends-same (visit-ends E) (λ τ v Z. explore-more most more (visited ++ s ∷ []) (v .waiting) (liveAt s (v .ends) live) (Z .next) (omega (arith, l, length-append visited (s ∷ []))) (omega (arith, m, length-append visited (s ∷ []))))

@@ -30,6 +30,11 @@ pub record Found : Type 0 where
 abbrev pub found : List ℕ → (ℕ → ℕ) → Found
 found ss live = record { states = ss; live = live }
 
+-- the starts of a visited state's strings without hops, and the states that wait then
+pub record Visit : Type 0 where
+  pub ends : ℕ
+  pub waiting : List ℕ
+
 -- The targets of a list that are not yet among the states go behind them, each one entry (24). `visited` are the states that have been visited, `waiting` those that have not.
 unfoldable pub enqueue : (room : ℕ) → List Edge → (visited waiting : List ℕ) → Step Tables (List ℕ)
 enqueue room [] visited waiting = return waiting
@@ -78,16 +83,20 @@ abbrev pub keepLives : List ℕ → (ℕ → ℕ) → Tables → Tables
 keepLives xs live σ = putBase (store (putStates (keepIn xs live (σ .base .aut .states)) (σ .base .aut)) (σ .base .transitions)) σ
 
 module _ (N : ℕ) (L : Limits) (lent : ℕ) where
-  -- Per state: epsilon (21), bwd (20), delta, then its targets (24). Each visit takes one from the states, of which there are at most as many as entries.
-  unfoldable pub explore : (most : ℕ) → (visited waiting : List ℕ) → (ℕ → ℕ) → Step Tables Found
-  explore zero visited waiting live = return (found visited live)
-  explore (suc most) visited [] live = return (found visited live)
-  explore (suc most) visited (s ∷ waiting) live = do
+  -- Per state: epsilon (21), bwd (20), delta, then its targets (24).
+  abbrev pub visit : (s : ℕ) → (visited waiting : List ℕ) → Step Tables Visit
+  visit s visited waiting = do
     e ← onBase (onAut (epsilon N s))
     ends ← makingSets (Images.bwd N e)
     list ← onBase (delta N L s)
     waiting′ ← enqueue (capacity lent) list (visited ++ s ∷ []) waiting
-    explore most (visited ++ s ∷ []) waiting′ (liveAt s ends live)
+    return (record { ends = ends; waiting = waiting′ })
+
+  -- at most `most` visits: there are no more states than entries
+  unfoldable pub explore : (most : ℕ) → (visited waiting : List ℕ) → (ℕ → ℕ) → Step Tables Found
+  explore zero visited waiting live = return (found visited live)
+  explore (suc most) visited [] live = return (found visited live)
+  explore (suc most) visited (s ∷ waiting) live = visit s visited waiting >>= λ v. explore most (visited ++ s ∷ []) (v .waiting) (liveAt s (v .ends) live)
 
   -- The source s leads to the target t by the label l: pull (20), union (20).
   unfoldable pub pullBack : (t s l : ℕ) → Work → Step Tables Work

@@ -4,18 +4,16 @@ use mathlib.Core.Path.{_≡_, refl, sym, _∙_, ap, subst}
 use mathlib.Core.Logic.{_↔_, _≢_, _⊎_, inl, inr, ⊎-elim}
 use mathlib.Core.Bool.{Bool, true, false}
 use mathlib.Core.List.{List, [], _∷_, List·Memᴰ, List·Memᴰ·head, List·Memᴰ·tail, List·Memᴰ·not-nil, List·Memᴰ·cases-cons}
-use Prim.Native.Nat.{ℕ, _+_, _*_, _-_, _≤_, _<_}
+use Prim.Native.Nat.{ℕ, _+_, _*_, _-_, _<_}
 use native.Mathlib.Omega.{arith}
 use lib.Dec.{T, eqb, ltb}
 use lib.ListN.{getD}
-use borrow.Author.Tests.{eqb-true, eqb-false, ltb-true}
-use Rattle.common.specs.Packets.{Packet, Set, inhabited}
-use Rattle.common.specs.Outcome.{refused, given, Gives, refusal, gives, if_then_else_}
-use Rattle.common.specs.Follow.{call, branch}
+use borrow.Author.Tests.{eqb-true, eqb-false, ltb-true, ltb-false}
+use Rattle.common.specs.Packets.{inhabited}
+use Rattle.common.specs.Outcome.{given, Gives, if_then_else_}
 use Rattle.common.specs.Runs.{Table}
 use Rattle.netkat.specs.Rules.{Language}
 use Rattle.netkat.specs.Search.{Verdict, yes, spent}
-use Rattle.netkat.specs.Live.{IsLive}
 use Rattle.netkat.specs.ListSteps.{Edge}
 use Rattle.sp_steps.specs.Model as Sp
 use Rattle.sp_steps.specs.Laws as SpLaws
@@ -23,19 +21,19 @@ use Rattle.spp_steps.specs.Laws.{by-test}
 use Rattle.spp_steps.specs.Relations.{tests-equal}
 use Rattle.aut_steps.specs.Tables.{Limits, Aut, putStates}
 use Rattle.aut_steps.specs.Languages.{≈-sym}
-use Rattle.aut_steps.specs.Good.{states, Grown, grown-refl, grown-trans, state-grown, Good}
+use Rattle.aut_steps.specs.Good.{states, Grown, grown-refl, grown-trans, Good}
 use Rattle.aut_steps.specs.Meaning.{Holds, holds-grown}
 use Rattle.delta_steps.specs.Epsilon.{epsilonOf}
-use Rattle.delta_steps.specs.Delta.{startOf, countOf, Store, store, listAt}
+use Rattle.delta_steps.specs.Delta.{startOf, countOf, Store, listAt}
 use Rattle.delta_steps.specs.Noted.{written, written-other, written-here, written-count, written-grown, written-good}
 use Rattle.delta_steps.specs.Worked.{epsilons-grown, extt-refl, Worked, SameWords, same-list, worked-aut}
-use Rattle.delta_steps.specs.Stored.{Went, went-refl}
-use Rattle.query_steps.specs.Tables.{Tables, liveOf, LiveSet, is-live-same, live-same, Lives, Ordered, live-there, Gone, Later, later-refl, later-trans, gone-later}
+use Rattle.query_steps.specs.Tables.{Tables, liveOf, LiveSet, is-live-same, live-same, Ordered, live-there, Later, later-refl, later-trans, gone-later}
 use Rattle.query_steps.specs.Search.{capacity}
-use Rattle.query_steps.specs.SearchLaws.{gives-map, Searched}
-use Rattle.query_steps.specs.Live.{keepIn, keepLives, found, live-anew, live-packets}
-use Rattle.query_steps.specs.ExploreLaws.{Linked, Exploring, explore-goes}
-use Rattle.query_steps.specs.SettleLaws.{settled-goes}
+use Rattle.query_steps.specs.Steps.{no-entry, stopped-here, Ends, halts, comes, ends-gives, ends-bind, ends-branch}
+use Rattle.query_steps.specs.SearchLaws.{Searched}
+use Rattle.query_steps.specs.Live.{keepIn, keepLives, live-anew, live-packets}
+use Rattle.query_steps.specs.ExploreLaws.{Linked, Exploring, explore-ends}
+use Rattle.query_steps.specs.SettleLaws.{settled-ends}
 
 -- two handles of one live set are one
 pub live-one : {N : ℕ} {t : Table} {k l : ℕ} {A : Language N} → SpLaws.Wf N t → LiveSet N t k A → LiveSet N t l A → k ≡ l
@@ -174,36 +172,44 @@ module _ {N : ℕ} {L : Limits} (lent : ℕ) {σ : Tables} (o : Ordered N L σ) 
     fits = omega arith;
   }
 
-  pub anew-goes : Gives (Lived N L x σ) (live-anew N L lent x σ)
+  pub anew-ends : Ends N L lent (Lived N L x σ) σ (live-anew N L lent x σ)
   unfolding live-anew
-  anew-goes =
-      branch (ltb 0 (capacity lent)) _ _ σ
+  anew-ends =
+      ends-branch (ltb 0 (capacity lent)) _ _ σ
       (λ room.
-      call (explore-goes lent (capacity lent) [] (x ∷ []) (λ t. Sp.zeroAt N) (begins (ltb-true 0 (capacity lent) room)) (omega arith)) (λ τ f X.
-      call (settled-goes (τ .base) (X .ordered .worked) (f .states) (X .links) lent τ (f .live) refl (X .ordered) (X .some) (X .sets)) (λ υ live S.
-      let links : (s : ℕ) → List·Memᴰ s (f .states) → Linked (υ .base) (f .states) s = λ s m. subst (λ (b : Store). Linked b (f .states) s) (sym (S .base)) (X .links s m) in
-      let lives : (s : ℕ) → List·Memᴰ s (f .states) → LiveSet N (υ .sets) (live s) (Holds N (υ .base .aut) s) = λ s m. subst (λ (b : Store). LiveSet N (υ .sets) (live s) (Holds N (b .aut) s)) (sym (S .base)) (S .lives s m) in
-      let here = kept-here υ (f .states) live (S .ordered) links lives x (X .has x (List·Memᴰ·head refl)) in
-      gives (record {
-        later = later-trans (gone-later (X .gone)) (later-trans (gone-later (record { sets = S .ext; went = subst (λ (b : Store). Went (τ .base) b) (sym (S .base)) (went-refl (τ .base)) })) (kept-later υ (f .states) live (S .ordered) links lives));
-        ordered = kept-ordered υ (f .states) live (S .ordered) links lives;
-        kept = here .0;
-        set = here .1;
-      }))))
-      (λ _. refusal)
+      ends-bind (explore-ends lent (capacity lent) [] (x ∷ []) (λ t. Sp.zeroAt N) (begins (ltb-true 0 (capacity lent) room)) (omega arith)) (λ τ f X. (
+        X .gone,
+        ends-bind (settled-ends (τ .base) (X .ordered .worked) (f .states) (X .links) lent τ (f .live) refl (X .ordered) (X .some) (X .sets)) (λ υ live S. (
+          S .gone,
+          let links : (s : ℕ) → List·Memᴰ s (f .states) → Linked (υ .base) (f .states) s = λ s m. subst (λ (b : Store). Linked b (f .states) s) (sym (S .base)) (X .links s m) in
+              let lives : (s : ℕ) → List·Memᴰ s (f .states) → LiveSet N (υ .sets) (live s) (Holds N (υ .base .aut) s) = λ s m. subst (λ (b : Store). LiveSet N (υ .sets) (live s) (Holds N (b .aut) s)) (sym (S .base)) (S .lives s m) in
+              let here = kept-here υ (f .states) live (S .ordered) links lives x (X .has x (List·Memᴰ·head refl)) in
+              comes (record {
+                later = later-trans (gone-later (X .gone)) (later-trans (gone-later (S .gone)) (kept-later υ (f .states) live (S .ordered) links lives));
+                ordered = kept-ordered υ (f .states) live (S .ordered) links lives;
+                kept = here .0;
+                set = here .1;
+              }),
+        )),
+      )))
+      (λ full. halts (stopped-here o (no-entry [] (λ s m. absurd (List·Memᴰ·not-nil m)) (ltb-false 0 (capacity lent) full))))
 
-  pub live-goes : Gives (Lived N L x σ) (live-packets N L lent x σ)
+  -- unless it is refused, with its reason
+  pub live-ends : Ends N L lent (Lived N L x σ) σ (live-packets N L lent x σ)
   unfolding live-packets
-  live-goes = go (ltb 0 v) refl
+  live-ends = go (ltb 0 v) refl
     where
       v : ℕ
       v = liveOf (σ .base .aut .states .words) x
 
-      go : (b : Bool) → ltb 0 v ≡ b → Gives (Lived N L x σ) (if b then given σ (v - 1) else live-anew N L lent x σ)
+      go : (b : Bool) → ltb 0 v ≡ b → Ends N L lent (Lived N L x σ) σ (if b then given σ (v - 1) else live-anew N L lent x σ)
       go true q =
           let e : v ≡ v - 1 + 1 = omega (arith, ltb-true 0 v q) in
-          gives (record { later = later-refl σ; ordered = o; kept = e; set = o .lives .kept x k (v - 1) e })
-      go false q = anew-goes
+          comes (record { later = later-refl σ; ordered = o; kept = e; set = o .lives .kept x k (v - 1) e })
+      go false q = anew-ends
+
+  pub live-goes : Gives (Lived N L x σ) (live-packets N L lent x σ)
+  live-goes = ends-gives live-ends
 
 -- ---- search and live set answer alike
 

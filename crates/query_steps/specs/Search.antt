@@ -1,6 +1,6 @@
 -- 01, "The book and its answers" and `is_empty`: the search on the tables, in the Rust's order of steps. netkat's search over handles, with packet sets and relations as the handles
 -- of sp.rs and spp.rs: per pair the budget, difference, union into seen (20), epsilon (21), has_image, delta, and per transition push (20) and then a pending entry (24).
-use mathlib.Core.List.{List, map}
+use mathlib.Core.List.{map}
 use Prim.Native.Nat.{ℕ, min}
 use Rattle.common.specs.Outcome.{given, Step, return, after}
 use Rattle.netkat.specs.ListSteps.{Edge}

@@ -1,102 +1,45 @@
 -- Demand 3 for the search on the tables: unless it is refused, `is-empty` reports exactly the answer and the count of 01's plain search, which is fed what epsilon and delta give from the
 -- book's tables alone (delta_steps' Answers); each yes or no says "empty" exactly if no string belongs to the state. And the tables are in order again, with all that was worked out.
 use mathlib.Core.Path.{_≡_, refl, sym, _∙_, ap, subst}
-use mathlib.Core.Bool.{Bool, true, false, not}
-use mathlib.Core.List.{List, [], _∷_, map}
+use mathlib.Core.Bool.{not}
+use mathlib.Core.List.{List, map}
 use Prim.Native.Nat.{ℕ, _<_}
 use native.Mathlib.Omega.{arith}
 use lib.Dec.{T}
-use Rattle.common.specs.Packets.{Packet, Set, Relation, inhabited, _∖_, _∪_, image, relates}
-use Rattle.common.specs.PacketLaws.{inhabited-of, inhabited-to}
-use Rattle.common.specs.Outcome.{Outcome, refused, given, Step, return, after, Gives, refusal, gives}
-use Rattle.common.specs.Follow.{if-given, given-of}
-use Rattle.common.specs.Runs as Runs
-use Rattle.common.specs.Runs.{Table, Runs, placed}
+use Rattle.common.specs.Packets.{Set, Relation, inhabited, image}
+use Rattle.common.specs.PacketLaws.{inhabited-to}
+use Rattle.common.specs.Outcome.{Outcome, refused, given, return, after, Gives, refusal, gives}
+use Rattle.common.specs.Runs.{Table, placed}
 use Rattle.netkat.specs.Lists.{State, Transition}
 use Rattle.netkat.specs.ListSteps.{Edge, Are}
 use Rattle.netkat.specs.Search.{Verdict}
-use Rattle.netkat.specs.Handles.{Reading, Alike, none, also, IsLink, Grows, Makes, Works, Refines}
+use Rattle.netkat.specs.Handles.{Reading, Alike, none, also, IsLink, Grows, Makes, Works}
 use Rattle.netkat.specs.Demand.{Demand, Demanded}
 use Rattle.netkat.specs.Laws.Demand.{demand}
 use Rattle.sp_steps.specs.Model as Sp
 use Rattle.sp_steps.specs.Laws as SpLaws
 use Rattle.sp_steps.specs.Sets as SpSets
+use Rattle.sp_steps.specs.Refused as SpRefused
 use Rattle.spp_steps.specs.Laws.{Den, den-ext, den-mem, by-test}
-use Rattle.spp_steps.specs.Relations.{uninhabited, tests-equal}
-use Rattle.spp_steps.specs.ImageModel as Images
-use Rattle.spp_steps.specs.ImageModel.{Stores}
-use Rattle.spp_steps.specs.Images.{bothTheory, SetAt}
-use Rattle.spp_steps.specs.Results.{push-runs}
+use Rattle.spp_steps.specs.Relations.{uninhabited}
+use Rattle.spp_steps.specs.Images.{push-exact}
 use Rattle.spp_steps.specs.HasImage.{hasImage-is}
 use Rattle.aut_steps.specs.Relations as Rel
-use Rattle.aut_steps.specs.Tables.{Limits, Aut}
+use Rattle.aut_steps.specs.Tables.{Limits}
 use Rattle.aut_steps.specs.Good.{states, state-grown}
 use Rattle.aut_steps.specs.Meaning.{Holds}
 use Rattle.delta_steps.specs.Epsilon.{epsilon}
 use Rattle.delta_steps.specs.Delta.{Store, onAut, delta}
 use Rattle.delta_steps.specs.Fits.{tables as readings}
-use Rattle.delta_steps.specs.Agree.{Agree, stop, come}
-use Rattle.delta_steps.specs.Worked.{Means, Worked}
-use Rattle.delta_steps.specs.Stored.{Went, went-refl, went-trans}
+use Rattle.delta_steps.specs.Agree.{Agree, come}
+use Rattle.delta_steps.specs.Worked.{Means}
 use Rattle.delta_steps.specs.DeltaRuns.{Halted, Stepped, Deltaed, epsilon-step}
 use Rattle.delta_steps.specs.DeltaLaws.{delta-goes, delta-list}
 use Rattle.delta_steps.specs.PlainSearch.{decoded, answers, meaning, lawful}
-use Rattle.query_steps.specs.Tables.{Tables, putSets, putBase, diagrams, onSets, onBase, makingSets, Ordered, both-wf, Gone, Later, gone-later, lives-gone}
+use Rattle.query_steps.specs.Tables.{Tables, putBase, diagrams, onBase, Ordered, both-wf, Gone}
 use Rattle.query_steps.specs.Search.{link, machine, is-empty}
-
--- ---- how the tables have come further, one step
-
-pub gone-refl : (σ : Tables) → Gone σ σ
-gone-refl σ = record { sets = SpLaws.ext-refl (σ .sets); went = went-refl (σ .base) }
-
-pub gone-trans : {σ τ υ : Tables} → Gone σ τ → Gone τ υ → Gone σ υ
-gone-trans p q = record { sets = SpLaws.ext-trans (p .sets) (q .sets); went = went-trans (p .went) (q .went) }
-
--- packet nodes alone
-pub gone-sets : {σ : Tables} {t : Table} → SpLaws.Ext (σ .sets) t → Gone σ (putSets t σ)
-gone-sets {σ} e = record { sets = e; went = went-refl (σ .base) }
-
--- the other tables alone
-pub gone-base : {σ : Tables} {b : Store} → Went (σ .base) b → Gone σ (putBase b σ)
-gone-base {σ} w = record { sets = SpLaws.ext-refl (σ .sets); went = w }
-
--- a step on the tables from σ has given τ, in order, and a value of which P holds
-pub record Steps (N : ℕ) (L : Limits) {A : Type 0} (P : Tables → A → Type 0) (σ τ : Tables) (a : A) : Type 0 where
-  pub gone : Gone σ τ
-  pub ordered : Ordered N L τ
-  pub holds : P τ a
-
--- .. a step that makes packet nodes only
-abbrev pub SetSteps : (N : ℕ) (L : Limits) {A : Type 0} → (Table → A → Type 0) → Tables → Tables → A → Type 0
-SetSteps N L P σ = Steps N L (λ τ a. (τ .base ≡ σ .base) × P (τ .sets) a) σ
-
-pub gives-map : {S A : Type 0} {P Q : S → A → Type 0} {o : Outcome S A} → ((σ : S) (a : A) → P σ a → Q σ a) → Gives P o → Gives Q o
-gives-map f refusal = refusal
-gives-map f (gives {σ} {a} p) = gives (f σ a p)
-
-module _ {N : ℕ} {L : Limits} where
-  pub ordered-sets : {σ : Tables} {t : Table} → Ordered N L σ → SpLaws.Ext (σ .sets) t → SpLaws.Wf N t → Ordered N L (putSets t σ)
-  ordered-sets o e w = record { sets = w; worked = o .worked; lives = lives-gone (gone-sets e) o }
-
-  pub ordered-base : {σ : Tables} {b : Store} → Ordered N L σ → Went (σ .base) b → Worked N L b → Ordered N L (putBase b σ)
-  ordered-base o w v = record { sets = o .sets; worked = v; lives = lives-gone (gone-base w) o }
-
-  module _ {A : Type 0} {σ : Tables} (o : Ordered N L σ) where
-    -- a step on packet nodes
-    pub sets-step : {c : Step Table A} {P : Table → A → Type 0} → Runs (SpLaws.spTheory N) c P (σ .sets) → Gives (SetSteps N L P σ) (onSets c σ)
-    sets-step {c} {P} r = go (c (σ .sets)) r
-      where
-        go : (r : Outcome Table A) → Gives (Runs.Good (SpLaws.spTheory N) c P (σ .sets)) r → Gives (SetSteps N L P σ) (placed putSets σ r)
-        go _ refusal = refusal
-        go _ (gives g) = gives (record { gone = gone-sets (g .ext); ordered = ordered-sets o (g .ext) (g .wf); holds = (refl, g .holds) })
-
-    -- one on both kinds of nodes that makes packet nodes
-    pub images-step : (P : Table → A → Type 0) {c : Step Stores A} → Runs (bothTheory N) c (λ τ a. P (τ .sp) a) (diagrams σ) → Gives (SetSteps N L P σ) (makingSets c σ)
-    images-step P {c} r = go (c (diagrams σ)) r
-      where
-        go : (r : Outcome Stores A) → Gives (Runs.Good (bothTheory N) c (λ τ a. P (τ .sp) a) (diagrams σ)) r → Gives (SetSteps N L P σ) (placed (λ s σ. putSets (s .sp) σ) σ r)
-        go _ refusal = refusal
-        go _ (gives g) = gives (record { gone = gone-sets (g .ext .sp-ext); ordered = ordered-sets o (g .ext .sp-ext) (g .wf .sp-wf); holds = (refl, g .holds) })
+use Rattle.query_steps.specs.Steps.{gone-refl, gone-trans, gone-base, SetSteps, gives-map, ends-gives, sets-step, images-step}
+pub use Rattle.query_steps.specs.Steps.{ordered-base}
 
 -- whether a set has no packet, by its handle
 pub zero-is : {N h : ℕ} {t : Table} {x : Set N} → SpLaws.Wf N t → SpLaws.Den t N h x → Sp.isZero N h ≡ not (inhabited x)
@@ -183,10 +126,10 @@ module _ (N : ℕ) (L : Limits) (lent : ℕ) (σ₀ : Tables) where
   works = record {
     one-works = λ a. SpLaws.den-one (a .ordered .sets) N (omega arith);
     zero-works = λ a. SpLaws.den-zero (a .ordered .sets) N (omega arith);
-    difference-works = λ a X Y. set-works a (sets-step (a .ordered) (SpSets.difference-runs N N (omega arith) _ _ _ _ _ (a .ordered .sets) X Y));
-    union-works = λ a X Y. set-works a (sets-step (a .ordered) (SpSets.union-runs N N (omega arith) _ _ _ _ _ (a .ordered .sets) X Y));
+    difference-works = λ a X Y. set-works a (ends-gives {lent = lent} (sets-step (a .ordered) (SpSets.difference-runs N N (omega arith) _ _ _ _ _ (a .ordered .sets) X Y) (SpRefused.difference-stops N N (omega arith) _ _ _ _ _ (a .ordered .sets) X Y)));
+    union-works = λ a X Y. set-works a (ends-gives {lent = lent} (sets-step (a .ordered) (SpSets.union-runs N N (omega arith) _ _ _ _ _ (a .ordered .sets) X Y) (SpRefused.union-stops N N (omega arith) _ _ _ _ _ (a .ordered .sets) X Y)));
     isZero-works = λ a X. gives (still a (zero-is (a .ordered .sets) X));
-    push-works = λ {x} {r} a X Y. set-works a (images-step (a .ordered) (λ t h. SpLaws.Den t N h (image x r)) (push-runs N (both-wf (a .ordered)) (omega arith) Y X));
+    push-works = λ {x} {r} a X Y. set-works a (ends-gives {lent = lent} (images-step (a .ordered) (λ t h. SpLaws.Den t N h (image x r)) (push-exact N N (omega arith) _ _ _ x r (both-wf (a .ordered)) X Y)));
     hasImage-works = λ {σ} a X Y. gives (still a (hasImage-is N N (omega arith) (diagrams σ) _ _ _ _ (both-wf (a .ordered)) X Y));
     epsilon-works = λ a k. epsilon-work a k;
     delta-works = λ a k. delta-work a k;

@@ -7,36 +7,36 @@ use Prim.Native.Nat.{ℕ, zero, suc, _+_, _*_, _^_, _≤_, _<_}
 use native.Mathlib.Omega.{arith}
 use lib.Dec.{T, eqb, eqb-refl, ltb}
 use lib.ListN.{length, length-reverse}
-use borrow.Author.Tests.{eqb-true, eqb-false, eq-eqb, ne-eqb}
-use Rattle.common.specs.Packets.{Packet, Set, Relation, any, inhabited, _∖_, _∪_}
+use borrow.Author.Tests.{eqb-true, eqb-false, eq-eqb, ne-eqb, ltb-false}
+use Rattle.common.specs.Packets.{Packet, Set, Relation, inhabited, _∖_, _∪_}
 use Rattle.common.specs.PacketLaws.{any-of, inhabited-to, either, or-left, or-right}
 use Rattle.common.specs.Relations.{starts, preimage}
 use Rattle.common.specs.RelationLaws.{minus-of, minus-to}
-use Rattle.common.specs.Outcome.{given, return, _>>=_, Gives, refusal, gives, if_then_else_}
-use Rattle.common.specs.Follow.{call, branch}
+use Rattle.common.specs.Outcome.{given, return, _>>=_, if_then_else_}
 use Rattle.common.specs.Runs.{Table}
-use Rattle.netkat.specs.Rules.{Language}
 use Rattle.netkat.specs.Lists.{State, Transition, to, Ascending, IsDelta}
 use Rattle.netkat.specs.ListSteps.{Edge, edge, Are, IsList}
-use Rattle.netkat.specs.Live.{IsLive, Reached, Step, IsStep, pulled, Added, Settled}
-use Rattle.netkat.specs.Laws.Live.{Sound, HasEnds, sound-begun, Working, Pulling, pulling-begin, pulling-same, pulling-more, pulling-end, working-end, amount, amount-most, amount-more}
+use Rattle.netkat.specs.Live.{Reached, Step, IsStep, Added}
+use Rattle.netkat.specs.Laws.Live.{sound-begun, Working, Pulling, pulling-begin, pulling-same, pulling-more, pulling-end, working-end, amount, amount-most, amount-more}
 use Rattle.sp_steps.specs.Model as Sp
 use Rattle.sp_steps.specs.Laws as SpLaws
 use Rattle.sp_steps.specs.Sets as SpSets
 use Rattle.sp_steps.specs.Apply as SpApply
+use Rattle.sp_steps.specs.Refused as SpRefused
 use Rattle.spp_steps.specs.Laws.{Den, den-mem, by-test}
-use Rattle.spp_steps.specs.Relations.{uninhabited, tests-equal}
-use Rattle.spp_steps.specs.Results.{pull-runs}
+use Rattle.spp_steps.specs.Relations.{uninhabited}
+use Rattle.spp_steps.specs.Images.{pull-exact}
 use Rattle.aut_steps.specs.Relations as Rel
 use Rattle.aut_steps.specs.Tables.{Limits, Aut}
+use Rattle.aut_steps.specs.Good.{states}
 use Rattle.aut_steps.specs.Meaning.{Holds}
 use Rattle.delta_steps.specs.Delta.{Store, listAt}
 use Rattle.delta_steps.specs.Fits.{tables as readings}
 use Rattle.delta_steps.specs.Worked.{Worked}
 use Rattle.delta_steps.specs.PlainSearch.{decoded}
-use Rattle.query_steps.specs.Tables.{Tables, LiveSet, Ordered, both-wf}
+use Rattle.query_steps.specs.Tables.{Tables, diagrams, LiveSet, Ordered, both-wf, Gone}
 use Rattle.query_steps.specs.Search.{capacity}
-use Rattle.query_steps.specs.SearchLaws.{images-step, sets-step}
+use Rattle.query_steps.specs.Steps.{gone-refl, gone-trans, no-entry, stopped-here, Ends, halts, comes, ends-map, ends-bind, ends-call, ends-branch, ends-same, ends-both, images-step, sets-step}
 use Rattle.query_steps.specs.Live.{liveAt, Work, work, taking, Label, by, none, labelTo, enlarge, pullBack, pullFrom, pullAll, settle, takes}
 use Rattle.query_steps.specs.ExploreLaws.{ends, ends-are, Linked}
 
@@ -62,6 +62,15 @@ mem-reverse {a = a} (x ∷ xs) r m = mem-reverse xs (x ∷ r) (turn m)
     turn : List·Memᴰ a (x ∷ xs) ⊎ List·Memᴰ a r → List·Memᴰ a xs ⊎ List·Memᴰ a (x ∷ r)
     turn (inl m) = ⊎-elim (λ q. inr (List·Memᴰ·head q)) (λ n. inl n) (List·Memᴰ·cases-cons m)
     turn (inr m) = inr (List·Memᴰ·tail m)
+
+reverse-mem : {A : Type 0} {a : A} {C : Type 0} (l r : List A) → List·Memᴰ a (reverseAux l r) → (List·Memᴰ a r → C) → List·Memᴰ a l ⊎ C
+reverse-mem [] r m f = inr (f m)
+reverse-mem {a = a} {C = C} (x ∷ xs) r m f = go (reverse-mem xs (x ∷ r) m (λ n. List·Memᴰ·cases-cons n))
+  where
+    go : List·Memᴰ a xs ⊎ ((a ≡ x) ⊎ List·Memᴰ a r) → List·Memᴰ a (x ∷ xs) ⊎ C
+    go (inl n) = inl (List·Memᴰ·tail n)
+    go (inr (inl q)) = inl (List·Memᴰ·head q)
+    go (inr (inr n)) = inr (f n)
 
 -- ---- what a stored list says
 
@@ -121,14 +130,14 @@ module _ {N : ℕ} {L : Limits} (b : Store) (W : Worked N L b) (ss : List ℕ) (
   rising s m = subst (λ (l : List (Transition State N)). Ascending l) (sym (decodes (is-list s m .are))) (is-list s m .ascending)
 
   -- the steps into t, from the states of a list
-  abbrev stepBy : ℕ → ℕ → ℕ → Step reached
+  abbrev pub stepBy : ℕ → ℕ → ℕ → Step reached
   stepBy t s l = record { source = s; by = to t (Rel.pairs N (b .aut .nodes) l) }
 
-  abbrev into : ℕ → ℕ → Label → List (Step reached) → List (Step reached)
+  abbrev pub into : ℕ → ℕ → Label → List (Step reached) → List (Step reached)
   into t s none left = left
   into t s (by l) left = stepBy t s l ∷ left
 
-  abbrev stepsTo : ℕ → List ℕ → List (Step reached)
+  abbrev pub stepsTo : ℕ → List ℕ → List (Step reached)
   stepsTo t [] = []
   stepsTo t (s ∷ rest) = into t s (labelTo t (listAt b s)) (stepsTo t rest)
 
@@ -163,15 +172,19 @@ module _ {N : ℕ} {L : Limits} (b : Store) (W : Worked N L b) (ss : List ℕ) (
 
   -- ---- one step into the target
 
-  -- `most` states more are enough, and `left` are the steps into the target that are still to be looked at; packet nodes have come from v
-  record Pulls (most : ℕ) (v : Table) (left : List (Step reached)) (σ : Tables) (w : Work) : Type 0 where
-    base : σ .base ≡ b
-    ext : SpLaws.Ext v (σ .sets)
-    ordered : Ordered N L σ
-    live : ℕ → Set N
-    den : (t : ℕ) → SpLaws.Den (σ .sets) N (w .live t) (live t)
-    pulling : Pulling reached live (w .todo) left
-    enough : length (w .todo) + length ss * 2 ^ N ≤ most + amount reached live
+  -- `most` states more are enough, and `left` are the steps into the target that are still to be looked at
+  pub record Pulls (most : ℕ) (left : List (Step reached)) (σ : Tables) (w : Work) : Type 0 where
+    pub base : σ .base ≡ b
+    pub ordered : Ordered N L σ
+    pub live : ℕ → Set N
+    pub den : (t : ℕ) → SpLaws.Den (σ .sets) N (w .live t) (live t)
+    pub among : (t : ℕ) → List·Memᴰ t (w .todo) → List·Memᴰ t ss
+    pub pulling : Pulling reached live (w .todo) left
+    pub enough : length (w .todo) + length ss * 2 ^ N ≤ most + amount reached live
+
+  -- from σ on
+  abbrev pub PullsFrom : ℕ → List (Step reached) → Tables → Tables → Work → Type 0
+  PullsFrom most left σ τ w = Gone σ τ × Pulls most left τ w
 
   -- the sets with x more at s
   abbrev more : ℕ → Set N → (ℕ → Set N) → ℕ → Set N
@@ -210,38 +223,49 @@ module _ {N : ℕ} {L : Limits} (b : Store) (W : Worked N L b) (ss : List ℕ) (
   or-had false false f = refl
 
   module _ (lent : ℕ) where
-    back-goes : (most : ℕ) {v : Table} {left : List (Step reached)} (t s l : ℕ) (σ : Tables) (w : Work) → List·Memᴰ s ss → labelTo t (listAt b s) ≡ by l → Pulls most v (stepBy t s l ∷ left) σ w
-        → Gives (Pulls most v left) (pullBack N L lent t s l w σ)
+    back-ends : (most : ℕ) {left : List (Step reached)} (t s l : ℕ) (σ : Tables) (w : Work) → List·Memᴰ s ss → labelTo t (listAt b s) ≡ by l → Pulls most (stepBy t s l ∷ left) σ w
+        → Ends N L lent (PullsFrom most left σ) σ (pullBack N L lent t s l w σ)
     unfolding pullBack enlarge
-    back-goes most {v} {left} t s l σ w m q P =
+    back-ends most {left} t s l σ w m q P =
         let R : Relation N = Rel.pairs N (b .aut .nodes) l in
         let X : Set N = preimage R (P .live t) in
         let Y : Den (σ .base .aut .nodes) N l R = subst (λ (b′ : Store). Den (b′ .aut .nodes) N l R) (sym (P .base)) (label-den t s l m q) in
-        call (images-step (P .ordered) (λ u h. SpLaws.Den u N h X) (pull-runs N (both-wf (P .ordered)) (omega arith) Y (P .den t))) (λ σ₁ accepted A.
-        call (sets-step (A .ordered) (SpSets.union-runs N N (omega arith) (σ₁ .sets) (w .live s) accepted (P .live s) X (A .ordered .sets) (SpLaws.den-ext (A .gone .sets) (P .den s)) (A .holds .1))) (λ σ₂ combined U.
-        let ext : SpLaws.Ext (σ .sets) (σ₂ .sets) = SpLaws.ext-trans (A .gone .sets) (U .gone .sets) in
-        let D : (u : ℕ) → SpLaws.Den (σ₂ .sets) N (w .live u) (P .live u) = λ u. SpLaws.den-ext ext (P .den u) in
-        branch (eqb combined (w .live s)) _ _ σ₂
-        (λ e. gives (record {
-          base = U .holds .0 ∙ A .holds .0 ∙ P .base;
-          ext = SpLaws.ext-trans (P .ext) ext;
-          ordered = U .ordered;
-          live = P .live;
-          den = D;
-          pulling = pulling-same reached (P .pulling) (record { nothing-more = λ p. or-has (P .live s p) (X p) (SpApply.agree (U .holds .1) (D s) (eqb-true combined (w .live s) e) p) });
-          enough = P .enough;
-        }))
-        (λ n. branch (ltb (length (w .todo)) (capacity lent)) _ _ σ₂
-        (λ _. gives {a = work (s ∷ w .todo) (liveAt s combined (w .live))} (record {
-          base = U .holds .0 ∙ A .holds .0 ∙ P .base;
-          ext = SpLaws.ext-trans (P .ext) ext;
-          ordered = U .ordered;
-          live = more s X (P .live);
-          den = more-den s X (w .live) (P .live) (U .holds .1) D;
-          pulling = pulling-more reached (P .pulling) (step-is t s l m q) (more-added s X (P .live));
-          enough = omega (arith, P .enough, grew σ₂ combined X (P .live) (U .ordered .sets) (U .holds .1) (D s) (eqb-false combined (w .live s) n));
-        }))
-        (λ _. refusal))))
+        ends-call (images-step (P .ordered) (λ u h. SpLaws.Den u N h X) (pull-exact N N (omega arith) (diagrams σ) (w .live t) l (P .live t) R (both-wf (P .ordered)) (P .den t) Y)) (λ σ₁ accepted A.
+        let old : SpLaws.Den (σ₁ .sets) N (w .live s) (P .live s) = SpLaws.den-ext (A .gone .sets) (P .den s) in
+        ends-call (sets-step (A .ordered) (SpSets.union-runs N N (omega arith) (σ₁ .sets) (w .live s) accepted (P .live s) X (A .ordered .sets) old (A .holds .1))
+        (SpRefused.union-stops N N (omega arith) (σ₁ .sets) (w .live s) accepted (P .live s) X (A .ordered .sets) old (A .holds .1))) (λ σ₂ combined U.
+        let g : Gone σ σ₂ = gone-trans (A .gone) (U .gone) in
+        let D : (u : ℕ) → SpLaws.Den (σ₂ .sets) N (w .live u) (P .live u) = λ u. SpLaws.den-ext (g .sets) (P .den u) in
+        let same : σ₂ .base ≡ b = U .holds .0 ∙ A .holds .0 ∙ P .base in
+        ends-branch (eqb combined (w .live s)) _ _ σ₂
+        (λ e. comes (
+          g,
+          record {
+            base = same;
+            ordered = U .ordered;
+            live = P .live;
+            den = D;
+            among = P .among;
+            pulling = pulling-same reached (P .pulling) (record { nothing-more = λ p. or-has (P .live s p) (X p) (SpApply.agree (U .holds .1) (D s) (eqb-true combined (w .live s) e) p) });
+            enough = P .enough;
+          },
+        ))
+        (λ n. ends-branch (ltb (length (w .todo)) (capacity lent)) _ _ σ₂
+        (λ _. comes {a = work (s ∷ w .todo) (liveAt s combined (w .live))} (
+          g,
+          record {
+            base = same;
+            ordered = U .ordered;
+            live = more s X (P .live);
+            den = more-den s X (w .live) (P .live) (U .holds .1) D;
+            among = λ u k. ⊎-elim (λ r. subst (λ (u : ℕ). List·Memᴰ u ss) (sym r) m) (λ k. P .among u k) (List·Memᴰ·cases-cons k);
+            pulling = pulling-more reached (P .pulling) (step-is t s l m q) (more-added s X (P .live));
+            enough = omega (arith, P .enough, grew σ₂ combined X (P .live) (U .ordered .sets) (U .holds .1) (D s) (eqb-false combined (w .live s) n));
+          },
+        ))
+        (λ f. halts (stopped-here (U .ordered) (no-entry (w .todo)
+        (λ u k. subst (λ (b′ : Store). u < states (b′ .aut)) (sym same) (links u (P .among u k) .known))
+        (ltb-false (length (w .todo)) (capacity lent) f)))))))
       where
         -- a new packet
         grew : (τ : Tables) (combined : ℕ) (X : Set N) (live : ℕ → Set N) → SpLaws.Wf N (τ .sets) → SpLaws.Den (τ .sets) N combined (live s ∪ X) → SpLaws.Den (τ .sets) N (w .live s) (live s)
@@ -255,76 +279,110 @@ module _ {N : ℕ} {L : Limits} (b : Store) (W : Worked N L b) (ss : List ℕ) (
             (λ h. subst T (sym h) tt)
             (λ h. absurd (subst T (uninhabited (X ∖ live s) c p) (minus-of (X p) (live s p) t (λ k. subst T h k)))))))))
 
-    from-goes : (most : ℕ) {v : Table} {left : List (Step reached)} (t s : ℕ) (σ : Tables) (w : Work) → List·Memᴰ s ss → Pulls most v (into t s (labelTo t (listAt b s)) left) σ w
-        → Gives (Pulls most v left) (pullFrom N L lent t s w σ)
+    pub from-ends : (most : ℕ) {left : List (Step reached)} (t s : ℕ) (σ : Tables) (w : Work) → List·Memᴰ s ss → Pulls most (into t s (labelTo t (listAt b s)) left) σ w
+        → Ends N L lent (PullsFrom most left σ) σ (pullFrom N L lent t s w σ)
     unfolding pullFrom
-    from-goes most {v} {left} t s σ w m P =
+    from-ends most {left} t s σ w m P =
         go (labelTo t (listAt (σ .base) s)) (ap (λ (b′ : Store). labelTo t (listAt b′ s)) (sym (P .base)))
       where
-        go : (c : Label) → labelTo t (listAt b s) ≡ c → Gives (Pulls most v left) (elim c [ by l ↦ pullBack N L lent t s l w σ | none ↦ given σ w ])
-        go (by l) q = back-goes most t s l σ w m q (subst (λ (c : Label). Pulls most v (into t s c left) σ w) q P)
-        go none q = gives (subst (λ (c : Label). Pulls most v (into t s c left) σ w) q P)
+        go : (c : Label) → labelTo t (listAt b s) ≡ c → Ends N L lent (PullsFrom most left σ) σ (elim c [ by l ↦ pullBack N L lent t s l w σ | none ↦ given σ w ])
+        go (by l) q = back-ends most t s l σ w m q (subst (λ (c : Label). Pulls most (into t s c left) σ w) q P)
+        go none q = comes (gone-refl σ, subst (λ (c : Label). Pulls most (into t s c left) σ w) q P)
 
-    all-goes : (most : ℕ) {v : Table} (t : ℕ) (rest : List ℕ) (σ : Tables) (w : Work) → ((s : ℕ) → List·Memᴰ s rest → List·Memᴰ s ss) → Pulls most v (stepsTo t rest) σ w
-        → Gives (Pulls most v []) (pullAll N L lent t rest w σ)
+    pub all-ends : (most : ℕ) (t : ℕ) (rest : List ℕ) (σ : Tables) (w : Work) → ((s : ℕ) → List·Memᴰ s rest → List·Memᴰ s ss) → Pulls most (stepsTo t rest) σ w
+        → Ends N L lent (PullsFrom most [] σ) σ (pullAll N L lent t rest w σ)
     unfolding pullAll
-    all-goes most t [] σ w f P = gives P
-    all-goes most t (s ∷ rest) σ w f P = call (from-goes most t s σ w (f s (List·Memᴰ·head refl)) P) (λ σ₁ w₁ P₁. all-goes most t rest σ₁ w₁ (λ u m. f u (List·Memᴰ·tail m)) P₁)
+    all-ends most t [] σ w f P = comes (gone-refl σ, P)
+    all-ends most t (s ∷ rest) σ w f P =
+        ends-bind (from-ends most t s σ w (f s (List·Memᴰ·head refl)) P) (λ σ₁ w₁ P₁. (
+          P₁ .0,
+          ends-map (λ τ w₂ P₂. (gone-trans (P₁ .0) (P₂ .0), P₂ .1)) (all-ends most t rest σ₁ w₁ (λ u m. f u (List·Memᴰ·tail m)) (P₁ .1)),
+        ))
 
     -- ---- until no state is left
 
     -- what the work list comes to
-    pub record Settled-to (v : Table) (σ : Tables) (live : ℕ → ℕ) : Type 0 where
-      pub base : σ .base ≡ b
-      pub ext : SpLaws.Ext v (σ .sets)
-      pub ordered : Ordered N L σ
-      pub lives : (s : ℕ) → List·Memᴰ s ss → LiveSet N (σ .sets) (live s) (Holds N (b .aut) s)
+    pub record SettledTo (σ τ : Tables) (live : ℕ → ℕ) : Type 0 where
+      pub base : τ .base ≡ b
+      pub gone : Gone σ τ
+      pub ordered : Ordered N L τ
+      pub lives : (s : ℕ) → List·Memᴰ s ss → LiveSet N (τ .sets) (live s) (Holds N (b .aut) s)
 
-    ended : {most : ℕ} {v : Table} {σ : Tables} {w : Work} → Pulls most v [] σ w → w .todo ≡ [] → Settled-to v σ (w .live)
-    ended P q = record {
+    ended : {most : ℕ} {σ : Tables} {w : Work} → Pulls most [] σ w → w .todo ≡ [] → SettledTo σ σ (w .live)
+    ended {σ = σ} P q = record {
       base = P .base;
-      ext = P .ext;
+      gone = gone-refl σ;
       ordered = P .ordered;
       lives = λ s m. record { set = P .live s; den = P .den s; is = working-end reached (subst (λ (todo : List ℕ). Working reached (P .live) todo) q (pulling-end reached (P .pulling))) s m };
     }
 
-    settle-goes : (most : ℕ) {v : Table} (σ : Tables) (w : Work) → Pulls most v [] σ w → Gives (Settled-to v) (settle N L lent most ss w σ)
-    unfolding settle
-    settle-goes zero σ w P = gives (ended P (empty (w .todo) (omega (arith, P .enough, amount-most reached (P .live)))))
+    -- with no state more to be taken, none is left
+    pub none-left : {σ : Tables} {w : Work} → Pulls 0 [] σ w → w .todo ≡ []
+    none-left {w = w} P = empty (w .todo) (omega (arith, P .enough, amount-most reached (P .live)))
       where
         empty : (l : List ℕ) → length l ≤ 0 → l ≡ []
         empty [] k = refl
         empty (x ∷ xs) k = absurd (omega arith)
-    settle-goes (suc most) {v} σ w P = go (w .todo) refl (λ σ₁ w₁ P₁. settle-goes most σ₁ w₁ P₁)
+
+    -- the next target is taken
+    pub take-next : {most : ℕ} {σ : Tables} {w : Work} {t : ℕ} {rest : List ℕ} → Pulls (suc most) [] σ w → w .todo ≡ t ∷ rest → Pulls most (stepsTo t ss) σ (work rest (w .live))
+    take-next {t = t} P q = record {
+      base = P .base;
+      ordered = P .ordered;
+      live = P .live;
+      den = P .den;
+      among = λ u m. P .among u (subst (λ (todo : List ℕ). List·Memᴰ u todo) (sym q) (List·Memᴰ·tail m));
+      pulling = pulling-begin reached t (stepsTo t ss) (subst (λ (todo : List ℕ). Working reached (P .live) todo) q (pulling-end reached (P .pulling))) (λ e k r. steps-all t ss e (k .reached) k r);
+      enough = omega (arith, P .enough, ap length q);
+    }
+
+    settle-ends : (most : ℕ) (σ : Tables) (w : Work) → Pulls most [] σ w → Ends N L lent (SettledTo σ) σ (settle N L lent most ss w σ)
+    unfolding settle
+    settle-ends zero σ w P = comes (ended P (none-left P))
+    settle-ends (suc most) σ w P = go (w .todo) refl (λ σ₁ w₁ P₁. settle-ends most σ₁ w₁ P₁)
       where
-        go : (todo : List ℕ) → w .todo ≡ todo → ((σ₁ : Tables) (w₁ : Work) → Pulls most v [] σ₁ w₁ → Gives (Settled-to v) (settle N L lent most ss w₁ σ₁))
-            → Gives (Settled-to v) (taking todo (return (w .live)) (λ t rest. pullAll N L lent t ss (work rest (w .live)) >>= settle N L lent most ss) σ)
-        go [] q rec = gives (ended P q)
+        go : (todo : List ℕ) → w .todo ≡ todo → ((σ₁ : Tables) (w₁ : Work) → Pulls most [] σ₁ w₁ → Ends N L lent (SettledTo σ₁) σ₁ (settle N L lent most ss w₁ σ₁))
+            → Ends N L lent (SettledTo σ) σ (taking todo (return (w .live)) (λ t rest. pullAll N L lent t ss (work rest (w .live)) >>= settle N L lent most ss) σ)
+        go [] q rec = comes (ended P q)
         go (t ∷ rest) q rec =
-            call (all-goes most t ss σ (work rest (w .live)) (λ s m. m) (record {
-              base = P .base;
-              ext = P .ext;
-              ordered = P .ordered;
-              live = P .live;
-              den = P .den;
-              pulling = pulling-begin reached t (stepsTo t ss) (subst (λ (todo : List ℕ). Working reached (P .live) todo) q (pulling-end reached (P .pulling))) (λ e k r. steps-all t ss e (k .reached) k r);
-              enough = omega (arith, P .enough, ap length q);
-            }))
-            rec
+            ends-bind (all-ends most t ss σ (work rest (w .live)) (λ s m. m) (take-next P q)) (λ σ₁ w₁ P₁. (
+              P₁ .0,
+              ends-map (λ τ live S. record { base = S .base; gone = gone-trans (P₁ .0) (S .gone); ordered = S .ordered; lives = S .lives }) (rec σ₁ w₁ (P₁ .1)),
+            ))
+
+    -- more states to be taken change nothing: the bound cuts nothing off
+    pub settle-more : (most more : ℕ) (σ : Tables) (w : Work) → Pulls most [] σ w → Pulls more [] σ w → settle N L lent most ss w σ ≡ settle N L lent more ss w σ
+    unfolding settle
+    settle-more zero zero σ w P Q = refl
+    settle-more zero (suc more) σ w P Q = sym (ap (λ (todo : List ℕ). taking todo (return (w .live)) (λ t rest. pullAll N L lent t ss (work rest (w .live)) >>= settle N L lent more ss) σ) (none-left P))
+    settle-more (suc most) zero σ w P Q = ap (λ (todo : List ℕ). taking todo (return (w .live)) (λ t rest. pullAll N L lent t ss (work rest (w .live)) >>= settle N L lent most ss) σ) (none-left Q)
+    settle-more (suc most) (suc more′) σ w P Q = go (w .todo) refl (λ σ₁ w₁ P₁ Q₁. settle-more most more′ σ₁ w₁ P₁ Q₁)
+      where
+        go : (todo : List ℕ) → w .todo ≡ todo → ((σ₁ : Tables) (w₁ : Work) → Pulls most [] σ₁ w₁ → Pulls more′ [] σ₁ w₁ → settle N L lent most ss w₁ σ₁ ≡ settle N L lent more′ ss w₁ σ₁)
+            → taking todo (return (w .live)) (λ t rest. pullAll N L lent t ss (work rest (w .live)) >>= settle N L lent most ss) σ
+            ≡ taking todo (return (w .live)) (λ t rest. pullAll N L lent t ss (work rest (w .live)) >>= settle N L lent more′ ss) σ
+        go [] q rec = refl
+        go (t ∷ rest) q rec =
+            ends-same (ends-both (all-ends most t ss σ (work rest (w .live)) (λ s m. m) (take-next P q)) (all-ends more′ t ss σ (work rest (w .live)) (λ s m. m) (take-next Q q)))
+            (λ σ₁ w₁ R. rec σ₁ w₁ (R .0 .1) (R .1 .1))
 
     -- it begins with every state on the list, and the starts of their strings without hops
-    pub settled-goes : (σ : Tables) (live : ℕ → ℕ) → σ .base ≡ b → Ordered N L σ → ((t : ℕ) → SpLaws.At (σ .sets) N (live t)) → ((s : ℕ) → List·Memᴰ s ss → SpLaws.Den (σ .sets) N (live s) (starts (ends N (b .aut) s)))
-        → Gives (Settled-to (σ .sets)) (settle N L lent (takes N L lent ss) ss (work (reverse ss) live) σ)
-    settled-goes σ live q o some sets = settle-goes (takes N L lent ss) σ (work (reverse ss) live) (record {
+    pub begins : (σ : Tables) (live : ℕ → ℕ) → σ .base ≡ b → Ordered N L σ → ((t : ℕ) → SpLaws.At (σ .sets) N (live t)) → ((s : ℕ) → List·Memᴰ s ss → SpLaws.Den (σ .sets) N (live s) (starts (ends N (b .aut) s)))
+        → Pulls (takes N L lent ss) [] σ (work (reverse ss) live)
+    begins σ live q o some sets = record {
       base = q;
-      ext = SpLaws.ext-refl (σ .sets);
       ordered = o;
       live = λ t. Sp.mem (σ .sets .words) N (live t);
       den = λ t. SpLaws.den-mem (some t);
+      among = λ t m. ⊎-elim (λ n. n) (λ n. absurd n) (reverse-mem ss [] m (λ n. List·Memᴰ·not-nil n));
       pulling = record {
         sound = record { starting = λ s m p t. sound-begun reached .starting s m p (subst T (sets s m .means p) t) };
         ends = record { ending = λ s m p t. subst T (sym (sets s m .means p)) t };
         waits = λ e k. inr (inl (mem-reverse ss [] (inl (reached .closed (e .source) (k .reached) (e .by) (k .listed)))));
       };
       enough = omega (arith, length-reverse ss);
-    })
+    }
+
+    pub settled-ends : (σ : Tables) (live : ℕ → ℕ) → σ .base ≡ b → Ordered N L σ → ((t : ℕ) → SpLaws.At (σ .sets) N (live t)) → ((s : ℕ) → List·Memᴰ s ss → SpLaws.Den (σ .sets) N (live s) (starts (ends N (b .aut) s)))
+        → Ends N L lent (SettledTo σ) σ (settle N L lent (takes N L lent ss) ss (work (reverse ss) live) σ)
+    settled-ends σ live q o some sets = settle-ends (takes N L lent ss) σ (work (reverse ss) live) (begins σ live q o some sets)

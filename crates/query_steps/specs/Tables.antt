@@ -1,14 +1,14 @@
 -- 01, "Lent tables": all tables that a query works on. Packet nodes; and relation nodes, states, members and transitions, which delta and epsilon work on. Steps on a part of them as
 -- steps on all; when they are in order: the nodes are well formed and what is worked out in words 4 to 7 of the states is true; and what is kept when they have come further.
-use mathlib.Core.Path.{_≡_, refl, sym, _∙_, ap, subst}
-use mathlib.Core.List.{List, [], _∷_, List·Memᴰ}
+use mathlib.Core.Path.{_≡_, refl, sym, _∙_, subst}
+use mathlib.Core.List.{List, List·Memᴰ}
 use Prim.Native.Nat.{ℕ, _+_, _*_, _≤_, _<_}
 use native.Mathlib.Omega.{arith}
 use lib.Dec.{leb}
-use lib.ListN.{length, getD}
+use lib.ListN.{getD}
 use borrow.Author.Tests.{leb-true, leb-false}
 use Rattle.common.specs.Packets.{Set}
-use Rattle.common.specs.Outcome.{Outcome, refused, given, Step}
+use Rattle.common.specs.Outcome.{given, Step}
 use Rattle.common.specs.Follow.{given-of}
 use Rattle.common.specs.Runs.{Table, table, placed}
 use Rattle.netkat.specs.ListSteps.{Edge}
@@ -28,7 +28,7 @@ use Rattle.aut_steps.specs.Good.{states, Grown, grown-refl, grown-trans, Good}
 use Rattle.aut_steps.specs.Goes.{good-begun}
 use Rattle.aut_steps.specs.Meaning.{Holds, holds-grown}
 use Rattle.delta_steps.specs.Epsilon.{epsilonOf}
-use Rattle.delta_steps.specs.Delta.{countOf, Store, store, listAt, transitionCap}
+use Rattle.delta_steps.specs.Delta.{countOf, Store, store, listAt}
 use Rattle.delta_steps.specs.Worked.{ExtT, extt-refl, extt-trans, Worked, SameWords, same-list, begun}
 use Rattle.delta_steps.specs.Stored.{Went}
 

@@ -4,3 +4,5 @@ pub mod Operations
 pub mod Edges
 pub mod ListGoes
 pub mod EachSteps
+pub mod Places
+pub mod InsertSteps

@@ -1,0 +1,4 @@
+pub mod Join
+pub mod Placing
+pub mod Halves
+pub mod Walking
