@@ -149,27 +149,33 @@ line-done lent h r s e = given-of (perform-done (settingOf lent h) (reached-well
 
 -- ---- a run passes through such places alone
 
+-- why a run stops at the place q: one instruction too many, a line without byte 10, or a line that is refused there (Refusals.antt says for which reason)
+pub data Halts (lent : Lent) (h : Header) (q : Place) : ℕ → Type 0 where
+  too-many : Halts lent h q 3
+  no-end : Halts lent h q 3
+  at-line : (s : Option Said) {number : ℕ} → obey (settingOf lent h) s q ≡ refused number → Halts lent h q number
+
 pub data Came (lent : Lent) (h : Header) : Ran (settingOf lent h) → Type 0 where
   at-end : {q : Place} {R : List (Option (Rule (h .fields)))} → Reached lent h q R → Came lent h (answered q)
-  at-stop : {q : Place} {R : List (Option (Rule (h .fields)))} {number line : ℕ} → Reached lent h q R → Came lent h (stopped number line (q .output))
+  at-stop : {q : Place} {R : List (Option (Rule (h .fields)))} {number line : ℕ} → Reached lent h q R → Halts lent h q number → Came lent h (stopped number line (q .output))
 
 module _ (lent : Lent) (h : Header) where
   pub run-came : (left : ℕ) (text : List ℕ) (k : ℕ) {p : Place} {R : List (Option (Rule (h .fields)))} → Reached lent h p R → Came lent h (run (settingOf lent h) left text k p)
   unfolding run
   run-came zero [] k r = at-end r
-  run-came zero (b ∷ text) k r = at-stop r
+  run-came zero (b ∷ text) k r = at-stop r too-many
   run-came (suc left) [] k r = at-end r
   run-came (suc left) (b ∷ text) k {p} r = with-cut (λ text k q R c. run-came left text k c) (cut (b ∷ text))
     where
       going : (go : (k : ℕ) → Place → Ran (settingOf lent h)) → ((k : ℕ) (q : Place) (R : List (Option (Rule (h .fields)))) → Reached lent h q R → Came lent h (go k q)) → (s : Option Said) (o : Outcome Place ℕ)
           → obey (settingOf lent h) s p ≡ o → Came lent h (onward (settingOf lent h) go k p o)
-      going go f s (refused e) q = at-stop r
+      going go f s (refused e) q = at-stop r (at-line s q)
       going go f none (given z x) q = absurd (refused≢given q)
       going go f (some s) (given z x) q = f (suc k) z _ (next r s q)
 
       with-cut : ((text : List ℕ) (k : ℕ) (q : Place) (R : List (Option (Rule (h .fields)))) → Reached lent h q R → Came lent h (run (settingOf lent h) left text k q)) → (c : Cut)
           → Came lent h (with-line (settingOf lent h) (run (settingOf lent h) left) k p c)
-      with-cut f unended = at-stop r
+      with-cut f unended = at-stop r no-end
       with-cut f (line l rest) = going (run (settingOf lent h) left rest) (f rest) (said (words l)) (obey (settingOf lent h) (said (words l)) p) refl
 
 -- the outcome of a book: it is turned down before any answer, or what its run came to

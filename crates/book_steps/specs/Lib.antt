@@ -8,5 +8,6 @@ pub mod Run
 pub mod Meaning
 pub mod Claims
 pub mod Demands
+pub mod Refusals
 pub mod RunExamples
 pub mod Examples
