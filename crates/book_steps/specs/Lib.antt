@@ -9,5 +9,6 @@ pub mod Meaning
 pub mod Claims
 pub mod Demands
 pub mod Refusals
+pub mod Entry
 pub mod RunExamples
 pub mod Examples
