@@ -1,1 +1,2 @@
+-- 01's corner rows marked [C].
 pub mod Corners
