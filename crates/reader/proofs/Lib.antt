@@ -1,0 +1,4 @@
+-- Lemmas for the proofs of this crate.
+pub mod Parts
+pub mod Decimal
+pub mod Saying
