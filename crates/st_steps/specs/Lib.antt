@@ -6,3 +6,4 @@ pub mod ListGoes
 pub mod EachSteps
 pub mod Places
 pub mod InsertSteps
+pub mod MinusSteps

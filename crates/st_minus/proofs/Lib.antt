@@ -1,0 +1,4 @@
+-- Lemmas for the proofs of this crate.
+pub mod Sources
+pub mod Single
+pub mod Loops

@@ -1,0 +1,202 @@
+// st_difference of aut.rs: where the labels of two lists meet, the difference of the targets; and the union of these labels.
+use aut::Counts;
+use aut::Limits;
+use aut::State;
+use spp::Made;
+use spp::Op;
+use spp::SPP;
+use st::Listed;
+use st_source::Source;
+use st_source::Transition;
+ghost use Rattle.netkat.specs.ListSteps as St;
+ghost use Rattle.st_steps.specs.Operations.{ops};
+ghost use Rattle.st_steps.specs.EachSteps as M;
+ghost use Rattle.aut.specs.Seen.{limitsOf};
+ghost use Rattle.aut_rel.specs.Seen.{autOf};
+ghost use Rattle.st_source.specs.Seen.{edgeOf, sourceOf};
+ghost use Rattle.st_minus.specs.Seen.{OneReady, RowReady, RowsReady, DoesSum, sumOf};
+
+// the labels met so far, and the number of transitions at RESULT
+pub enum Summed {
+    Next(Counts, SPP, usize),
+    Refused(u32),
+}
+
+// st_difference: the difference of t and u, where their labels meet
+fn subtract_one(
+    nodes: &mut [u32],
+    states: &mut [u32],
+    members: &mut [u32],
+    scratch: &mut [u32],
+    c: Counts,
+    limits: Limits,
+    fields: u32,
+    t: Transition,
+    u: Transition,
+    sum: SPP,
+    m: usize,
+) -> Summed
+    requires { ⌜ OneReady fields limits (autOf (now nodes) (now states) (now members) c) (now scratch) (edgeOf t) (edgeOf u) (sum .0) m ⌝ }
+    ensures { λ r. ⌜ DoesSum fields limits 0 832 (M.subtractOne fields (limitsOf limits) (edgeOf t) (edgeOf u) (sumOf fields limits (now (scratch .entry)) (sum .0) m)) (autOf (now (nodes .entry)) (now (states .entry)) (now (members .entry)) c) r c (now (nodes .exit)) (now (states .exit)) (now (members .exit)) (now (scratch .entry)) (now (scratch .exit)) ⌝ }
+{
+    let state = aut_mk::mk_difference(
+        nodes,
+        states,
+        scratch,
+        c,
+        limits,
+        fields,
+        t.target,
+        u.target,
+    );
+    match state {
+        State::Refused(e) => Summed::Refused(e),
+        State::Is(x, c1) => {
+            let Made::Node(meet, n2) = aut_rel::apply(
+                nodes,
+                scratch,
+                c1.spp,
+                fields,
+                Op::Intersect,
+                t.label,
+                u.label,
+            ) else {
+                return Summed::Refused(21);
+            };
+            let Made::Node(h, n3) = aut_rel::apply(nodes, scratch, n2, fields, Op::Union, sum, meet)
+            else {
+                return Summed::Refused(21);
+            };
+            let c3 = Counts {
+                sp: c1.sp,
+                spp: n3,
+                states: c1.states,
+                members: c1.members,
+                transitions: c1.transitions,
+            };
+            let listed = st::insert(
+                nodes,
+                states,
+                members,
+                scratch,
+                c3,
+                limits,
+                fields,
+                x,
+                meet,
+                m,
+            );
+            match listed {
+                Listed::Refused(e) => Summed::Refused(e),
+                Listed::List(d, n) => Summed::Next(d, h, n),
+            }
+        }
+    }
+}
+
+fn subtract_row(
+    nodes: &mut [u32],
+    states: &mut [u32],
+    members: &mut [u32],
+    transitions: &[u32],
+    scratch: &mut [u32],
+    c: Counts,
+    limits: Limits,
+    fields: u32,
+    t: Transition,
+    second: Source,
+    j: usize,
+    sum: SPP,
+    m: usize,
+) -> Summed
+    requires { ⌜ RowReady fields limits (autOf (now nodes) (now states) (now members) c) (now transitions) (now scratch) (edgeOf t) second j (sum .0) m ⌝ }
+    ensures { λ r. ⌜ DoesSum fields limits 0 832 (St.subtractRow (ops fields (limitsOf limits)) (edgeOf t) (sourceOf second (now (transitions .entry)) (now (scratch .entry)) j) (sumOf fields limits (now (scratch .entry)) (sum .0) m)) (autOf (now (nodes .entry)) (now (states .entry)) (now (members .entry)) c) r c (now (nodes .exit)) (now (states .exit)) (now (members .exit)) (now (scratch .entry)) (now (scratch .exit)) ⌝ }
+{
+    let mut d = c;
+    let mut h = sum;
+    let mut n = m;
+    let mut i = 0;
+    while i < j {
+        let u = st_source::read(transitions, scratch, second, i);
+        let summed = subtract_one(
+            nodes,
+            states,
+            members,
+            scratch,
+            d,
+            limits,
+            fields,
+            t,
+            u,
+            h,
+            n,
+        );
+        match summed {
+            Summed::Refused(e) => {
+                return Summed::Refused(e);
+            }
+            Summed::Next(d1, h1, n1) => {
+                d = d1;
+                h = h1;
+                n = n1;
+            }
+        }
+        i += 1;
+    }
+    Summed::Next(d, h, n)
+}
+
+pub fn subtract_rows(
+    nodes: &mut [u32],
+    states: &mut [u32],
+    members: &mut [u32],
+    transitions: &[u32],
+    scratch: &mut [u32],
+    c: Counts,
+    limits: Limits,
+    fields: u32,
+    first: Source,
+    k: usize,
+    second: Source,
+    j: usize,
+    sum: SPP,
+    m: usize,
+) -> Summed
+    requires { ⌜ RowsReady fields limits (autOf (now nodes) (now states) (now members) c) (now transitions) (now scratch) first k second j (sum .0) m ⌝ }
+    ensures { λ r. ⌜ DoesSum fields limits 0 832 (St.subtractRows (ops fields (limitsOf limits)) (sourceOf first (now (transitions .entry)) (now (scratch .entry)) k) (sourceOf second (now (transitions .entry)) (now (scratch .entry)) j) (sumOf fields limits (now (scratch .entry)) (sum .0) m)) (autOf (now (nodes .entry)) (now (states .entry)) (now (members .entry)) c) r c (now (nodes .exit)) (now (states .exit)) (now (members .exit)) (now (scratch .entry)) (now (scratch .exit)) ⌝ }
+{
+    let mut d = c;
+    let mut h = sum;
+    let mut n = m;
+    let mut i = 0;
+    while i < k {
+        let t = st_source::read(transitions, scratch, first, i);
+        let summed = subtract_row(
+            nodes,
+            states,
+            members,
+            transitions,
+            scratch,
+            d,
+            limits,
+            fields,
+            t,
+            second,
+            j,
+            h,
+            n,
+        );
+        match summed {
+            Summed::Refused(e) => {
+                return Summed::Refused(e);
+            }
+            Summed::Next(d1, h1, n1) => {
+                d = d1;
+                h = h1;
+                n = n1;
+            }
+        }
+        i += 1;
+    }
+    Summed::Next(d, h, n)
+}
