@@ -1,0 +1,308 @@
+// Loops over transition lists of aut.rs: something is made of each transition, and inserted into the list at RESULT.
+use aut::Counts;
+use aut::Limits;
+use aut::State;
+use spp::Made;
+use spp::Op;
+use spp::SPP;
+use st::Listed;
+use st_source::Source;
+use st_source::Transition;
+ghost use mathlib.Core.Path.{_≡_};
+ghost use Rattle.netkat.specs.ListSteps as St;
+ghost use Rattle.netkat.specs.ListSteps.{edge};
+ghost use Rattle.st_steps.specs.Operations.{ops};
+ghost use Rattle.st_steps.specs.Edges.{edges, EdgeAt};
+ghost use Rattle.st_steps.specs.EachSteps as M;
+ghost use Rattle.aut.specs.Seen.{limitsOf};
+ghost use Rattle.aut_rel.specs.Seen.{autOf};
+ghost use Rattle.st.specs.Seen.{RESULT, ListReady, DoesList};
+ghost use Rattle.st_source.specs.Seen.{edgeOf, sourceOf};
+ghost use Rattle.st_each.specs.Seen.{eachOf, stateEdge, labelEdge, MakeReady, DoesEdge, EachReady, PairsReady};
+
+// what is made of a transition
+pub enum Each {
+    Same,
+    Sequence(u32),
+    After(SPP),
+    Intersect(u32),
+    Complement,
+    Rest(SPP),
+    Meet(u32, SPP),
+}
+
+pub enum Edged {
+    Edge(Counts, Transition),
+    Refused(u32),
+}
+
+// a target made
+fn to_state(state: State, label: SPP) -> Edged
+    ensures { λ r. ⌜ r ≡ stateEdge state label ⌝ }
+{
+    match state {
+        State::Refused(e) => Edged::Refused(e),
+        State::Is(x, d) => Edged::Edge(
+            d,
+            Transition {
+                target: x,
+                label: label,
+            },
+        ),
+    }
+}
+
+// a label made
+fn to_label(made: Made, c: Counts, target: u32) -> Edged
+    ensures { λ r. ⌜ r ≡ labelEdge made c target ⌝ }
+{
+    let Made::Node(h, n) = made else {
+        return Edged::Refused(21);
+    };
+    Edged::Edge(
+        Counts {
+            sp: c.sp,
+            spp: n,
+            states: c.states,
+            members: c.members,
+            transitions: c.transitions,
+        },
+        Transition {
+            target: target,
+            label: h,
+        },
+    )
+}
+
+// met with the transition to s with the label l: the target is made before the label
+fn meet_of(
+    nodes: &mut [u32],
+    states: &mut [u32],
+    members: &mut [u32],
+    scratch: &mut [u32],
+    c: Counts,
+    limits: Limits,
+    fields: u32,
+    s: u32,
+    l: SPP,
+    t: Transition,
+) -> Edged
+    requires { ⌜ MakeReady fields limits (autOf (now nodes) (now states) (now members) c) (now scratch) (M.meet (edge s (l .0))) (edgeOf t) ⌝ }
+    ensures { λ r. ⌜ DoesEdge fields limits 0 576 (M.made fields (limitsOf limits) (M.meet (edge s (l .0))) (edgeOf t)) (autOf (now (nodes .entry)) (now (states .entry)) (now (members .entry)) c) r c (now (nodes .exit)) (now (states .exit)) (now (members .exit)) (now (scratch .entry)) (now (scratch .exit)) ⌝ }
+{
+    let state = aut_inter::mk_intersect(
+        nodes,
+        states,
+        members,
+        scratch,
+        c,
+        limits,
+        fields,
+        s,
+        t.target,
+    );
+    match state {
+        State::Refused(e) => Edged::Refused(e),
+        State::Is(x, d) => to_label(
+            aut_rel::apply(nodes, scratch, d.spp, fields, Op::Intersect, l, t.label),
+            d,
+            x,
+        ),
+    }
+}
+
+fn make_edge(
+    nodes: &mut [u32],
+    states: &mut [u32],
+    members: &mut [u32],
+    scratch: &mut [u32],
+    c: Counts,
+    limits: Limits,
+    fields: u32,
+    each: Each,
+    t: Transition,
+) -> Edged
+    requires { ⌜ MakeReady fields limits (autOf (now nodes) (now states) (now members) c) (now scratch) (eachOf each) (edgeOf t) ⌝ }
+    ensures { λ r. ⌜ DoesEdge fields limits 0 576 (M.made fields (limitsOf limits) (eachOf each) (edgeOf t)) (autOf (now (nodes .entry)) (now (states .entry)) (now (members .entry)) c) r c (now (nodes .exit)) (now (states .exit)) (now (members .exit)) (now (scratch .entry)) (now (scratch .exit)) ⌝ }
+{
+    match each {
+        Each::Same => Edged::Edge(c, t),
+        Each::Sequence(x) => to_state(
+            aut_mk::mk_sequence(nodes, states, scratch, c, limits, fields, t.target, x),
+            t.label,
+        ),
+        Each::After(l) => to_label(
+            aut_mk::relate(
+                nodes,
+                scratch,
+                c.spp,
+                fields,
+                aut_mk::Task::Sequence,
+                l,
+                t.label,
+            ),
+            c,
+            t.target,
+        ),
+        Each::Intersect(x) => to_state(
+            aut_inter::mk_intersect(
+                nodes,
+                states,
+                members,
+                scratch,
+                c,
+                limits,
+                fields,
+                t.target,
+                x,
+            ),
+            t.label,
+        ),
+        Each::Complement => {
+            let put = aut::mk_complement(states, c.states, fields, limits, t.target);
+            to_state(aut_rel::placed(put, c), t.label)
+        }
+        Each::Rest(l) => to_label(
+            aut_rel::apply(nodes, scratch, c.spp, fields, Op::Difference, t.label, l),
+            c,
+            t.target,
+        ),
+        Each::Meet(s, l) => meet_of(nodes, states, members, scratch, c, limits, fields, s, l, t),
+    }
+}
+
+// made and inserted
+fn insert_made(
+    nodes: &mut [u32],
+    states: &mut [u32],
+    members: &mut [u32],
+    scratch: &mut [u32],
+    c: Counts,
+    limits: Limits,
+    fields: u32,
+    each: Each,
+    t: Transition,
+    m: usize,
+) -> Listed
+    requires { ⌜ ListReady fields limits (autOf (now nodes) (now states) (now members) c) (now scratch) m × MakeReady fields limits (autOf (now nodes) (now states) (now members) c) (now scratch) (eachOf each) (edgeOf t) ⌝ }
+    ensures { λ r. ⌜ DoesList fields limits 0 832 (M.insertMade fields (limitsOf limits) (eachOf each) (edgeOf t) (edges (now (scratch .entry)) RESULT m)) (autOf (now (nodes .entry)) (now (states .entry)) (now (members .entry)) c) r c (now (nodes .exit)) (now (states .exit)) (now (members .exit)) (now (scratch .entry)) (now (scratch .exit)) ⌝ }
+{
+    let edged = make_edge(nodes, states, members, scratch, c, limits, fields, each, t);
+    match edged {
+        Edged::Refused(e) => Listed::Refused(e),
+        Edged::Edge(d, new) => st::insert(
+            nodes,
+            states,
+            members,
+            scratch,
+            d,
+            limits,
+            fields,
+            new.target,
+            new.label,
+            m,
+        ),
+    }
+}
+
+// for each of the k transitions of the source, into the m at RESULT
+pub fn insert_each(
+    nodes: &mut [u32],
+    states: &mut [u32],
+    members: &mut [u32],
+    transitions: &[u32],
+    scratch: &mut [u32],
+    c: Counts,
+    limits: Limits,
+    fields: u32,
+    each: Each,
+    source: Source,
+    k: usize,
+    m: usize,
+) -> Listed
+    requires { ⌜ EachReady fields limits (autOf (now nodes) (now states) (now members) c) (now transitions) (now scratch) (eachOf each) source k m ⌝ }
+    ensures { λ r. ⌜ DoesList fields limits 0 832 (St.insertEach (ops fields (limitsOf limits)) (M.made fields (limitsOf limits) (eachOf each)) (sourceOf source (now (transitions .entry)) (now (scratch .entry)) k) (edges (now (scratch .entry)) RESULT m)) (autOf (now (nodes .entry)) (now (states .entry)) (now (members .entry)) c) r c (now (nodes .exit)) (now (states .exit)) (now (members .exit)) (now (scratch .entry)) (now (scratch .exit)) ⌝ }
+{
+    let mut d = c;
+    let mut n = m;
+    let mut i = 0;
+    while i < k {
+        let t = st_source::read(transitions, scratch, source, i);
+        let listed = insert_made(
+            nodes,
+            states,
+            members,
+            scratch,
+            d,
+            limits,
+            fields,
+            each,
+            t,
+            n,
+        );
+        match listed {
+            Listed::Refused(e) => {
+                return Listed::Refused(e);
+            }
+            Listed::List(d1, n1) => {
+                d = d1;
+                n = n1;
+            }
+        }
+        i += 1;
+    }
+    Listed::List(d, n)
+}
+
+// st_intersect: each of the first source met with each of the second
+pub fn insert_pairs(
+    nodes: &mut [u32],
+    states: &mut [u32],
+    members: &mut [u32],
+    transitions: &[u32],
+    scratch: &mut [u32],
+    c: Counts,
+    limits: Limits,
+    fields: u32,
+    first: Source,
+    k: usize,
+    second: Source,
+    j: usize,
+    m: usize,
+) -> Listed
+    requires { ⌜ PairsReady fields limits (autOf (now nodes) (now states) (now members) c) (now transitions) (now scratch) first k second j m ⌝ }
+    ensures { λ r. ⌜ DoesList fields limits 0 832 (St.insertPairs (ops fields (limitsOf limits)) (St.meetOf (ops fields (limitsOf limits))) (sourceOf first (now (transitions .entry)) (now (scratch .entry)) k) (sourceOf second (now (transitions .entry)) (now (scratch .entry)) j) (edges (now (scratch .entry)) RESULT m)) (autOf (now (nodes .entry)) (now (states .entry)) (now (members .entry)) c) r c (now (nodes .exit)) (now (states .exit)) (now (members .exit)) (now (scratch .entry)) (now (scratch .exit)) ⌝ }
+{
+    let mut d = c;
+    let mut n = m;
+    let mut i = 0;
+    while i < k {
+        let t = st_source::read(transitions, scratch, first, i);
+        let l = t.label;
+        let listed = insert_each(
+            nodes,
+            states,
+            members,
+            transitions,
+            scratch,
+            d,
+            limits,
+            fields,
+            Each::Meet(t.target, l),
+            second,
+            j,
+            n,
+        );
+        match listed {
+            Listed::Refused(e) => {
+                return Listed::Refused(e);
+            }
+            Listed::List(d1, n1) => {
+                d = d1;
+                n = n1;
+            }
+        }
+        i += 1;
+    }
+    Listed::List(d, n)
+}
