@@ -1,0 +1,2 @@
+pub mod Rights
+pub mod Lines
