@@ -1,10 +1,10 @@
 -- What is made of a transition, as each answer gives it; and a transition made and inserted.
 use mathlib.Core.Path.{_≡_, refl, sym, _∙_, ap, subst}
 use mathlib.Core.List.{List, [], _∷_}
-use Prim.Native.Nat.{ℕ, _+_, _*_, _≤_, _<_}
+use Prim.Native.Nat.{ℕ, _≤_, _<_}
 use native.Mathlib.Omega.{arith}
 use lib.ListN.{length}
-use Rattle.common.specs.Outcome.{Outcome, refused, given, Step, return, after}
+use Rattle.common.specs.Outcome.{Outcome, given, Step, return, after}
 use Rattle.common.specs.Runs.{Table, table}
 use Rattle.netkat.specs.ListSteps as St
 use Rattle.netkat.specs.ListSteps.{Edge, edge}
@@ -15,7 +15,7 @@ use Rattle.aut_steps.specs.Tables as T
 use Rattle.aut_steps.specs.Tables.{Aut, onNodes, onStates}
 use Rattle.aut_steps.specs.Relations as Rel
 use Rattle.aut_steps.specs.Constructors as C
-use Rattle.aut_steps.specs.Good.{Grown, grown-trans}
+use Rattle.aut_steps.specs.Good.{grown-trans}
 use Rattle.aut_steps.specs.Goes.{Gone, Goes, came, goes-map}
 use Rattle.aut_steps.specs.IntersectLaws.{mk-intersect-goes}
 use Rattle.st_steps.specs.Operations.{ops}
@@ -29,7 +29,7 @@ use Rattle.aut.specs.declared.Limits.{Limits}
 use Rattle.aut.specs.declared.Put.{Put}
 use Rattle.aut.specs.declared.State.{State}
 use Rattle.aut.specs.declared.State.the-variants as state
-use Rattle.aut_rel.specs.Behind.{LISTS, Left, left-refl, left-any, left-wide, left-trans}
+use Rattle.aut_rel.specs.Behind.{Left, left-refl, left-any, left-wide, left-trans}
 use Rattle.aut_rel.specs.Seen.{autOf, seenAut, Beside, LeftBy, RelateReady, Relates, Places, Ready, Does}
 use Rattle.aut_rel.proofs.Join.{same-left}
 use Rattle.aut_rel.proofs.Order.{fits, backed-of, ready-after}
@@ -39,7 +39,7 @@ use Rattle.aut_union.specs.Seen.{PairAt}
 use Rattle.st.specs.declared.Listed.{Listed}
 use Rattle.st.specs.declared.Listed.the-variants as listed
 use Rattle.st.specs.Seen.{RESULT, ListReady, DoesList}
-use Rattle.st.proofs.Join.{edges-behind, ready-few, list-later, withNodes, full-is, made-is, made-left}
+use Rattle.st.proofs.Join.{edges-behind, ready-few, list-later, withNodes, full-is, made-is}
 use Rattle.st_source.specs.declared.Transition.{Transition}
 use Rattle.st_source.specs.Seen.{edgeOf}
 use Rattle.st_each.specs.declared.Each.{Each}

@@ -3,20 +3,20 @@ use mathlib.Core.Path.{_≡_, refl, sym, _∙_, ap, ap₂, subst}
 use mathlib.Core.List.{List, [], _∷_}
 use Prim.Native.Nat.{ℕ, _+_, _*_, _-_, _≤_, _<_}
 use native.Mathlib.Omega.{arith}
-use lib.ListN.{length, getD}
+use lib.ListN.{length}
 use Rattle.common.specs.Outcome.{Outcome, refused, given, Step, after}
 use Rattle.common.specs.Runs.{Table}
 use Rattle.netkat.specs.ListSteps as St
 use Rattle.netkat.specs.ListSteps.{Edge, edge}
 use Rattle.aut_steps.specs.Tables as T
 use Rattle.aut_steps.specs.Tables.{Aut}
-use Rattle.aut_steps.specs.Good.{grown-refl, grown-trans}
+use Rattle.aut_steps.specs.Good.{grown-trans}
 use Rattle.aut_steps.specs.Goes.{came, goes-return}
 use Rattle.st_steps.specs.Operations.{ops}
 use Rattle.st_steps.specs.Edges.{edges, EdgeAt, EdgesAt, edges-grown}
 use Rattle.st_steps.specs.Places.{edges-same, edges-on, edges-done, edge-at}
 use Rattle.st_steps.specs.EachSteps as M
-use Rattle.st_steps.specs.EachSteps.{EachAt, made, insertMade, each-grown}
+use Rattle.st_steps.specs.EachSteps.{made, insertMade, each-grown}
 use Rattle.aut.specs.Seen.{limitsOf}
 use Rattle.aut.specs.declared.Counts.{Counts}
 use Rattle.aut.specs.declared.Limits.{Limits}

@@ -12,7 +12,7 @@ ghost use mathlib.Core.Path.{_≡_};
 ghost use Rattle.netkat.specs.ListSteps as St;
 ghost use Rattle.netkat.specs.ListSteps.{edge};
 ghost use Rattle.st_steps.specs.Operations.{ops};
-ghost use Rattle.st_steps.specs.Edges.{edges, EdgeAt};
+ghost use Rattle.st_steps.specs.Edges.{edges};
 ghost use Rattle.st_steps.specs.EachSteps as M;
 ghost use Rattle.aut.specs.Seen.{limitsOf};
 ghost use Rattle.aut_rel.specs.Seen.{autOf};
@@ -103,10 +103,10 @@ fn meet_of(
     );
     match state {
         State::Refused(e) => Edged::Refused(e),
-        State::Is(x, d) => to_label(
+        State::Is(met, d) => to_label(
             aut_rel::apply(nodes, scratch, d.spp, fields, Op::Intersect, l, t.label),
             d,
-            x,
+            met,
         ),
     }
 }

@@ -32,19 +32,23 @@ insert-requires c κs =
 
 -- src/lib.rt:147:1
 same-length : tie.Need-same-length
-same-length c = search needs
+same-length c =
+    c .before .before .before .before .before .before .before .before .before .before .before .make-edge .kept .0
 
 -- src/lib.rt:147:1
 same-length-2 : tie.Need-same-length-2
-same-length-2 c = search needs
+same-length-2 c =
+    c .before .before .before .before .before .before .before .before .before .before .before .make-edge .kept .1 .0
 
 -- src/lib.rt:147:1
 same-length-3 : tie.Need-same-length-3
-same-length-3 c = search needs
+same-length-3 c =
+    c .before .before .before .before .before .before .before .before .before .before .before .make-edge .kept .1 .1 .0
 
 -- src/lib.rt:147:1
 same-length-4 : tie.Need-same-length-4
-same-length-4 c = search needs
+same-length-4 c =
+    c .before .before .before .before .before .before .before .before .before .before .before .make-edge .kept .1 .1 .1 .0
 
 -- src/lib.rt:147:1
 returns : tie.Need-returns

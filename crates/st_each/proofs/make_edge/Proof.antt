@@ -1,4 +1,3 @@
-use mathlib.Core.Path.{refl}
 use Rattle.st_each.proofs.Join as join
 use borrow.Author.Needs.{needs}
 use Rattle.st_each.proofs.make_edge.Statement.{statement}
@@ -111,15 +110,18 @@ returns c =
 
 -- src/lib.rt:104:1
 same-length : tie.Need-same-length
-same-length c = search needs
+same-length c =
+    c .before .before .before .before .before .before .before .mk-sequence .kept .0
 
 -- src/lib.rt:104:1
 same-length-2 : tie.Need-same-length-2
-same-length-2 c = search needs
+same-length-2 c =
+    c .before .before .before .before .before .before .before .mk-sequence .kept .1 .0
 
 -- src/lib.rt:104:1
 same-length-3 : tie.Need-same-length-3
-same-length-3 c = search needs
+same-length-3 c =
+    c .before .before .before .before .before .before .before .mk-sequence .kept .1 .1 .0
 
 -- src/lib.rt:104:1
 returns-2 : tie.Need-returns-2
@@ -130,11 +132,13 @@ returns-2 c =
 
 -- src/lib.rt:104:1
 same-length-4 : tie.Need-same-length-4
-same-length-4 c = search needs
+same-length-4 c =
+    c .before .before .before .before .before .relate .kept .0
 
 -- src/lib.rt:104:1
 same-length-5 : tie.Need-same-length-5
-same-length-5 c = search needs
+same-length-5 c =
+    c .before .before .before .before .before .relate .kept .1 .0
 
 -- src/lib.rt:104:1
 returns-3 : tie.Need-returns-3
@@ -145,19 +149,23 @@ returns-3 c =
 
 -- src/lib.rt:104:1
 same-length-6 : tie.Need-same-length-6
-same-length-6 c = search needs
+same-length-6 c =
+    c .before .before .before .before .before .before .before .before .before .mk-intersect .kept .0
 
 -- src/lib.rt:104:1
 same-length-7 : tie.Need-same-length-7
-same-length-7 c = search needs
+same-length-7 c =
+    c .before .before .before .before .before .before .before .before .before .mk-intersect .kept .1 .0
 
 -- src/lib.rt:104:1
 same-length-8 : tie.Need-same-length-8
-same-length-8 c = search needs
+same-length-8 c =
+    c .before .before .before .before .before .before .before .before .before .mk-intersect .kept .1 .1 .0
 
 -- src/lib.rt:104:1
 same-length-9 : tie.Need-same-length-9
-same-length-9 c = search needs
+same-length-9 c =
+    c .before .before .before .before .before .before .before .before .before .mk-intersect .kept .1 .1 .1 .0
 
 -- src/lib.rt:104:1
 returns-4 : tie.Need-returns-4
@@ -168,7 +176,8 @@ returns-4 c =
 
 -- src/lib.rt:104:1
 same-length-10 : tie.Need-same-length-10
-same-length-10 c = search needs
+same-length-10 c =
+    c .before .before .before .before .mk-complement .kept .0
 
 -- src/lib.rt:104:1
 returns-5 : tie.Need-returns-5
@@ -179,11 +188,13 @@ returns-5 c =
 
 -- src/lib.rt:104:1
 same-length-11 : tie.Need-same-length-11
-same-length-11 c = search needs
+same-length-11 c =
+    c .before .before .before .before .before .apply .kept .0
 
 -- src/lib.rt:104:1
 same-length-12 : tie.Need-same-length-12
-same-length-12 c = search needs
+same-length-12 c =
+    c .before .before .before .before .before .apply .kept .1 .0
 
 -- src/lib.rt:104:1
 returns-6 : tie.Need-returns-6
@@ -194,19 +205,23 @@ returns-6 c =
 
 -- src/lib.rt:104:1
 same-length-13 : tie.Need-same-length-13
-same-length-13 c = search needs
+same-length-13 c =
+    c .before .before .before .before .before .before .before .before .meet-of .kept .0
 
 -- src/lib.rt:104:1
 same-length-14 : tie.Need-same-length-14
-same-length-14 c = search needs
+same-length-14 c =
+    c .before .before .before .before .before .before .before .before .meet-of .kept .1 .0
 
 -- src/lib.rt:104:1
 same-length-15 : tie.Need-same-length-15
-same-length-15 c = search needs
+same-length-15 c =
+    c .before .before .before .before .before .before .before .before .meet-of .kept .1 .1 .0
 
 -- src/lib.rt:104:1
 same-length-16 : tie.Need-same-length-16
-same-length-16 c = search needs
+same-length-16 c =
+    c .before .before .before .before .before .before .before .before .meet-of .kept .1 .1 .1 .0
 
 -- src/lib.rt:104:1
 returns-7 : tie.Need-returns-7

@@ -36,19 +36,23 @@ to-label-requires c κs = search needs
 
 -- src/lib.rt:78:1
 same-length : tie.Need-same-length
-same-length c = search needs
+same-length c =
+    c .before .before .before .before .before .before .before .before .before .before .before .mk-intersect .kept .0
 
 -- src/lib.rt:78:1
 same-length-2 : tie.Need-same-length-2
-same-length-2 c = search needs
+same-length-2 c =
+    c .before .before .before .before .before .before .before .before .before .before .before .mk-intersect .kept .1 .0
 
 -- src/lib.rt:78:1
 same-length-3 : tie.Need-same-length-3
-same-length-3 c = search needs
+same-length-3 c =
+    c .before .before .before .before .before .before .before .before .before .before .before .mk-intersect .kept .1 .1 .0
 
 -- src/lib.rt:78:1
 same-length-4 : tie.Need-same-length-4
-same-length-4 c = search needs
+same-length-4 c =
+    c .before .before .before .before .before .before .before .before .before .before .before .mk-intersect .kept .1 .1 .1 .0
 
 -- src/lib.rt:78:1
 returns : tie.Need-returns
