@@ -1,0 +1,95 @@
+use mathlib.Core.Path.{_≡_, refl, _∙_, ap, subst}
+use Rattle.netkat.specs.ListSteps as St
+use Rattle.st_steps.specs.Operations.{ops}
+use Rattle.st_steps.specs.EachSteps as M
+use Rattle.aut.specs.Seen.{limitsOf}
+use Rattle.aut_rel.specs.Seen.{autOf}
+use Rattle.st.specs.declared.Listed.{Listed}
+use Rattle.st.specs.Seen.{RESULT, DoesList}
+use Rattle.st_source.specs.Seen.{sourceOf}
+use Rattle.st_ops.proofs.Join as join
+use borrow.Author.Needs.{needs}
+use Rattle.st_ops.proofs.union_list.Statement.{statement}
+use Rattle.st_ops.proofs.union_list.Tie as tie
+use Rattle.st_ops.proofs.union_list.Reads as reads
+use Rattle.st_ops.proofs.union_list.Lts as lts
+use Rattle.st_each.proofs.insert_each.Reads as insert-each-reads
+
+-- src/lib.rt:33:9
+insert-each-requires : tie.Need-insert-each-requires
+insert-each-requires c κs =
+    join.same-ready (c .before .before .before .before .before .before .before .before .before .pre .first)
+
+-- src/lib.rt:48:25
+enum-known-listed : tie.Need-enum-known-listed
+enum-known-listed c = search needs
+
+-- src/lib.rt:49:22
+enum-known-listed-2 : tie.Need-enum-known-listed-2
+enum-known-listed-2 c = search needs
+
+-- src/lib.rt:49:31
+insert-each-requires-2 : tie.Need-insert-each-requires-2
+insert-each-requires-2 c κs =
+    let g = c .before .before .before .before .before .before .before .before .before .before .before .before .before .before .before .before .before .before .before .before .before .before .before .before .before .args in join.union-ready (g .fields) (g .limits) (g .transitions .now) (g .scratch .now) (g .first) (g .second) (g .k) (g .j) (autOf (g .nodes .now) (g .states .now) (g .members .now) (g .c)) (g .c) (c .before .before .before .before .before .before .before .before .before .before .before .before .before .before .before .insert-each .last .0) (c .before .before .before .before .before .before .before .before .before .before .before .before .before .before .before .insert-each .last .1 .0) (c .before .before .before .before .before .before .before .before .before .before .before .before .before .before .before .insert-each .last .1 .1 .0) (c .before .before .before .before .before .before .before .before .before .before .before .before .before .before .before .insert-each .last .1 .1 .1 .1 .0) (c .before .before .before .before .before .before .before .before .before .before .before .before .before .before .before .insert-each .ensures) _ _ (c .before .before .before .before .before .listed2 .given .1) (c .before .before .before .before .before .before .before .before .before .before .before .before .before .before .before .before .before .before .before .before .before .before .before .before .before .pre)
+
+-- src/lib.rt:16:1
+same-length : tie.Need-same-length
+same-length c = search needs
+
+-- src/lib.rt:16:1
+same-length-2 : tie.Need-same-length-2
+same-length-2 c = search needs
+
+-- src/lib.rt:16:1
+same-length-3 : tie.Need-same-length-3
+same-length-3 c = search needs
+
+-- src/lib.rt:16:1
+same-length-4 : tie.Need-same-length-4
+same-length-4 c = search needs
+
+-- src/lib.rt:16:1
+returns : tie.Need-returns
+returns c =
+    let g = c .before .before .before .before .before .before .before .before .before .before .before .before .before .before .before .before .before .before .before .before .before .args in join.union-refused (g .fields) (g .limits) (g .transitions .now) (g .scratch .now) (g .first) (g .second) (g .k) (g .j) (autOf (g .nodes .now) (g .states .now) (g .members .now) (g .c)) (g .c) (c .before .before .before .before .before .before .before .before .before .before .before .insert-each .last .0) (c .before .before .before .before .before .before .before .before .before .before .before .insert-each .last .1 .0) (c .before .before .before .before .before .before .before .before .before .before .before .insert-each .last .1 .1 .0) (c .before .before .before .before .before .before .before .before .before .before .before .insert-each .last .1 .1 .1 .1 .0) (c .before .before .before .before .before .before .before .before .before .before .before .insert-each .ensures) (c .before .listed .given .1)
+
+-- src/lib.rt:16:1
+same-length-5 : tie.Need-same-length-5
+same-length-5 c = search needs
+
+-- src/lib.rt:16:1
+same-length-6 : tie.Need-same-length-6
+same-length-6 c = search needs
+
+-- src/lib.rt:16:1
+same-length-7 : tie.Need-same-length-7
+same-length-7 c = search needs
+
+-- src/lib.rt:16:1
+same-length-8 : tie.Need-same-length-8
+same-length-8 c = search needs
+
+-- src/lib.rt:16:1
+returns-2 : tie.Need-returns-2
+returns-2 c =
+    let g = c .before .before .before .before .before .before .before .before .before .before .before .before .before .before .before .before .before .before .before .before .before .before .before .before .before .before .before .before .before .before .before .before .before .before .args in join.union-does (g .fields) (g .limits) (g .transitions .now) (g .scratch .now) (g .first) (g .second) (g .k) (g .j) (autOf (g .nodes .now) (g .states .now) (g .members .now) (g .c)) (g .c) (c .before .before .before .before .before .before .before .before .before .before .before .before .before .before .before .before .before .before .before .before .before .before .before .before .insert-each .last .0) (c .before .before .before .before .before .before .before .before .before .before .before .before .before .before .before .before .before .before .before .before .before .before .before .before .insert-each .last .1 .0) (c .before .before .before .before .before .before .before .before .before .before .before .before .before .before .before .before .before .before .before .before .before .before .before .before .insert-each .last .1 .1 .0) (c .before .before .before .before .before .before .before .before .before .before .before .before .before .before .before .before .before .before .before .before .before .before .before .before .insert-each .last .1 .1 .1 .1 .0) (c .before .before .before .before .before .before .before .before .before .before .before .before .before .before .before .before .before .before .before .before .before .before .before .before .insert-each .ensures) _ _ (c .before .before .before .before .before .before .before .before .before .before .before .before .before .before .listed2 .given .1) (c .before .before .before .before .before .before .before .before .before .before .before .before .before .before .before .before .before .before .before .before .before .before .before .before .before .before .before .before .before .before .before .before .before .before .pre) (c .before .before .before .before .before .before .before .before .insert-each2 .ensures)
+
+pub union-list-spec : {M : Type 1} → statement M
+union-list-spec =
+    tie.close
+    (tie.spec
+    insert-each-requires
+    enum-known-listed
+    enum-known-listed-2
+    insert-each-requires-2
+    same-length
+    same-length-2
+    same-length-3
+    same-length-4
+    returns
+    same-length-5
+    same-length-6
+    same-length-7
+    same-length-8
+    returns-2)

@@ -1,0 +1,151 @@
+// st_union, st_intersect and st_difference of aut.rs. The result stands at RESULT.
+use aut::Counts;
+use aut::Limits;
+use st::Listed;
+use st_each::Each;
+use st_minus::Summed;
+use st_source::Source;
+ghost use Rattle.netkat.specs.ListSteps as St;
+ghost use Rattle.st_steps.specs.Operations.{ops};
+ghost use Rattle.aut.specs.Seen.{limitsOf};
+ghost use Rattle.aut_rel.specs.Seen.{autOf};
+ghost use Rattle.st.specs.Seen.{DoesList};
+ghost use Rattle.st_source.specs.Seen.{sourceOf};
+ghost use Rattle.st_ops.specs.Seen.{TwoReady};
+
+pub fn union_list(
+    nodes: &mut [u32],
+    states: &mut [u32],
+    members: &mut [u32],
+    transitions: &[u32],
+    scratch: &mut [u32],
+    c: Counts,
+    limits: Limits,
+    fields: u32,
+    first: Source,
+    k: usize,
+    second: Source,
+    j: usize,
+) -> Listed
+    requires { ⌜ TwoReady fields limits (autOf (now nodes) (now states) (now members) c) (now transitions) (now scratch) first k second j ⌝ }
+    ensures { λ r. ⌜ DoesList fields limits 0 832 (St.unionList (ops fields (limitsOf limits)) (sourceOf first (now (transitions .entry)) (now (scratch .entry)) k) (sourceOf second (now (transitions .entry)) (now (scratch .entry)) j)) (autOf (now (nodes .entry)) (now (states .entry)) (now (members .entry)) c) r c (now (nodes .exit)) (now (states .exit)) (now (members .exit)) (now (scratch .entry)) (now (scratch .exit)) ⌝ }
+{
+    let listed = st_each::insert_each(
+        nodes,
+        states,
+        members,
+        transitions,
+        scratch,
+        c,
+        limits,
+        fields,
+        Each::Same,
+        first,
+        k,
+        0,
+    );
+    match listed {
+        Listed::Refused(e) => Listed::Refused(e),
+        Listed::List(d, n) => st_each::insert_each(
+            nodes,
+            states,
+            members,
+            transitions,
+            scratch,
+            d,
+            limits,
+            fields,
+            Each::Same,
+            second,
+            j,
+            n,
+        ),
+    }
+}
+
+pub fn intersect_list(
+    nodes: &mut [u32],
+    states: &mut [u32],
+    members: &mut [u32],
+    transitions: &[u32],
+    scratch: &mut [u32],
+    c: Counts,
+    limits: Limits,
+    fields: u32,
+    first: Source,
+    k: usize,
+    second: Source,
+    j: usize,
+) -> Listed
+    requires { ⌜ TwoReady fields limits (autOf (now nodes) (now states) (now members) c) (now transitions) (now scratch) first k second j ⌝ }
+    ensures { λ r. ⌜ DoesList fields limits 0 832 (St.intersectList (ops fields (limitsOf limits)) (sourceOf first (now (transitions .entry)) (now (scratch .entry)) k) (sourceOf second (now (transitions .entry)) (now (scratch .entry)) j)) (autOf (now (nodes .entry)) (now (states .entry)) (now (members .entry)) c) r c (now (nodes .exit)) (now (states .exit)) (now (members .exit)) (now (scratch .entry)) (now (scratch .exit)) ⌝ }
+{
+    st_each::insert_pairs(
+        nodes,
+        states,
+        members,
+        transitions,
+        scratch,
+        c,
+        limits,
+        fields,
+        first,
+        k,
+        second,
+        j,
+        0,
+    )
+}
+
+pub fn difference_list(
+    nodes: &mut [u32],
+    states: &mut [u32],
+    members: &mut [u32],
+    transitions: &[u32],
+    scratch: &mut [u32],
+    c: Counts,
+    limits: Limits,
+    fields: u32,
+    first: Source,
+    k: usize,
+    second: Source,
+    j: usize,
+) -> Listed
+    requires { ⌜ TwoReady fields limits (autOf (now nodes) (now states) (now members) c) (now transitions) (now scratch) first k second j ⌝ }
+    ensures { λ r. ⌜ DoesList fields limits 0 832 (St.differenceList (ops fields (limitsOf limits)) (sourceOf first (now (transitions .entry)) (now (scratch .entry)) k) (sourceOf second (now (transitions .entry)) (now (scratch .entry)) j)) (autOf (now (nodes .entry)) (now (states .entry)) (now (members .entry)) c) r c (now (nodes .exit)) (now (states .exit)) (now (members .exit)) (now (scratch .entry)) (now (scratch .exit)) ⌝ }
+{
+    let zero = spp::zero_at_depth(fields);
+    let summed = st_minus::subtract_rows(
+        nodes,
+        states,
+        members,
+        transitions,
+        scratch,
+        c,
+        limits,
+        fields,
+        first,
+        k,
+        second,
+        j,
+        zero,
+        0,
+    );
+    match summed {
+        Summed::Refused(e) => Listed::Refused(e),
+        Summed::Next(d, sum, n) => st_each::insert_each(
+            nodes,
+            states,
+            members,
+            transitions,
+            scratch,
+            d,
+            limits,
+            fields,
+            Each::Rest(sum),
+            first,
+            k,
+            n,
+        ),
+    }
+}
