@@ -1,26 +1,23 @@
 -- 01, "What every promise says", 5: demand 3 is a single claim about a whole book: constructors and queries in any order, from zeroed tables, each on what the last one left. A place that a run
 -- comes to has tables in order, and the state of each line holds exactly the strings of the rule that the line means by the book's text alone; so every query that is answered there is answered rightly.
-use mathlib.Core.Path.{_≡_, refl, sym, _∙_, ap, subst}
-use mathlib.Core.Logic.{_↔_}
+use mathlib.Core.Path.{_≡_, refl}
 use mathlib.Core.Bool.{Bool, true, false}
 use mathlib.Core.List.{List, [], _∷_, _++_}
 use mathlib.Core.Option.{Option, none, some}
 use Prim.Native.Nat.{ℕ, zero, suc, _<_}
 use native.Mathlib.Omega.{arith}
 use lib.Dec.{ltb, leb}
-use lib.ListN.{length, getD, replicate}
+use lib.ListN.{length, getD}
 use Rattle.common.specs.Outcome.{Outcome, refused, given, Gives, refusal, gives, if_then_else_}
 use Rattle.common.specs.Follow.{given-of, call}
 use Rattle.common.specs.Runs.{Table, table, placed}
-use Rattle.netkat.specs.Strings.{Str}
 use Rattle.netkat.specs.Rules.{Rule, In}
-use Rattle.netkat.specs.Search.{Verdict, yes, spent}
 use Rattle.sp_steps.specs.Model as Sp
 use Rattle.spp_steps.specs.Model as Spp
 use Rattle.aut_steps.specs.Tables.{Limits, limits01, Aut, aut}
 use Rattle.aut_steps.specs.Languages.{_then_}
 use Rattle.aut_steps.specs.Good.{states, Grown}
-use Rattle.aut_steps.specs.Goes.{Gone, Goes, stops, comes}
+use Rattle.aut_steps.specs.Goes.{Goes, comes}
 use Rattle.aut_steps.specs.Meaning.{rule, Is}
 use Rattle.line_steps.specs.Lines.{Line, means, make}
 use Rattle.line_steps.specs.LineLaws.{make-goes}
@@ -29,16 +26,14 @@ use Rattle.delta_steps.specs.Fits.{Since}
 use Rattle.delta_steps.specs.Worked.{worked-since}
 use Rattle.delta_steps.specs.Stored.{went-since}
 use Rattle.query_steps.specs.Tables.{Tables, tables, putBase, Ordered, begun-ordered}
-use Rattle.query_steps.specs.Search.{is-empty}
-use Rattle.query_steps.specs.SearchLaws.{Searched, search-goes, ordered-base}
-use Rattle.query_steps.specs.Live.{live-packets}
-use Rattle.query_steps.specs.LiveLaws.{Lived, live-goes}
-use Rattle.query_steps.specs.PrunedLaws.{PrunedTo, pruned-goes}
+use Rattle.query_steps.specs.SearchLaws.{search-goes, ordered-base}
+use Rattle.query_steps.specs.LiveLaws.{live-goes}
+use Rattle.query_steps.specs.PrunedLaws.{pruned-goes}
 use Rattle.book_steps.specs.Reader as Reader
 use Rattle.book_steps.specs.Reader.{Header, Query, Said, Told, tell}
 use Rattle.book_steps.specs.Answers.{fieldsAnswer}
 use Rattle.book_steps.specs.Run.{Lent, Setting, settingOf, Place, place, query, after-making, after-asking, perform, obey, begun, begin, zeroed}
-use Rattle.book_steps.specs.Meaning.{noted, Same, Matched, done, both, neither, matched-more, matched-grown, Alike, makes, asks, refuses, LineAlike, tell-alike, alike-asked, alike-means}
+use Rattle.book_steps.specs.Meaning.{noted, Matched, done, both, neither, matched-more, matched-grown, Alike, makes, asks, refuses, LineAlike, tell-alike, alike-asked, alike-means}
 
 -- tables in order, and lines that mean what their states hold
 pub record Well (N : ℕ) (L : Limits) (p : Place) (R : List (Option (Rule N))) : Type 0 where

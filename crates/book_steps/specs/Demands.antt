@@ -1,12 +1,12 @@
 -- Demands 2 and 3 for a whole book (01, "What every promise says", 5): what every line that is not refused does, at every place that a run of the book comes to. A constructor line's state holds exactly the
 -- strings of the rule that the line means by the text alone. Each emptiness search reports the answer and the count of the plain search, with the bound on its pairs; its yes or no says "empty" exactly if no string
 -- belongs to the rule. `live` tells the number of the start packets of the rule's strings, `pruned` lists what 01 says. And the output of a run is that of a place which it came to.
-use mathlib.Core.Path.{_≡_, refl, sym, _∙_, ap, ap₂, subst}
+use mathlib.Core.Path.{_≡_, refl, sym, ap₂, subst}
 use mathlib.Core.Logic.{_↔_}
 use mathlib.Core.Bool.{Bool, true, false}
 use mathlib.Core.List.{List, [], _∷_, _++_, map}
 use mathlib.Core.Option.{Option, none, some}
-use Prim.Native.Nat.{ℕ, zero, suc, _<_}
+use Prim.Native.Nat.{ℕ, zero, suc}
 use lib.Dec.{T, leb, ltb}
 use lib.ListN.{length}
 use Rattle.common.specs.Packets.{Set, inhabited}
@@ -14,7 +14,7 @@ use Rattle.common.specs.Outcome.{Outcome, refused, given, Gives, refusal, gives
 use Rattle.common.specs.Follow.{given-of, call, refused≢given}
 use Rattle.common.specs.Runs.{placed}
 use Rattle.netkat.specs.Strings.{Str}
-use Rattle.netkat.specs.Rules.{Rule, Language, In}
+use Rattle.netkat.specs.Rules.{Rule, In}
 use Rattle.netkat.specs.ListSteps.{Edge, Are}
 use Rattle.netkat.specs.Lists.{State, Transition}
 use Rattle.netkat.specs.Search.{Verdict, yes, no, spent}
@@ -23,7 +23,7 @@ use Rattle.sp_steps.specs.Model as Sp
 use Rattle.sp_steps.specs.Size as SpSize
 use Rattle.spp_steps.specs.Model as Spp
 use Rattle.spp_steps.specs.Size as SppSize
-use Rattle.aut_steps.specs.Tables.{Limits, limits01, Aut}
+use Rattle.aut_steps.specs.Tables.{Aut}
 use Rattle.aut_steps.specs.Languages.{_≈_, ≈-sym, _then_}
 use Rattle.aut_steps.specs.Goes.{Goes, comes}
 use Rattle.aut_steps.specs.Meaning.{rule, Holds, Is}
@@ -40,7 +40,7 @@ use Rattle.book_steps.specs.Reader.{Header, header, Query, Said, said, T
 use Rattle.book_steps.specs.Answers.{emptyAnswer, liveAnswer, Pairs, prunedAnswer}
 use Rattle.book_steps.specs.Text.{Cut, line, unended, cut, words}
 use Rattle.book_steps.specs.Run.{Lent, Setting, settingOf, Place, place, query, after-making, after-asking, perform, obey, Ran, answered, stopped, onward, with-line, run, begin, instructions, Result, refusal as refusedWith, finish, started, headed, opened, outcome}
-use Rattle.book_steps.specs.Meaning.{noted, Same, same-grown, Alike, makes, asks, refuses, tell-alike, alike-asked, alike-means}
+use Rattle.book_steps.specs.Meaning.{Same, same-grown, Alike, makes, asks, refuses, tell-alike, alike-asked, alike-means}
 use Rattle.book_steps.specs.Claims.{Well, Reached, first, next, reached-well}
 
 -- ---- what is claimed of an answer, of a line that means the rule r and has the state x

@@ -2,13 +2,12 @@
 use mathlib.Core.Path.{_≡_, refl}
 use mathlib.Core.List.{List, [], _∷_}
 use mathlib.Core.Option.{Option, none, some}
-use mathlib.Core.Bool.{true}
 use Prim.Native.Nat.{ℕ}
 use Prim.Native.String.{String}
 use Rattle.line_steps.specs.Lines as Lines
 use Rattle.line_steps.specs.Lines.{test, seq, union}
-use Rattle.book_steps.specs.Text.{bytes, Cut, line, unended, cut, words, same, digits, reading, number, decimalBy, decimal}
-use Rattle.book_steps.specs.Reader.{Header, header, Said, bit, pair, listed, query, empty, find, numbers, exact, said, Told, makes, asks, refuses, giving, tell}
+use Rattle.book_steps.specs.Text.{bytes, line, words, same, digits, reading, number, decimalBy, decimal}
+use Rattle.book_steps.specs.Reader.{header, Said, bit, pair, listed, query, empty, find, numbers, exact, said, makes, refuses, giving, tell}
 
 abbrev read : String → Option Said
 read t = said (words (bytes t))

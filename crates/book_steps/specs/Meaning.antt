@@ -1,6 +1,6 @@
 -- What a book means, by its text alone: each constructor line a rule, by the rules of the lines that it names. And that the states of its lines hold the strings of these rules: the two readings of
 -- a line, by states and by rules, go alike.
-use mathlib.Core.Path.{_≡_, refl, sym, _∙_, ap, subst}
+use mathlib.Core.Path.{_≡_, refl}
 use mathlib.Core.Bool.{Bool, true, false, _&&_}
 use mathlib.Core.List.{List, [], _∷_, _++_}
 use mathlib.Core.Option.{Option, none, some}
@@ -9,10 +9,10 @@ use lib.Dec.{eqb, ltb}
 use lib.ListN.{getD}
 use borrow.Author.Tests.{ltb-true}
 use Rattle.common.specs.Outcome.{if_then_else_}
-use Rattle.netkat.specs.Rules.{Rule, Rules, Join, Star, Until, In, InSome, InEach}
+use Rattle.netkat.specs.Rules.{Rule, In, InSome, InEach}
 use Rattle.aut_steps.specs.Tables.{Limits, Aut}
 use Rattle.aut_steps.specs.ListLaws.{All}
-use Rattle.aut_steps.specs.Languages.{_≈_, _then_, Not, Minus, Differ, either-same, both-same, join-same, star-same, until-same, not-same, minus-same, differ-same}
+use Rattle.aut_steps.specs.Languages.{_≈_, _then_, either-same, both-same, join-same, star-same, until-same, not-same, minus-same, differ-same}
 use Rattle.aut_steps.specs.Good.{states, Grown, state-grown, Good}
 use Rattle.aut_steps.specs.Meaning.{rule, Holds, holds-grown}
 use Rattle.line_steps.specs.Lines as Lines

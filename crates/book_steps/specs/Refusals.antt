@@ -1,6 +1,6 @@
 -- 01, "Who can cause a refusal": a number is returned under its condition and under no other. Why a line is refused at a place that a run comes to: it is not of its form (3), it names what is not an earlier constructor line (4),
 -- its field or bit is out of range (5), its steps have met a limit or the end of a table (6 to 9, 20 to 25), or the output cannot hold its answer (27).
-use mathlib.Core.Path.{_≡_, refl, sym, _∙_, ap, subst}
+use mathlib.Core.Path.{_≡_, refl, subst}
 use mathlib.Core.Logic.{_⊎_, inl, inr}
 use mathlib.Core.Bool.{Bool, true, false, _&&_}
 use mathlib.Core.List.{List, [], _∷_, _++_, List·Memᴰ, List·Memᴰ·head, List·Memᴰ·tail, map}
@@ -8,7 +8,7 @@ use mathlib.Core.Option.{Option, none, some}
 use Prim.Native.Nat.{ℕ, _≤_, _<_}
 use lib.Dec.{eqb, ltb, leb}
 use lib.ListN.{length, getD}
-use borrow.Author.Tests.{ltb-true, ltb-false, leb-false}
+use borrow.Author.Tests.{ltb-false, leb-false}
 use Rattle.common.specs.Outcome.{Outcome, refused, given, after, if_then_else_}
 use Rattle.common.specs.Runs.{placed}
 use Rattle.netkat.specs.Rules.{Rule}

@@ -1,18 +1,17 @@
 -- 01, promise 1: one book with one set of lent lengths has one outcome: number, line, output, each word of each table. This is it, as a function of the two: the book is read
 -- and run line by line, from zeroed tables. 01, "Who can cause a refusal", Order: 26; header 1, 2, 20, 21, 27; then by line 3, 4, 5, then whichever the steps meet first, 27 last.
-use mathlib.Core.Bool.{Bool}
 use mathlib.Core.List.{List, [], _∷_, _++_, map}
 use mathlib.Core.Option.{Option, none, some}
-use Prim.Native.Nat.{ℕ, zero, suc, _+_, _/_, _<_}
+use Prim.Native.Nat.{ℕ, zero, suc, _+_, _/_}
 use lib.Dec.{ltb, leb}
 use lib.ListN.{length, replicate}
 use Rattle.common.specs.Outcome.{Outcome, refused, given, Step, return, _>>=_, if_then_else_}
-use Rattle.common.specs.Runs.{Table, table, placed}
+use Rattle.common.specs.Runs.{Table, table}
 use Rattle.netkat.specs.ListSteps.{Edge}
 use Rattle.sp_steps.specs.Model as Sp
 use Rattle.spp_steps.specs.Model as Spp
-use Rattle.aut_steps.specs.Tables.{Limits, limits01, Aut, aut}
-use Rattle.line_steps.specs.Lines.{Line, make}
+use Rattle.aut_steps.specs.Tables.{Limits, limits01, aut}
+use Rattle.line_steps.specs.Lines.{make}
 use Rattle.delta_steps.specs.Delta.{store, onAut}
 use Rattle.query_steps.specs.Tables.{Tables, tables, onBase}
 use Rattle.query_steps.specs.Search.{is-empty}
@@ -20,7 +19,7 @@ use Rattle.query_steps.specs.Live.{live-packets}
 use Rattle.query_steps.specs.Pruned.{delta-pruned}
 use Rattle.book_steps.specs.Text.{Cut, line, unended, cut, words}
 use Rattle.book_steps.specs.Reader.{Header, header, Query, empty, live, pruned, Said, said, Told, makes, asks, refuses, tell}
-use Rattle.book_steps.specs.Answers.{fieldsAnswer, emptyAnswer, liveAnswer, Pairs, prunedAnswer}
+use Rattle.book_steps.specs.Answers.{fieldsAnswer, emptyAnswer, liveAnswer, prunedAnswer}
 
 -- ---- what is lent: words of each table, bytes of the output
 

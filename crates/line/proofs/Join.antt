@@ -1,13 +1,13 @@
 -- What a line asks of the function that its word goes to, and that function's answer as one on all tables.
 use mathlib.Core.Path.{_≡_, sym, _∙_, ap, subst}
 use mathlib.Core.List.{List, [], _∷_}
-use Prim.Native.Nat.{ℕ, _+_, _≤_, _<_}
+use Prim.Native.Nat.{ℕ, _+_, _≤_}
 use native.Mathlib.Omega.{arith}
 use lib.ListN.{length}
 use Rattle.common.specs.Outcome.{Outcome, Step}
 use Rattle.common.specs.Runs.{Table, table}
 use Rattle.spp.specs.Seen.{FieldAsked}
-use Rattle.aut_steps.specs.Tables.{Aut, words, onStates}
+use Rattle.aut_steps.specs.Tables.{Aut, onStates}
 use Rattle.aut_steps.specs.Constructors.{spp-of, mk-spp}
 use Rattle.aut_steps.specs.Goes.{Goes, came}
 use Rattle.netkat.specs.Rules.{In}

@@ -1,6 +1,6 @@
 -- The state that a constructor line makes holds exactly the strings of the rule that the line means; tables stay in order, and a refusal has its reason.
 use mathlib.Core.List.{List, [], _∷_}
-use Prim.Native.Nat.{ℕ, _<_}
+use Prim.Native.Nat.{ℕ}
 use native.Mathlib.Omega.{arith}
 use Rattle.netkat.specs.Rules.{Rule, In, InSome, InEach}
 use Rattle.spp_steps.specs.Model as Spp
@@ -11,7 +11,7 @@ use Rattle.aut_steps.specs.ListLaws.{Some, All}
 use Rattle.aut_steps.specs.Languages.{_≈_, back, same, sum-same, sum-none, either-same, both-same}
 use Rattle.aut_steps.specs.Good.{states, Good}
 use Rattle.aut_steps.specs.Goes.{Goes, goes-map}
-use Rattle.aut_steps.specs.Meaning.{rule, Holds, Is, is-same}
+use Rattle.aut_steps.specs.Meaning.{rule, Is, is-same}
 use Rattle.aut_steps.specs.RelationLaws.{made}
 use Rattle.aut_steps.specs.StateLaws.{mk-spp-goes, mk-dup-goes, mk-top-goes, spp-of-goes, mk-complement-goes, mk-star-goes, mk-until-goes, mk-xor-goes, mk-difference-goes}
 use Rattle.aut_steps.specs.UnionLaws.{mk-union-goes, mk-union-n-goes}

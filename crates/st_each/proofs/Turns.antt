@@ -1,11 +1,10 @@
 -- The loops over a source: i of its transitions are done, and n stand at RESULT.
-use mathlib.Core.Path.{_≡_, refl, sym, _∙_, ap, ap₂, subst}
+use mathlib.Core.Path.{_≡_, refl, sym, _∙_, ap, subst}
 use mathlib.Core.List.{List, [], _∷_}
-use Prim.Native.Nat.{ℕ, _+_, _*_, _-_, _≤_, _<_}
+use Prim.Native.Nat.{ℕ, _+_, _≤_, _<_}
 use native.Mathlib.Omega.{arith}
 use lib.ListN.{length}
 use Rattle.common.specs.Outcome.{Outcome, refused, given, Step, after}
-use Rattle.common.specs.Runs.{Table}
 use Rattle.netkat.specs.ListSteps as St
 use Rattle.netkat.specs.ListSteps.{Edge, edge}
 use Rattle.aut_steps.specs.Tables as T
@@ -14,13 +13,12 @@ use Rattle.aut_steps.specs.Good.{grown-trans}
 use Rattle.aut_steps.specs.Goes.{came, goes-return}
 use Rattle.st_steps.specs.Operations.{ops}
 use Rattle.st_steps.specs.Edges.{edges, EdgeAt, EdgesAt, edges-grown}
-use Rattle.st_steps.specs.Places.{edges-same, edges-on, edges-done, edge-at}
 use Rattle.st_steps.specs.EachSteps as M
 use Rattle.st_steps.specs.EachSteps.{made, insertMade, each-grown}
 use Rattle.aut.specs.Seen.{limitsOf}
 use Rattle.aut.specs.declared.Counts.{Counts}
 use Rattle.aut.specs.declared.Limits.{Limits}
-use Rattle.aut_rel.specs.Behind.{LISTS, Left, left-refl, left-trans}
+use Rattle.aut_rel.specs.Behind.{Left, left-refl, left-trans}
 use Rattle.aut_rel.specs.Seen.{autOf}
 use Rattle.st.specs.declared.Listed.{Listed}
 use Rattle.st.specs.declared.Listed.the-variants as listed
@@ -28,49 +26,9 @@ use Rattle.st.specs.Seen.{RESULT, ListReady, seenList, ListBeside, ListLeft, Li
 use Rattle.st_source.specs.declared.Source.{Source}
 use Rattle.st_source.specs.declared.Source.the-variants as source
 use Rattle.st_source.specs.declared.Transition.{Transition}
-use Rattle.st_source.specs.Seen.{edgeOf, sourceOf, entryOf, EntryIn, Within, Walked}
+use Rattle.st_source.specs.Seen.{edgeOf, sourceOf, entryOf, EntryIn, Walked}
+use Rattle.st_source.proofs.Sources.{onFrom, from-all, from-next, from-done, entry-in, entry-at, entry-kept, source-kept}
 use Rattle.st_each.specs.Seen.{MakeReady, EachReady, PairsReady}
-
--- ---- a source
-
--- its transitions from i on
-abbrev pub from : Source → List ℕ → List ℕ → ℕ → ℕ → List Edge
-from (source.Stored a) tr s i k = edges tr (a + i) (k - i)
-from (source.Scratch a) tr s i k = edges s (a + i) (k - i)
-
-edges-all : (s : List ℕ) (a k : ℕ) → edges s a k ≡ edges s (a + 0) (k - 0)
-edges-all s a k = ap₂ (edges s) {x = a} {y = a + 0} {u = k} {v = k - 0} (omega arith) (omega arith)
-
-from-all : (x : Source) (tr s : List ℕ) (k : ℕ) → sourceOf x tr s k ≡ from x tr s 0 k
-from-all (source.Stored a) tr s k = edges-all tr a k
-from-all (source.Scratch a) tr s k = edges-all s a k
-
-from-on : (x : Source) (tr s : List ℕ) (k i : ℕ) → i < k → from x tr s i k ≡ entryOf x tr s i ∷ from x tr s (i + 1) k
-from-on (source.Stored a) tr s k i l = edges-on tr a k i l
-from-on (source.Scratch a) tr s k i l = edges-on s a k i l
-
-from-done : (x : Source) (tr s : List ℕ) (k i : ℕ) → k ≤ i → from x tr s i k ≡ []
-from-done (source.Stored a) tr s k i l = edges-done tr (a + i) k i l
-from-done (source.Scratch a) tr s k i l = edges-done s (a + i) k i l
-
-entry-at : {N : ℕ} {σ : Aut} (x : Source) (tr s : List ℕ) (k i : ℕ) → i < k → EdgesAt N σ (sourceOf x tr s k) → EdgeAt N σ (entryOf x tr s i)
-entry-at (source.Stored a) tr s k i l p = edge-at tr a k i l p
-entry-at (source.Scratch a) tr s k i l p = edge-at s a k i l p
-
-entry-in : (x : Source) (tr s : List ℕ) (k i : ℕ) → i < k → Within tr x k → LISTS ≤ length s → EntryIn tr s x i
-entry-in (source.Stored a) tr s k i l w r = omega (arith, w)
-entry-in (source.Scratch a) tr s k i l w r = omega (arith, w .1)
-
--- no insertion writes it
-module _ {N : ℕ} {t : Table} {s s′ : List ℕ} (p : Left N 0 832 t s s′) where
-  entry-kept : (x : Source) (tr : List ℕ) (k i : ℕ) → i < k → Within tr x k → entryOf x tr s′ i ≡ entryOf x tr s i
-  entry-kept (source.Stored a) tr k i l w = refl
-  entry-kept (source.Scratch a) tr k i l w =
-      ap₂ edge (p .above (2 * (a + i)) (omega (arith, w .0)) (omega (arith, w .1))) (p .above (2 * (a + i) + 1) (omega (arith, w .0)) (omega (arith, w .1)))
-
-  source-kept : (x : Source) (tr : List ℕ) (k : ℕ) → Within tr x k → sourceOf x tr s′ k ≡ sourceOf x tr s k
-  source-kept (source.Stored a) tr k w = refl
-  source-kept (source.Scratch a) tr k w = edges-same s s′ a k (λ i l r. p .above i (omega (arith, w .0)) (omega (arith, w .1)))
 
 -- ---- a loop that does `one` with each transition
 
@@ -80,7 +38,7 @@ pub record Turned (N : ℕ) (l : Limits) (all : List Edge → List Edge → Step
   pub on : ListOn N l σ₀ σ s n
   pub left : Left N 0 832 (σ .nodes) s₀ s
   pub beside : (d .sp ≡ c₀ .sp) × (d .transitions ≡ c₀ .transitions)
-  pub is : all (sourceOf x tr s₀ k) (edges s₀ RESULT m) σ₀ ≡ all (from x tr s₀ i k) (edges s RESULT n) σ
+  pub is : all (sourceOf x tr s₀ k) (edges s₀ RESULT m) σ₀ ≡ all (onFrom x tr s₀ k i) (edges s RESULT n) σ
 
 module _ (N : ℕ) (l : Limits) (all : List Edge → List Edge → Step Aut (List Edge)) (one : Edge → List Edge → Step Aut (List Edge)) (none : (r : List Edge) (σ : Aut) → all [] r σ ≡ given σ r)
     (more : (e : Edge) (es r : List Edge) (σ : Aut) → all (e ∷ es) r σ ≡ after (one e r σ) (all es)) (x : Source) (tr : List ℕ) (k : ℕ) (σ₀ : Aut) (c₀ : Counts) (s₀ : List ℕ) (m : ℕ) (R : ListReady N l σ₀ s₀ m) (W : Walked N σ₀ tr s₀ x k) where
@@ -91,7 +49,7 @@ module _ (N : ℕ) (l : Limits) (all : List Edge → List Edge → Step Aut (Lis
     on = record { gone = came (goes-return (edges s₀ RESULT m) (R .ready .good) (R .list)); ready = R };
     left = left-refl 0 832 (σ₀ .nodes) s₀;
     beside = (refl, refl);
-    is = ap (λ (es : List Edge). all es (edges s₀ RESULT m) σ₀) (from-all x tr s₀ k);
+    is = ap (λ (es : List Edge). all es (edges s₀ RESULT m) σ₀) (from-all tr s₀ k x);
   }
 
   module _ (t st mem s : List ℕ) (d : Counts) (n i : ℕ) (v : Turned N l all x tr k σ₀ c₀ s₀ m (autOf t st mem d) d s n i) where
@@ -100,25 +58,25 @@ module _ (N : ℕ) (l : Limits) (all : List Edge → List Edge → Step Aut (Lis
 
     module _ (lt : i < k) where
       read-in : EntryIn tr s x i
-      read-in = entry-in x tr s k i lt (W .within) (v .on .ready .ready .room)
+      read-in = entry-in tr s k x (W .within) (v .on .ready .ready .room) i lt
 
       module _ (u : Edge) (read : u ≡ entryOf x tr s i) where
         same : u ≡ entryOf x tr s₀ i
-        same = read ∙ entry-kept (v .left) x tr k i lt (W .within)
+        same = read ∙ entry-kept (v .left) tr x k i (W .within) lt
 
         edge-in : EdgeAt N σ u
-        edge-in = subst (EdgeAt N σ) (sym same) (entry-at x tr s₀ k i lt (edges-grown (v .on .gone .grown) (W .edges)))
+        edge-in = subst (EdgeAt N σ) (sym same) (entry-at tr s₀ k x (edges-grown (v .on .gone .grown) (W .edges)) i lt)
 
         module _ (r : Listed) (t1 st1 mem1 s1 : List ℕ) (D : DoesList N l 0 832 (one u (edges s RESULT n)) σ r d t1 st1 mem1 s s1) (len1 : length s1 ≡ length s) where
-          next-is : all (sourceOf x tr s₀ k) (edges s₀ RESULT m) σ₀ ≡ after (seenList r t1 st1 mem1 s1) (all (from x tr s₀ (i + 1) k))
+          next-is : all (sourceOf x tr s₀ k) (edges s₀ RESULT m) σ₀ ≡ after (seenList r t1 st1 mem1 s1) (all (onFrom x tr s₀ k (i + 1)))
           next-is =
-              v .is ∙ ap (λ (es : List Edge). all es (edges s RESULT n) σ) (from-on x tr s₀ k i lt)
-              ∙ more (entryOf x tr s₀ i) (from x tr s₀ (i + 1) k) (edges s RESULT n) σ
-              ∙ ap (λ (e : Edge). after (one e (edges s RESULT n) σ) (all (from x tr s₀ (i + 1) k))) (sym same)
-              ∙ ap (λ (o : Outcome Aut (List Edge)). after o (all (from x tr s₀ (i + 1) k))) (D .is)
+              v .is ∙ ap (λ (es : List Edge). all es (edges s RESULT n) σ) (from-next tr s₀ k x i lt)
+              ∙ more (entryOf x tr s₀ i) (onFrom x tr s₀ k (i + 1)) (edges s RESULT n) σ
+              ∙ ap (λ (e : Edge). after (one e (edges s RESULT n) σ) (all (onFrom x tr s₀ k (i + 1)))) (sym same)
+              ∙ ap (λ (o : Outcome Aut (List Edge)). after o (all (onFrom x tr s₀ k (i + 1)))) (D .is)
 
           stuck : (e : ℕ) → r ≡ listed.Refused e → DoesList N l 0 832 (all (sourceOf x tr s₀ k) (edges s₀ RESULT m)) σ₀ (listed.Refused e) c₀ t1 st1 mem1 s₀ s1
-          stuck e q = record { is = next-is ∙ ap (λ (r : Listed). after (seenList r t1 st1 mem1 s1) (all (from x tr s₀ (i + 1) k))) q; beside = tt; left = tt; next = tt }
+          stuck e q = record { is = next-is ∙ ap (λ (r : Listed). after (seenList r t1 st1 mem1 s1) (all (onFrom x tr s₀ k (i + 1)))) q; beside = tt; left = tt; next = tt }
 
           again : (c1 : Counts) (n1 : ℕ) → r ≡ listed.List c1 n1 → Turned N l all x tr k σ₀ c₀ s₀ m (autOf t1 st1 mem1 c1) c1 s1 n1 (i + 1)
           again c1 n1 q =
@@ -139,12 +97,12 @@ module _ (N : ℕ) (l : Limits) (all : List Edge → List Edge → Step Aut (Lis
                 };
                 left = left-trans (w .gone .grown .nodes) (v .left) p;
                 beside = (b .0 ∙ v .beside .0, b .1 ∙ v .beside .1);
-                is = next-is ∙ ap (λ (r : Listed). after (seenList r t1 st1 mem1 s1) (all (from x tr s₀ (i + 1) k))) q;
+                is = next-is ∙ ap (λ (r : Listed). after (seenList r t1 st1 mem1 s1) (all (onFrom x tr s₀ k (i + 1)))) q;
               }
 
     end : k ≤ i → DoesList N l 0 832 (all (sourceOf x tr s₀ k) (edges s₀ RESULT m)) σ₀ (listed.List d n) c₀ t st mem s₀ s
     end le = record {
-      is = v .is ∙ ap (λ (es : List Edge). all es (edges s RESULT n) σ) (from-done x tr s₀ k i le) ∙ none (edges s RESULT n) σ;
+      is = v .is ∙ ap (λ (es : List Edge). all es (edges s RESULT n) σ) (from-done tr s₀ k x i le) ∙ none (edges s RESULT n) σ;
       beside = v .beside;
       left = v .left;
       next = v .on;
@@ -181,7 +139,7 @@ module _ (N : ℕ) (l : Limits) (a : M.Each) (x : Source) (tr : List ℕ) (k : �
   module _ (t st mem s : List ℕ) (d : Counts) (n i : ℕ) (v : Turned N l (eachAll N l a) x tr k σ₀ c₀ s₀ m (autOf t st mem d) d s n i) where
     module _ (lt : i < k) where
       pub each-read : EntryIn tr s x i
-      each-read = entry-in x tr s k i lt (R .walked .within) (v .on .ready .ready .room)
+      each-read = entry-in tr s k x (R .walked .within) (v .on .ready .ready .room) i lt
 
       module _ (u : Transition) (read : edgeOf u ≡ entryOf x tr s i) where
         pub each-ready : ListReady N l (autOf t st mem d) s n × MakeReady N l (autOf t st mem d) s a (edgeOf u)
@@ -235,10 +193,10 @@ module _ (N : ℕ) (l : Limits) (x : Source) (tr : List ℕ) (k : ℕ) (y : Sour
   module _ (t st mem s : List ℕ) (d : Counts) (n i : ℕ) (v : Turned N l (pairsAll N l us) x tr k σ₀ c₀ s₀ m (autOf t st mem d) d s n i) where
     module _ (lt : i < k) where
       pub pairs-read : EntryIn tr s x i
-      pairs-read = entry-in x tr s k i lt (R .first .within) (v .on .ready .ready .room)
+      pairs-read = entry-in tr s k x (R .first .within) (v .on .ready .ready .room) i lt
 
       us-kept : sourceOf y tr s j ≡ us
-      us-kept = source-kept (v .left) y tr j (R .second .within)
+      us-kept = source-kept (v .left) tr y j (R .second .within)
 
       module _ (u : Transition) (read : edgeOf u ≡ entryOf x tr s i) where
         pub pairs-ready : EachReady N l (autOf t st mem d) tr s (M.meet (edgeOf u)) y j n

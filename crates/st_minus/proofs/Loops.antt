@@ -28,7 +28,7 @@ use Rattle.st_source.specs.Seen.{sourceOf, entryOf, EntryIn, Walked}
 use Rattle.st_minus.specs.declared.Summed.{Summed}
 use Rattle.st_minus.specs.declared.Summed.the-variants as next
 use Rattle.st_minus.specs.Seen.{RowReady, RowsReady, sumOf, seenSum, SumBeside, SumLeft, SumNext, SumOn, DoesSum}
-use Rattle.st_minus.proofs.Sources.{onFrom, from-all, from-next, from-done, entry-in, entry-at, entry-kept, source-kept}
+use Rattle.st_source.proofs.Sources.{onFrom, from-all, from-next, from-done, entry-in, entry-at, entry-kept, source-kept}
 use Rattle.st_minus.proofs.Single.{does-sum}
 
 -- the steps for all transitions of a list are those for one, and then those for the others

@@ -1,10 +1,8 @@
 -- The loops of a list operation, one after the other.
 use mathlib.Core.Path.{_≡_, refl, sym, _∙_, ap, ap₂, subst}
 use mathlib.Core.List.{List, []}
-use Prim.Native.Nat.{ℕ, _+_, _*_, _≤_}
-use native.Mathlib.Omega.{arith}
-use lib.ListN.{length}
-use Rattle.common.specs.Outcome.{Outcome, refused, given, Step, return, after}
+use Prim.Native.Nat.{ℕ, _≤_}
+use Rattle.common.specs.Outcome.{Outcome, Step, return, after}
 use Rattle.netkat.specs.ListSteps as St
 use Rattle.netkat.specs.ListSteps.{Edge, Summed as Sum}
 use Rattle.aut_steps.specs.Tables.{Aut}
@@ -20,13 +18,13 @@ use Rattle.st.specs.declared.Listed.{Listed}
 use Rattle.st.specs.declared.Listed.the-variants as listed
 use Rattle.st.specs.Seen.{RESULT, ListReady, seenList, DoesList}
 use Rattle.st_source.specs.declared.Source.{Source}
-use Rattle.st_source.specs.Seen.{sourceOf, Walked}
+use Rattle.st_source.specs.Seen.{sourceOf}
 use Rattle.st_each.specs.Seen.{EachReady, PairsReady}
 use Rattle.st_each.proofs.Join.{then-list}
 use Rattle.st_minus.specs.declared.Summed.{Summed}
 use Rattle.st_minus.specs.declared.Summed.the-variants as summed
 use Rattle.st_minus.specs.Seen.{RowsReady, sumOf, seenSum, DoesSum}
-use Rattle.st_minus.proofs.Sources.{source-kept, walked-later}
+use Rattle.st_source.proofs.Sources.{source-kept, walked-later}
 use Rattle.spp.specs.declared.SPP.{SPP}
 use Rattle.aut_steps.specs.Relations.{zeroAt}
 use Rattle.st_ops.specs.Seen.{OneReady, TwoReady}

@@ -1,11 +1,10 @@
 -- 01, port order, step 3 (ST operations): what the list operations make of a transition before it is inserted, as one step over what is to be made; and netkat's loops over lists
 -- in the parts in which the code makes them.
-use mathlib.Core.Path.{_≡_, refl}
-use mathlib.Core.List.{List, [], _∷_}
+use mathlib.Core.List.{List}
 use Prim.Native.Nat.{ℕ}
 use Rattle.common.specs.Outcome.{Step, return, _>>=_}
 use Rattle.netkat.specs.ListSteps as St
-use Rattle.netkat.specs.ListSteps.{Edge, edge, Summed}
+use Rattle.netkat.specs.ListSteps.{Edge, Summed}
 use Rattle.aut_steps.specs.Tables.{Limits, Aut, onNodes}
 use Rattle.aut_steps.specs.Relations as Rel
 use Rattle.aut_steps.specs.Constructors.{mk-difference}

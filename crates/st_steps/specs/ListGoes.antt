@@ -3,13 +3,13 @@
 use mathlib.Core.Path.{_≡_, refl, ap}
 use mathlib.Core.Bool.{Bool, true, false}
 use mathlib.Core.List.{List, [], _∷_}
-use Prim.Native.Nat.{ℕ, suc, _+_, _≤_, _<_}
+use Prim.Native.Nat.{ℕ, suc, _≤_, _<_}
 use native.Mathlib.Omega.{arith}
 use lib.Dec.{eqb, ltb}
 use lib.ListN.{length}
 use borrow.Author.Tests.{ltb-true, ltb-false}
 use Rattle.common.specs.Packets.{Relation}
-use Rattle.common.specs.Outcome.{Outcome, Step, return, after, _>>=_, if_then_else_}
+use Rattle.common.specs.Outcome.{Step, return, after, if_then_else_}
 use Rattle.common.specs.Runs.{Table}
 use Rattle.netkat.specs.ListSteps as St
 use Rattle.netkat.specs.ListSteps.{Edge, edge, leadsTo, unite, enter, enterIn, place, singleton, split, insert, insertEach, insertPairs, unionList, meetOf, intersectList, Summed, subtractRow, subtractRows, restOf, differenceList, xorList, complementOf, coverAll, complementList, followedBy, postcompose, precompose, metWith, intersectTarget}
@@ -18,11 +18,11 @@ use Rattle.spp_steps.specs.Model as Spp
 use Rattle.spp_steps.specs.Apply.{apply-exact}
 use Rattle.aut_steps.specs.Tables.{Limits, Aut, onNodes, onStates}
 use Rattle.aut_steps.specs.Relations as Rel
-use Rattle.aut_steps.specs.RelationLaws.{Makes, union-made, intersect-made, difference-made, sequence-made, star-made, made}
+use Rattle.aut_steps.specs.RelationLaws.{Makes, union-made, intersect-made, difference-made, sequence-made, made}
 use Rattle.aut_steps.specs.Constructors.{mk-spp}
 use Rattle.aut_steps.specs.Good.{states, Grown, grown-refl, grown-trans, Good, state-grown}
-use Rattle.aut_steps.specs.Goes.{Goes, full-list, stops-here, goes-return, goes-bind, goes-map, choose, branch}
-use Rattle.aut_steps.specs.StateLaws.{nodes-goes, zero-goes, mk-top-goes, mk-complement-goes, mk-difference-goes, mk-until-goes}
+use Rattle.aut_steps.specs.Goes.{Goes, full-list, stops-here, goes-return, goes-bind, goes-map, branch}
+use Rattle.aut_steps.specs.StateLaws.{nodes-goes, zero-goes, mk-top-goes, mk-complement-goes, mk-difference-goes}
 use Rattle.aut_steps.specs.UnionLaws.{mk-union-goes}
 use Rattle.aut_steps.specs.IntersectLaws.{mk-intersect-goes}
 use Rattle.aut_steps.specs.SequenceLaws.{mk-sequence-goes}

@@ -5,7 +5,7 @@ use borrow.Author.Needs.{needs}
 use lib.ListN.{length}
 use Rattle.aut_rel.specs.Seen.{autOf}
 use Rattle.st_source.specs.Seen.{edgeOf, sourceOf}
-use Rattle.st_minus.proofs.Sources.{walked-later}
+use Rattle.st_source.proofs.Sources.{walked-later}
 use Rattle.st_minus.proofs.Loops as loops
 use Rattle.st_minus.proofs.Loops.{Turned, rowsOne, rows, rows-folds}
 use Rattle.st_minus.proofs.subtract_rows.Statement.{statement}
