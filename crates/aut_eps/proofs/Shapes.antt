@@ -15,9 +15,10 @@ use Rattle.aut_steps.specs.Tables.{SPP, UNION, INTERSECT, XOR, DIFFERENCE, COMP
 use Rattle.aut_steps.specs.Facts.{words-length}
 use Rattle.delta_steps.specs.Epsilon.{epsilonOf, valueOf}
 use Rattle.delta_steps.specs.EpsilonReads.{operandsWith, operandsOf, combineBy}
+use Rattle.delta_steps.specs.EpsilonDown.{Known}
 use Rattle.aut_eps.specs.declared.Shape.{Shape}
 use Rattle.aut_eps.specs.declared.Shape.the-variants.{Many, Both, First, Second, Alone}
-use Rattle.aut_eps.specs.Seen.{Known, operandsIn, sizeOf, ManyOnly, Shaped, Inside}
+use Rattle.aut_eps.specs.Seen.{operandsIn, sizeOf, ManyOnly, Shaped, Inside}
 
 -- ---- look and value
 

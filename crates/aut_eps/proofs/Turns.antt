@@ -1,12 +1,10 @@
--- epsilon: a state that has its value; operands worked out one after another, and then put together.
-use mathlib.Core.Path.{_≡_, refl, sym, _∙_, ap, ap₂, subst}
-use mathlib.Core.List.{List, [], _∷_}
-use Prim.Native.Nat.{ℕ, zero, suc, _+_, _-_, _≤_, _<_}
-use native.Mathlib.Numerals.{add-one}
+-- epsilon: a state that has its value; states worked out one after another, each below x and with all its operands worked out, and then x.
+use mathlib.Core.Path.{_≡_, refl, sym, _∙_, ap, subst}
+use mathlib.Core.List.{List}
+use Prim.Native.Nat.{ℕ, _≤_, _<_}
 use native.Mathlib.Omega.{arith}
 use lib.Dec.{eqb}
-use lib.ListN.{length, getD, drop, length-append, drop-of-length-le}
-use lib.Seq.{drop-cons}
+use lib.ListN.{length, length-append}
 use borrow.Author.Tests.{eqb-true, eqb-false}
 use Rattle.common.specs.Outcome.{Outcome, given, after}
 use Rattle.common.specs.Follow.{given-of}
@@ -15,19 +13,19 @@ use Rattle.spp_steps.specs.Laws.{by-test}
 use Rattle.spp.specs.declared.Made.{Made}
 use Rattle.spp.specs.declared.SPP as Spp
 use Rattle.spp.specs.declared.Made.the-variants.{Node, Full}
-use Rattle.aut_steps.specs.Tables.{SPP, UNION, INTERSECT, kindOf, op1, op2, nest, words, Limits, Aut, aut, putNodes}
+use Rattle.aut_steps.specs.Tables.{UNION, INTERSECT, nest, Limits, Aut, aut, putNodes}
 use Rattle.aut_steps.specs.Kinds.{form}
 use Rattle.aut_steps.specs.Facts.{words-length}
-use Rattle.aut_steps.specs.ListLaws.{All, all-with}
-use Rattle.aut_steps.specs.Good.{states, kind, first, second, members, Grown, kind-grown, first-grown, second-grown, nesting-grown, state-grown, Good, ok-as}
-use Rattle.delta_steps.specs.Epsilon.{epsilonOf, valueOf, setWord, keepEpsilon, epsilon}
+use Rattle.aut_steps.specs.ListLaws.{All, all-map, all-with}
+use Rattle.aut_steps.specs.Good.{states, kind, first, second, members, kind-grown, nesting-grown, state-grown, Good, ok-as}
+use Rattle.delta_steps.specs.Epsilon.{epsilonOf, setWord, keepEpsilon, epsilon}
 use Rattle.delta_steps.specs.Agree.{Agree, agree-came}
 use Rattle.delta_steps.specs.Noted.{Noted, noted-refl, noted-trans, noted-grown, noted-good}
-use Rattle.delta_steps.specs.Worked.{Epsilons, Valued, handle, memo}
-use Rattle.delta_steps.specs.Operands.{Below}
+use Rattle.delta_steps.specs.Worked.{Epsilons, Valued}
 use Rattle.delta_steps.specs.EpsilonLaws as Laws
 use Rattle.delta_steps.specs.EpsilonLaws.{Stopped, Epsiloned, epsilon-goes}
-use Rattle.delta_steps.specs.EpsilonReads.{operandsWith, operandsOf, workAll, combineOn, combineAt, operands-below, worked-out, epsilon-spp, epsilon-kept, epsilon-works}
+use Rattle.delta_steps.specs.EpsilonReads.{operandsOf, combineOn, operands-below}
+use Rattle.delta_steps.specs.EpsilonDown.{Known, Open, Way, way-end, way-state, way-lower, known-of, epsilon-known, known-means, bottom-run, open-still, same-above, stuck-above, opens, opens-fewer}
 use Rattle.aut.specs.Seen.{limitsOf}
 use Rattle.aut.specs.declared.Counts.{Counts}
 use Rattle.aut.specs.declared.Limits.{Limits as Bounds}
@@ -35,8 +33,8 @@ use Rattle.aut_rel.specs.Behind.{Left, Backed, left-refl, left-trans}
 use Rattle.aut_rel.specs.Seen.{autOf, MadeLeft, Ready}
 use Rattle.aut_rel.proofs.Order.{in-table, backed-of, ready-after}
 use Rattle.aut_eps.specs.declared.Kept.{Kept}
-use Rattle.aut_eps.specs.declared.Kept.the-variants.{Handle}
-use Rattle.aut_eps.specs.Seen.{Known, Keeps, ValueAt, Inside, CombineReady, Finishes, seenEpsilon, Asks, After, AfterBy, Works}
+use Rattle.aut_eps.specs.declared.Kept.the-variants.{Handle, Nothing}
+use Rattle.aut_eps.specs.Seen.{Keeps, Inside, Descends, CombineReady, Finishes, seenEpsilon, Asks, After, AfterBy, Works}
 use Rattle.aut_eps.proofs.Together.{combine-made}
 
 -- the counts with n relation nodes
@@ -61,17 +59,10 @@ module _ {N : ℕ} {c : Counts} {t st mem s : List ℕ} {x : ℕ} (E : Epsilons 
 
 -- ---- a state that has its value
 
-known-law : {N : ℕ} {L : Limits} {σ : Aut} → Laws.Ready N L σ → {x : ℕ} → x < states σ → Known (σ .states .words) x → epsilon N x σ ≡ given σ (valueOf (σ .states .words) x)
-unfolding valueOf
-known-law {σ = σ} r {x} l k =
-    by-test (eqb (kind σ x) SPP)
-    (λ q. epsilon-spp r l (eqb-true (kind σ x) SPP q) ∙ simp q)
-    (λ q. epsilon-kept r l (eqb-false (kind σ x) SPP q) (k (eqb-false (kind σ x) SPP q)) ∙ simp q)
-
 pub kept-works : {N : ℕ} {c : Counts} {t st mem s : List ℕ} {x : ℕ} → Asks N (autOf t st mem c) s x → {k : Kept} → Keeps st x k → {h : Spp.SPP} → k ≡ Handle h → Works N x (Node h (c .spp)) c t st mem s t st s
 kept-works {N} {c} {t} {st} {mem} {s} {x} a {k} f {h} e =
     let p : Keeps st x (Handle h) = subst (Keeps st x) e f in
-    works (a .epsilons) (a .has) (Node h (c .spp)) (known-law (laws-ready (a .epsilons) (a .has) (a .ready)) (a .has) (p .0) ∙ ap (λ (h : ℕ). given (autOf t st mem c) h) (p .1)) (left-refl 0 0 (table t (c .spp)) s) refl
+    works (a .epsilons) (a .has) (Node h (c .spp)) (epsilon-known (laws-ready (a .epsilons) (a .has) (a .ready)) (a .has) (p .0) ∙ ap (λ (h : ℕ). given (autOf t st mem c) h) (p .1)) (left-refl 0 0 (table t (c .spp)) s) refl
 
 -- ---- tables in order
 
@@ -91,30 +82,20 @@ inside-of {N} {L} {σ} g {x} l = record {
     some-member : kind σ x ≡ INTERSECT → 1 ≤ second σ x
     some-member e = let m = g .intersects x l e in omega (arith, long, ap length (m .parts), length-append (m .others) (m .last), m .some)
 
-known-of : {σ : Aut} {y e : ℕ} → Valued σ y e → Known (σ .states .words) y
-known-of (handle k f) n = absurd (n k)
-known-of (memo n m) k = omega (arith, m)
-
-all-getD : (P : ℕ → Type 0) (ys : List ℕ) (j : ℕ) → j < length ys → All P ys → P (getD ys j 0)
-all-getD P [] j l a = absurd (omega arith)
-all-getD P (y ∷ ys) zero l a = a .0
-all-getD P (y ∷ ys) (suc j) l a = all-getD P ys j (omega arith) (a .1)
-
--- ---- the loop: j of k operands are worked out
+-- ---- the loop: some states below x are worked out
 
 module _ (N : ℕ) (c : Counts) (mem : List ℕ) (x : ℕ) (t₀ st₀ s₀ : List ℕ) where
   abbrev σ₀ : Aut
   σ₀ = autOf t₀ st₀ mem c
 
-  pub record Turn (k : ℕ) (t st s : List ℕ) (n j : ℕ) : Type 0 where
-    pub at : j ≤ k
-    pub many : length (operandsOf st₀ mem x) ≡ k
+  pub record Turn (t st s : List ℕ) (n : ℕ) : Type 0 where
     pub len : length s ≡ length s₀
     pub noted : Noted σ₀ (autOf t st mem (counted c n))
     pub epsilons : Epsilons N (autOf t st mem (counted c n))
     pub backed : Backed N (table t n) s
     pub left : Left N 0 0 (table t n) s₀ s
-    pub is : workAll (epsilon N) (operandsOf st₀ mem x) σ₀ ≡ workAll (epsilon N) (drop j (operandsOf st₀ mem x)) (autOf t st mem (counted c n))
+    pub not-yet : Open st x
+    pub is : epsilon N x σ₀ ≡ epsilon N x (autOf t st mem (counted c n))
 
 module _ {N : ℕ} (c : Counts) {mem : List ℕ} {x : ℕ} {t₀ st₀ s₀ : List ℕ} (a : Asks N (autOf t₀ st₀ mem c) s₀ x) where
   abbrev L : Limits
@@ -123,116 +104,97 @@ module _ {N : ℕ} (c : Counts) {mem : List ℕ} {x : ℕ} {t₀ st₀ s₀ : Li
   abbrev σ : Aut
   σ = autOf t₀ st₀ mem c
 
-  r₀ : Laws.Ready N L σ
-  r₀ = laws-ready (a .epsilons) (a .has) (a .ready)
-
-  abbrev ys : List ℕ
-  ys = operandsOf st₀ mem x
-
-  pub begin : {k : ℕ} → ((mem : List ℕ) → length (operandsOf st₀ mem x) ≡ k) → Turn N c mem x t₀ st₀ s₀ k t₀ st₀ s₀ (c .spp) 0
-  begin {k} e = record {
-    at = omega arith;
-    many = e mem;
+  pub begin : {k : Kept} → Keeps st₀ x k → k ≡ Nothing → Turn N c mem x t₀ st₀ s₀ t₀ st₀ s₀ (c .spp)
+  begin f e = record {
     len = refl;
     noted = noted-refl σ;
     epsilons = a .epsilons;
     backed = backed-of (a .ready);
     left = left-refl 0 0 (table t₀ (c .spp)) s₀;
+    not-yet = subst (Keeps st₀ x) e f;
     is = refl;
   }
 
-  module _ {k : ℕ} {t st s : List ℕ} {n j : ℕ} (v : Turn N c mem x t₀ st₀ s₀ k t st s n j) where
+  module _ {t st s : List ℕ} {n : ℕ} (v : Turn N c mem x t₀ st₀ s₀ t st s n) where
     abbrev τ : Aut
     τ = autOf t st mem (counted c n)
 
-    grown : Grown σ τ
-    grown = noted-grown (v .noted)
-
     good : Good N L τ
     good = noted-good (a .ready .good) (v .noted) (v .backed .wf)
+
+    law-ready : Laws.Ready N L τ
+    law-ready = record { good = good; epsilons = v .epsilons }
 
     ready : (l : Bounds) → Ready N l σ s₀ → Ready N l τ s
     ready l r = record { few = r .few; good = noted-good (r .good) (v .noted) (v .backed .wf); room = v .backed .room; sound = v .backed .sound; list = r .list; products = r .products }
 
     has : x < states τ
-    has = state-grown grown (a .has)
+    has = state-grown (noted-grown (v .noted)) (a .has)
 
-    same-operands : operandsOf st mem x ≡ ys
-    same-operands =
-        ap (λ (k : ℕ). operandsWith k (words mem (op1 st x) (op2 st x)) (op1 st x) (op2 st x)) (kind-grown grown x (a .has))
-        ∙ ap₂ (λ (p q : ℕ). operandsWith (kindOf st₀ x) (words mem p q) p q) (first-grown grown x (a .has)) (second-grown grown x (a .has))
+    pub lowest-ready : Descends st mem x
+    lowest-ready = record {
+      count = states τ;
+      nested = record { inside = λ y l. inside-of good l; lower = λ y l. all-map (operandsOf st mem y) (λ z b. (b .state, b .lower)) (operands-below law-ready l) };
+      has = has;
+      not-yet = v .not-yet;
+    }
 
-    -- one operand more
-    module _ (l : j < k) where
-      here : j < length ys
-      here = omega (arith, v .many)
+    module _ {y : ℕ} (w : Way st mem y x) where
+      y-state : y < states τ
+      y-state = way-state law-ready has w .0
 
-      pub operand-ready : Inside st mem x × (j < length (operandsOf st mem x))
-      operand-ready = (inside-of good has, omega (arith, here, ap length same-operands))
-
-      module _ {y : ℕ} (e : getD (operandsOf st mem x) j 0 ≡ y) where
-        y-is : getD ys j 0 ≡ y
-        y-is = ap (λ (ys : List ℕ). getD ys j 0) (sym same-operands) ∙ e
-
-        below : Below σ x y
-        below = subst (Below σ x) y-is (all-getD (Below σ x) ys j here (operands-below r₀ (a .has)))
-
-        call : Asks N τ s y
-        call = record { limits = a .limits; ready = ready (a .limits) (a .ready); epsilons = v .epsilons; has = state-grown grown (below .state) }
-
+      -- one state more
+      module _ (apart : y ≡ x → ⊥) where
         pub call-ready : {m : ℕ} → nest st₀ x ≡ m → (nest st y < m) × Asks N τ s y
-        call-ready q = (omega (arith, below .lower, nesting-grown grown y (below .state)), call)
+        call-ready q = (
+          omega (arith, way-lower law-ready has apart w, nesting-grown (noted-grown (v .noted)) x (a .has)),
+          record { limits = a .limits; ready = ready (a .limits) (a .ready); epsilons = v .epsilons; has = y-state },
+        )
 
-        module _ {r : Made} {t1 st1 s1 : List ℕ} (w : Works N y r (counted c n) t st mem s t1 st1 s1) where
-          next : workAll (epsilon N) ys σ ≡ after (seenEpsilon r (counted c n) t1 st1 mem) (λ h. workAll (epsilon N) (drop (j + 1) ys))
-          unfolding workAll
-          next =
-              v .is
-              ∙ ap (λ (zs : List ℕ). workAll (epsilon N) zs τ) (drop-cons ys j 0 here ∙ ap₂ (λ (y i : ℕ). y ∷ drop i ys) y-is (sym (add-one j)))
-              ∙ ap (λ (o : Outcome Aut ℕ). after o (λ h. workAll (epsilon N) (drop (j + 1) ys))) (w .is)
+        module _ {r : Made} {t1 st1 s1 : List ℕ} (d : Works N y r (counted c n) t st mem s t1 st1 s1) where
+          pub stuck : r ≡ Full → length s1 ≡ length s → Works N x Full c t₀ st₀ mem s₀ t1 st1 s1
+          stuck f len = works (a .epsilons) (a .has) Full (v .is ∙ stuck-above law-ready has w (d .is ∙ ap (λ (r : Made). seenEpsilon r (counted c n) t1 st1 mem) f)) tt (len ∙ v .len)
 
-          pub stuck : r ≡ Full → (kindOf st₀ x ≡ SPP → ⊥) × (epsilonOf st₀ x ≡ 0) → length s1 ≡ length s → Works N x Full c t₀ st₀ mem s₀ t1 st1 s1
-          stuck f u len =
-              works (a .epsilons) (a .has) Full
-              (epsilon-works r₀ (a .has) (u .0) (u .1)
-              ∙ ap (λ (o : Outcome Aut Unit). after o (λ u υ. after (combineAt N x υ) (keepEpsilon x))) (next ∙ ap (λ (r : Made). after (seenEpsilon r (counted c n) t1 st1 mem) (λ h. workAll (epsilon N) (drop (j + 1) ys))) f))
-              tt (len ∙ v .len)
+          module _ {h : Spp.SPP} {n1 : ℕ} (f : r ≡ Node h n1) where
+            gave : epsilon N y τ ≡ given (autOf t1 st1 mem (counted c n1)) (h .0)
+            gave = d .is ∙ ap (λ (r : Made). seenEpsilon r (counted c n) t1 st1 mem) f
 
-          pub again : {h : Spp.SPP} {n1 : ℕ} → r ≡ Node h n1 → length s1 ≡ length s → Turn N c mem x t₀ st₀ s₀ k t1 st1 s1 n1 (j + 1)
-          again {h} {n1} f len =
-              let d : After N (a .limits) y τ (autOf t1 st1 mem (counted c n1)) s1 (h .0) = subst (λ (r : Made). AfterBy N (a .limits) y r (counted c n) τ t1 st1 mem s1) f (w .after (a .limits) (ready (a .limits) (a .ready))) in
-              let p : Left N 0 0 (table t1 n1) s s1 = subst (λ (r : Made). MadeLeft N r t1 s s1) f (w .left) in
-              record {
-                at = omega arith;
-                many = v .many;
-                len = len ∙ v .len;
-                noted = noted-trans (v .noted) (d .law .found .noted);
-                epsilons = d .law .found .epsilons;
-                backed = backed-of (d .ready);
-                left = left-trans (d .law .found .noted .nodes) (v .left) p;
-                is = next ∙ ap (λ (r : Made). after (seenEpsilon r (counted c n) t1 st1 mem) (λ h. workAll (epsilon N) (drop (j + 1) ys))) f;
-              }
+            later : After N (a .limits) y τ (autOf t1 st1 mem (counted c n1)) s1 (h .0)
+            later = subst (λ (r : Made). AfterBy N (a .limits) y r (counted c n) τ t1 st1 mem s1) f (d .after (a .limits) (ready (a .limits) (a .ready)))
 
-    -- all of them
-    module _ (l : k ≤ j) where
-      all-done : workAll (epsilon N) ys σ ≡ given τ tt
-      unfolding workAll
-      all-done = v .is ∙ ap (λ (zs : List ℕ). workAll (epsilon N) zs τ) (drop-of-length-le ys {i = j} (omega (arith, v .many)))
+            pub again : length s1 ≡ length s → Turn N c mem x t₀ st₀ s₀ t1 st1 s1 n1
+            again len =
+                let (o, b) = way-end w in
+                record {
+                  len = len ∙ v .len;
+                  noted = noted-trans (v .noted) (later .law .found .noted);
+                  epsilons = later .law .found .epsilons;
+                  backed = backed-of (later .ready);
+                  left = left-trans (later .law .found .noted .nodes) (v .left) (subst (λ (r : Made). MadeLeft N r t1 s s1) f (d .left));
+                  not-yet = open-still law-ready y-state o b gave has (λ q. apart (sym q)) (v .not-yet);
+                  is = v .is ∙ sym (same-above law-ready y-state o b gave has w);
+                }
 
-      pub combine-ready : CombineReady N (table t n) st mem s x
-      combine-ready = record {
-        backed = v .backed;
-        inside = inside-of good has;
-        values = subst (All (ValueAt N (table t n) st)) (sym same-operands)
-            (all-with ys (λ y b u. record { state = in-table good (state-grown grown (b .state)); known = known-of (u .valued); at = u .at }) (operands-below r₀ (a .has)) (worked-out r₀ (a .has) all-done .values));
-      }
+            pub fewer : opens (epsilonOf st1) (c .states) < opens (epsilonOf st) (c .states)
+            fewer = let (o, b) = way-end w in opens-fewer (epsilonOf st) (epsilonOf st1) (later .law .found .noted .kept) y (c .states) y-state (o .1) (marked (later .law .value))
+              where
+                marked : {e : ℕ} → Valued (autOf t1 st1 mem (counted c n1)) y e → 0 < epsilonOf st1 y
+                marked u = known-of u (λ q. way-end w .0 .0 (sym (kind-grown (noted-grown (later .law .found .noted)) y y-state) ∙ q))
 
-      module _ (u : (kindOf st₀ x ≡ SPP → ⊥) × (epsilonOf st₀ x ≡ 0)) where
+      -- all operands are worked out
+      module _ (e : y ≡ x) where
+        known : All (Known st) (operandsOf st mem x)
+        known = subst (λ (z : ℕ). All (Known st) (operandsOf st mem z)) e (way-end w .1)
+
+        pub combine-ready : CombineReady N (table t n) st mem s x
+        combine-ready = record {
+          backed = v .backed;
+          inside = inside-of good has;
+          values = all-with (operandsOf st mem x) (λ z b k. record { state = in-table good (b .state); known = k; at = known-means law-ready (b .state) k .den .at }) (operands-below law-ready has) known;
+        }
+
         combined : {o : Outcome Table ℕ} → combineOn N st mem x (table t n) ≡ o → epsilon N x σ ≡ after (placed putNodes τ o) (keepEpsilon x)
-        combined e =
-            epsilon-works r₀ (a .has) (u .0) (u .1)
-            ∙ ap (λ (o : Outcome Aut Unit). after o (λ u υ. after (combineAt N x υ) (keepEpsilon x))) all-done
-            ∙ ap (λ (o : Outcome Table ℕ). after (placed putNodes τ o) (keepEpsilon x)) e
+        combined q = v .is ∙ bottom-run law-ready has (v .not-yet) known ∙ ap (λ (o : Outcome Table ℕ). after (placed putNodes τ o) (keepEpsilon x)) q
 
         pub done : (r : Made) {t1 st1 s1 : List ℕ} → Finishes N x (table t n) st mem r t1 st1 s s1 → length s1 ≡ length s → Works N x r c t₀ st₀ mem s₀ t1 st1 s1
         unfolding keepEpsilon setWord

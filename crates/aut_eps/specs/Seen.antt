@@ -11,12 +11,13 @@ use Rattle.spp.specs.Seen.{seen}
 use Rattle.spp.specs.declared.Made.{Made}
 use Rattle.spp.specs.declared.Made.the-variants.{Node, Full}
 use Rattle.aut_steps.specs.Relations as Rel
-use Rattle.aut_steps.specs.Tables.{SPP, UNION, INTERSECT, XOR, DIFFERENCE, COMPLEMENT, TOP, kindOf, op1, op2, words, Aut, aut}
+use Rattle.aut_steps.specs.Tables.{UNION, INTERSECT, XOR, DIFFERENCE, COMPLEMENT, TOP, kindOf, op1, op2, nest, words, Aut, aut}
 use Rattle.aut_steps.specs.ListLaws.{All}
 use Rattle.aut_steps.specs.Good.{states}
 use Rattle.st_steps.specs.Operations as Ops
-use Rattle.delta_steps.specs.Epsilon.{epsilonOf, valueOf, epsilon}
+use Rattle.delta_steps.specs.Epsilon.{valueOf, epsilon}
 use Rattle.delta_steps.specs.EpsilonReads.{operandsWith, operandsOf, uniteValues, meetValues, combineBy, combineOn}
+use Rattle.delta_steps.specs.EpsilonDown.{Known, Open, FirstOpen}
 use Rattle.delta_steps.specs.EpsilonLaws.{Epsiloned}
 use Rattle.delta_steps.specs.Worked.{Epsilons}
 use Rattle.aut.specs.Seen.{limitsOf}
@@ -31,13 +32,9 @@ use Rattle.aut_eps.specs.declared.Shape.the-variants.{Many, Both, First,
 
 -- ---- what is kept
 
--- a relation, or a state whose word 4 is marked
-abbrev pub Known : List ℕ → ℕ → Type 0
-Known st x = (kindOf st x ≡ SPP → ⊥) → 0 < epsilonOf st x
-
 abbrev pub Keeps : List ℕ → ℕ → Kept → Type 0
 Keeps st x (Handle h) = Known st x × (valueOf st x ≡ h .0)
-Keeps st x Nothing = (kindOf st x ≡ SPP → ⊥) × (epsilonOf st x ≡ 0)
+Keeps st x Nothing = Open st x
 
 -- state y has its value, a relation
 pub record ValueAt (N : ℕ) (t : Table) (st : List ℕ) (y : ℕ) : Type 0 where
@@ -100,6 +97,30 @@ pub record Shaped (kind : ℕ) (r : Shape) : Type 0 where
 pub record Inside (st mem : List ℕ) (x : ℕ) : Type 0 where
   pub state : 12 * x + 11 < length st
   pub list : UNION ≤ kindOf st x → kindOf st x ≤ INTERSECT → (1 ≤ op2 st x) × (op1 st x + op2 st x ≤ length mem)
+
+-- ---- the way down
+
+-- x and its operands are states that can be looked at
+pub record Looks (st mem : List ℕ) (x : ℕ) : Type 0 where
+  pub inside : Inside st mem x
+  pub operands : All (λ y. 12 * y + 11 < length st) (operandsOf st mem x)
+
+-- r is x's first operand that is not worked out, or x where all are
+pub data Next (st mem : List ℕ) (x r : ℕ) : Type 0 where
+  none : r ≡ x → All (Known st) (operandsOf st mem x) → Next st mem x r
+  some : FirstOpen st r (operandsOf st mem x) → Next st mem x r
+
+-- so many states, whose operands are states that are nested lower
+pub record Nested (st mem : List ℕ) (count : ℕ) : Type 0 where
+  pub inside : (x : ℕ) → x < count → Inside st mem x
+  pub lower : (x : ℕ) → x < count → All (λ y. (y < count) × (nest st y < nest st x)) (operandsOf st mem x)
+
+-- x is one of them, and not worked out
+pub record Descends (st mem : List ℕ) (x : ℕ) : Type 0 where
+  pub count : ℕ
+  pub nested : Nested st mem count
+  pub has : x < count
+  pub not-yet : Open st x
 
 -- ---- relations put together
 

@@ -1,5 +1,5 @@
 // epsilon of aut.rs: the relation of a state's strings without hops. What is worked out is kept in word 4 of the state. It calls itself on operands, which are nested
-// lower; their values are read from the tables when they are put together, so nothing waits in scratch over a call.
+// lower; their values are read from the tables when they are put together, so nothing waits in scratch over a call, and nothing on the stack.
 use aut::Counts;
 use aut_mk::Task;
 use spp::Made;
@@ -16,8 +16,9 @@ ghost use Rattle.aut_steps.specs.Tables.{words};
 ghost use Rattle.aut_steps.specs.Constructors.{each};
 ghost use Rattle.delta_steps.specs.Epsilon.{valueOf};
 ghost use Rattle.delta_steps.specs.EpsilonReads.{operandsOf, combineOn};
+ghost use Rattle.delta_steps.specs.EpsilonDown.{Known, Way};
 ghost use Rattle.aut_rel.specs.Seen.{autOf, Relates};
-ghost use Rattle.aut_eps.specs.Seen.{Known, Keeps, manyBy, bothBy, firstBy, aloneBy, Shaped, Inside, EachReady, ManyReady, ValuesReady, CombineReady, Finishes, Asks, Works};
+ghost use Rattle.aut_eps.specs.Seen.{Keeps, manyBy, bothBy, firstBy, aloneBy, Shaped, Inside, Looks, Next, Descends, EachReady, ManyReady, ValuesReady, CombineReady, Finishes, Asks, Works};
 
 // what a state has: an SPP its handle, another what is kept
 pub enum Kept {
@@ -124,6 +125,40 @@ fn operand(states: &[u32], members: &[u32], x: u32, j: usize) -> u32
         Shape::First => states[12 * i + 1],
         Shape::Second => states[12 * i + 2],
         Shape::Alone => 0,
+    }
+}
+
+// ---- the way down
+
+// the first operand that is not worked out; x where all are
+fn open_operand(states: &[u32], members: &[u32], x: u32) -> u32
+    requires { ⌜ Looks (now states) (now members) x ⌝ }
+    ensures { λ r. ⌜ Next (now (states .entry)) (now (members .entry)) x r ⌝ }
+{
+    let k = operand_count(states, x);
+    let mut j = 0;
+    while j < k {
+        let y = operand(states, members, x, j);
+        let Kept::Handle(_) = look(states, y) else {
+            return y;
+        };
+        j += 1;
+    }
+    x
+}
+
+// from x down along first operands that are not worked out, to a state of which all are
+fn lowest(states: &[u32], members: &[u32], x: u32) -> u32
+    requires { ⌜ Descends (now states) (now members) x ⌝ }
+    ensures { λ r. ⌜ Way (now (states .entry)) (now (members .entry)) r x ⌝ }
+{
+    let mut y = x;
+    loop {
+        let z = open_operand(states, members, y);
+        if z == y {
+            return y;
+        }
+        y = z;
     }
 }
 
@@ -320,7 +355,8 @@ fn finish(
 
 // ---- epsilon
 
-// a handle and the number of relation nodes; it calls itself at most as deep as x is nested
+// a handle and the number of relation nodes. The tables say how far a run has come: it goes down by reading, and calls itself on a state whose operands are all worked out, so it is
+// at most two deep, however x is nested
 pub fn epsilon(
     nodes: &mut [u32],
     states: &mut [u32],
@@ -337,11 +373,12 @@ pub fn epsilon(
     if let Kept::Handle(h) = kept {
         return Made::Node(h, c.spp);
     }
-    let k = operand_count(states, x);
     let mut n = c.spp;
-    let mut j = 0;
-    while j < k {
-        let y = operand(states, members, x, j);
+    loop {
+        let y = lowest(states, members, x);
+        if y == x {
+            return finish(nodes, states, members, scratch, n, fields, x);
+        }
         let d = Counts {
             sp: c.sp,
             spp: n,
@@ -353,7 +390,5 @@ pub fn epsilon(
             return Made::Full;
         };
         n = n1;
-        j += 1;
     }
-    finish(nodes, states, members, scratch, n, fields, x)
 }

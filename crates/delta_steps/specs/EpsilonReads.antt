@@ -90,7 +90,7 @@ pub record Value (N : ℕ) (σ : Aut) (y : ℕ) : Type 0 where
 value-of : {N : ℕ} {σ : Aut} {y e : ℕ} → Valued σ y e → At (σ .nodes) N e → Value N σ y
 value-of {N} {σ} {y} v a = record { valued = subst (Valued σ y) (sym (valued-reads v)) v; at = subst (At (σ .nodes) N) (sym (valued-reads v)) a }
 
-given-store : {S A : Type 0} {σ τ : S} {a b : A} → _≡_ {A = Outcome S A} (given σ a) (given τ b) → σ ≡ τ
+pub given-store : {S A : Type 0} {σ τ : S} {a b : A} → _≡_ {A = Outcome S A} (given σ a) (given τ b) → σ ≡ τ
 given-store e = cc
 
 -- an answer that is not kept
@@ -112,14 +112,14 @@ work-each {S} {A} f (y ∷ ys) σ = go (λ τ. work-each f ys τ) (f y σ)
 
 -- the answers are not needed where they can be had otherwise
 module _ {S A : Type 0} {W : ℕ → Type 0} {Q : S → List A → Type 0} (f : ℕ → Step S A) (ys : List ℕ) (σ : S) {p : Outcome S (List A)} (c : Agree W Q (eachOf f ys σ) p) where
-  each-work : {B : Type 0} (k : List A → Step S B) (j : Step S B) → ((τ : S) (es : List A) → Q τ es → k es τ ≡ j τ) → after (eachOf f ys σ) k ≡ after (workAll f ys σ) (λ u. j)
+  pub each-work : {B : Type 0} (k : List A → Step S B) (j : Step S B) → ((τ : S) (es : List A) → Q τ es → k es τ ≡ j τ) → after (eachOf f ys σ) k ≡ after (workAll f ys σ) (λ u. j)
   each-work k j e = go c ∙ ap (λ (o : Outcome S Unit). after o (λ u. j)) (sym (work-each f ys σ))
     where
       go : {o p : Outcome S (List A)} → Agree W Q o p → after o k ≡ after (after o forget) (λ u. j)
       go (stop w) = refl
       go (come {σ = τ} {a = es} q) = e τ es q
 
-  work-gives : (R : S → Type 0) → ((τ : S) (es : List A) → Q τ es → R τ) → {τ : S} → workAll f ys σ ≡ given τ tt → R τ
+  pub work-gives : (R : S → Type 0) → ((τ : S) (es : List A) → Q τ es → R τ) → {τ : S} → workAll f ys σ ≡ given τ tt → R τ
   work-gives R h {τ} e = go c (sym (work-each f ys σ) ∙ e)
     where
       go : {o p : Outcome S (List A)} → Agree W Q o p → after o forget ≡ given τ tt → R τ
@@ -182,7 +182,7 @@ module _ {S A : Type 0} (f : ℕ → Step S ℕ) (a : ℕ) (σ : S) where
 
 -- ---- the law
 
-all-if : (P : ℕ → Type 0) (b : Bool) (xs ys : List ℕ) → (b ≡ true → All P xs) → (b ≡ false → All P ys) → All P (if b then xs else ys)
+pub all-if : (P : ℕ → Type 0) (b : Bool) (xs ys : List ℕ) → (b ≡ true → All P xs) → (b ≡ false → All P ys) → All P (if b then xs else ys)
 all-if P true xs ys f g = f refl
 all-if P false xs ys f g = g refl
 
