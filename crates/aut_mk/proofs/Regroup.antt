@@ -1,17 +1,17 @@
--- mk_sequence: a step that is known, or two calls on the parts of x, which are nested lower. What is shown is of every depth from the nesting of x on.
-use mathlib.Core.Path.{_≡_, refl, _∙_, ap, subst}
+-- mk_sequence: a step that is known, or calls on the end of x's chain and on its first operands, which are nested lower. What is shown is of every depth from the nesting of x on.
+use mathlib.Core.Path.{_≡_, refl, sym, _∙_, ap, subst}
 use mathlib.Core.List.{List, [], _∷_}
-use Prim.Native.Nat.{ℕ, zero, suc, _≤_, _<_}
+use Prim.Native.Nat.{ℕ, zero, suc, _+_, _*_, _≤_, _<_}
 use native.Mathlib.Omega.{arith}
-use lib.ListN.{length}
-use Rattle.common.specs.Outcome.{Outcome, Step, return, after}
+use lib.ListN.{length, getD}
+use Rattle.common.specs.Outcome.{Outcome, refused, Step, return, after, _>>=_}
 use Rattle.common.specs.Runs.{Table, table}
 use Rattle.netkat.specs.Rules.{Join}
 use Rattle.spp_steps.specs.Laws.{Ext}
-use Rattle.aut_steps.specs.Tables.{SEQUENCE, nest, Limits, Aut}
+use Rattle.aut_steps.specs.Tables.{SEQUENCE, kindOf, op1, op2, nest, Limits, Aut}
 use Rattle.aut_steps.specs.Kinds.{form}
 use Rattle.aut_steps.specs.Constructors.{sequence-with, sequence-by, mk-sequence}
-use Rattle.aut_steps.specs.Good.{Two, ok-as, nesting-grown, state-grown}
+use Rattle.aut_steps.specs.Good.{Two, Grown, ok-as, grown-refl, grown-trans, kind-grown, first-grown, second-grown, nesting-grown, state-grown}
 use Rattle.aut_steps.specs.Goes.{Gone, Goes}
 use Rattle.aut_steps.specs.Meaning as Meaning
 use Rattle.aut_steps.specs.Meaning.{Holds}
@@ -21,14 +21,15 @@ use Rattle.aut.specs.declared.Counts.{Counts}
 use Rattle.aut.specs.declared.Limits.{Limits as Bounds}
 use Rattle.aut.specs.declared.State.{State}
 use Rattle.aut.specs.declared.State.the-variants.{Is, Refused}
-use Rattle.aut_rel.specs.Behind.{Left, left-trans}
-use Rattle.aut_rel.specs.Seen.{autOf, seenAut, Beside, LeftBy}
+use Rattle.aut_rel.specs.Behind.{Left, left-refl, left-trans}
+use Rattle.aut_rel.specs.Seen.{autOf, seenAut, Beside, LeftBy, Ready}
 use Rattle.aut_rel.proofs.Join.{beside-more}
 use Rattle.aut_mk.specs.declared.Known.{Known}
 use Rattle.aut_mk.specs.declared.Way.{Way}
 use Rattle.aut_mk.specs.declared.Way.the-variants as way
+use Rattle.aut_mk.specs.Seen.{Makes, Asks, knownOf, wayOf, Since, Plans, Chain, top, below, Nested, Walks, Ends, Links, Sequences}
 use Rattle.aut_mk.proofs.After.{gone, left-of, beside-of, ready-of}
-use Rattle.aut_mk.specs.Seen.{Makes, Asks, knownOf, wayOf, Since, Plans, Sequences}
+use Rattle.aut_mk.proofs.Chain.{firsts, deeper, joinBy, after-return, sequence-chain, chain-state, chain-lower, chain-apart, depth-at, nested-of, chain-grown, chain-back}
 
 -- what holds of every depth from the nesting of x on
 module _ (N : ℕ) (L : Limits) (x y : ℕ) (r : State) (c : Counts) (t st t′ st′ : List ℕ) where
@@ -38,13 +39,6 @@ module _ (N : ℕ) (L : Limits) (x y : ℕ) (r : State) (c : Counts) (t st t′ 
   unfolding sequence-by
   by-any f zero l mem = f (λ a b. return a) mem
   by-any f (suc depth) l mem = f (sequence-by N L depth) mem
-
-  -- one that calls a depth lower
-  by-calls : 0 < nest st x → ((depth : ℕ) → nest st x ≤ suc depth → (mem : List ℕ) → sequence-with N L (sequence-by N L depth) x y (autOf t st mem c) ≡ seenAut r t′ st′ mem)
-      → (depth : ℕ) → nest st x ≤ depth → (mem : List ℕ) → sequence-by N L depth x y (autOf t st mem c) ≡ seenAut r t′ st′ mem
-  unfolding sequence-by
-  by-calls p f zero l mem = absurd (omega arith)
-  by-calls p f (suc depth) l mem = f depth l mem
 
 module _ {N : ℕ} {L : Limits} {x y : ℕ} {r : State} {c : Counts} {t st s t′ st′ s′ : List ℕ} where
   sequences : ((depth : ℕ) → nest st x ≤ depth → (mem : List ℕ) → sequence-by N L depth x y (autOf t st mem c) ≡ seenAut r t′ st′ mem)
@@ -58,65 +52,179 @@ left-both (Is i d) t2 s2 e p q = left-trans (e i d refl) p q
 left-both (Refused n) t2 s2 e p q = tt
 
 module _ {N : ℕ} {l : Bounds} {t st s : List ℕ} {c : Counts} {x y : ℕ} (a : Asks N l t st s c (x ∷ y ∷ [])) {w : Way} (p : Plans N st x y w) where
+  pub known-done : {k : Known} → w ≡ way.Step k → {r : State} {t′ st′ s′ : List ℕ} → Makes N (knownOf N (limitsOf l) k x y) r c t st s t′ st′ s′ → Sequences N (limitsOf l) x y r c t st s t′ st′ s′
+  known-done e {r} {t′} {st′} m = sequences (by-any N (limitsOf l) x y r c t st t′ st′ (λ again mem. p .is (limitsOf l) again t mem c ∙ ap (λ (w : Way). wayOf N (limitsOf l) again w x y (autOf t st mem c)) e ∙ m .is mem)) (m .beside) (m .left)
+
+  since : w ≡ way.Regroup → Since N st x y way.Regroup
+  since e = subst (Since N st x y) e (p .since)
+
+-- ---- the loop: what comes after u on x's chain is joined, e is to be joined in front of z
+
+module _ (N : ℕ) (l : Bounds) (c : Counts) (x y : ℕ) (t₀ st₀ s₀ : List ℕ) where
+  -- e is called as deep as is enough, and then what stands above u, as deep as it stands above it
+  pub record Rest (t st : List ℕ) (u e z : ℕ) (d : Counts) (p : Chain st₀ x u) (at : ℕ) : Type 0 where
+    pub depth : ℕ
+    pub enough : nest st₀ e ≤ depth
+    pub is : (mem : List ℕ) → sequence-by N (limitsOf l) (deeper at (firsts p)) x y (autOf t₀ st₀ mem c) ≡ (sequence-by N (limitsOf l) depth e z >>= joinBy N (limitsOf l) at (firsts p)) (autOf t st mem d)
+
+  pub record Turn (t st s : List ℕ) (u e z : ℕ) (d : Counts) : Type 0 where
+    pub from : Asks N l t₀ st₀ s₀ c (x ∷ y ∷ [])
+    pub chain : Chain st₀ x u
+    pub has-e : e < c .states
+    pub lower : nest st₀ e < nest st₀ x
+    pub has-z : z < d .states
+    pub len : length s ≡ length s₀
+    pub grown : Grown (autOf t₀ st₀ (from .members) c) (autOf t st (from .members) d)
+    pub ready : Ready N l (autOf t st (from .members) d) s
+    pub left : Left N 0 0 (table t (d .spp)) s₀ s
+    pub beside : (d .sp ≡ c .sp) × (d .transitions ≡ c .transitions)
+    pub run : (p : Chain st₀ x u) (at : ℕ) → nest st₀ u ≤ at → Rest t st u e z d p at
+
+module _ {N : ℕ} {l : Bounds} {t st s : List ℕ} {c : Counts} {x y : ℕ} (a : Asks N l t st s c (x ∷ y ∷ [])) where
+  pub walks : Walks st x
+  walks = record { count = c .states; nested = nested-of (a .ready .good); has = a .has .0 }
+
+  pub begin : {w : Way} → Plans N st x y w → w ≡ way.Regroup → {e : ℕ} → Ends st x e → Turn N l c x y t st s t st s e e y c
+  begin p q {e} f =
+      let i = since a p q in
+      record {
+        from = a;
+        chain = f .chain;
+        has-e = chain-state (nested-of (a .ready .good)) (a .has .0) (f .chain);
+        lower = chain-apart (nested-of (a .ready .good)) (a .has .0) (f .chain) (λ k. f .last (ap (kindOf st) k ∙ i .0));
+        has-z = a .has .1 .0;
+        len = refl;
+        grown = grown-refl (autOf t st (a .members) c);
+        ready = a .ready;
+        left = left-refl 0 0 (table t (c .spp)) s;
+        beside = (refl, refl);
+        run = λ p at le. record { depth = at; enough = le; is = λ mem. sequence-chain N (limitsOf l) (autOf t st mem c) x y (i .1) (i .2) p at };
+      }
+
+module _ {N : ℕ} {l : Bounds} {c : Counts} {x y : ℕ} {t₀ st₀ s₀ t st s : List ℕ} {u e z : ℕ} {d : Counts} (v : Turn N l c x y t₀ st₀ s₀ t st s u e z d) where
   abbrev L : Limits
   L = limitsOf l
 
+  abbrev mem₀ : List ℕ
+  mem₀ = v .from .members
+
   abbrev σ : Aut
-  σ = autOf t st (a .members) c
+  σ = autOf t₀ st₀ mem₀ c
 
-  pub known-done : {k : Known} → w ≡ way.Step k → {r : State} {t′ st′ s′ : List ℕ} → Makes N (knownOf N L k x y) r c t st s t′ st′ s′ → Sequences N L x y r c t st s t′ st′ s′
-  known-done e {r} {t′} {st′} m = sequences (by-any N L x y r c t st t′ st′ (λ again mem. p .is L again t mem c ∙ ap (λ (w : Way). wayOf N L again w x y (autOf t st mem c)) e ∙ m .is mem)) (m .beside) (m .left)
+  abbrev τ : Aut
+  τ = autOf t st mem₀ d
 
-  module _ {e11 e12 : ℕ} (e : w ≡ way.Regroup e11 e12) where
-    since : Since st x y (way.Regroup e11 e12)
-    since = subst (Since st x y) e (p .since)
+  nested : Nested st₀ (c .states)
+  nested = nested-of (v .from .ready .good)
 
-    two : Two σ x
-    unfolding form
-    two = ok-as (a .ready .good) SEQUENCE (a .has .0) (since .0)
+  has : x < c .states
+  has = v .from .has .0
 
-    has-1 : e11 < c .states
-    has-1 = omega (arith, two .earlier1, since .1, a .has .0)
+  has-e : e < d .states
+  has-e = state-grown (v .grown) (v .has-e)
 
-    has-2 : e12 < c .states
-    has-2 = omega (arith, two .earlier2, since .2, a .has .0)
+  same-nest : nest st e ≡ nest st₀ e
+  same-nest = nesting-grown (v .grown) e (v .has-e)
 
-    less-1 : nest st e11 < nest st x
-    less-1 = subst (λ (z : ℕ). nest st z < nest st x) (since .1) (omega (arith, two .nested))
+  pub call-ready : {m : ℕ} → nest st₀ x ≡ m → (nest st e < m) × Asks N l t st s d (e ∷ z ∷ [])
+  call-ready q = (omega (arith, v .lower, same-nest), record { members = mem₀; ready = v .ready; has = (has-e, (v .has-z, tt)) })
 
-    less-2 : nest st e12 < nest st x
-    less-2 = subst (λ (z : ℕ). nest st z < nest st x) (since .2) (omega (arith, two .nested))
+  module _ {r : State} {t1 st1 s1 : List ℕ} (o : Sequences N L e z r d t st s t1 st1 s1) where
+    law : Goes N L (Meaning.Is N (Join (Holds N τ e) (Holds N τ z))) τ (mk-sequence N L e z τ)
+    law = mk-sequence-goes (v .ready .good) has-e (v .has-z)
 
-    pub ready-1 : {m : ℕ} → nest st x ≡ m → (nest st e12 < m) × Asks N l t st s c (e12 ∷ y ∷ [])
-    ready-1 q = (omega (arith, less-2), record { members = a .members; ready = a .ready; has = (has-2, a .has .1) })
+    called : {k : ℕ} → nest st₀ e ≤ k → (at : ℕ) (es mem : List ℕ) → (sequence-by N L k e z >>= joinBy N L at es) (autOf t st mem d) ≡ after (seenAut r t1 st1 mem) (joinBy N L at es)
+    called {k} le at es mem = ap (λ (o : Outcome Aut ℕ). after o (joinBy N L at es)) (o .by k (omega (arith, same-nest)) mem)
 
-    module _ {r1 : State} {t1 st1 s1 : List ℕ} (o1 : Sequences N L e12 y r1 c t st s t1 st1 s1) where
-      is-1 : (depth : ℕ) → nest st x ≤ suc depth → (mem : List ℕ) → sequence-with N L (sequence-by N L depth) x y (autOf t st mem c) ≡ after (seenAut r1 t1 st1 mem) (sequence-by N L depth e11)
-      is-1 depth le mem =
-          p .is L (sequence-by N L depth) t mem c ∙ ap (λ (w : Way). wayOf N L (sequence-by N L depth) w x y (autOf t st mem c)) e
-          ∙ ap (λ (o : Outcome Aut ℕ). after o (sequence-by N L depth e11)) (o1 .by depth (omega (arith, less-2)) mem)
+    pub stuck : {n : ℕ} → r ≡ Refused n → Sequences N L x y r c t₀ st₀ s₀ t1 st1 s1
+    stuck {n} q = subst (λ (r : State). Sequences N L x y r c t₀ st₀ s₀ t1 st1 s1) (sym q) (sequences by tt tt)
+      where
+        by : (depth : ℕ) → nest st₀ x ≤ depth → (mem : List ℕ) → sequence-by N L depth x y (autOf t₀ st₀ mem c) ≡ refused n
+        by depth le mem =
+            let i = depth-at nested has (v .chain) depth le in
+            let j = v .run (v .chain) (i .d) (i .enough) in
+            ap (λ (k : ℕ). sequence-by N L k x y (autOf t₀ st₀ mem c)) (sym (i .is)) ∙ j .is mem ∙ called (j .enough) (i .d) (firsts (v .chain)) mem
+            ∙ ap (λ (r : State). after (seenAut r t1 st1 mem) (joinBy N L (i .d) (firsts (v .chain)))) q
 
-      pub refused-1 : {n : ℕ} → r1 ≡ Refused n → Sequences N L x y (Refused n) c t st s t1 st1 s1
-      refused-1 {n} q =
-          sequences (by-calls N L x y (Refused n) c t st t1 st1 (omega (arith, less-1)) (λ depth le mem. is-1 depth le mem ∙ ap (λ (r : State). after (seenAut r t1 st1 mem) (sequence-by N L depth e11)) q)) tt tt
+    pub done : {r1 : State} → r ≡ r1 → u ≡ x → Sequences N L x y r1 c t₀ st₀ s₀ t1 st1 s1
+    done k q =
+        subst (λ (r : State). Sequences N L x y r c t₀ st₀ s₀ t1 st1 s1) k (sequences
+        (λ depth le mem. let j = subst (λ (u : ℕ). (p : Chain st₀ x u) (at : ℕ) → nest st₀ u ≤ at → Rest N l c x y t₀ st₀ s₀ t st u e z d p at) q (v .run) top depth le in
+        j .is mem ∙ called (j .enough) depth [] mem ∙ after-return (seenAut r t1 st1 mem))
+        (beside-more r c d (o .made .beside) (v .beside .0) (v .beside .1))
+        (left-both r t1 s1 (λ i d1 k. gone (o .made) k law .grown .nodes) (v .left) (o .made .left)))
 
-      module _ {z : ℕ} {d : Counts} (q : r1 ≡ Is z d) (len : length s1 ≡ length s) where
-        law-1 : Goes N L (Meaning.Is N (Join (Holds N σ e12) (Holds N σ y))) σ (mk-sequence N L e12 y σ)
-        law-1 = mk-sequence-goes (a .ready .good) has-2 (a .has .1 .0)
+    module _ {z1 : ℕ} {d1 : Counts} (q : r ≡ Is z1 d1) where
+      gone-1 : Gone N L (Meaning.Is N (Join (Holds N τ e) (Holds N τ z))) τ (autOf t1 st1 mem₀ d1) z1
+      gone-1 = gone (o .made) q law
 
-        gone-1 : Gone N L (Meaning.Is N (Join (Holds N σ e12) (Holds N σ y))) σ (autOf t1 st1 (a .members) d) z
-        gone-1 = gone (o1 .made) q law-1
+      abbrev τ1 : Aut
+      τ1 = autOf t1 st1 mem₀ d1
 
-        asks-2 : Asks N l t1 st1 s1 d (e11 ∷ z ∷ [])
-        asks-2 = record { members = a .members; ready = ready-of (o1 .made) q (a .ready) law-1 len; has = (state-grown (gone-1 .grown) has-1, (gone-1 .holds .state, tt)) }
+      grown-1 : Grown σ τ1
+      grown-1 = grown-trans (v .grown) (gone-1 .grown)
 
-        pub ready-2 : {m : ℕ} → nest st x ≡ m → (nest st1 e11 < m) × Asks N l t1 st1 s1 d (e11 ∷ z ∷ [])
-        ready-2 k = (omega (arith, less-1, nesting-grown (gone-1 .grown) e11 has-1), asks-2)
+      walks-1 : Walks st1 x
+      walks-1 = record { count = d1 .states; nested = nested-of (gone-1 .good); has = state-grown grown-1 has }
 
-        pub regroup-done : {r2 : State} {t2 st2 s2 : List ℕ} → Sequences N L e11 z r2 d t1 st1 s1 t2 st2 s2 → Sequences N L x y r2 c t st s t2 st2 s2
-        regroup-done {r2} {t2} {st2} {s2} o2 =
-            sequences
-            (by-calls N L x y r2 c t st t2 st2 (omega (arith, less-1)) (λ depth le mem. is-1 depth le mem ∙ ap (λ (r : State). after (seenAut r t1 st1 mem) (sequence-by N L depth e11)) q
-            ∙ o2 .by depth (omega (arith, less-1, nesting-grown (gone-1 .grown) e11 has-1)) mem))
-            (beside-more r2 c d (o2 .made .beside) (beside-of (o1 .made) q .0) (beside-of (o1 .made) q .1))
-            (left-both r2 t2 s2 (λ i d2 k. gone (o2 .made) k (mk-sequence-goes (gone-1 .good) (asks-2 .has .0) (asks-2 .has .1 .0)) .grown .nodes) (left-of (o1 .made) q) (o2 .made .left))
+      module _ (apart : u ≡ x → ⊥) where
+        pub link-ready : Walks st1 x × Chain st1 x u × (x ≡ u → ⊥)
+        link-ready = (walks-1, chain-grown nested grown-1 has (v .chain), λ k. apart (sym k))
+
+        module _ {w : ℕ} (k : Links st1 x u w) where
+          pub first-ready : 12 * w + 11 < length st1
+          first-ready = walks-1 .nested .inside w (chain-state (walks-1 .nested) (walks-1 .has) (k .chain))
+
+          chain-1 : Chain st₀ x w
+          chain-1 = chain-back nested grown-1 has (k .chain)
+
+          has-w : w < c .states
+          has-w = chain-state nested has chain-1
+
+          kind-w : kindOf st₀ w ≡ SEQUENCE
+          kind-w = sym (kind-grown grown-1 w has-w) ∙ k .link
+
+          next-w : u ≡ op2 st₀ w
+          next-w = sym (k .next) ∙ second-grown grown-1 w has-w
+
+          two : Two σ w
+          unfolding form
+          two = ok-as (v .from .ready .good) SEQUENCE has-w kind-w
+
+          pub fewer : nest st₀ u < nest st₀ w × nest st₀ w ≤ nest st₀ x
+          fewer = (omega (arith, two .nested, ap (nest st₀) next-w), chain-lower nested has chain-1)
+
+          module _ {f : ℕ} (i : getD st1 (12 * w + 1) 0 ≡ f) where
+            first-w : op1 st₀ w ≡ f
+            unfolding op1
+            first-w = sym (first-grown grown-1 w has-w) ∙ i
+
+            nest-f : nest st₀ f < nest st₀ w
+            nest-f = subst (λ (f : ℕ). nest st₀ f < nest st₀ w) first-w (omega (arith, two .nested))
+
+            rest : (p : Chain st₀ x w) (at : ℕ) → nest st₀ w ≤ at → Rest N l c x y t₀ st₀ s₀ t1 st1 w f z1 d1 p at
+            rest p zero le = absurd (omega (arith, nest-f))
+            rest p (suc at) le =
+                let j = subst (λ (u : ℕ). (p : Chain st₀ x u) (at : ℕ) → nest st₀ u ≤ at → Rest N l c x y t₀ st₀ s₀ t st u e z d p at) next-w (v .run) (below p kind-w) at (omega (arith, two .nested)) in
+                record {
+                  depth = at;
+                  enough = omega (arith, nest-f);
+                  is = λ mem. j .is mem ∙ called (j .enough) at (op1 st₀ w ∷ firsts p) mem
+                      ∙ ap (λ (r : State). after (seenAut r t1 st1 mem) (joinBy N L at (op1 st₀ w ∷ firsts p))) q
+                      ∙ ap (λ (f : ℕ). (sequence-by N L at f z1 >>= joinBy N L (suc at) (firsts p)) (autOf t1 st1 mem d1)) first-w;
+                }
+
+            pub again : length s1 ≡ length s → Turn N l c x y t₀ st₀ s₀ t1 st1 s1 w f z1 d1
+            again len = record {
+              from = v .from;
+              chain = chain-1;
+              has-e = omega (arith, two .earlier1, first-w, has-w);
+              lower = omega (arith, nest-f, chain-lower nested has chain-1);
+              has-z = gone-1 .holds .state;
+              len = len ∙ v .len;
+              grown = grown-1;
+              ready = ready-of (o .made) q (v .ready) law len;
+              left = left-trans (gone-1 .grown .nodes) (v .left) (left-of (o .made) q);
+              beside = (beside-of (o .made) q .0 ∙ v .beside .0, beside-of (o .made) q .1 ∙ v .beside .1);
+              run = rest;
+            }

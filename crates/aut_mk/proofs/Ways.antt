@@ -1,5 +1,5 @@
 -- The ways of mk_sequence: each test in turn, and what the step comes to.
-use mathlib.Core.Path.{_≡_, refl, _∙_, ap}
+use mathlib.Core.Path.{_≡_, _∙_, ap}
 use mathlib.Core.Bool.{true, false}
 use mathlib.Core.List.{List}
 use Prim.Native.Nat.{ℕ, _+_, _*_}
@@ -53,11 +53,11 @@ module _ (N : ℕ) (st : List ℕ) (x y : ℕ) where
           zero-second p = record { is = λ L again t mem c. simp (q, ap (is-relation st x) e1 ∙ n1, ap (is-relation st x) e0 ∙ n0, ap (is-relation st y) e1 ∙ m1, ap (is-relation st y) e0 ∙ p); since = tt }
 
           module _ (m0 : is-relation st y zero ≡ false) where
-            pub regrouped : getD st (12 * x) 0 ≡ SEQUENCE → Plans N st x y (Regroup (getD st (12 * x + 1) 0) (getD st (12 * x + 2) 0))
+            pub regrouped : getD st (12 * x) 0 ≡ SEQUENCE → Plans N st x y Regroup
             unfolding sequence-with kindOf op1 op2
             regrouped p = record {
               is = λ L again t mem c. simp (q, ap (is-relation st x) e1 ∙ n1, ap (is-relation st x) e0 ∙ n0, ap (is-relation st y) e1 ∙ m1, ap (is-relation st y) e0 ∙ m0, eq-eqb (getD st (12 * x) 0) SEQUENCE p);
-              since = (p, refl, refl);
+              since = (p, ap (is-relation st y) e1 ∙ m1, ap (is-relation st y) e0 ∙ m0);
             }
 
             module _ (s : getD st (12 * x) 0 ≡ SEQUENCE → ⊥) where

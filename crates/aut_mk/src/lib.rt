@@ -8,7 +8,7 @@ use spp::SPP;
 ghost use mathlib.Core.Path.{_≡_};
 ghost use mathlib.Core.List.{[], _∷_};
 ghost use Prim.Native.Nat.{_+_, _*_, _≤_, _<_};
-ghost use lib.ListN.{length};
+ghost use lib.ListN.{length, getD};
 ghost use Rattle.common.specs.Runs.{table};
 ghost use Rattle.aut_steps.specs.Tables.{op1};
 ghost use Rattle.aut_steps.specs.Relations.{zeroAt};
@@ -16,7 +16,7 @@ ghost use Rattle.aut_steps.specs.Intern as M;
 ghost use Rattle.aut_steps.specs.Constructors as C;
 ghost use Rattle.aut.specs.Seen.{limitsOf, Fits, Ready1, Ready2};
 ghost use Rattle.aut_rel.specs.Seen.{RelateReady, Relates, SppReady, DoesSpp};
-ghost use Rattle.aut_mk.specs.Seen.{Enters, Makes, Asks, taskOf, knownOf, Because, Plans, Sequences};
+ghost use Rattle.aut_mk.specs.Seen.{Enters, Makes, Asks, taskOf, knownOf, Because, Plans, Walks, Chain, Ends, Links, Sequences};
 
 // the operations on relations that are no pointwise ones; star has its operand twice
 pub enum Task {
@@ -34,9 +34,9 @@ pub enum Known {
     New,
 }
 
-// x is e11; e12, or what x; y is
+// x is a Sequence, whose parts are joined one by one; or what x; y is
 pub enum Way {
-    Regroup(u32, u32),
+    Regroup,
     Step(Known),
 }
 
@@ -244,7 +244,7 @@ fn plan(states: &[u32], fields: u32, x: u32, y: u32) -> Way
     let j = y as usize;
     let kind = states[12 * i];
     if kind == aut::kind::SEQUENCE {
-        return Way::Regroup(states[12 * i + 1], states[12 * i + 2]);
+        return Way::Regroup;
     }
     if kind != aut::kind::TOP {
         return Way::Step(Known::New);
@@ -280,7 +280,60 @@ fn joined(
     }
 }
 
-// (e11; e12); y is e11; (e12; y): it calls itself at most as deep as x is nested
+// ---- the chain of a Sequence: x, its second operand, and so on, to what is no Sequence
+
+fn kind_of(states: &[u32], x: u32) -> u32
+    requires { ⌜ 12 * x + 11 < length (now states) ⌝ }
+    ensures { λ r. ⌜ getD (now (states .entry)) (12 * x) 0 ≡ r ⌝ }
+{
+    let i = x as usize;
+    states[12 * i]
+}
+
+fn first_operand(states: &[u32], x: u32) -> u32
+    requires { ⌜ 12 * x + 11 < length (now states) ⌝ }
+    ensures { λ r. ⌜ getD (now (states .entry)) (12 * x + 1) 0 ≡ r ⌝ }
+{
+    let i = x as usize;
+    states[12 * i + 1]
+}
+
+fn second_operand(states: &[u32], x: u32) -> u32
+    requires { ⌜ 12 * x + 11 < length (now states) ⌝ }
+    ensures { λ r. ⌜ getD (now (states .entry)) (12 * x + 2) 0 ≡ r ⌝ }
+{
+    let i = x as usize;
+    states[12 * i + 2]
+}
+
+fn chain_end(states: &[u32], x: u32) -> u32
+    requires { ⌜ Walks (now states) x ⌝ }
+    ensures { λ r. ⌜ Ends (now (states .entry)) x r ⌝ }
+{
+    let mut e = x;
+    while kind_of(states, e) == aut::kind::SEQUENCE {
+        e = second_operand(states, e);
+    }
+    e
+}
+
+// the state of x's chain whose second operand is u
+fn link_to(states: &[u32], x: u32, u: u32) -> u32
+    requires { ⌜ Walks (now states) x × Chain (now states) x u × (x ≡ u → ⊥) ⌝ }
+    ensures { λ r. ⌜ Links (now (states .entry)) x u r ⌝ }
+{
+    let mut w = x;
+    loop {
+        let z = second_operand(states, w);
+        if z == u {
+            return w;
+        }
+        w = z;
+    }
+}
+
+// (a; b); y is a; (b; y). So y is joined to the end of x's chain, and then each first operand to what there is, from the last to the first. It calls itself on the end, which is no Sequence,
+// and on first operands, which are none where this function made x: so it is at most two deep, however x is nested
 pub fn mk_sequence(
     nodes: &mut [u32],
     states: &mut [u32],
@@ -295,14 +348,24 @@ pub fn mk_sequence(
     ensures { λ r. ⌜ Sequences fields (limitsOf limits) x y r c (now (nodes .entry)) (now (states .entry)) (now (scratch .entry)) (now (nodes .exit)) (now (states .exit)) (now (scratch .exit)) ⌝ }
 {
     let way = plan(states, fields, x, y);
-    match way {
-        Way::Step(k) => joined(nodes, states, scratch, c, limits, fields, k, x, y),
-        Way::Regroup(e11, e12) => {
-            let tmp = mk_sequence(nodes, states, scratch, c, limits, fields, e12, y);
-            match tmp {
-                State::Refused(e) => State::Refused(e),
-                State::Is(z, d) => mk_sequence(nodes, states, scratch, d, limits, fields, e11, z),
-            }
+    if let Way::Step(k) = way {
+        return joined(nodes, states, scratch, c, limits, fields, k, x, y);
+    }
+    let mut u = chain_end(states, x);
+    let mut e = u;
+    let mut z = y;
+    let mut d = c;
+    loop {
+        let r = mk_sequence(nodes, states, scratch, d, limits, fields, e, z);
+        let State::Is(z1, d1) = r else {
+            return r;
+        };
+        if u == x {
+            return r;
         }
+        u = link_to(states, x, u);
+        e = first_operand(states, u);
+        z = z1;
+        d = d1;
     }
 }

@@ -21,6 +21,5 @@ pub mod DeltaRuns
 pub mod DeltaLaws
 pub mod DeltaReads
 pub mod DeltaDown
-pub mod Chain
 pub mod PlainSearch
 pub mod Books

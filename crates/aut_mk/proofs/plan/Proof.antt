@@ -61,33 +61,9 @@ mul-kind-2 c = search needs
 shared-slice-read-kind : tie.Need-shared-slice-read-kind
 shared-slice-read-kind c = search needs
 
-mul-t25 : tie.Need-mul-t25
-mul-t25 c = search needs
-
-add-t26 : tie.Need-add-t26
-add-t26 c = search needs
-
-mul-t27 : tie.Need-mul-t27
-mul-t27 c = search needs
-
-shared-slice-read-t29 : tie.Need-shared-slice-read-t29
-shared-slice-read-t29 c = search needs
-
-mul-t30 : tie.Need-mul-t30
-mul-t30 c = search needs
-
-add-t31 : tie.Need-add-t31
-add-t31 c = search needs
-
-mul-t32 : tie.Need-mul-t32
-mul-t32 c = search needs
-
-shared-slice-read-t34 : tie.Need-shared-slice-read-t34
-shared-slice-read-t34 c = search needs
-
 returns-6 : tie.Need-returns-6
 returns-6 c =
-    let g = c .before .before .before .before .before .before .before .before .before .before .before .before .before .before .before .before .before .args in ways.regrouped (g .fields) (g .states .now) (g .x) (g .y) (c .before .before .before .before .before .before .before .before .before .before .before .before .before .before .before .both-relations .ensures ∙ c .before .before .before .before .before .before .before .before .before .before .before .before .before .before .if1 .left) (c .before .before .before .before .before .before .before .before .before .before .before .before .before .one-at-depth .ensures) (c .before .before .before .before .before .before .before .before .before .before .before .before .zero-at-depth .ensures (g .fields)) (c .before .before .before .before .before .before .before .before .before .before .before .is-relation .ensures ∙ c .before .before .before .before .before .before .before .before .before .before .if2 .left) (c .before .before .before .before .before .before .before .before .before .is-relation2 .ensures ∙ c .before .before .before .before .before .before .before .before .if3 .left) (c .before .before .before .before .before .before .before .is-relation3 .ensures ∙ c .before .before .before .before .before .before .if4 .left) (c .before .before .before .before .before .is-relation4 .ensures ∙ c .before .before .before .before .if5 .left) (c .before .before .if6 .taken)
+    let g = c .before .before .before .before .before .before .before .before .before .before .before .before .before .before .before .args in ways.regrouped (g .fields) (g .states .now) (g .x) (g .y) (c .before .before .before .before .before .before .before .before .before .before .before .before .before .both-relations .ensures ∙ c .before .before .before .before .before .before .before .before .before .before .before .before .if1 .left) (c .before .before .before .before .before .before .before .before .before .before .before .one-at-depth .ensures) (c .before .before .before .before .before .before .before .before .before .before .zero-at-depth .ensures (g .fields)) (c .before .before .before .before .before .before .before .before .before .is-relation .ensures ∙ c .before .before .before .before .before .before .before .before .if2 .left) (c .before .before .before .before .before .before .before .is-relation2 .ensures ∙ c .before .before .before .before .before .before .if3 .left) (c .before .before .before .before .before .is-relation3 .ensures ∙ c .before .before .before .before .if4 .left) (c .before .before .before .is-relation4 .ensures ∙ c .before .before .if5 .left) (c .if6 .taken)
 
 returns-7 : tie.Need-returns-7
 returns-7 c =
@@ -129,14 +105,6 @@ plan-spec =
     mul-kind
     mul-kind-2
     shared-slice-read-kind
-    mul-t25
-    add-t26
-    mul-t27
-    shared-slice-read-t29
-    mul-t30
-    add-t31
-    mul-t32
-    shared-slice-read-t34
     returns-6
     returns-7
     mul-if8
