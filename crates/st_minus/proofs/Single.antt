@@ -1,10 +1,10 @@
--- One transition of each list: the chain of calls. And what an answer that is a sum and a list says of the tables.
+-- One transition of each list: the chain of calls, by the rule for a run of calls (aut_stage).
 use mathlib.Core.Path.{_≡_, refl, sym, _∙_, ap, subst}
-use mathlib.Core.List.{List, [], _∷_}
-use Prim.Native.Nat.{ℕ, _≤_}
+use mathlib.Core.List.{List}
+use Prim.Native.Nat.{ℕ}
 use native.Mathlib.Omega.{arith}
 use lib.ListN.{length}
-use Rattle.common.specs.Outcome.{Outcome, Step, return, after, _>>=_}
+use Rattle.common.specs.Outcome.{Step, return, after, _>>=_}
 use Rattle.common.specs.Runs.{table}
 use Rattle.netkat.specs.ListSteps as St
 use Rattle.netkat.specs.ListSteps.{Edge, edge, Summed as Sum}
@@ -15,46 +15,38 @@ use Rattle.aut_steps.specs.Tables as T
 use Rattle.aut_steps.specs.Tables.{Aut, onNodes}
 use Rattle.aut_steps.specs.Relations as Rel
 use Rattle.aut_steps.specs.Good.{grown-trans, state-grown}
-use Rattle.aut_steps.specs.Goes.{Gone, Goes, came, goes-map}
+use Rattle.aut_steps.specs.Goes.{goes-map}
 use Rattle.aut_steps.specs.Constructors.{mk-difference}
 use Rattle.aut_steps.specs.StateLaws.{mk-difference-goes}
 use Rattle.st_steps.specs.Operations.{ops}
 use Rattle.st_steps.specs.Edges.{edges, EdgeAt, edge-grown}
-use Rattle.st_steps.specs.ListGoes.{Label, State, SumAt, label-grown, relation-of, union-goes, intersect-goes}
+use Rattle.st_steps.specs.ListGoes.{Label, State, ListAt, list-grown, label-grown, relation-of, union-goes, intersect-goes}
 use Rattle.st_steps.specs.EachSteps.{subtractOne}
-use Rattle.st_steps.specs.MinusSteps.{summed, subtractOne-goes}
+use Rattle.st_steps.specs.MinusSteps.{summed}
 use Rattle.aut.specs.Seen.{limitsOf}
 use Rattle.aut.specs.declared.Counts.{Counts}
 use Rattle.aut.specs.declared.Limits.{Limits}
 use Rattle.aut.specs.declared.State as S
 use Rattle.aut.specs.declared.State.the-variants as state
-use Rattle.aut_rel.specs.Behind.{Left, left-any, left-trans}
-use Rattle.aut_rel.specs.Seen.{autOf, seenAut, Beside, LeftBy, Ready, RelateReady, Relates}
-use Rattle.aut_rel.proofs.Order.{backed-of, ready-after}
-use Rattle.aut_mk.specs.Seen.{Makes, Asks}
+use Rattle.aut_rel.specs.Seen.{autOf, RelateReady, Relates}
+use Rattle.aut_rel.proofs.Order.{backed-of}
+use Rattle.aut_mk.specs.Seen.{Makes}
+use Rattle.aut_stage.specs.Stage.{gave, Post, Stage, Inside, begin, next as follow, stuck, instead, done, all-of}
+use Rattle.aut_stage.specs.OnAut.{autLayer}
+use Rattle.aut_stage.specs.OnNodes.{withNodes, relation-given, relation-refused}
 use Rattle.st.specs.declared.Listed.{Listed}
 use Rattle.st.specs.declared.Listed.the-variants as listed
-use Rattle.st.specs.Seen.{RESULT, ListReady, seenList, ListBeside, ListLeft, ListNext, ListOn, DoesList}
-use Rattle.st.proofs.Join.{edges-behind, ready-few, list-later, withNodes, full-is, made-is, made-left, made-gone}
-use Rattle.st_minus.specs.declared.Summed.{Summed}
+use Rattle.st.specs.Seen.{RESULT, ListReady, DoesList}
+use Rattle.st.proofs.Join.{edges-behind, ready-few}
+use Rattle.st_stage.specs.Readings.{made-given, made-refused, list-given, list-refused}
 use Rattle.st_minus.specs.declared.Summed.the-variants as next
-use Rattle.st_minus.specs.Seen.{OneReady, sumOf, seenSum, SumBeside, SumLeft, SumNext, DoesSum}
+use Rattle.st_minus.specs.Seen.{OneReady, sumOf, DoesSum}
+use Rattle.st_minus.specs.Readings.{to-sum}
 
--- ---- the steps o have been done
+no-list : Inside 0 832 0 0
+no-list = record { from = omega arith; to = omega arith }
 
-module _ {N : ℕ} {l : Limits} {σ : Aut} {s : List ℕ} (o : Step Aut (Sum (ops N (limitsOf l)))) (R : Ready N l σ s) (limit : l .transitions ≤ 64) (G : Goes N (limitsOf l) (SumAt N (limitsOf l)) σ (o σ)) where
-  sum-next : (r : Summed) (t′ st′ mem′ s′ : List ℕ) → o σ ≡ seenSum N l r t′ st′ mem′ s′ → SumLeft N 0 832 r t′ s s′ → length s′ ≡ length s → SumNext N l σ r t′ st′ mem′ s′
-  sum-next (next.Next d h m) t′ st′ mem′ s′ e p len =
-      let i = came (subst (Goes N (limitsOf l) (SumAt N (limitsOf l)) σ) e G) in
-      record { gone = i; ready = record { ready = ready-after R (i .grown) (i .good) p len; list = i .holds .result; limit = limit } }
-  sum-next (next.Refused e) t′ st′ mem′ s′ q p len = tt
-
-  pub does-sum : {c : Counts} (r : Summed) (t′ st′ mem′ s′ : List ℕ) → o σ ≡ seenSum N l r t′ st′ mem′ s′ → SumBeside r c → SumLeft N 0 832 r t′ s s′ → length s′ ≡ length s → DoesSum N l 0 832 o σ r c t′ st′ mem′ s s′
-  does-sum r t′ st′ mem′ s′ e b p len = record { is = e; beside = b; left = p; next = sum-next r t′ st′ mem′ s′ e p len }
-
--- ---- subtract_one
-
-module _ (N : ℕ) (l : Limits) (t st mem s : List ℕ) (c : Counts) (T₁ U : Edge) (h m : ℕ) (R : OneReady N l (autOf t st mem c) s T₁ U h m) where
+module _ (c : Counts) {N : ℕ} {l : Limits} {t st mem s : List ℕ} {T₁ U : Edge} {h m : ℕ} (R : OneReady N l (autOf t st mem c) s T₁ U h m) where
   abbrev L : T.Limits
   L = limitsOf l
 
@@ -76,138 +68,93 @@ module _ (N : ℕ) (l : Limits) (t st mem s : List ℕ) (c : Counts) (T₁ U : E
   abbrev second : ℕ → Step Aut (Sum (ops N L))
   second x = onNodes (Rel.intersect N (T₁ .label) (U .label)) >>= third x
 
-  is-0 : whole σ ≡ after (mk-difference N L (T₁ .target) (U .target) σ) second
+  stage-0 : Stage (autLayer N l) 0 832 (whole σ) (after (mk-difference N L (T₁ .target) (U .target) σ) second) σ σ c c s s
   unfolding subtractOne
-  is-0 = refl
+  stage-0 = begin (autLayer N l) 0 832 (R .list .ready) refl
 
-  pub difference-ready : Asks N l t st s c (T₁ .target ∷ U .target ∷ [])
-  difference-ready = record { members = mem; ready = R .list .ready; has = (R .first .state, (R .second .state, tt)) }
+  module _ {r1 : S.State} {t1 st1 s1 : List ℕ} (M : Makes N (mk-difference N L (T₁ .target) (U .target)) r1 c t st s t1 st1 s1) where
+    pub not-1 : {e : ℕ} → r1 ≡ state.Refused e → DoesSum N l 0 832 whole σ (next.Refused e) c t1 st1 mem s s1
+    not-1 {e} q = to-sum whole (next.Refused e) (R .list .limit) (stuck (autLayer N l) 0 832 (made-refused mem M q) second stage-0)
 
-  module _ (r1 : S.State) (t1 st1 s1 : List ℕ) (M : Makes N (mk-difference N L (T₁ .target) (U .target)) r1 c t st s t1 st1 s1) where
-    is-1 : whole σ ≡ after (seenAut r1 t1 st1 mem) second
-    is-1 = is-0 ∙ ap (λ (o : Outcome Aut ℕ). after o second) (M .is mem)
-
-    pub not-1 : (e : ℕ) → r1 ≡ state.Refused e → DoesSum N l 0 832 whole σ (next.Refused e) c t1 st1 mem s s1
-    not-1 e q = record { is = is-1 ∙ ap (λ (r : S.State). after (seenAut r t1 st1 mem) second) q; beside = tt; left = tt; next = tt }
-
-    module _ (x : ℕ) (c1 : Counts) (told1 : r1 ≡ state.Is x c1) (len1 : length s1 ≡ length s) where
+    module _ {x : ℕ} {c1 : Counts} (told1 : r1 ≡ state.Is x c1) (len1 : length s1 ≡ length s) where
       abbrev σ1 : Aut
       σ1 = autOf t1 st1 mem c1
 
-      is-2 : whole σ ≡ after (onNodes (Rel.intersect N (T₁ .label) (U .label)) σ1) (third x)
-      is-2 = is-1 ∙ ap (λ (r : S.State). after (seenAut r t1 st1 mem) second) told1
+      post-1 : Post (autLayer N l) 0 0 State (mk-difference N L (T₁ .target) (U .target) σ) σ c (gave c1 x) (autOf t1 st1 mem) s s1
+      post-1 = made-given mem M told1 (R .list .ready) (goes-map (mk-difference-goes (R .list .ready .good) (R .first .state) (R .second .state)) (λ τ z w v i. i .state)) len1
 
-      gone-1 : Gone N L State σ σ1 x
-      gone-1 = came (subst (Goes N L State σ) (M .is mem ∙ ap (λ (r : S.State). seenAut r t1 st1 mem) told1)
-          (goes-map (mk-difference-goes (R .list .ready .good) (R .first .state) (R .second .state)) (λ τ z w v i. i .state)))
+      stage-1 : Stage (autLayer N l) 0 832 (whole σ) (after (onNodes (Rel.intersect N (T₁ .label) (U .label)) σ1) (third x)) σ σ1 c c1 s s1
+      stage-1 = follow (autLayer N l) 0 832 post-1 no-list second stage-0
 
-      left-1 : Left N 0 0 (table t1 (c1 .spp)) s s1
-      left-1 = subst (λ (r : S.State). LeftBy N 0 0 r t1 s s1) told1 (M .left)
+      first-1 : Label N σ1 (T₁ .label)
+      first-1 = relation-of (edge-grown (stage-1 .ext .grown) (R .first))
 
-      beside-1 : (c1 .sp ≡ c .sp) × (c1 .transitions ≡ c .transitions)
-      beside-1 = subst (λ (r : S.State). Beside r c) told1 (M .beside)
-
-      list-1 : ListReady N l σ1 s1 m
-      list-1 = list-later (R .list) (gone-1 .grown) (gone-1 .good) left-1 (omega arith) len1
-
-      first-1 : EdgeAt N σ1 T₁
-      first-1 = edge-grown (gone-1 .grown) (R .first)
-
-      second-1 : EdgeAt N σ1 U
-      second-1 = edge-grown (gone-1 .grown) (R .second)
+      second-1 : Label N σ1 (U .label)
+      second-1 = relation-of (edge-grown (stage-1 .ext .grown) (R .second))
 
       pub intersect-ready : RelateReady N (table t1 (c1 .spp)) s1 (T₁ .label) (U .label)
-      intersect-ready = record { backed = backed-of (list-1 .ready); at-a = first-1 .relation; at-b = second-1 .relation }
+      intersect-ready = record { backed = backed-of (stage-1 .ready); at-a = first-1 .at; at-b = second-1 .at }
 
-      module _ (r2 : Made) (t2 s2 : List ℕ) (A : Relates N (Rel.intersect N (T₁ .label) (U .label)) (table t1 (c1 .spp)) r2 t2 s1 s2) where
+      module _ {r2 : Made} {t2 s2 : List ℕ} (A : Relates N (Rel.intersect N (T₁ .label) (U .label)) (table t1 (c1 .spp)) r2 t2 s1 s2) where
         pub full-2 : r2 ≡ Full → DoesSum N l 0 832 whole σ (next.Refused 21) c t2 st1 mem s s2
-        full-2 e = record { is = is-2 ∙ ap (λ (o : Outcome Aut ℕ). after o (third x)) (full-is c1 A e st1 mem); beside = tt; left = tt; next = tt }
+        full-2 q = to-sum whole (next.Refused 21) (R .list .limit) (stuck (autLayer N l) 0 832 (relation-refused st1 mem c1 A q) (third x) stage-1)
 
-        module _ (u : SPP) (n2 : ℕ) (told2 : r2 ≡ Node u n2) (len2 : length s2 ≡ length s1) where
+        module _ {u : SPP} {n2 : ℕ} (told2 : r2 ≡ Node u n2) (len2 : length s2 ≡ length s1) where
           abbrev c2 : Counts
           c2 = withNodes c1 n2
 
           abbrev σ2 : Aut
           σ2 = autOf t2 st1 mem c2
 
-          is-3 : whole σ ≡ after (onNodes (Rel.union N h (u .0)) σ2) (fourth x (u .0))
-          is-3 = is-2 ∙ ap (λ (o : Outcome Aut ℕ). after o (third x)) (made-is c1 A told2 st1 mem)
+          post-2 : Post (autLayer N l) 0 0 (Label N) (onNodes (Rel.intersect N (T₁ .label) (U .label)) σ1) σ1 c1 (gave c2 (u .0)) (autOf t2 st1 mem) s1 s2
+          post-2 = relation-given st1 mem c1 A told2 (stage-1 .ready) (intersect-goes (stage-1 .ready .good) first-1 second-1) len2
 
-          gone-2 : Gone N L (Label N) σ1 σ2 (u .0)
-          gone-2 = made-gone c1 A told2 st1 mem (intersect-goes (gone-1 .good) (relation-of first-1) (relation-of second-1))
+          stage-2 : Stage (autLayer N l) 0 832 (whole σ) (after (onNodes (Rel.union N h (u .0)) σ2) (fourth x (u .0))) σ σ2 c c2 s s2
+          stage-2 = follow (autLayer N l) 0 832 post-2 no-list (third x) stage-1
 
-          left-2 : Left N 0 0 (table t2 n2) s1 s2
-          left-2 = made-left c1 A told2
-
-          list-2 : ListReady N l σ2 s2 m
-          list-2 = list-later list-1 (gone-2 .grown) (gone-2 .good) left-2 (omega arith) len2
-
-          label-2 : Label N σ2 h
-          label-2 = label-grown (grown-trans (gone-1 .grown) (gone-2 .grown)) (R .sum)
+          sum-2 : Label N σ2 h
+          sum-2 = label-grown (stage-2 .ext .grown) (R .sum)
 
           pub union-ready : RelateReady N (table t2 n2) s2 h (u .0)
-          union-ready = record { backed = backed-of (list-2 .ready); at-a = label-2 .at; at-b = gone-2 .holds .at }
+          union-ready = record { backed = backed-of (stage-2 .ready); at-a = sum-2 .at; at-b = post-2 .then .holds .at }
 
-          module _ (r3 : Made) (t3 s3 : List ℕ) (B : Relates N (Rel.union N h (u .0)) (table t2 n2) r3 t3 s2 s3) where
+          module _ {r3 : Made} {t3 s3 : List ℕ} (B : Relates N (Rel.union N h (u .0)) (table t2 n2) r3 t3 s2 s3) where
             pub full-3 : r3 ≡ Full → DoesSum N l 0 832 whole σ (next.Refused 21) c t3 st1 mem s s3
-            full-3 e = record { is = is-3 ∙ ap (λ (o : Outcome Aut ℕ). after o (fourth x (u .0))) (full-is c2 B e st1 mem); beside = tt; left = tt; next = tt }
+            full-3 q = to-sum whole (next.Refused 21) (R .list .limit) (stuck (autLayer N l) 0 832 (relation-refused st1 mem c2 B q) (fourth x (u .0)) stage-2)
 
-            module _ (v : SPP) (n3 : ℕ) (told3 : r3 ≡ Node v n3) (len3 : length s3 ≡ length s2) where
+            module _ {v : SPP} {n3 : ℕ} (told3 : r3 ≡ Node v n3) (len3 : length s3 ≡ length s2) where
               abbrev c3 : Counts
               c3 = withNodes c1 n3
 
               abbrev σ3 : Aut
               σ3 = autOf t3 st1 mem c3
 
-              gone-3 : Gone N L (Label N) σ2 σ3 (v .0)
-              gone-3 = made-gone c2 B told3 st1 mem (union-goes (gone-2 .good) label-2 (gone-2 .holds))
-
-              left-3 : Left N 0 0 (table t3 n3) s2 s3
-              left-3 = made-left c2 B told3
-
-              list-3 : ListReady N l σ3 s3 m
-              list-3 = list-later list-2 (gone-3 .grown) (gone-3 .good) left-3 (omega arith) len3
-
-              pub insert-ready : ListReady N l σ3 s3 m × EdgeAt N σ3 (edge x (u .0))
-              insert-ready = (list-3, record { state = state-grown (grown-trans (gone-2 .grown) (gone-3 .grown)) (gone-1 .holds); relation = label-grown (gone-3 .grown) (gone-2 .holds) .at })
+              post-3 : Post (autLayer N l) 0 0 (Label N) (onNodes (Rel.union N h (u .0)) σ2) σ2 c2 (gave c3 (v .0)) (autOf t3 st1 mem) s2 s3
+              post-3 = relation-given st1 mem c2 B told3 (stage-2 .ready) (union-goes (stage-2 .ready .good) sum-2 (post-2 .then .holds)) len3
 
               same : edges s3 RESULT m ≡ es
               same =
-                  edges-behind left-3 RESULT m (omega arith) (omega (arith, ready-few (R .list)))
-                  ∙ edges-behind left-2 RESULT m (omega arith) (omega (arith, ready-few (R .list)))
-                  ∙ edges-behind left-1 RESULT m (omega arith) (omega (arith, ready-few (R .list)))
+                  edges-behind (post-3 .then .frame) RESULT m (omega arith) (omega (arith, ready-few (R .list)))
+                  ∙ edges-behind (post-2 .then .frame) RESULT m (omega arith) (omega (arith, ready-few (R .list)))
+                  ∙ edges-behind (post-1 .then .frame) RESULT m (omega arith) (omega (arith, ready-few (R .list)))
 
-              is-4 : whole σ ≡ after (St.insert (ops N L) x (u .0) (edges s3 RESULT m) σ3) (λ fs. return (summed N L (v .0) fs))
-              is-4 =
-                  is-3 ∙ ap (λ (o : Outcome Aut ℕ). after o (fourth x (u .0))) (made-is c2 B told3 st1 mem)
-                  ∙ ap (λ (fs : List Edge). after (St.insert (ops N L) x (u .0) fs σ3) (λ gs. return (summed N L (v .0) gs))) (sym same)
+              stage-3 : Stage (autLayer N l) 0 832 (whole σ) (after (St.insert (ops N L) x (u .0) (edges s3 RESULT m) σ3) (λ fs. return (summed N L (v .0) fs))) σ σ3 c c3 s s3
+              stage-3 = instead (autLayer N l) 0 832 (follow (autLayer N l) 0 832 post-3 no-list (fourth x (u .0)) stage-2)
+                  (ap (λ (fs : List Edge). after (St.insert (ops N L) x (u .0) fs σ3) (λ gs. return (summed N L (v .0) gs))) (sym same))
 
-              module _ (r4 : Listed) (t4 st4 mem4 s4 : List ℕ) (D : DoesList N l 0 832 (St.insert (ops N L) x (u .0) (edges s3 RESULT m)) σ3 r4 c3 t4 st4 mem4 s3 s4) where
-                is-5 : whole σ ≡ after (seenList r4 t4 st4 mem4 s4) (λ fs. return (summed N L (v .0) fs))
-                is-5 = is-4 ∙ ap (λ (o : Outcome Aut (List Edge)). after o (λ fs. return (summed N L (v .0) fs))) (D .is)
+              pub insert-ready : ListReady N l σ3 s3 m × EdgeAt N σ3 (edge x (u .0))
+              insert-ready = (
+                record { ready = stage-3 .ready; list = subst (ListAt N L σ3) (sym same) (list-grown (stage-3 .ext .grown) (R .list .list)); limit = R .list .limit },
+                record { state = state-grown (grown-trans (post-2 .then .ext .grown) (post-3 .then .ext .grown)) (post-1 .then .holds); relation = label-grown (post-3 .then .ext .grown) (post-2 .then .holds) .at },
+              )
 
-                pub not-4 : (e : ℕ) → r4 ≡ listed.Refused e → DoesSum N l 0 832 whole σ (next.Refused e) c t4 st4 mem4 s s4
-                not-4 e q = record { is = is-5 ∙ ap (λ (r : Listed). after (seenList r t4 st4 mem4 s4) (λ fs. return (summed N L (v .0) fs))) q; beside = tt; left = tt; next = tt }
+              module _ {r4 : Listed} {t4 st4 mem4 s4 : List ℕ} (D : DoesList N l 0 832 (St.insert (ops N L) x (u .0) (edges s3 RESULT m)) σ3 r4 c3 t4 st4 mem4 s3 s4) where
+                pub not-4 : {e : ℕ} → r4 ≡ listed.Refused e → DoesSum N l 0 832 whole σ (next.Refused e) c t4 st4 mem4 s s4
+                not-4 {e} q = to-sum whole (next.Refused e) (R .list .limit) (stuck (autLayer N l) 0 832 (list-refused D q) (λ fs. return (summed N L (v .0) fs)) stage-3)
 
-                module _ (d : Counts) (k : ℕ) (told4 : r4 ≡ listed.List d k) where
-                  on-4 : ListOn N l σ3 (autOf t4 st4 mem4 d) s4 k
-                  on-4 = subst (λ (r : Listed). ListNext N l σ3 r t4 st4 mem4 s4) told4 (D .next)
-
-                  left-4 : Left N 0 832 (table t4 (d .spp)) s3 s4
-                  left-4 = subst (λ (r : Listed). ListLeft N 0 832 r t4 s3 s4) told4 (D .left)
-
-                  beside-4 : (d .sp ≡ c1 .sp) × (d .transitions ≡ c1 .transitions)
-                  beside-4 = subst (λ (r : Listed). ListBeside r c3) told4 (D .beside)
-
-                  pub one-done : length s4 ≡ length s3 → DoesSum N l 0 832 whole σ (next.Next d v k) c t4 st4 mem4 s s4
-                  one-done len4 =
-                      does-sum whole (R .list .ready) (R .list .limit) (subtractOne-goes (R .list .ready .good) (R .first) (R .second) (record { sum = R .sum; result = R .list .list }))
-                      (next.Next d v k) t4 st4 mem4 s4
-                      (is-5 ∙ ap (λ (r : Listed). after (seenList r t4 st4 mem4 s4) (λ fs. return (summed N L (v .0) fs))) told4)
-                      (beside-4 .0 ∙ beside-1 .0, beside-4 .1 ∙ beside-1 .1)
-                      (left-trans (on-4 .gone .grown .nodes)
-                      (left-trans (gone-3 .grown .nodes)
-                      (left-trans (gone-2 .grown .nodes) (left-any 0 832 left-1 (omega arith)) (left-any 0 832 left-2 (omega arith)))
-                      (left-any 0 832 left-3 (omega arith)))
-                      left-4)
-                      (len4 ∙ len3 ∙ len2 ∙ len1)
+                pub one-done : {d : Counts} {k : ℕ} → r4 ≡ listed.List d k → DoesSum N l 0 832 whole σ (next.Next d v k) c t4 st4 mem4 s s4
+                one-done {d} {k} q =
+                    let p = list-given D q in
+                    to-sum whole (next.Next d v k) (R .list .limit)
+                    (done (autLayer N l) 0 832 (autOf t4 st4 mem4) (follow (autLayer N l) 0 832 p (all-of 0 832) (λ fs. return (summed N L (v .0) fs)) stage-3)
+                    (record { sum = label-grown (p .then .ext .grown) (post-3 .then .holds); result = p .then .holds }))

@@ -1,8 +1,8 @@
--- The loops of a list operation, one after the other.
+-- The loops of a list operation, one after the other, by the rule for a run of calls (aut_stage).
 use mathlib.Core.Path.{_≡_, refl, sym, _∙_, ap, ap₂, subst}
 use mathlib.Core.List.{List, []}
 use Prim.Native.Nat.{ℕ, _≤_}
-use Rattle.common.specs.Outcome.{Outcome, Step, return, after}
+use Rattle.common.specs.Outcome.{Step, return, after}
 use Rattle.netkat.specs.ListSteps as St
 use Rattle.netkat.specs.ListSteps.{Edge, Summed as Sum}
 use Rattle.aut_steps.specs.Tables.{Aut}
@@ -16,18 +16,21 @@ use Rattle.aut.specs.declared.Limits.{Limits}
 use Rattle.aut_rel.specs.Seen.{autOf, Ready}
 use Rattle.st.specs.declared.Listed.{Listed}
 use Rattle.st.specs.declared.Listed.the-variants as listed
-use Rattle.st.specs.Seen.{RESULT, ListReady, seenList, DoesList}
+use Rattle.st.specs.Seen.{RESULT, ListReady, DoesList}
 use Rattle.st_source.specs.declared.Source.{Source}
 use Rattle.st_source.specs.Seen.{sourceOf}
 use Rattle.st_each.specs.Seen.{EachReady, PairsReady}
-use Rattle.st_each.proofs.Join.{then-list}
 use Rattle.st_minus.specs.declared.Summed.{Summed}
 use Rattle.st_minus.specs.declared.Summed.the-variants as summed
-use Rattle.st_minus.specs.Seen.{RowsReady, sumOf, seenSum, DoesSum}
+use Rattle.st_minus.specs.Seen.{RowsReady, sumOf, DoesSum}
 use Rattle.st_source.proofs.Sources.{source-kept, walked-later}
 use Rattle.spp.specs.declared.SPP.{SPP}
 use Rattle.aut_steps.specs.Relations.{zeroAt}
+use Rattle.aut_stage.specs.Stage.{Stage, begin, next, stuck, instead, finish, all-of}
+use Rattle.aut_stage.specs.OnAut.{autLayer}
 use Rattle.st_ops.specs.Seen.{OneReady, TwoReady}
+use Rattle.st_stage.specs.Readings.{listOf, list-given, list-refused, of-list, to-list}
+use Rattle.st_minus.specs.Readings.{sum-given, sum-refused}
 
 -- the empty list
 pub none-ready : {N : ℕ} {l : Limits} {σ : Aut} {s : List ℕ} → Ready N l σ s → l .transitions ≤ 64 → ListReady N l σ s 0
@@ -51,40 +54,41 @@ does-as e d = record { is = e ∙ d .is; beside = d .beside; left = d .left; nex
 
 -- ---- st_union
 
-module _ (N : ℕ) (l : Limits) (tr s : List ℕ) (x y : Source) (i j : ℕ) (σ : Aut) (c : Counts) (t st mem s′ : List ℕ) where
+module _ {N : ℕ} {l : Limits} {σ : Aut} {tr s : List ℕ} {x y : Source} {i j : ℕ} (W : TwoReady N l σ tr s x i y j) where
+  abbrev union-all : Step Aut (List Edge)
+  union-all = St.unionList (ops N (limitsOf l)) (sourceOf x tr s i) (sourceOf y tr s j)
+
   abbrev first-loop : Step Aut (List Edge)
   first-loop = St.insertEach (ops N (limitsOf l)) return (sourceOf x tr s i) (edges s RESULT 0)
 
   abbrev second-loop : List Edge → Step Aut (List Edge)
   second-loop = St.insertEach (ops N (limitsOf l)) return (sourceOf y tr s j)
 
-  union-is : St.unionList (ops N (limitsOf l)) (sourceOf x tr s i) (sourceOf y tr s j) σ ≡ after (first-loop σ) second-loop
+  union-0 : (c : Counts) → Stage (autLayer N l) 0 832 (union-all σ) (after (first-loop σ) second-loop) σ σ c c s s
   unfolding St.unionList
-  union-is = ap (λ (es : List Edge). after (St.insertEach (ops N (limitsOf l)) return (sourceOf x tr s i) es σ) second-loop) (sym (none-at s))
+  union-0 c = begin (autLayer N l) 0 832 (W .first .ready) (ap (λ (es : List Edge). after (St.insertEach (ops N (limitsOf l)) return (sourceOf x tr s i) es σ) second-loop) (sym (none-at s)))
 
-  pub union-refused : {r : Listed} → DoesList N l 0 832 first-loop σ r c t st mem s s′ → {e : ℕ} → r ≡ listed.Refused e
-      → DoesList N l 0 832 (St.unionList (ops N (limitsOf l)) (sourceOf x tr s i) (sourceOf y tr s j)) σ (listed.Refused e) c t st mem s s′
-  union-refused D q = record {
-    is = union-is ∙ ap (λ (z : Outcome Aut (List Edge)). after z second-loop) (D .is ∙ ap (λ (r : Listed). seenList r t st mem s′) q);
-    beside = tt;
-    left = tt;
-    next = tt;
-  }
+  module _ {c : Counts} {r : Listed} {t st mem s′ : List ℕ} (D : DoesList N l 0 832 first-loop σ r c t st mem s s′) where
+    pub union-refused : {e : ℕ} → r ≡ listed.Refused e → DoesList N l 0 832 union-all σ (listed.Refused e) c t st mem s s′
+    union-refused {e} q = to-list union-all (listed.Refused e) (W .first .limit) (stuck (autLayer N l) 0 832 (list-refused D q) second-loop (union-0 c))
 
-  module _ {r : Listed} (D : DoesList N l 0 832 first-loop σ r c t st mem s s′) (d : Counts) (m : ℕ) (q : r ≡ listed.List d m) (W : TwoReady N l σ tr s x i y j) where
-    D′ : DoesList N l 0 832 first-loop σ (listed.List d m) c t st mem s s′
-    D′ = subst (λ (r : Listed). DoesList N l 0 832 first-loop σ r c t st mem s s′) q D
+    module _ {d : Counts} {m : ℕ} (q : r ≡ listed.List d m) where
+      union-1 : Stage (autLayer N l) 0 832 (union-all σ) (second-loop (edges s′ RESULT m) (autOf t st mem d)) σ (autOf t st mem d) c d s s′
+      union-1 = next (autLayer N l) 0 832 (list-given D q) (all-of 0 832) second-loop (union-0 c)
 
-    pub union-ready : EachReady N l (autOf t st mem d) tr s′ M.same y j m
-    union-ready = record { list = D′ .next .ready; operands = tt; walked = walked-later (D′ .left) tr (W .second) (D′ .next .gone .grown) }
+      pub union-ready : EachReady N l (autOf t st mem d) tr s′ M.same y j m
+      union-ready = record {
+        list = record { ready = union-1 .ready; list = list-given D q .then .holds; limit = W .first .limit };
+        operands = tt;
+        walked = walked-later (union-1 .frame) tr (W .second) (union-1 .ext .grown);
+      }
 
-    pub union-does : {z : Listed} {t″ st″ mem″ s″ : List ℕ} → DoesList N l 0 832 (St.insertEach (ops N (limitsOf l)) return (sourceOf y tr s′ j) (edges s′ RESULT m)) (autOf t st mem d) z d t″ st″ mem″ s′ s″
-        → DoesList N l 0 832 (St.unionList (ops N (limitsOf l)) (sourceOf x tr s i) (sourceOf y tr s j)) σ z c t″ st″ mem″ s s″
-    union-does {z} {t″} {st″} {mem″} {s″} E =
-        then-list (D′ .next .gone) (D′ .left) (D′ .beside)
-        (union-is ∙ ap (λ (o : Outcome Aut (List Edge)). after o second-loop) (D′ .is)
-        ∙ ap (λ (es : List Edge). St.insertEach (ops N (limitsOf l)) return es (edges s′ RESULT m) (autOf t st mem d)) (sym (source-kept (D′ .left) tr y j (W .second .within))))
-        z E
+      pub union-does : {z : Listed} {t″ st″ mem″ s″ : List ℕ} → DoesList N l 0 832 (St.insertEach (ops N (limitsOf l)) return (sourceOf y tr s′ j) (edges s′ RESULT m)) (autOf t st mem d) z d t″ st″ mem″ s′ s″
+          → DoesList N l 0 832 union-all σ z c t″ st″ mem″ s s″
+      union-does {z} {s″ = s″} E = to-list union-all z (W .first .limit)
+          (finish (autLayer N l) 0 832
+          (instead (autLayer N l) 0 832 union-1 (ap (λ (es : List Edge). St.insertEach (ops N (limitsOf l)) return es (edges s′ RESULT m) (autOf t st mem d)) (sym (source-kept (union-1 .frame) tr y j (W .second .within)))))
+          (listOf z s″) (of-list z E) (all-of 0 832))
 
 -- ---- st_intersect
 
@@ -97,47 +101,46 @@ module _ (N : ℕ) (l : Limits) (tr s : List ℕ) (x y : Source) (i j : ℕ) whe
 
 -- ---- st_difference
 
-module _ (N : ℕ) (l : Limits) (tr s : List ℕ) (x y : Source) (i j : ℕ) (σ : Aut) (c : Counts) (zero : ℕ) (zero-is : zeroAt N ≡ zero) where
+module _ {N : ℕ} {l : Limits} {σ : Aut} {tr s : List ℕ} {x y : Source} {i j : ℕ} (W : TwoReady N l σ tr s x i y j) {zero : ℕ} (zero-is : zeroAt N ≡ zero) where
+  abbrev minus : Step Aut (List Edge)
+  minus = St.differenceList (ops N (limitsOf l)) (sourceOf x tr s i) (sourceOf y tr s j)
+
   abbrev rows-loop : Step Aut (Sum (ops N (limitsOf l)))
   rows-loop = St.subtractRows (ops N (limitsOf l)) (sourceOf x tr s i) (sourceOf y tr s j) (sumOf N l s zero 0)
 
   abbrev rest-loop : Sum (ops N (limitsOf l)) → Step Aut (List Edge)
   rest-loop q = St.insertEach (ops N (limitsOf l)) (St.restOf (ops N (limitsOf l)) (q .sum)) (sourceOf x tr s i) (q .result)
 
-  difference-is : St.differenceList (ops N (limitsOf l)) (sourceOf x tr s i) (sourceOf y tr s j) σ ≡ after (rows-loop σ) rest-loop
+  minus-0 : (c : Counts) → Stage (autLayer N l) 0 832 (minus σ) (after (rows-loop σ) rest-loop) σ σ c c s s
   unfolding St.differenceList
-  difference-is =
-      ap₂ (λ (h : ℕ) (es : List Edge). after (St.subtractRows (ops N (limitsOf l)) (sourceOf x tr s i) (sourceOf y tr s j) (record { sum = h; result = es }) σ) rest-loop) zero-is (sym (none-at s))
+  minus-0 c = begin (autLayer N l) 0 832 (W .first .ready)
+      (ap₂ (λ (h : ℕ) (es : List Edge). after (St.subtractRows (ops N (limitsOf l)) (sourceOf x tr s i) (sourceOf y tr s j) (record { sum = h; result = es }) σ) rest-loop) zero-is (sym (none-at s)))
 
-  pub rows-ready : TwoReady N l σ tr s x i y j → RowsReady N l σ tr s x i y j zero 0
-  rows-ready t = record {
-    list = none-ready (t .first .ready) (t .first .limit);
-    first = t .first .walked;
-    second = t .second;
-    sum = subst (Label N σ) zero-is (zero-label (t .first .ready .good));
-  }
+  pub rows-ready : RowsReady N l σ tr s x i y j zero 0
+  rows-ready = record { list = none-ready (W .first .ready) (W .first .limit); first = W .first .walked; second = W .second; sum = subst (Label N σ) zero-is (zero-label (W .first .ready .good)) }
 
-  module _ (t st mem s′ : List ℕ) {r : Summed} (D : DoesSum N l 0 832 rows-loop σ r c t st mem s s′) where
-    pub difference-refused : {e : ℕ} → r ≡ summed.Refused e → DoesList N l 0 832 (St.differenceList (ops N (limitsOf l)) (sourceOf x tr s i) (sourceOf y tr s j)) σ (listed.Refused e) c t st mem s s′
-    difference-refused q = record {
-      is = difference-is ∙ ap (λ (z : Outcome Aut (Sum (ops N (limitsOf l)))). after z rest-loop) (D .is ∙ ap (λ (r : Summed). seenSum N l r t st mem s′) q);
-      beside = tt;
-      left = tt;
-      next = tt;
-    }
+  module _ {c : Counts} {r : Summed} {t st mem s′ : List ℕ} (D : DoesSum N l 0 832 rows-loop σ r c t st mem s s′) where
+    pub difference-refused : {e : ℕ} → r ≡ summed.Refused e → DoesList N l 0 832 minus σ (listed.Refused e) c t st mem s s′
+    difference-refused {e} q = to-list minus (listed.Refused e) (W .first .limit) (stuck (autLayer N l) 0 832 (sum-refused D q) rest-loop (minus-0 c))
 
-    module _ (d : Counts) (h : SPP) (m : ℕ) (q : r ≡ summed.Next d h m) (W : TwoReady N l σ tr s x i y j) where
-      R′ : DoesSum N l 0 832 rows-loop σ (summed.Next d h m) c t st mem s s′
-      R′ = subst (λ (r : Summed). DoesSum N l 0 832 rows-loop σ r c t st mem s s′) q D
+    module _ {d : Counts} {h : SPP} {m : ℕ} (q : r ≡ summed.Next d h m) where
+      minus-1 : Stage (autLayer N l) 0 832 (minus σ) (rest-loop (sumOf N l s′ (h .0) m) (autOf t st mem d)) σ (autOf t st mem d) c d s s′
+      minus-1 = next (autLayer N l) 0 832 (sum-given D q) (all-of 0 832) rest-loop (minus-0 c)
 
       pub rest-ready : EachReady N l (autOf t st mem d) tr s′ (M.rest (h .0)) x i m
-      rest-ready = record { list = R′ .next .ready; operands = R′ .next .gone .holds .sum; walked = walked-later (R′ .left) tr (W .first .walked) (R′ .next .gone .grown) }
+      rest-ready =
+          let p = sum-given D q .then .holds in
+          record {
+            list = record { ready = minus-1 .ready; list = p .result; limit = W .first .limit };
+            operands = p .sum;
+            walked = walked-later (minus-1 .frame) tr (W .first .walked) (minus-1 .ext .grown);
+          }
 
       pub difference-does : {z : Listed} {t″ st″ mem″ s″ : List ℕ}
           → DoesList N l 0 832 (St.insertEach (ops N (limitsOf l)) (St.restOf (ops N (limitsOf l)) (h .0)) (sourceOf x tr s′ i) (edges s′ RESULT m)) (autOf t st mem d) z d t″ st″ mem″ s′ s″
-          → DoesList N l 0 832 (St.differenceList (ops N (limitsOf l)) (sourceOf x tr s i) (sourceOf y tr s j)) σ z c t″ st″ mem″ s s″
-      difference-does {z} E =
-          then-list (R′ .next .gone) (R′ .left) (R′ .beside)
-          (difference-is ∙ ap (λ (o : Outcome Aut (Sum (ops N (limitsOf l)))). after o rest-loop) (R′ .is)
-          ∙ ap (λ (es : List Edge). St.insertEach (ops N (limitsOf l)) (St.restOf (ops N (limitsOf l)) (h .0)) es (edges s′ RESULT m) (autOf t st mem d)) (sym (source-kept (R′ .left) tr x i (W .first .walked .within))))
-          z E
+          → DoesList N l 0 832 minus σ z c t″ st″ mem″ s s″
+      difference-does {z} {s″ = s″} E = to-list minus z (W .first .limit)
+          (finish (autLayer N l) 0 832
+          (instead (autLayer N l) 0 832 minus-1
+          (ap (λ (es : List Edge). St.insertEach (ops N (limitsOf l)) (St.restOf (ops N (limitsOf l)) (h .0)) es (edges s′ RESULT m) (autOf t st mem d)) (sym (source-kept (minus-1 .frame) tr x i (W .first .walked .within)))))
+          (listOf z s″) (of-list z E) (all-of 0 832))

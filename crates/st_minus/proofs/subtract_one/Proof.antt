@@ -1,5 +1,4 @@
 use mathlib.Core.Path.{_∙_}
-use Rattle.st_source.specs.Seen.{edgeOf}
 use Rattle.st_minus.proofs.Single as one
 use borrow.Author.Needs.{needs}
 use Rattle.st_minus.proofs.subtract_one.Statement.{statement}
@@ -25,7 +24,7 @@ enum-known-state-2 c = search needs
 -- src/lib.rt:55:40
 apply-requires : tie.Need-apply-requires
 apply-requires c κs =
-    let g = c .before .before .before .before .before .before .before .before .before .before .before .before .before .before .before .before .before .before .before .args in one.intersect-ready (g .fields) (g .limits) (g .nodes .now) (g .states .now) (g .members .now) (g .scratch .now) (g .c) (edgeOf (g .t)) (edgeOf (g .u)) (g .sum .0) (g .m) (c .before .before .before .before .before .before .before .before .before .before .before .before .before .before .before .before .before .before .before .pre) (c .before .before .before .before .before .before .before .before .before .before .before .mk-difference .result) (c .before .before .before .before .before .before .before .before .before .before .before .mk-difference .last .0) (c .before .before .before .before .before .before .before .before .before .before .before .mk-difference .last .1 .0) (c .before .before .before .before .before .before .before .before .before .before .before .mk-difference .last .1 .1 .0) (c .before .before .before .before .before .before .before .before .before .before .before .mk-difference .ensures) _ _ (c .before .before .before .state2 .given .1) (c .before .before .before .before .before .before .before .before .before .before .before .mk-difference .kept .1 .1 .0)
+    one.intersect-ready (c .before .before .before .before .before .before .before .before .before .before .before .before .before .before .before .before .before .before .before .args .c) (c .before .before .before .before .before .before .before .before .before .before .before .before .before .before .before .before .before .before .before .pre) (c .before .before .before .before .before .before .before .before .before .before .before .mk-difference .ensures) (c .before .before .before .state2 .given .1) (c .before .before .before .before .before .before .before .before .before .before .before .mk-difference .kept .1 .1 .0)
 
 -- src/lib.rt:55:28
 enum-known-meet : tie.Need-enum-known-meet
@@ -50,12 +49,12 @@ same-length-3 c = search needs
 -- src/lib.rt:64:17
 returns : tie.Need-returns
 returns c =
-    let g = c .before .before .before .before .before .before .before .before .before .before .before .before .before .before .before .before .before .before .before .before .before .before .before .before .before .before .args in one.full-2 (g .fields) (g .limits) (g .nodes .now) (g .states .now) (g .members .now) (g .scratch .now) (g .c) (edgeOf (g .t)) (edgeOf (g .u)) (g .sum .0) (g .m) (c .before .before .before .before .before .before .before .before .before .before .before .before .before .before .before .before .before .before .before .before .before .before .before .before .before .before .pre) (c .before .before .before .before .before .before .before .before .before .before .before .before .before .before .before .before .before .before .mk-difference .result) (c .before .before .before .before .before .before .before .before .before .before .before .before .before .before .before .before .before .before .mk-difference .last .0) (c .before .before .before .before .before .before .before .before .before .before .before .before .before .before .before .before .before .before .mk-difference .last .1 .0) (c .before .before .before .before .before .before .before .before .before .before .before .before .before .before .before .before .before .before .mk-difference .last .1 .1 .0) (c .before .before .before .before .before .before .before .before .before .before .before .before .before .before .before .before .before .before .mk-difference .ensures) _ _ (c .before .before .before .before .before .before .before .before .before .before .state2 .given .1) (c .before .before .before .before .before .before .before .before .before .before .before .before .before .before .before .before .before .before .mk-difference .kept .1 .1 .0) (c .before .before .before .before .before .before .apply .result) (c .before .before .before .before .before .before .apply .last .0) (c .before .before .before .before .before .before .apply .last .1 .0) (c .before .before .before .before .before .before .apply .ensures) (c .enum-told .given .1)
+    one.full-2 (c .before .before .before .before .before .before .before .before .before .before .before .before .before .before .before .before .before .before .before .before .before .before .before .before .before .before .args .c) (c .before .before .before .before .before .before .before .before .before .before .before .before .before .before .before .before .before .before .before .before .before .before .before .before .before .before .pre) (c .before .before .before .before .before .before .before .before .before .before .before .before .before .before .before .before .before .before .mk-difference .ensures) (c .before .before .before .before .before .before .before .before .before .before .state2 .given .1) (c .before .before .before .before .before .before .before .before .before .before .before .before .before .before .before .before .before .before .mk-difference .kept .1 .1 .0) (c .before .before .before .before .before .before .apply .ensures) (c .enum-told .given .1)
 
 -- src/lib.rt:66:37
 apply-requires-2 : tie.Need-apply-requires-2
 apply-requires-2 c κs =
-    let g = c .before .before .before .before .before .before .before .before .before .before .before .before .before .before .before .before .before .before .before .before .before .before .before .before .before .before .before .before .before .args in one.union-ready (g .fields) (g .limits) (g .nodes .now) (g .states .now) (g .members .now) (g .scratch .now) (g .c) (edgeOf (g .t)) (edgeOf (g .u)) (g .sum .0) (g .m) (c .before .before .before .before .before .before .before .before .before .before .before .before .before .before .before .before .before .before .before .before .before .before .before .before .before .before .before .before .before .pre) (c .before .before .before .before .before .before .before .before .before .before .before .before .before .before .before .before .before .before .before .before .before .mk-difference .result) (c .before .before .before .before .before .before .before .before .before .before .before .before .before .before .before .before .before .before .before .before .before .mk-difference .last .0) (c .before .before .before .before .before .before .before .before .before .before .before .before .before .before .before .before .before .before .before .before .before .mk-difference .last .1 .0) (c .before .before .before .before .before .before .before .before .before .before .before .before .before .before .before .before .before .before .before .before .before .mk-difference .last .1 .1 .0) (c .before .before .before .before .before .before .before .before .before .before .before .before .before .before .before .before .before .before .before .before .before .mk-difference .ensures) _ _ (c .before .before .before .before .before .before .before .before .before .before .before .before .before .state2 .given .1) (c .before .before .before .before .before .before .before .before .before .before .before .before .before .before .before .before .before .before .before .before .before .mk-difference .kept .1 .1 .0) (c .before .before .before .before .before .before .before .before .before .apply .result) (c .before .before .before .before .before .before .before .before .before .apply .last .0) (c .before .before .before .before .before .before .before .before .before .apply .last .1 .0) (c .before .before .before .before .before .before .before .before .before .apply .ensures) _ _ (c .before .before .before .meet .given .1) (c .before .before .before .before .before .before .before .before .before .apply .kept .1 .0)
+    one.union-ready (c .before .before .before .before .before .before .before .before .before .before .before .before .before .before .before .before .before .before .before .before .before .before .before .before .before .before .before .before .before .args .c) (c .before .before .before .before .before .before .before .before .before .before .before .before .before .before .before .before .before .before .before .before .before .before .before .before .before .before .before .before .before .pre) (c .before .before .before .before .before .before .before .before .before .before .before .before .before .before .before .before .before .before .before .before .before .mk-difference .ensures) (c .before .before .before .before .before .before .before .before .before .before .before .before .before .state2 .given .1) (c .before .before .before .before .before .before .before .before .before .before .before .before .before .before .before .before .before .before .before .before .before .mk-difference .kept .1 .1 .0) (c .before .before .before .before .before .before .before .before .before .apply .ensures) (c .before .before .before .meet .given .1) (c .before .before .before .before .before .before .before .before .before .apply .kept .1 .0)
 
 -- src/lib.rt:66:28
 enum-known-h : tie.Need-enum-known-h
@@ -80,12 +79,12 @@ same-length-6 c = search needs
 -- src/lib.rt:68:17
 returns-2 : tie.Need-returns-2
 returns-2 c =
-    let g = c .before .before .before .before .before .before .before .before .before .before .before .before .before .before .before .before .before .before .before .before .before .before .before .before .before .before .before .before .before .before .before .before .before .before .before .before .args in one.full-3 (g .fields) (g .limits) (g .nodes .now) (g .states .now) (g .members .now) (g .scratch .now) (g .c) (edgeOf (g .t)) (edgeOf (g .u)) (g .sum .0) (g .m) (c .before .before .before .before .before .before .before .before .before .before .before .before .before .before .before .before .before .before .before .before .before .before .before .before .before .before .before .before .before .before .before .before .before .before .before .before .pre) (c .before .before .before .before .before .before .before .before .before .before .before .before .before .before .before .before .before .before .before .before .before .before .before .before .before .before .before .before .mk-difference .result) (c .before .before .before .before .before .before .before .before .before .before .before .before .before .before .before .before .before .before .before .before .before .before .before .before .before .before .before .before .mk-difference .last .0) (c .before .before .before .before .before .before .before .before .before .before .before .before .before .before .before .before .before .before .before .before .before .before .before .before .before .before .before .before .mk-difference .last .1 .0) (c .before .before .before .before .before .before .before .before .before .before .before .before .before .before .before .before .before .before .before .before .before .before .before .before .before .before .before .before .mk-difference .last .1 .1 .0) (c .before .before .before .before .before .before .before .before .before .before .before .before .before .before .before .before .before .before .before .before .before .before .before .before .before .before .before .before .mk-difference .ensures) _ _ (c .before .before .before .before .before .before .before .before .before .before .before .before .before .before .before .before .before .before .before .before .state2 .given .1) (c .before .before .before .before .before .before .before .before .before .before .before .before .before .before .before .before .before .before .before .before .before .before .before .before .before .before .before .before .mk-difference .kept .1 .1 .0) (c .before .before .before .before .before .before .before .before .before .before .before .before .before .before .before .before .apply .result) (c .before .before .before .before .before .before .before .before .before .before .before .before .before .before .before .before .apply .last .0) (c .before .before .before .before .before .before .before .before .before .before .before .before .before .before .before .before .apply .last .1 .0) (c .before .before .before .before .before .before .before .before .before .before .before .before .before .before .before .before .apply .ensures) _ _ (c .before .before .before .before .before .before .before .before .before .before .meet .given .1) (c .before .before .before .before .before .before .before .before .before .before .before .before .before .before .before .before .apply .kept .1 .0) (c .before .before .before .before .before .before .apply2 .result) (c .before .before .before .before .before .before .apply2 .last .0) (c .before .before .before .before .before .before .apply2 .last .1 .0) (c .before .before .before .before .before .before .apply2 .ensures) (c .enum-told2 .given .1)
+    one.full-3 (c .before .before .before .before .before .before .before .before .before .before .before .before .before .before .before .before .before .before .before .before .before .before .before .before .before .before .before .before .before .before .before .before .before .before .before .before .args .c) (c .before .before .before .before .before .before .before .before .before .before .before .before .before .before .before .before .before .before .before .before .before .before .before .before .before .before .before .before .before .before .before .before .before .before .before .before .pre) (c .before .before .before .before .before .before .before .before .before .before .before .before .before .before .before .before .before .before .before .before .before .before .before .before .before .before .before .before .mk-difference .ensures) (c .before .before .before .before .before .before .before .before .before .before .before .before .before .before .before .before .before .before .before .before .state2 .given .1) (c .before .before .before .before .before .before .before .before .before .before .before .before .before .before .before .before .before .before .before .before .before .before .before .before .before .before .before .before .mk-difference .kept .1 .1 .0) (c .before .before .before .before .before .before .before .before .before .before .before .before .before .before .before .before .apply .ensures) (c .before .before .before .before .before .before .before .before .before .before .meet .given .1) (c .before .before .before .before .before .before .before .before .before .before .before .before .before .before .before .before .apply .kept .1 .0) (c .before .before .before .before .before .before .apply2 .ensures) (c .enum-told2 .given .1)
 
 -- src/lib.rt:77:17
 insert-requires : tie.Need-insert-requires
 insert-requires c κs =
-    let g = c .before .before .before .before .before .before .before .before .before .before .before .before .before .before .before .before .before .before .before .before .before .before .before .before .before .before .before .before .before .before .before .before .before .before .before .before .before .before .before .before .before .args in one.insert-ready (g .fields) (g .limits) (g .nodes .now) (g .states .now) (g .members .now) (g .scratch .now) (g .c) (edgeOf (g .t)) (edgeOf (g .u)) (g .sum .0) (g .m) (c .before .before .before .before .before .before .before .before .before .before .before .before .before .before .before .before .before .before .before .before .before .before .before .before .before .before .before .before .before .before .before .before .before .before .before .before .before .before .before .before .before .pre) (c .before .before .before .before .before .before .before .before .before .before .before .before .before .before .before .before .before .before .before .before .before .before .before .before .before .before .before .before .before .before .before .before .before .mk-difference .result) (c .before .before .before .before .before .before .before .before .before .before .before .before .before .before .before .before .before .before .before .before .before .before .before .before .before .before .before .before .before .before .before .before .before .mk-difference .last .0) (c .before .before .before .before .before .before .before .before .before .before .before .before .before .before .before .before .before .before .before .before .before .before .before .before .before .before .before .before .before .before .before .before .before .mk-difference .last .1 .0) (c .before .before .before .before .before .before .before .before .before .before .before .before .before .before .before .before .before .before .before .before .before .before .before .before .before .before .before .before .before .before .before .before .before .mk-difference .last .1 .1 .0) (c .before .before .before .before .before .before .before .before .before .before .before .before .before .before .before .before .before .before .before .before .before .before .before .before .before .before .before .before .before .before .before .before .before .mk-difference .ensures) _ _ (c .before .before .before .before .before .before .before .before .before .before .before .before .before .before .before .before .before .before .before .before .before .before .before .before .before .state2 .given .1) (c .before .before .before .before .before .before .before .before .before .before .before .before .before .before .before .before .before .before .before .before .before .before .before .before .before .before .before .before .before .before .before .before .before .mk-difference .kept .1 .1 .0) (c .before .before .before .before .before .before .before .before .before .before .before .before .before .before .before .before .before .before .before .before .before .apply .result) (c .before .before .before .before .before .before .before .before .before .before .before .before .before .before .before .before .before .before .before .before .before .apply .last .0) (c .before .before .before .before .before .before .before .before .before .before .before .before .before .before .before .before .before .before .before .before .before .apply .last .1 .0) (c .before .before .before .before .before .before .before .before .before .before .before .before .before .before .before .before .before .before .before .before .before .apply .ensures) _ _ (c .before .before .before .before .before .before .before .before .before .before .before .before .before .before .before .meet .given .1) (c .before .before .before .before .before .before .before .before .before .before .before .before .before .before .before .before .before .before .before .before .before .apply .kept .1 .0) (c .before .before .before .before .before .before .before .before .before .before .before .apply2 .result) (c .before .before .before .before .before .before .before .before .before .before .before .apply2 .last .0) (c .before .before .before .before .before .before .before .before .before .before .before .apply2 .last .1 .0) (c .before .before .before .before .before .before .before .before .before .before .before .apply2 .ensures) _ _ (c .before .before .before .before .before .h .given .1) (c .before .before .before .before .before .before .before .before .before .before .before .apply2 .kept .1 .0)
+    one.insert-ready (c .before .before .before .before .before .before .before .before .before .before .before .before .before .before .before .before .before .before .before .before .before .before .before .before .before .before .before .before .before .before .before .before .before .before .before .before .before .before .before .before .before .args .c) (c .before .before .before .before .before .before .before .before .before .before .before .before .before .before .before .before .before .before .before .before .before .before .before .before .before .before .before .before .before .before .before .before .before .before .before .before .before .before .before .before .before .pre) (c .before .before .before .before .before .before .before .before .before .before .before .before .before .before .before .before .before .before .before .before .before .before .before .before .before .before .before .before .before .before .before .before .before .mk-difference .ensures) (c .before .before .before .before .before .before .before .before .before .before .before .before .before .before .before .before .before .before .before .before .before .before .before .before .before .state2 .given .1) (c .before .before .before .before .before .before .before .before .before .before .before .before .before .before .before .before .before .before .before .before .before .before .before .before .before .before .before .before .before .before .before .before .before .mk-difference .kept .1 .1 .0) (c .before .before .before .before .before .before .before .before .before .before .before .before .before .before .before .before .before .before .before .before .before .apply .ensures) (c .before .before .before .before .before .before .before .before .before .before .before .before .before .before .before .meet .given .1) (c .before .before .before .before .before .before .before .before .before .before .before .before .before .before .before .before .before .before .before .before .before .apply .kept .1 .0) (c .before .before .before .before .before .before .before .before .before .before .before .apply2 .ensures) (c .before .before .before .before .before .h .given .1) (c .before .before .before .before .before .before .before .before .before .before .before .apply2 .kept .1 .0)
 
 -- src/lib.rt:90:33
 enum-known-listed : tie.Need-enum-known-listed
@@ -110,7 +109,7 @@ same-length-9 c = search needs
 -- src/lib.rt:26:1
 returns-3 : tie.Need-returns-3
 returns-3 c =
-    let g = c .before .before .before .before .before .before .before .before .before .before .before .before .before .before .before .before .before .args in one.not-1 (g .fields) (g .limits) (g .nodes .now) (g .states .now) (g .members .now) (g .scratch .now) (g .c) (edgeOf (g .t)) (edgeOf (g .u)) (g .sum .0) (g .m) (c .before .before .before .before .before .before .before .before .before .before .before .before .before .before .before .before .before .pre) (c .before .before .before .before .before .before .before .before .before .mk-difference .result) (c .before .before .before .before .before .before .before .before .before .mk-difference .last .0) (c .before .before .before .before .before .before .before .before .before .mk-difference .last .1 .0) (c .before .before .before .before .before .before .before .before .before .mk-difference .last .1 .1 .0) (c .before .before .before .before .before .before .before .before .before .mk-difference .ensures) _ (c .before .state .given .1)
+    one.not-1 (c .before .before .before .before .before .before .before .before .before .before .before .before .before .before .before .before .before .args .c) (c .before .before .before .before .before .before .before .before .before .before .before .before .before .before .before .before .before .pre) (c .before .before .before .before .before .before .before .before .before .mk-difference .ensures) (c .before .state .given .1)
 
 -- src/lib.rt:26:1
 same-length-10 : tie.Need-same-length-10
@@ -134,7 +133,7 @@ same-length-13 c =
 -- src/lib.rt:26:1
 returns-4 : tie.Need-returns-4
 returns-4 c =
-    let g = c .before .before .before .before .before .before .before .before .before .before .before .before .before .before .before .before .before .before .before .before .before .before .before .before .before .before .before .before .before .before .before .before .before .before .before .before .before .before .before .before .before .before .before .before .before .before .before .before .before .before .before .before .before .args in one.not-4 (g .fields) (g .limits) (g .nodes .now) (g .states .now) (g .members .now) (g .scratch .now) (g .c) (edgeOf (g .t)) (edgeOf (g .u)) (g .sum .0) (g .m) (c .before .before .before .before .before .before .before .before .before .before .before .before .before .before .before .before .before .before .before .before .before .before .before .before .before .before .before .before .before .before .before .before .before .before .before .before .before .before .before .before .before .before .before .before .before .before .before .before .before .before .before .before .before .pre) (c .before .before .before .before .before .before .before .before .before .before .before .before .before .before .before .before .before .before .before .before .before .before .before .before .before .before .before .before .before .before .before .before .before .before .before .before .before .before .before .before .before .before .before .before .before .mk-difference .result) (c .before .before .before .before .before .before .before .before .before .before .before .before .before .before .before .before .before .before .before .before .before .before .before .before .before .before .before .before .before .before .before .before .before .before .before .before .before .before .before .before .before .before .before .before .before .mk-difference .last .0) (c .before .before .before .before .before .before .before .before .before .before .before .before .before .before .before .before .before .before .before .before .before .before .before .before .before .before .before .before .before .before .before .before .before .before .before .before .before .before .before .before .before .before .before .before .before .mk-difference .last .1 .0) (c .before .before .before .before .before .before .before .before .before .before .before .before .before .before .before .before .before .before .before .before .before .before .before .before .before .before .before .before .before .before .before .before .before .before .before .before .before .before .before .before .before .before .before .before .before .mk-difference .last .1 .1 .0) (c .before .before .before .before .before .before .before .before .before .before .before .before .before .before .before .before .before .before .before .before .before .before .before .before .before .before .before .before .before .before .before .before .before .before .before .before .before .before .before .before .before .before .before .before .before .mk-difference .ensures) _ _ (c .before .before .before .before .before .before .before .before .before .before .before .before .before .before .before .before .before .before .before .before .before .before .before .before .before .before .before .before .before .before .before .before .before .before .before .before .before .state2 .given .1) (c .before .before .before .before .before .before .before .before .before .before .before .before .before .before .before .before .before .before .before .before .before .before .before .before .before .before .before .before .before .before .before .before .before .before .before .before .before .before .before .before .before .before .before .before .before .mk-difference .kept .1 .1 .0) (c .before .before .before .before .before .before .before .before .before .before .before .before .before .before .before .before .before .before .before .before .before .before .before .before .before .before .before .before .before .before .before .before .before .apply .result) (c .before .before .before .before .before .before .before .before .before .before .before .before .before .before .before .before .before .before .before .before .before .before .before .before .before .before .before .before .before .before .before .before .before .apply .last .0) (c .before .before .before .before .before .before .before .before .before .before .before .before .before .before .before .before .before .before .before .before .before .before .before .before .before .before .before .before .before .before .before .before .before .apply .last .1 .0) (c .before .before .before .before .before .before .before .before .before .before .before .before .before .before .before .before .before .before .before .before .before .before .before .before .before .before .before .before .before .before .before .before .before .apply .ensures) _ _ (c .before .before .before .before .before .before .before .before .before .before .before .before .before .before .before .before .before .before .before .before .before .before .before .before .before .before .before .meet .given .1) (c .before .before .before .before .before .before .before .before .before .before .before .before .before .before .before .before .before .before .before .before .before .before .before .before .before .before .before .before .before .before .before .before .before .apply .kept .1 .0) (c .before .before .before .before .before .before .before .before .before .before .before .before .before .before .before .before .before .before .before .before .before .before .before .apply2 .result) (c .before .before .before .before .before .before .before .before .before .before .before .before .before .before .before .before .before .before .before .before .before .before .before .apply2 .last .0) (c .before .before .before .before .before .before .before .before .before .before .before .before .before .before .before .before .before .before .before .before .before .before .before .apply2 .last .1 .0) (c .before .before .before .before .before .before .before .before .before .before .before .before .before .before .before .before .before .before .before .before .before .before .before .apply2 .ensures) _ _ (c .before .before .before .before .before .before .before .before .before .before .before .before .before .before .before .before .before .h .given .1) (c .before .before .before .before .before .before .before .before .before .before .before .before .before .before .before .before .before .before .before .before .before .before .before .apply2 .kept .1 .0) (c .before .before .before .before .before .before .before .before .before .before .before .insert .result) (c .before .before .before .before .before .before .before .before .before .before .before .insert .last .0) (c .before .before .before .before .before .before .before .before .before .before .before .insert .last .1 .0) (c .before .before .before .before .before .before .before .before .before .before .before .insert .last .1 .1 .0) (c .before .before .before .before .before .before .before .before .before .before .before .insert .last .1 .1 .1 .0) (c .before .before .before .before .before .before .before .before .before .before .before .insert .ensures) _ (c .before .listed .given .1)
+    one.not-4 (c .before .before .before .before .before .before .before .before .before .before .before .before .before .before .before .before .before .before .before .before .before .before .before .before .before .before .before .before .before .before .before .before .before .before .before .before .before .before .before .before .before .before .before .before .before .before .before .before .before .before .before .before .before .args .c) (c .before .before .before .before .before .before .before .before .before .before .before .before .before .before .before .before .before .before .before .before .before .before .before .before .before .before .before .before .before .before .before .before .before .before .before .before .before .before .before .before .before .before .before .before .before .before .before .before .before .before .before .before .before .pre) (c .before .before .before .before .before .before .before .before .before .before .before .before .before .before .before .before .before .before .before .before .before .before .before .before .before .before .before .before .before .before .before .before .before .before .before .before .before .before .before .before .before .before .before .before .before .mk-difference .ensures) (c .before .before .before .before .before .before .before .before .before .before .before .before .before .before .before .before .before .before .before .before .before .before .before .before .before .before .before .before .before .before .before .before .before .before .before .before .before .state2 .given .1) (c .before .before .before .before .before .before .before .before .before .before .before .before .before .before .before .before .before .before .before .before .before .before .before .before .before .before .before .before .before .before .before .before .before .before .before .before .before .before .before .before .before .before .before .before .before .mk-difference .kept .1 .1 .0) (c .before .before .before .before .before .before .before .before .before .before .before .before .before .before .before .before .before .before .before .before .before .before .before .before .before .before .before .before .before .before .before .before .before .apply .ensures) (c .before .before .before .before .before .before .before .before .before .before .before .before .before .before .before .before .before .before .before .before .before .before .before .before .before .before .before .meet .given .1) (c .before .before .before .before .before .before .before .before .before .before .before .before .before .before .before .before .before .before .before .before .before .before .before .before .before .before .before .before .before .before .before .before .before .apply .kept .1 .0) (c .before .before .before .before .before .before .before .before .before .before .before .before .before .before .before .before .before .before .before .before .before .before .before .apply2 .ensures) (c .before .before .before .before .before .before .before .before .before .before .before .before .before .before .before .before .before .h .given .1) (c .before .before .before .before .before .before .before .before .before .before .before .before .before .before .before .before .before .before .before .before .before .before .before .apply2 .kept .1 .0) (c .before .before .before .before .before .before .before .before .before .before .before .insert .ensures) (c .before .listed .given .1)
 
 -- src/lib.rt:26:1
 same-length-14 : tie.Need-same-length-14
@@ -158,7 +157,7 @@ same-length-17 c =
 -- src/lib.rt:26:1
 returns-5 : tie.Need-returns-5
 returns-5 c =
-    let g = c .before .before .before .before .before .before .before .before .before .before .before .before .before .before .before .before .before .before .before .before .before .before .before .before .before .before .before .before .before .before .before .before .before .before .before .before .before .before .before .before .before .before .before .before .before .before .before .before .before .before .before .before .before .args in one.one-done (g .fields) (g .limits) (g .nodes .now) (g .states .now) (g .members .now) (g .scratch .now) (g .c) (edgeOf (g .t)) (edgeOf (g .u)) (g .sum .0) (g .m) (c .before .before .before .before .before .before .before .before .before .before .before .before .before .before .before .before .before .before .before .before .before .before .before .before .before .before .before .before .before .before .before .before .before .before .before .before .before .before .before .before .before .before .before .before .before .before .before .before .before .before .before .before .before .pre) (c .before .before .before .before .before .before .before .before .before .before .before .before .before .before .before .before .before .before .before .before .before .before .before .before .before .before .before .before .before .before .before .before .before .before .before .before .before .before .before .before .before .before .before .before .before .mk-difference .result) (c .before .before .before .before .before .before .before .before .before .before .before .before .before .before .before .before .before .before .before .before .before .before .before .before .before .before .before .before .before .before .before .before .before .before .before .before .before .before .before .before .before .before .before .before .before .mk-difference .last .0) (c .before .before .before .before .before .before .before .before .before .before .before .before .before .before .before .before .before .before .before .before .before .before .before .before .before .before .before .before .before .before .before .before .before .before .before .before .before .before .before .before .before .before .before .before .before .mk-difference .last .1 .0) (c .before .before .before .before .before .before .before .before .before .before .before .before .before .before .before .before .before .before .before .before .before .before .before .before .before .before .before .before .before .before .before .before .before .before .before .before .before .before .before .before .before .before .before .before .before .mk-difference .last .1 .1 .0) (c .before .before .before .before .before .before .before .before .before .before .before .before .before .before .before .before .before .before .before .before .before .before .before .before .before .before .before .before .before .before .before .before .before .before .before .before .before .before .before .before .before .before .before .before .before .mk-difference .ensures) _ _ (c .before .before .before .before .before .before .before .before .before .before .before .before .before .before .before .before .before .before .before .before .before .before .before .before .before .before .before .before .before .before .before .before .before .before .before .before .before .state2 .given .1) (c .before .before .before .before .before .before .before .before .before .before .before .before .before .before .before .before .before .before .before .before .before .before .before .before .before .before .before .before .before .before .before .before .before .before .before .before .before .before .before .before .before .before .before .before .before .mk-difference .kept .1 .1 .0) (c .before .before .before .before .before .before .before .before .before .before .before .before .before .before .before .before .before .before .before .before .before .before .before .before .before .before .before .before .before .before .before .before .before .apply .result) (c .before .before .before .before .before .before .before .before .before .before .before .before .before .before .before .before .before .before .before .before .before .before .before .before .before .before .before .before .before .before .before .before .before .apply .last .0) (c .before .before .before .before .before .before .before .before .before .before .before .before .before .before .before .before .before .before .before .before .before .before .before .before .before .before .before .before .before .before .before .before .before .apply .last .1 .0) (c .before .before .before .before .before .before .before .before .before .before .before .before .before .before .before .before .before .before .before .before .before .before .before .before .before .before .before .before .before .before .before .before .before .apply .ensures) _ _ (c .before .before .before .before .before .before .before .before .before .before .before .before .before .before .before .before .before .before .before .before .before .before .before .before .before .before .before .meet .given .1) (c .before .before .before .before .before .before .before .before .before .before .before .before .before .before .before .before .before .before .before .before .before .before .before .before .before .before .before .before .before .before .before .before .before .apply .kept .1 .0) (c .before .before .before .before .before .before .before .before .before .before .before .before .before .before .before .before .before .before .before .before .before .before .before .apply2 .result) (c .before .before .before .before .before .before .before .before .before .before .before .before .before .before .before .before .before .before .before .before .before .before .before .apply2 .last .0) (c .before .before .before .before .before .before .before .before .before .before .before .before .before .before .before .before .before .before .before .before .before .before .before .apply2 .last .1 .0) (c .before .before .before .before .before .before .before .before .before .before .before .before .before .before .before .before .before .before .before .before .before .before .before .apply2 .ensures) _ _ (c .before .before .before .before .before .before .before .before .before .before .before .before .before .before .before .before .before .h .given .1) (c .before .before .before .before .before .before .before .before .before .before .before .before .before .before .before .before .before .before .before .before .before .before .before .apply2 .kept .1 .0) (c .before .before .before .before .before .before .before .before .before .before .before .insert .result) (c .before .before .before .before .before .before .before .before .before .before .before .insert .last .0) (c .before .before .before .before .before .before .before .before .before .before .before .insert .last .1 .0) (c .before .before .before .before .before .before .before .before .before .before .before .insert .last .1 .1 .0) (c .before .before .before .before .before .before .before .before .before .before .before .insert .last .1 .1 .1 .0) (c .before .before .before .before .before .before .before .before .before .before .before .insert .ensures) _ _ (c .before .listed2 .given .1) (c .before .before .before .before .before .before .before .before .before .before .before .insert .kept .1 .1 .1 .0)
+    one.one-done (c .before .before .before .before .before .before .before .before .before .before .before .before .before .before .before .before .before .before .before .before .before .before .before .before .before .before .before .before .before .before .before .before .before .before .before .before .before .before .before .before .before .before .before .before .before .before .before .before .before .before .before .before .before .args .c) (c .before .before .before .before .before .before .before .before .before .before .before .before .before .before .before .before .before .before .before .before .before .before .before .before .before .before .before .before .before .before .before .before .before .before .before .before .before .before .before .before .before .before .before .before .before .before .before .before .before .before .before .before .before .pre) (c .before .before .before .before .before .before .before .before .before .before .before .before .before .before .before .before .before .before .before .before .before .before .before .before .before .before .before .before .before .before .before .before .before .before .before .before .before .before .before .before .before .before .before .before .before .mk-difference .ensures) (c .before .before .before .before .before .before .before .before .before .before .before .before .before .before .before .before .before .before .before .before .before .before .before .before .before .before .before .before .before .before .before .before .before .before .before .before .before .state2 .given .1) (c .before .before .before .before .before .before .before .before .before .before .before .before .before .before .before .before .before .before .before .before .before .before .before .before .before .before .before .before .before .before .before .before .before .before .before .before .before .before .before .before .before .before .before .before .before .mk-difference .kept .1 .1 .0) (c .before .before .before .before .before .before .before .before .before .before .before .before .before .before .before .before .before .before .before .before .before .before .before .before .before .before .before .before .before .before .before .before .before .apply .ensures) (c .before .before .before .before .before .before .before .before .before .before .before .before .before .before .before .before .before .before .before .before .before .before .before .before .before .before .before .meet .given .1) (c .before .before .before .before .before .before .before .before .before .before .before .before .before .before .before .before .before .before .before .before .before .before .before .before .before .before .before .before .before .before .before .before .before .apply .kept .1 .0) (c .before .before .before .before .before .before .before .before .before .before .before .before .before .before .before .before .before .before .before .before .before .before .before .apply2 .ensures) (c .before .before .before .before .before .before .before .before .before .before .before .before .before .before .before .before .before .h .given .1) (c .before .before .before .before .before .before .before .before .before .before .before .before .before .before .before .before .before .before .before .before .before .before .before .apply2 .kept .1 .0) (c .before .before .before .before .before .before .before .before .before .before .before .insert .ensures) (c .before .listed2 .given .1)
 
 pub subtract-one-spec : {M : Type 1} → statement M
 subtract-one-spec =

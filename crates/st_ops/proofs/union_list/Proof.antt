@@ -31,7 +31,7 @@ enum-known-listed-2 c = search needs
 -- src/lib.rt:49:31
 insert-each-requires-2 : tie.Need-insert-each-requires-2
 insert-each-requires-2 c κs =
-    let g = c .before .before .before .before .before .before .before .before .before .before .before .before .before .before .before .before .before .before .before .before .before .before .before .before .before .args in join.union-ready (g .fields) (g .limits) (g .transitions .now) (g .scratch .now) (g .first) (g .second) (g .k) (g .j) (autOf (g .nodes .now) (g .states .now) (g .members .now) (g .c)) (g .c) (c .before .before .before .before .before .before .before .before .before .before .before .before .before .before .before .insert-each .last .0) (c .before .before .before .before .before .before .before .before .before .before .before .before .before .before .before .insert-each .last .1 .0) (c .before .before .before .before .before .before .before .before .before .before .before .before .before .before .before .insert-each .last .1 .1 .0) (c .before .before .before .before .before .before .before .before .before .before .before .before .before .before .before .insert-each .last .1 .1 .1 .1 .0) (c .before .before .before .before .before .before .before .before .before .before .before .before .before .before .before .insert-each .ensures) _ _ (c .before .before .before .before .before .listed2 .given .1) (c .before .before .before .before .before .before .before .before .before .before .before .before .before .before .before .before .before .before .before .before .before .before .before .before .before .pre)
+    join.union-ready (c .before .before .before .before .before .before .before .before .before .before .before .before .before .before .before .before .before .before .before .before .before .before .before .before .before .pre) (c .before .before .before .before .before .before .before .before .before .before .before .before .before .before .before .insert-each .ensures) (c .before .before .before .before .before .listed2 .given .1)
 
 -- src/lib.rt:16:1
 same-length : tie.Need-same-length
@@ -52,7 +52,7 @@ same-length-4 c = search needs
 -- src/lib.rt:16:1
 returns : tie.Need-returns
 returns c =
-    let g = c .before .before .before .before .before .before .before .before .before .before .before .before .before .before .before .before .before .before .before .before .before .args in join.union-refused (g .fields) (g .limits) (g .transitions .now) (g .scratch .now) (g .first) (g .second) (g .k) (g .j) (autOf (g .nodes .now) (g .states .now) (g .members .now) (g .c)) (g .c) (c .before .before .before .before .before .before .before .before .before .before .before .insert-each .last .0) (c .before .before .before .before .before .before .before .before .before .before .before .insert-each .last .1 .0) (c .before .before .before .before .before .before .before .before .before .before .before .insert-each .last .1 .1 .0) (c .before .before .before .before .before .before .before .before .before .before .before .insert-each .last .1 .1 .1 .1 .0) (c .before .before .before .before .before .before .before .before .before .before .before .insert-each .ensures) (c .before .listed .given .1)
+    join.union-refused (c .before .before .before .before .before .before .before .before .before .before .before .before .before .before .before .before .before .before .before .before .before .pre) (c .before .before .before .before .before .before .before .before .before .before .before .insert-each .ensures) (c .before .listed .given .1)
 
 -- src/lib.rt:16:1
 same-length-5 : tie.Need-same-length-5
@@ -73,7 +73,7 @@ same-length-8 c = search needs
 -- src/lib.rt:16:1
 returns-2 : tie.Need-returns-2
 returns-2 c =
-    let g = c .before .before .before .before .before .before .before .before .before .before .before .before .before .before .before .before .before .before .before .before .before .before .before .before .before .before .before .before .before .before .before .before .before .before .args in join.union-does (g .fields) (g .limits) (g .transitions .now) (g .scratch .now) (g .first) (g .second) (g .k) (g .j) (autOf (g .nodes .now) (g .states .now) (g .members .now) (g .c)) (g .c) (c .before .before .before .before .before .before .before .before .before .before .before .before .before .before .before .before .before .before .before .before .before .before .before .before .insert-each .last .0) (c .before .before .before .before .before .before .before .before .before .before .before .before .before .before .before .before .before .before .before .before .before .before .before .before .insert-each .last .1 .0) (c .before .before .before .before .before .before .before .before .before .before .before .before .before .before .before .before .before .before .before .before .before .before .before .before .insert-each .last .1 .1 .0) (c .before .before .before .before .before .before .before .before .before .before .before .before .before .before .before .before .before .before .before .before .before .before .before .before .insert-each .last .1 .1 .1 .1 .0) (c .before .before .before .before .before .before .before .before .before .before .before .before .before .before .before .before .before .before .before .before .before .before .before .before .insert-each .ensures) _ _ (c .before .before .before .before .before .before .before .before .before .before .before .before .before .before .listed2 .given .1) (c .before .before .before .before .before .before .before .before .before .before .before .before .before .before .before .before .before .before .before .before .before .before .before .before .before .before .before .before .before .before .before .before .before .before .pre) (c .before .before .before .before .before .before .before .before .insert-each2 .ensures)
+    join.union-does (c .before .before .before .before .before .before .before .before .before .before .before .before .before .before .before .before .before .before .before .before .before .before .before .before .before .before .before .before .before .before .before .before .before .before .pre) (c .before .before .before .before .before .before .before .before .before .before .before .before .before .before .before .before .before .before .before .before .before .before .before .before .insert-each .ensures) (c .before .before .before .before .before .before .before .before .before .before .before .before .before .before .listed2 .given .1) (c .before .before .before .before .before .before .before .before .insert-each2 .ensures)
 
 pub union-list-spec : {M : Type 1} → statement M
 union-list-spec =

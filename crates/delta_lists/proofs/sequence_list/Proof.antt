@@ -1,0 +1,152 @@
+use mathlib.Core.Path.{_∙_}
+use Rattle.st_more.proofs.Join as join
+use Rattle.delta_lists.proofs.Sequence as sequence
+use borrow.Author.Needs.{needs}
+use Rattle.delta_lists.proofs.sequence_list.Statement.{statement}
+use Rattle.delta_lists.proofs.sequence_list.Tie as tie
+use Rattle.delta_lists.proofs.sequence_list.Reads as reads
+use Rattle.delta_lists.proofs.sequence_list.Lts as lts
+use Rattle.st_each.proofs.insert_each.Reads as insert-each-reads
+use Rattle.st_edges.proofs.copy.Reads as copy-reads
+use Rattle.st_ops.proofs.union_list.Reads as union-list-reads
+
+-- src/lib.rt:35:9
+insert-each-requires : tie.Need-insert-each-requires
+insert-each-requires c κs =
+    sequence.late-ready (c .before .before .before .before .before .before .before .before .before .pre)
+
+-- src/lib.rt:50:25
+enum-known-late : tie.Need-enum-known-late
+enum-known-late c = search needs
+
+-- src/lib.rt:51:22
+enum-known-late-2 : tie.Need-enum-known-late-2
+enum-known-late-2 c = search needs
+
+-- src/lib.rt:52:13
+copy-requires : tie.Need-copy-requires
+copy-requires c κs =
+    join.copy-1 (sequence.sequence-joins (c .before .before .before .before .before .before .before .before .before .before .before .before .before .before .before .before .before .before .before .before .before .before .pre)) (sequence.late-is (c .before .before .before .before .before .before .before .before .before .before .before .before .before .before .before .before .before .before .before .before .before .before .pre) (c .before .before .before .before .before .before .before .before .before .before .before .before .insert-each .ensures)) (c .before .before .late2 .given .1)
+
+-- src/lib.rt:53:17
+insert-each-requires-2 : tie.Need-insert-each-requires-2
+insert-each-requires-2 c κs =
+    let v = join.stage-2 (sequence.sequence-joins (c .before .before .before .before .before .before .before .before .before .before .before .before .before .before .before .before .before .before .before .before .before .before .before .before .before .before .before .before .before .pre)) (sequence.late-is (c .before .before .before .before .before .before .before .before .before .before .before .before .before .before .before .before .before .before .before .before .before .before .before .before .before .before .before .before .before .pre) (c .before .before .before .before .before .before .before .before .before .before .before .before .before .before .before .before .before .before .before .insert-each .ensures)) (c .before .before .before .before .before .before .before .before .before .late2 .given .1) (c .before .before .before .before .before .before .copy .ensures) (c .before .before .before .before .before .before .copy .kept .0) in sequence.early-ready (c .before .before .before .before .before .before .before .before .before .before .before .before .before .before .before .before .before .before .before .before .before .before .before .before .before .before .before .before .before .pre) (v .ready) (v .ext .grown)
+
+-- src/lib.rt:68:33
+enum-known-early : tie.Need-enum-known-early
+enum-known-early c = search needs
+
+-- src/lib.rt:69:30
+enum-known-early-2 : tie.Need-enum-known-early-2
+enum-known-early-2 c = search needs
+
+-- src/lib.rt:70:21
+copy-requires-2 : tie.Need-copy-requires-2
+copy-requires-2 c κs =
+    join.copy-2 (sequence.sequence-joins (c .before .before .before .before .before .before .before .before .before .before .before .before .before .before .before .before .before .before .before .before .before .before .before .before .before .before .before .before .before .before .before .before .before .before .before .before .before .before .before .before .before .before .pre)) (sequence.late-is (c .before .before .before .before .before .before .before .before .before .before .before .before .before .before .before .before .before .before .before .before .before .before .before .before .before .before .before .before .before .before .before .before .before .before .before .before .before .before .before .before .before .before .pre) (c .before .before .before .before .before .before .before .before .before .before .before .before .before .before .before .before .before .before .before .before .before .before .before .before .before .before .before .before .before .before .before .before .insert-each .ensures)) (c .before .before .before .before .before .before .before .before .before .before .before .before .before .before .before .before .before .before .before .before .before .before .late2 .given .1) (c .before .before .before .before .before .before .before .before .before .before .before .before .before .before .before .before .before .before .before .copy .ensures) (c .before .before .before .before .before .before .before .before .before .before .before .before .before .before .before .before .before .before .before .copy .kept .0) (sequence.early-is (c .before .before .before .before .before .before .before .before .before .before .before .before .before .before .before .before .before .before .before .before .before .before .before .before .before .before .before .before .before .before .before .before .before .before .before .before .before .before .before .before .before .before .pre) (c .before .before .before .before .before .before .before .before .before .before .before .before .insert-each2 .ensures)) (c .before .before .early2 .given .1)
+
+-- src/lib.rt:71:21
+union-list-requires : tie.Need-union-list-requires
+union-list-requires c κs =
+    join.join-ready (sequence.sequence-joins (c .before .before .before .before .before .before .before .before .before .before .before .before .before .before .before .before .before .before .before .before .before .before .before .before .before .before .before .before .before .before .before .before .before .before .before .before .before .before .before .before .before .before .before .before .before .before .before .before .before .pre)) (sequence.late-is (c .before .before .before .before .before .before .before .before .before .before .before .before .before .before .before .before .before .before .before .before .before .before .before .before .before .before .before .before .before .before .before .before .before .before .before .before .before .before .before .before .before .before .before .before .before .before .before .before .before .pre) (c .before .before .before .before .before .before .before .before .before .before .before .before .before .before .before .before .before .before .before .before .before .before .before .before .before .before .before .before .before .before .before .before .before .before .before .before .before .before .before .insert-each .ensures)) (c .before .before .before .before .before .before .before .before .before .before .before .before .before .before .before .before .before .before .before .before .before .before .before .before .before .before .before .before .before .late2 .given .1) (c .before .before .before .before .before .before .before .before .before .before .before .before .before .before .before .before .before .before .before .before .before .before .before .before .before .before .copy .ensures) (c .before .before .before .before .before .before .before .before .before .before .before .before .before .before .before .before .before .before .before .before .before .before .before .before .before .before .copy .kept .0) (sequence.early-is (c .before .before .before .before .before .before .before .before .before .before .before .before .before .before .before .before .before .before .before .before .before .before .before .before .before .before .before .before .before .before .before .before .before .before .before .before .before .before .before .before .before .before .before .before .before .before .before .before .before .pre) (c .before .before .before .before .before .before .before .before .before .before .before .before .before .before .before .before .before .before .before .insert-each2 .ensures)) (c .before .before .before .before .before .before .before .before .before .early2 .given .1) (c .before .before .before .before .before .before .copy2 .ensures) (c .before .before .before .before .before .before .copy2 .kept .0)
+
+-- src/lib.rt:16:1
+same-length : tie.Need-same-length
+same-length c = search needs
+
+-- src/lib.rt:16:1
+same-length-2 : tie.Need-same-length-2
+same-length-2 c = search needs
+
+-- src/lib.rt:16:1
+same-length-3 : tie.Need-same-length-3
+same-length-3 c = search needs
+
+-- src/lib.rt:16:1
+same-length-4 : tie.Need-same-length-4
+same-length-4 c = search needs
+
+-- src/lib.rt:16:1
+returns : tie.Need-returns
+returns c =
+    join.stuck-1 (sequence.sequence-joins (c .before .before .before .before .before .before .before .before .before .before .before .before .before .before .before .before .before .before .before .before .before .pre)) (sequence.late-is (c .before .before .before .before .before .before .before .before .before .before .before .before .before .before .before .before .before .before .before .before .before .pre) (c .before .before .before .before .before .before .before .before .before .before .before .insert-each .ensures)) (c .before .late .given .1)
+
+-- src/lib.rt:16:1
+same-length-5 : tie.Need-same-length-5
+same-length-5 c =
+    c .before .before .before .before .before .before .before .before .before .before .before .insert-each2 .kept .0 ∙ c .before .before .before .before .before .before .before .before .before .before .before .before .before .before .before .before .before .before .before .before .before .before .before .before .before .before .before .before .before .before .before .insert-each .kept .0
+
+-- src/lib.rt:16:1
+same-length-6 : tie.Need-same-length-6
+same-length-6 c =
+    c .before .before .before .before .before .before .before .before .before .before .before .insert-each2 .kept .1 .0 ∙ c .before .before .before .before .before .before .before .before .before .before .before .before .before .before .before .before .before .before .before .before .before .before .before .before .before .before .before .before .before .before .before .insert-each .kept .1 .0
+
+-- src/lib.rt:16:1
+same-length-7 : tie.Need-same-length-7
+same-length-7 c =
+    c .before .before .before .before .before .before .before .before .before .before .before .insert-each2 .kept .1 .1 .0 ∙ c .before .before .before .before .before .before .before .before .before .before .before .before .before .before .before .before .before .before .before .before .before .before .before .before .before .before .before .before .before .before .before .insert-each .kept .1 .1 .0
+
+-- src/lib.rt:16:1
+same-length-8 : tie.Need-same-length-8
+same-length-8 c =
+    c .before .before .before .before .before .before .before .before .before .before .before .insert-each2 .kept .1 .1 .1 .1 .0 ∙ c .before .before .before .before .before .before .before .before .before .before .before .before .before .before .before .before .before .before .copy .kept .0 ∙ c .before .before .before .before .before .before .before .before .before .before .before .before .before .before .before .before .before .before .before .before .before .before .before .before .before .before .before .before .before .before .before .insert-each .kept .1 .1 .1 .1 .0
+
+-- src/lib.rt:16:1
+returns-2 : tie.Need-returns-2
+returns-2 c =
+    join.stuck-2 (sequence.sequence-joins (c .before .before .before .before .before .before .before .before .before .before .before .before .before .before .before .before .before .before .before .before .before .before .before .before .before .before .before .before .before .before .before .before .before .before .before .before .before .before .before .before .before .pre)) (sequence.late-is (c .before .before .before .before .before .before .before .before .before .before .before .before .before .before .before .before .before .before .before .before .before .before .before .before .before .before .before .before .before .before .before .before .before .before .before .before .before .before .before .before .before .pre) (c .before .before .before .before .before .before .before .before .before .before .before .before .before .before .before .before .before .before .before .before .before .before .before .before .before .before .before .before .before .before .before .insert-each .ensures)) (c .before .before .before .before .before .before .before .before .before .before .before .before .before .before .before .before .before .before .before .before .before .late2 .given .1) (c .before .before .before .before .before .before .before .before .before .before .before .before .before .before .before .before .before .before .copy .ensures) (c .before .before .before .before .before .before .before .before .before .before .before .before .before .before .before .before .before .before .copy .kept .0) (sequence.early-is (c .before .before .before .before .before .before .before .before .before .before .before .before .before .before .before .before .before .before .before .before .before .before .before .before .before .before .before .before .before .before .before .before .before .before .before .before .before .before .before .before .before .pre) (c .before .before .before .before .before .before .before .before .before .before .before .insert-each2 .ensures)) (c .before .early .given .1)
+
+-- src/lib.rt:16:1
+same-length-9 : tie.Need-same-length-9
+same-length-9 c =
+    c .before .before .before .before .before .before .before .before .union-list .kept .0 ∙ c .before .before .before .before .before .before .before .before .before .before .before .before .before .before .before .before .before .before .before .before .before .before .before .before .before .before .before .before .insert-each2 .kept .0 ∙ c .before .before .before .before .before .before .before .before .before .before .before .before .before .before .before .before .before .before .before .before .before .before .before .before .before .before .before .before .before .before .before .before .before .before .before .before .before .before .before .before .before .before .before .before .before .before .before .before .insert-each .kept .0
+
+-- src/lib.rt:16:1
+same-length-10 : tie.Need-same-length-10
+same-length-10 c =
+    c .before .before .before .before .before .before .before .before .union-list .kept .1 .0 ∙ c .before .before .before .before .before .before .before .before .before .before .before .before .before .before .before .before .before .before .before .before .before .before .before .before .before .before .before .before .insert-each2 .kept .1 .0 ∙ c .before .before .before .before .before .before .before .before .before .before .before .before .before .before .before .before .before .before .before .before .before .before .before .before .before .before .before .before .before .before .before .before .before .before .before .before .before .before .before .before .before .before .before .before .before .before .before .before .insert-each .kept .1 .0
+
+-- src/lib.rt:16:1
+same-length-11 : tie.Need-same-length-11
+same-length-11 c =
+    c .before .before .before .before .before .before .before .before .union-list .kept .1 .1 .0 ∙ c .before .before .before .before .before .before .before .before .before .before .before .before .before .before .before .before .before .before .before .before .before .before .before .before .before .before .before .before .insert-each2 .kept .1 .1 .0 ∙ c .before .before .before .before .before .before .before .before .before .before .before .before .before .before .before .before .before .before .before .before .before .before .before .before .before .before .before .before .before .before .before .before .before .before .before .before .before .before .before .before .before .before .before .before .before .before .before .before .insert-each .kept .1 .1 .0
+
+-- src/lib.rt:16:1
+same-length-12 : tie.Need-same-length-12
+same-length-12 c =
+    c .before .before .before .before .before .before .before .before .union-list .kept .1 .1 .1 .1 .0 ∙ c .before .before .before .before .before .before .before .before .before .before .before .before .before .before .before .copy2 .kept .0 ∙ c .before .before .before .before .before .before .before .before .before .before .before .before .before .before .before .before .before .before .before .before .before .before .before .before .before .before .before .before .insert-each2 .kept .1 .1 .1 .1 .0 ∙ c .before .before .before .before .before .before .before .before .before .before .before .before .before .before .before .before .before .before .before .before .before .before .before .before .before .before .before .before .before .before .before .before .before .before .before .copy .kept .0 ∙ c .before .before .before .before .before .before .before .before .before .before .before .before .before .before .before .before .before .before .before .before .before .before .before .before .before .before .before .before .before .before .before .before .before .before .before .before .before .before .before .before .before .before .before .before .before .before .before .before .insert-each .kept .1 .1 .1 .1 .0
+
+-- src/lib.rt:16:1
+returns-3 : tie.Need-returns-3
+returns-3 c =
+    join.joined (sequence.sequence-joins (c .before .before .before .before .before .before .before .before .before .before .before .before .before .before .before .before .before .before .before .before .before .before .before .before .before .before .before .before .before .before .before .before .before .before .before .before .before .before .before .before .before .before .before .before .before .before .before .before .before .before .before .before .before .before .before .before .before .before .pre)) (sequence.late-is (c .before .before .before .before .before .before .before .before .before .before .before .before .before .before .before .before .before .before .before .before .before .before .before .before .before .before .before .before .before .before .before .before .before .before .before .before .before .before .before .before .before .before .before .before .before .before .before .before .before .before .before .before .before .before .before .before .before .before .pre) (c .before .before .before .before .before .before .before .before .before .before .before .before .before .before .before .before .before .before .before .before .before .before .before .before .before .before .before .before .before .before .before .before .before .before .before .before .before .before .before .before .before .before .before .before .before .before .before .before .insert-each .ensures)) (c .before .before .before .before .before .before .before .before .before .before .before .before .before .before .before .before .before .before .before .before .before .before .before .before .before .before .before .before .before .before .before .before .before .before .before .before .before .before .late2 .given .1) (c .before .before .before .before .before .before .before .before .before .before .before .before .before .before .before .before .before .before .before .before .before .before .before .before .before .before .before .before .before .before .before .before .before .before .before .copy .ensures) (c .before .before .before .before .before .before .before .before .before .before .before .before .before .before .before .before .before .before .before .before .before .before .before .before .before .before .before .before .before .before .before .before .before .before .before .copy .kept .0) (sequence.early-is (c .before .before .before .before .before .before .before .before .before .before .before .before .before .before .before .before .before .before .before .before .before .before .before .before .before .before .before .before .before .before .before .before .before .before .before .before .before .before .before .before .before .before .before .before .before .before .before .before .before .before .before .before .before .before .before .before .before .before .pre) (c .before .before .before .before .before .before .before .before .before .before .before .before .before .before .before .before .before .before .before .before .before .before .before .before .before .before .before .before .insert-each2 .ensures)) (c .before .before .before .before .before .before .before .before .before .before .before .before .before .before .before .before .before .before .early2 .given .1) (c .before .before .before .before .before .before .before .before .before .before .before .before .before .before .before .copy2 .ensures) (c .before .before .before .before .before .before .before .before .before .before .before .before .before .before .before .copy2 .kept .0) (c .before .before .before .before .before .before .before .before .union-list .ensures)
+
+pub sequence-list-spec : {M : Type 1} → statement M
+sequence-list-spec =
+    tie.close
+    (tie.spec
+    insert-each-requires
+    enum-known-late
+    enum-known-late-2
+    copy-requires
+    insert-each-requires-2
+    enum-known-early
+    enum-known-early-2
+    copy-requires-2
+    union-list-requires
+    same-length
+    same-length-2
+    same-length-3
+    same-length-4
+    returns
+    same-length-5
+    same-length-6
+    same-length-7
+    same-length-8
+    returns-2
+    same-length-9
+    same-length-10
+    same-length-11
+    same-length-12
+    returns-3)

@@ -1,0 +1,2 @@
+-- Lemmas for the proofs of this crate.
+pub mod Join

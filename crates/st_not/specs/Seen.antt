@@ -1,0 +1,23 @@
+-- 01, port order, step 3 (ST operations): what st_complement asks.
+use mathlib.Core.List.{List}
+use Prim.Native.Nat.{ℕ, _≤_, _<_}
+use Rattle.common.specs.Runs.{Table}
+use Rattle.spp_steps.specs.Laws.{At}
+use Rattle.aut_steps.specs.Tables.{Aut}
+use Rattle.aut.specs.declared.Limits.{Limits}
+use Rattle.aut_rel.specs.Behind.{Backed}
+use Rattle.aut_rel.specs.Seen.{Ready}
+use Rattle.st_source.specs.declared.Source.{Source}
+use Rattle.st_source.specs.Seen.{entryOf, Within, Walked}
+
+-- the labels of a list are relations
+pub record CoverReady (N : ℕ) (t : Table) (tr s : List ℕ) (x : Source) (k : ℕ) : Type 0 where
+  pub backed : Backed N t s
+  pub within : Within tr x k
+  pub labels : (i : ℕ) → i < k → At t N (entryOf x tr s i .label)
+
+-- a list
+pub record OneReady (N : ℕ) (l : Limits) (σ : Aut) (tr s : List ℕ) (x : Source) (k : ℕ) : Type 0 where
+  pub ready : Ready N l σ s
+  pub limit : l .transitions ≤ 64
+  pub walked : Walked N σ tr s x k

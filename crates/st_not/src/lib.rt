@@ -1,0 +1,142 @@
+// st_complement of aut.rs. The result stands at RESULT.
+use aut::Counts;
+use aut::Limits;
+use aut::State;
+use spp::Made;
+use spp::Op;
+use st::Listed;
+use st_each::Each;
+use st_source::Source;
+ghost use Rattle.common.specs.Runs.{table};
+ghost use Rattle.netkat.specs.ListSteps as St;
+ghost use Rattle.aut_steps.specs.Relations.{zeroAt};
+ghost use Rattle.st_steps.specs.Operations.{ops};
+ghost use Rattle.aut.specs.Seen.{limitsOf};
+ghost use Rattle.aut_rel.specs.Seen.{autOf};
+ghost use Rattle.aut_stage.specs.Stage.{Post};
+ghost use Rattle.aut_stage.specs.OnNodes.{nodesLayer, Handle, madeOf};
+ghost use Rattle.st_source.specs.Seen.{sourceOf};
+ghost use Rattle.st_stage.specs.Readings.{GivesList};
+ghost use Rattle.st_not.specs.Seen.{CoverReady, OneReady};
+ghost use Rattle.st_not.specs.Cover.{coverNodes, uncovered};
+
+// the union of the labels
+fn cover_all(
+    nodes: &mut [u32],
+    transitions: &[u32],
+    scratch: &mut [u32],
+    count: usize,
+    fields: u32,
+    source: Source,
+    k: usize,
+) -> Made
+    requires { ⌜ CoverReady fields (table (now nodes) count) (now transitions) (now scratch) source k ⌝ }
+    ensures { λ r. ⌜ Post (nodesLayer fields) 0 0 (Handle fields) (coverNodes fields (sourceOf source (now (transitions .entry)) (now (scratch .entry)) k) (zeroAt fields) (table (now (nodes .entry)) count)) (table (now (nodes .entry)) count) count (madeOf r) (table (now (nodes .exit))) (now (scratch .entry)) (now (scratch .exit)) ⌝ }
+{
+    let mut sum = spp::zero_at_depth(fields);
+    let mut n = count;
+    let mut i = 0;
+    while i < k {
+        let t = st_source::read(transitions, scratch, source, i);
+        let Made::Node(h, n1) = aut_rel::apply(nodes, scratch, n, fields, Op::Union, sum, t.label)
+        else {
+            return Made::Full;
+        };
+        sum = h;
+        n = n1;
+        i += 1;
+    }
+    Made::Node(sum, n)
+}
+
+// what no label has
+fn rest_of(
+    nodes: &mut [u32],
+    transitions: &[u32],
+    scratch: &mut [u32],
+    count: usize,
+    fields: u32,
+    source: Source,
+    k: usize,
+) -> Made
+    requires { ⌜ CoverReady fields (table (now nodes) count) (now transitions) (now scratch) source k ⌝ }
+    ensures { λ r. ⌜ Post (nodesLayer fields) 0 0 (Handle fields) (uncovered fields (sourceOf source (now (transitions .entry)) (now (scratch .entry)) k) (table (now (nodes .entry)) count)) (table (now (nodes .entry)) count) count (madeOf r) (table (now (nodes .exit))) (now (scratch .entry)) (now (scratch .exit)) ⌝ }
+{
+    let Made::Node(h, n) = cover_all(nodes, transitions, scratch, count, fields, source, k) else {
+        return Made::Full;
+    };
+    aut_rel::apply(nodes, scratch, n, fields, Op::Not, h, h)
+}
+
+pub fn complement_list(
+    nodes: &mut [u32],
+    states: &mut [u32],
+    members: &mut [u32],
+    transitions: &[u32],
+    scratch: &mut [u32],
+    c: Counts,
+    limits: Limits,
+    fields: u32,
+    source: Source,
+    k: usize,
+) -> Listed
+    requires { ⌜ OneReady fields limits (autOf (now nodes) (now states) (now members) c) (now transitions) (now scratch) source k ⌝ }
+    ensures { λ r. ⌜ GivesList fields limits 0 832 (St.complementList (ops fields (limitsOf limits)) (sourceOf source (now (transitions .entry)) (now (scratch .entry)) k)) (autOf (now (nodes .entry)) (now (states .entry)) (now (members .entry)) c) c r (autOf (now (nodes .exit)) (now (states .exit)) (now (members .exit))) (now (scratch .entry)) (now (scratch .exit)) ⌝ }
+{
+    let listed = st_each::insert_each(
+        nodes,
+        states,
+        members,
+        transitions,
+        scratch,
+        c,
+        limits,
+        fields,
+        Each::Complement,
+        source,
+        k,
+        0,
+    );
+    match listed {
+        Listed::Refused(e) => Listed::Refused(e),
+        Listed::List(d, n) => {
+            let Made::Node(rest, n1) = rest_of(
+                nodes,
+                transitions,
+                scratch,
+                d.spp,
+                fields,
+                source,
+                k,
+            ) else {
+                return Listed::Refused(21);
+            };
+            let put = aut::mk_top(states, d.states);
+            let state = aut_rel::placed(
+                put,
+                Counts {
+                    sp: d.sp,
+                    spp: n1,
+                    states: d.states,
+                    members: d.members,
+                    transitions: d.transitions,
+                },
+            );
+            match state {
+                State::Refused(e) => Listed::Refused(e),
+                State::Is(top, f) => st::insert(
+                    nodes,
+                    states,
+                    members,
+                    scratch,
+                    f,
+                    limits,
+                    fields,
+                    top,
+                    rest,
+                    n,
+                ),
+            }
+        }
+    }
+}
