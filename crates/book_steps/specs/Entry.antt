@@ -2,36 +2,15 @@
 use mathlib.Core.Path.{_≡_}
 use mathlib.Core.List.{List}
 use mathlib.Core.Option.{Option, some}
-use Prim.Native.Nat.{ℕ, _≤_, _<_}
-use lib.ListN.{length, getD}
+use Prim.Native.Nat.{ℕ}
 use Rattle.common.specs.Outcome.{refused, given}
 use Rattle.netkat.specs.Rules.{Rule}
 use Rattle.book_steps.specs.Reader.{Header, Said, tell}
-use Rattle.book_steps.specs.Run.{Lent, settingOf, Place, obey, Result, outcome}
+use Rattle.book_steps.specs.Run.{Lent, settingOf, Place, obey, outcome}
 use Rattle.book_steps.specs.Claims.{Reached, reached-well}
 use Rattle.book_steps.specs.Demands.{Done, line-done, Whole, outcome-whole}
 use Rattle.book_steps.specs.Refusals.{Because, refused-because}
-
--- The output's first bytes are these; the bytes past them are untouched.
-pub record Written (bytes before after : List ℕ) : Type 0 where
-  pub len : length after ≡ length before
-  pub fits : length bytes ≤ length before
-  pub is : (i : ℕ) → i < length bytes → getD after i 0 ≡ getD bytes i 0
-  pub untouched : (i : ℕ) → length bytes ≤ i → getD after i 0 ≡ getD before i 0
-
--- What is returned, and each table as it is left: the outcome r.
-pub record Comes (r : Result) (number line len : ℕ) (before output sp spp states members transitions pending scratch : List ℕ) : Type 0 where
-  pub number-is : number ≡ r .number
-  pub line-is : line ≡ r .line
-  pub length-is : len ≡ length (r .output)
-  pub output-is : Written (r .output) before output
-  pub sp-is : sp ≡ r .sp
-  pub spp-is : spp ≡ r .spp
-  pub states-are : states ≡ r .states
-  pub members-are : members ≡ r .members
-  pub transitions-are : transitions ≡ r .transitions
-  pub pending-is : pending ≡ r .pending
-  pub scratch-is : scratch ≡ r .scratch
+pub use Rattle.book_steps.specs.Claim.{Written, Comes}
 
 pub record Promised (lent : Lent) (book : List ℕ) (number line len : ℕ) (before output sp spp states members transitions pending scratch : List ℕ) : Type 0 where
   pub comes : Comes (outcome lent book) number line len before output sp spp states members transitions pending scratch

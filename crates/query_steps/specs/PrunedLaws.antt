@@ -6,11 +6,11 @@ use mathlib.Core.List.{List, [], _∷_, map, List·Memᴰ, List·Memᴰ·head, L
 use Prim.Native.Nat.{ℕ, _-_, _<_}
 use native.Mathlib.Omega.{arith}
 use lib.Dec.{T, eqb}
-use borrow.Author.Tests.{eqb-true, eq-eqb}
+use borrow.Author.Tests.{eqb-true, eq-eqb, lt-ltb}
 use Rattle.common.specs.Packets.{Packet, Set, Relation}
 use Rattle.common.specs.Relations.{nonempty}
 use Rattle.common.specs.RelationLaws.{nonempty-of, nonempty-to}
-use Rattle.common.specs.Outcome.{Gives, if_then_else_}
+use Rattle.common.specs.Outcome.{Outcome, given, after, _>>=_, Gives, if_then_else_}
 use Rattle.common.specs.Runs.{Table}
 use Rattle.netkat.specs.Lists.{State, Transition, to, Ascending, IsDelta}
 use Rattle.netkat.specs.ListSteps.{Edge, edge, Are, IsList}
@@ -27,12 +27,13 @@ use Rattle.aut_steps.specs.Tables.{Limits}
 use Rattle.aut_steps.specs.Good.{states, state-grown}
 use Rattle.aut_steps.specs.Meaning.{Holds}
 use Rattle.aut_steps.specs.StateLaws.{nodes-goes}
-use Rattle.delta_steps.specs.Delta.{listAt}
+use Rattle.delta_steps.specs.Delta.{Store, countOf, listAt, keepList, delta-by-kind, delta-with, delta}
 use Rattle.delta_steps.specs.Fits.{tables as readings}
 use Rattle.delta_steps.specs.Labels.{intersect-makes}
-use Rattle.delta_steps.specs.Worked.{later-grown, Stored}
+use Rattle.delta_steps.specs.Worked.{later-grown, Worked, Stored}
+use Rattle.delta_steps.specs.DeltaLaws.{delta-is}
 use Rattle.delta_steps.specs.Stored.{stored-went}
-use Rattle.delta_steps.specs.PlainSearch.{decoded}
+use Rattle.delta_steps.specs.PlainSearch.{decoded, answers}
 use Rattle.query_steps.specs.Tables.{Tables, diagrams, liveOf, LiveSet, Ordered, both-wf, Gone, Later, later-trans, gone-later, live-word}
 use Rattle.query_steps.specs.Steps.{gone-refl, gone-trans, Ends, comes, Steps, ends-gives, ends-map, ends-bind, ends-call, ends-later, relations-step, goes-ends, delta-ends}
 use Rattle.query_steps.specs.ExploreLaws.{targets-known}
@@ -102,13 +103,28 @@ module _ {N : ℕ} {L : Limits} {lent : ℕ} where
 
 -- ---- delta_pruned
 
--- The edges are the pruned list of x; the tables are in order.
+-- The edges are the pruned list of x: what delta gives, cut by the live sets of the targets, empty ones gone. The tables are in order.
 pub record PrunedTo (N : ℕ) (L : Limits) (x : ℕ) (σ τ : Tables) (es : List Edge) : Type 0 where
   pub later : Later σ τ
   pub ordered : Ordered N L τ
   pub list : List (Transition State N)
   pub are : Are (readings N L) (τ .base .aut) es list
   pub is : Pruned (Holds N (τ .base .aut)) (Holds N (τ .base .aut) x) list
+  pub whole : List (Transition State N)
+  pub whole-gives : answers N L .delta x (τ .base) ≡ given (τ .base) whole
+  pub whole-is : IsDelta (Holds N (τ .base .aut)) whole (Holds N (τ .base .aut) x)
+  pub whole-ascends : Ascending whole
+  pub live : State → Set N
+  pub lives : (t : Transition State N) → List·Memᴰ t whole → IsLive (live (t .target)) (Holds N (τ .base .aut) (t .target))
+  pub cut-is : list ≡ pruned live whole
+
+-- a list that is stored is given at once
+stored-delta : {N : ℕ} {L : Limits} {σ : Store} {x : ℕ} {es : List Edge} → Worked N L σ → x < states (σ .aut) → Stored σ x es → delta N L x σ ≡ given σ es
+unfolding delta-with
+stored-delta {N} {L} {σ} {x} W l s =
+    delta-is W l
+    ∙ ap (λ (b : Bool). if b then given σ (listAt σ x) else (delta-by-kind N L (delta N L) x >>= keepList x) σ) (lt-ltb 0 (countOf (σ .aut .states .words) x) (s .marked))
+    ∙ ap (λ (es : List Edge). given σ es) (s .reads)
 
 module _ {N : ℕ} {L : Limits} where
   -- what the tables keep of the targets
@@ -149,6 +165,11 @@ module _ {N : ℕ} {L : Limits} where
           go : (e : Edge) × List·Memᴰ e es × (t ≡ decoded N (ω .base .aut) e) → IsLive (liveIn N υ (t .target)) (Holds N (ω .base .aut) (t .target))
           go (e, n, q) = subst (λ (y : ℕ). IsLive (liveIn N υ y) (Holds N (ω .base .aut) y)) (sym (ap (λ (t : Transition State N). t .target) q)) (edge-live e n)
 
+      later-gives : answers N L .delta x (ω .base) ≡ given (ω .base) list
+      later-gives =
+          ap (λ (o : Outcome Store (List Edge)). after o (λ es τ. given τ (map (decoded N (τ .aut)) es))) (stored-delta (w .worked) later-known later-stored)
+          ∙ ap (λ (l : List (Transition State N)). given (ω .base) l) (decodes later-are)
+
       later-pruned : Pruned (Holds N (ω .base .aut)) (Holds N (ω .base .aut) x) (pruned (liveIn N υ) list)
       later-pruned = pruned-law (liveIn N υ) later-delta up targets-live
 
@@ -167,6 +188,13 @@ module _ {N : ℕ} {L : Limits} where
                 list = pruned (liveIn N υ) (D .holds .1 .list);
                 are = P .holds;
                 is = later-pruned (D .ordered) k₂ p (D .holds .0) (D .holds .1 .are) (D .holds .1 .ascending) (P .gone) (P .ordered);
+                whole = D .holds .1 .list;
+                whole-gives = later-gives (D .ordered) k₂ p (D .holds .0) (D .holds .1 .are) (D .holds .1 .ascending) (P .gone) (P .ordered);
+                whole-is = later-delta (D .ordered) k₂ p (D .holds .0) (D .holds .1 .are) (D .holds .1 .ascending) (P .gone) (P .ordered);
+                whole-ascends = D .holds .1 .ascending;
+                live = liveIn N υ;
+                lives = targets-live (D .ordered) k₂ p (D .holds .0) (D .holds .1 .are) (D .holds .1 .ascending) (P .gone) (P .ordered);
+                cut-is = refl;
               })
               (prune-ends (liveIn N υ) es (D .ordered) (D .holds .1 .are) (λ e m. SpLaws.den-mem (target-live (D .ordered) k₂ p e (subst (List·Memᴰ e) (sym (D .holds .0 .reads)) m) .den .at))),
         )),
