@@ -17,6 +17,8 @@ pub const STAR: u32 = 8;
 
 pub const DUP: u32 = 9;
 
+pub const NEXT: u32 = 10;
+
 pub const UNTIL: u32 = 11;
 
 pub const TOP: u32 = 12;

@@ -1,6 +1,8 @@
 // States and members of aut.rs on lent tables, twelve words a state, one a member: interning by comparison, and the constructors
 // that need no relation operation. A list of states is given as k words of scratch at base.
 pub mod kind;
+pub mod refusal;
+pub mod word;
 
 use spp::SPP;
 ghost use mathlib.Core.Path.{_≡_};
@@ -29,6 +31,15 @@ pub struct Limits {
     pub products: usize,
     pub transitions: usize,
 }
+
+// what holds for the whole book
+pub struct Config {
+    pub fields: u32,
+    pub limits: Limits,
+}
+
+// words of a state
+pub const STATE: usize = 12;
 
 // a state and the number of states, or 01's number
 pub enum Put {

@@ -20,7 +20,7 @@ use Rattle.aut_steps.specs.Tables.{SPP, INTERSECT, TOP, kindOf, op1, Lim
 use Rattle.aut_steps.specs.Lists.{sorted}
 use Rattle.aut_steps.specs.Constructors.{sizes, opened, Within, within, beyond, thenWithin, openAll, each, mk-spp, mk-top, Met, met, meetOne, addLast, meetFinish, meet, meetOpened, mk-intersect-n-base, countAll, product, base, bases, distribute, intersectOpened, mk-intersect-n, relations, mk-intersect}
 use Rattle.aut_steps.specs.Kinds.{form}
-use Rattle.aut_steps.specs.ListLaws.{one-if, All, all-map, all-append, all-split, singleton, all-sorted, sorted-length, sorted-rising, all-with}
+use Rattle.aut_steps.specs.ListLaws.{one-if, All, all-map, all-append, all-split, st-singleton, all-sorted, sorted-length, sorted-rising, all-with}
 use Rattle.aut_steps.specs.Languages.{_so_, back, same, sum-same, sum-assoc, sum-none, none-sum, _≈_, _then_, Rel, Both, both-rel, rel-same}
 use Rattle.aut_steps.specs.RelationLaws.{Makes, intersect-made}
 use Rattle.aut_steps.specs.Facts.{and-true}
@@ -350,7 +350,7 @@ module _ {N : ℕ} {L : Limits} where
   mk-intersect-n-goes {σ} g xs a =
       choose (ltb (L .list) (length xs)) (λ q. stops-here g (long-list xs a (ltb-true (L .list) (length xs) q)))
       (λ _. choose (eqb (length xs) 1)
-      (λ q. let e : xs ≡ getD xs 0 0 ∷ [] = singleton xs (eqb-true (length xs) 1 q) in
+      (λ q. let e : xs ≡ getD xs 0 0 ∷ [] = st-singleton xs (eqb-true (length xs) 1 q) in
       goes-return (getD xs 0 0) g (record {
         state = (subst (All (λ x. x < states σ)) e a) .0;
         strings = λ u. back both-unit so subst (λ (l : List ℕ). HoldsAll N σ (getD xs 0 0 ∷ []) u ↔ HoldsAll N σ l u) (sym e) same;

@@ -19,7 +19,7 @@ use Rattle.aut_steps.specs.Tables.{SPP, UNION, TOP, kindOf, op1, Limits,
 use Rattle.aut_steps.specs.Lists.{sorted}
 use Rattle.aut_steps.specs.Constructors.{opened, extend, Within, within, beyond, Opened, list, top, long, thenOpen, openUnion, each, mk-spp, Parts, parts, uniteOne, addRelation, finish, unite, uniteOpened, mk-union-n, relations, mk-union}
 use Rattle.aut_steps.specs.Kinds.{Form, many, form}
-use Rattle.aut_steps.specs.ListLaws.{one-if, All, Some, Rising, all-map, all-append, some-left, some-right, some-split, some-with, some-map, all-with, singleton, all-sorted, some-sorted, sorted-length, sorted-rising}
+use Rattle.aut_steps.specs.ListLaws.{one-if, All, Some, Rising, all-map, all-append, some-left, some-right, some-split, some-with, some-map, all-with, st-singleton, all-sorted, some-sorted, sorted-length, sorted-rising}
 use Rattle.aut_steps.specs.Languages.{_so_, back, same, sum-same, sum-assoc, sum-swap, sum-none, none-sum, sum-turn, _≈_, ≈-sym, _then_, Rel, None, Either, either-rel, rel-same}
 use Rattle.aut_steps.specs.RelationLaws.{Makes, union-made}
 use Rattle.aut_steps.specs.Good.{states, kind, first, members, Grown, kind-grown, first-grown, state-grown, states-grown, Ok, Good, ok-as}
@@ -216,7 +216,7 @@ module _ {N : ℕ} {L : Limits} where
 
   alone : {σ : Aut} → Good N L σ → (xs : List ℕ) → All (λ x. x < states σ) xs → eqb (length xs) 1 ≡ true → Goes N L (Is N (HoldsSome N σ xs)) σ (given σ (getD xs 0 0))
   alone {σ} g xs a q =
-      let e : xs ≡ getD xs 0 0 ∷ [] = singleton xs (eqb-true (length xs) 1 q) in
+      let e : xs ≡ getD xs 0 0 ∷ [] = st-singleton xs (eqb-true (length xs) 1 q) in
       goes-return (getD xs 0 0) g (record {
         state = (subst (All (λ x. x < states σ)) e a) .0;
         strings = λ u. back sum-none so subst (λ (l : List ℕ). HoldsSome N σ (getD xs 0 0 ∷ []) u ↔ HoldsSome N σ l u) (sym e) same;

@@ -24,7 +24,7 @@ use Rattle.st_more.proofs.Join.{Joins}
 use Rattle.delta_lists.specs.Seen.{SequenceReady}
 
 module _ {N : ℕ} {l : Limits} {σ : Aut} {tr s : List ℕ} {y ε a k b j : ℕ} (W : SequenceReady N l σ tr s y ε a k b j) where
-  pub sequence-joins : Joins N l σ tr s (sequenceList N (limitsOf l) y ε (edges tr a k) (edges tr b j)) (St.postcompose (ops N (limitsOf l)) (edges tr a k) y) (St.precompose (ops N (limitsOf l)) ε (edges tr b j))
+  pub sequence-joins : Joins N l σ tr s (sequenceList N (limitsOf l) y ε (edges tr a k) (edges tr b j)) (St.st-postcompose (ops N (limitsOf l)) (edges tr a k) y) (St.st-precompose (ops N (limitsOf l)) ε (edges tr b j))
   unfolding sequenceList
   sequence-joins = record { ready = W .stored .first .ready; limit = W .stored .first .limit; is = refl }
 
@@ -36,11 +36,11 @@ module _ {N : ℕ} {l : Limits} {σ : Aut} {tr s : List ℕ} {y ε a k b j : ℕ
 
   module _ {τ : Aut} {r : Listed} {c : Counts} {t st mem s1 s2 : List ℕ} where
     pub late-is : DoesList N l 0 832 (St.insertEach (ops N (limitsOf l)) (St.followedBy (ops N (limitsOf l)) y) (edges tr a k) (edges s1 RESULT 0)) τ r c t st mem s1 s2
-        → DoesList N l 0 832 (St.postcompose (ops N (limitsOf l)) (edges tr a k) y) τ r c t st mem s1 s2
-    unfolding St.postcompose
+        → DoesList N l 0 832 (St.st-postcompose (ops N (limitsOf l)) (edges tr a k) y) τ r c t st mem s1 s2
+    unfolding St.st-postcompose
     late-is D = does-as (ap (λ (es : List Edge). St.insertEach (ops N (limitsOf l)) (St.followedBy (ops N (limitsOf l)) y) (edges tr a k) es τ) (sym (none-at s1))) D
 
     pub early-is : DoesList N l 0 832 (St.insertEach (ops N (limitsOf l)) (St.after (ops N (limitsOf l)) ε) (edges tr b j) (edges s1 RESULT 0)) τ r c t st mem s1 s2
-        → DoesList N l 0 832 (St.precompose (ops N (limitsOf l)) ε (edges tr b j)) τ r c t st mem s1 s2
-    unfolding St.precompose
+        → DoesList N l 0 832 (St.st-precompose (ops N (limitsOf l)) ε (edges tr b j)) τ r c t st mem s1 s2
+    unfolding St.st-precompose
     early-is D = does-as (ap (λ (es : List Edge). St.insertEach (ops N (limitsOf l)) (St.after (ops N (limitsOf l)) ε) (edges tr b j) es τ) (sym (none-at s1))) D

@@ -68,7 +68,7 @@ pub fn sequence_list(
                 Listed::Refused(e) => Listed::Refused(e),
                 Listed::List(f, m) => {
                     st_edges::copy(scratch, st::RESULT, m, st::SECOND);
-                    st_ops::union_list(
+                    st_ops::st_union(
                         nodes,
                         states,
                         members,

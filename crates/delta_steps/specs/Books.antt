@@ -83,5 +83,5 @@ book : read ((onAut (onStates mk-dup) >>= λ x0.
     1 ∷ 2 ∷ 0 ∷ 0 ∷ 0 ∷ 0 ∷ 0 ∷ 0 ∷ 0 ∷ 0 ∷ 0 ∷ 0 ∷
     7 ∷ 2 ∷ 5 ∷ 4 ∷ 7 ∷ 4 ∷ 2 ∷ 0 ∷ 0 ∷ 0 ∷ 0 ∷ 0 ∷
     []) (8 ∷ 9 ∷ 8 ∷ 2 ∷ []) (13 ∷ 3 ∷ 2 ∷ 3 ∷ 2 ∷ 5 ∷ 15 ∷ 5 ∷ 15 ∷ 6 ∷ 7 ∷ 3 ∷ []) (1 ∷ 2 ∷ 0 ∷ 1 ∷ [])
-unfolding behind explore mk-spp mk-dup mk-top mk-union mk-union-n mk-intersect-n mk-intersect mk-intersect-n-base mk-complement mk-sequence mk-xor mk-difference sequence-by sequence-with mk-star mk-until unite meet openUnion openAll opened extend each countAll countOne product base bases finish addRelation uniteOne meetOne meetFinish addLast intern0 intern1 intern2 internL putL put seek same2 sameAt sameL storeMembers nestL roomS roomM put4 kindOf op1 op2 nest words least rise Spp.apply Spp.exit Spp.each Spp.complement Spp.sequence Spp.seqExit Spp.product Spp.star Spp.starExit Spp.blocks Spp.mk Spp.seek Spp.same Spp.kids Spp.kid Spp.room Spp.put Spp.zeroAt Spp.oneAt Spp.topAt ListSteps.unite ListSteps.enter ListSteps.enterIn ListSteps.place ListSteps.singleton ListSteps.split ListSteps.insert ListSteps.insertEach ListSteps.insertPairs ListSteps.unionList ListSteps.intersectList ListSteps.subtractRow ListSteps.subtractRows ListSteps.differenceList ListSteps.xorList ListSteps.coverAll ListSteps.complementList ListSteps.postcompose ListSteps.precompose ListSteps.intersectTarget epsilonOf setWord keepEpsilon eachOf uniteAll meetAll epsilon-by-kind epsilon-with epsilon-by epsilon startOf countOf edges flat roomT append listAt keepList unionAll intersectAll sequenceList starList untilList dupList topList delta-by-kind delta-with delta-by delta packets inhabited image relates turn run search walk Spp.mem test assign Spp.field
+unfolding behind explore mk-spp mk-dup mk-top mk-union mk-union-n mk-intersect-n mk-intersect mk-intersect-n-base mk-complement mk-sequence mk-xor mk-difference sequence-by sequence-with mk-star mk-until unite meet openUnion openAll opened extend each countAll countOne product base bases finish addRelation uniteOne meetOne meetFinish addLast intern0 intern1 intern2 internL putL put seek same2 sameAt sameL storeMembers nestL roomS roomM put4 kindOf op1 op2 nest words least rise Spp.apply Spp.exit Spp.each Spp.complement Spp.sequence Spp.seqExit Spp.product Spp.star Spp.starExit Spp.blocks Spp.mk Spp.seek Spp.same Spp.kids Spp.kid Spp.room Spp.put Spp.zeroAt Spp.oneAt Spp.topAt ListSteps.unite ListSteps.enter ListSteps.enterIn ListSteps.place ListSteps.st-singleton ListSteps.split ListSteps.insert ListSteps.insertEach ListSteps.insertPairs ListSteps.st-union ListSteps.st-intersect ListSteps.subtractRow ListSteps.subtractRows ListSteps.st-difference ListSteps.st-xor ListSteps.coverAll ListSteps.st-complement ListSteps.st-postcompose ListSteps.st-precompose ListSteps.st-intersect-expr epsilonOf setWord keepEpsilon eachOf uniteAll meetAll epsilon-by-kind epsilon-with epsilon-by epsilon startOf countOf edges flat roomT append listAt keepList unionAll intersectAll sequenceList starList untilList dupList topList delta-by-kind delta-with delta-by delta packets inhabited image relates turn run search walk Spp.mem test assign Spp.field
 book = refl

@@ -9,7 +9,7 @@ use lib.ListN.{length, getD}
 use lib.Seq.{sets}
 use Rattle.common.specs.Outcome.{refused, given, Step, return, _>>=_, if_then_else_}
 use Rattle.common.specs.Runs.{Table, table, placed}
-use Rattle.netkat.specs.ListSteps.{Edge, singleton, unionList, intersectList, differenceList, xorList, complementList, postcompose, precompose, intersectTarget}
+use Rattle.netkat.specs.ListSteps.{Edge, st-singleton, st-union, st-intersect, st-difference, st-xor, st-complement, st-postcompose, st-precompose, st-intersect-expr}
 use Rattle.aut_steps.specs.Relations as Rel
 use Rattle.aut_steps.specs.Tables.{SPP, UNION, INTERSECT, XOR, DIFFERENCE, COMPLEMENT, SEQUENCE, STAR, DUP, NEXT, UNTIL, kindOf, op1, op2, nest, listOf, Limits, Aut, putStates, onNodes, onStates}
 use Rattle.aut_steps.specs.Constructors.{mk-spp, mk-top, mk-until}
@@ -72,12 +72,12 @@ module _ (N : ℕ) (L : Limits) where
   -- lists joined, from the list r on
   unfoldable pub unionAll : List (List Edge) → List Edge → Step Aut (List Edge)
   unionAll [] r = return r
-  unionAll (es ∷ ess) r = unionList (ops N L) r es >>= unionAll ess
+  unionAll (es ∷ ess) r = st-union (ops N L) r es >>= unionAll ess
 
   -- lists intersected, from the list r on
   unfoldable pub intersectAll : List (List Edge) → List Edge → Step Aut (List Edge)
   intersectAll [] r = return r
-  intersectAll (es ∷ ess) r = intersectList (ops N L) r es >>= intersectAll ess
+  intersectAll (es ∷ ess) r = st-intersect (ops N L) r es >>= intersectAll ess
 
   -- from the first of them; the empty list if there is none
   abbrev pub intersectFirst : List (List Edge) → Step Aut (List Edge)
@@ -87,28 +87,28 @@ module _ (N : ℕ) (L : Limits) where
   -- of a Sequence: what starts with a hop of the first operand, and what starts behind its strings without hops
   unfoldable pub sequenceList : ℕ → ℕ → List Edge → List Edge → Step Aut (List Edge)
   sequenceList y ε ts us = do
-    late ← postcompose (ops N L) ts y
-    early ← precompose (ops N L) ε us
-    unionList (ops N L) late early
+    late ← st-postcompose (ops N L) ts y
+    early ← st-precompose (ops N L) ε us
+    st-union (ops N L) late early
 
   -- of the Star x
   unfoldable pub starList : ℕ → ℕ → List Edge → Step Aut (List Edge)
   starList x ε* ts = do
-    late ← postcompose (ops N L) ts x
-    precompose (ops N L) ε* late
+    late ← st-postcompose (ops N L) ts x
+    st-precompose (ops N L) ε* late
 
   -- of the LtlUntil of a and b
   unfoldable pub untilList : ℕ → ℕ → List Edge → List Edge → Step Aut (List Edge)
   untilList a b ts us = do
     u ← onStates (mk-until L a b)
-    met ← intersectTarget (ops N L) ts u
-    unionList (ops N L) us met
+    met ← st-intersect-expr (ops N L) ts u
+    st-union (ops N L) us met
 
   unfoldable pub dupList : Step Aut (List Edge)
-  dupList = onStates (mk-spp (Rel.oneAt N)) >>= singleton (ops N L) (Rel.oneAt N)
+  dupList = onStates (mk-spp (Rel.oneAt N)) >>= st-singleton (ops N L) (Rel.oneAt N)
 
   unfoldable pub topList : Step Aut (List Edge)
-  topList = onStates mk-top >>= singleton (ops N L) (Rel.topAt N)
+  topList = onStates mk-top >>= st-singleton (ops N L) (Rel.topAt N)
 
   -- worked out by kind; `again` is how on operands
   unfoldable pub delta-by-kind : (ℕ → Step Store (List Edge)) → ℕ → Step Store (List Edge)
@@ -121,13 +121,13 @@ module _ (N : ℕ) (L : Limits) where
       if eqb k SPP then given σ []
       else if eqb k UNION then (eachOf again ms >>= λ lists. onAut (unionAll lists [])) σ
       else if eqb k INTERSECT then (eachOf again ms >>= λ lists. onAut (intersectFirst lists)) σ
-      else if eqb k XOR then (again a >>= λ ts. again b >>= λ us. onAut (xorList (ops N L) ts us)) σ
-      else if eqb k DIFFERENCE then (again a >>= λ ts. again b >>= λ us. onAut (differenceList (ops N L) ts us)) σ
-      else if eqb k COMPLEMENT then (again a >>= λ ts. onAut (complementList (ops N L) ts)) σ
+      else if eqb k XOR then (again a >>= λ ts. again b >>= λ us. onAut (st-xor (ops N L) ts us)) σ
+      else if eqb k DIFFERENCE then (again a >>= λ ts. again b >>= λ us. onAut (st-difference (ops N L) ts us)) σ
+      else if eqb k COMPLEMENT then (again a >>= λ ts. onAut (st-complement (ops N L) ts)) σ
       else if eqb k SEQUENCE then (onAut (epsilon N a) >>= λ ε. again a >>= λ ts. again b >>= λ us. onAut (sequenceList b ε ts us)) σ
       else if eqb k STAR then (onAut (epsilon N a) >>= λ ε. onAut (onNodes (Rel.star N ε)) >>= λ ε*. again a >>= λ ts. onAut (starList x ε* ts)) σ
       else if eqb k DUP then onAut dupList σ
-      else if eqb k NEXT then onAut (singleton (ops N L) (Rel.topAt N) a) σ
+      else if eqb k NEXT then onAut (st-singleton (ops N L) (Rel.topAt N) a) σ
       else if eqb k UNTIL then (again a >>= λ ts. again b >>= λ us. onAut (untilList a b ts us)) σ
       -- Top
       else onAut topList σ

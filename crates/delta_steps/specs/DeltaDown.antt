@@ -22,7 +22,7 @@ use Rattle.aut_steps.specs.Good.{states, kind, first, second, nesting, members,
 use Rattle.aut_steps.specs.Goes.{Goes, stops, comes, goes-return, goes-bind}
 use Rattle.aut_steps.specs.StateLaws.{nodes-goes}
 use Rattle.st_steps.specs.Edges.{EdgesAt, edges-grown}
-use Rattle.st_steps.specs.ListGoes.{ListAt, list-empty, xorList-goes, differenceList-goes, complementList-goes}
+use Rattle.st_steps.specs.ListGoes.{ListAt, list-empty, st-xor-goes, st-difference-goes, st-complement-goes}
 use Rattle.delta_steps.specs.ListGoes.{list-at, ListsAt, empties, with-list, unionAll-goes, intersectFirst-goes, sequenceList-goes, starList-goes, untilList-goes, dupList-goes, nextList-goes, topList-goes}
 use Rattle.delta_steps.specs.Labels.{star-makes}
 use Rattle.delta_steps.specs.EpsilonLaws.{Ready}
@@ -213,9 +213,9 @@ module _ {N : ℕ} {L : Limits} {σ : Store} (W : Worked N L σ) where
         goes-if (eqb k SPP) _ _ (λ q. goes-return [] g (list-empty (σ .aut)))
         (λ n1. goes-if (eqb k UNION) _ _ (λ q. let p = in-list UNION (eqb-true k UNION q) refl in unionAll-goes _ g (lists-of x (members (σ .aut) x) (p .0) (p .1)) (list-empty (σ .aut)))
         (λ n2. goes-if (eqb k INTERSECT) _ _ (λ q. let p = in-list INTERSECT (eqb-true k INTERSECT q) refl in intersectFirst-goes _ g (lists-of x (members (σ .aut) x) (p .0) (p .1)))
-        (λ n3. goes-if (eqb k XOR) _ _ (λ q. let (t, u) = two-at (in-list XOR (eqb-true k XOR q) refl) in xorList-goes g t u)
-        (λ n4. goes-if (eqb k DIFFERENCE) _ _ (λ q. let (t, u) = two-at (in-list DIFFERENCE (eqb-true k DIFFERENCE q) refl) in differenceList-goes g t u)
-        (λ n5. goes-if (eqb k COMPLEMENT) _ _ (λ q. complementList-goes g (one-at (in-list COMPLEMENT (eqb-true k COMPLEMENT q) refl)))
+        (λ n3. goes-if (eqb k XOR) _ _ (λ q. let (t, u) = two-at (in-list XOR (eqb-true k XOR q) refl) in st-xor-goes g t u)
+        (λ n4. goes-if (eqb k DIFFERENCE) _ _ (λ q. let (t, u) = two-at (in-list DIFFERENCE (eqb-true k DIFFERENCE q) refl) in st-difference-goes g t u)
+        (λ n5. goes-if (eqb k COMPLEMENT) _ _ (λ q. st-complement-goes g (one-at (in-list COMPLEMENT (eqb-true k COMPLEMENT q) refl)))
         (λ n6. goes-if (eqb k SEQUENCE) _ _ (λ q.
         let e : k ≡ SEQUENCE = eqb-true k SEQUENCE q in
         let p = in-list SEQUENCE e refl in

@@ -27,7 +27,7 @@ use Rattle.aut_steps.specs.StateLaws.{nodes-goes}
 use Rattle.st_steps.specs.Operations.{ops}
 use Rattle.aut_steps.specs.Goes.{Goes}
 use Rattle.st_steps.specs.Edges.{EdgesAt, edges-grown}
-use Rattle.st_steps.specs.ListGoes.{ListAt, list-empty, xorList-goes, differenceList-goes, complementList-goes}
+use Rattle.st_steps.specs.ListGoes.{ListAt, list-empty, st-xor-goes, st-difference-goes, st-complement-goes}
 use Rattle.delta_steps.specs.ListGoes.{list-at, empties, with-list, unionAll-goes, intersectFirst-goes, sequenceList-goes, starList-goes, untilList-goes, dupList-goes, nextList-goes, topList-goes}
 use Rattle.delta_steps.specs.Epsilon.{eachOf, epsilon}
 use Rattle.delta_steps.specs.Delta.{startOf, countOf, Store, onAut, roomT, listAt, keepList, unionAll, intersectFirst, sequenceList, starList, untilList, delta-by-kind, delta-with, delta-by, delta}
@@ -221,15 +221,15 @@ module _ {N : ℕ} {L : Limits} where
         (λ n3. agree-if (eqb k XOR)
         (λ q. let e : k ≡ XOR = eqb-true k XOR q in
         same-agree (≈-sym (holds-xor g l e))
-        (two-agree Differ (ListSteps.xorList (ops N L)) (λ a v ts us A B i j. xor-true (since N L a) fits (since-refl v) i j) (λ a v ts us t u. xorList-goes v t u) (below-two g l XOR e xor refl)))
+        (two-agree Differ (ListSteps.st-xor (ops N L)) (λ a v ts us A B i j. xor-true (since N L a) fits (since-refl v) i j) (λ a v ts us t u. st-xor-goes v t u) (below-two g l XOR e xor refl)))
         (λ n4. agree-if (eqb k DIFFERENCE)
         (λ q. let e : k ≡ DIFFERENCE = eqb-true k DIFFERENCE q in
         same-agree (≈-sym (holds-difference g l e))
-        (two-agree Minus (ListSteps.differenceList (ops N L)) (λ a v ts us A B i j. difference-true (since N L a) fits (since-refl v) i j) (λ a v ts us t u. differenceList-goes v t u) (below-two g l DIFFERENCE e difference refl)))
+        (two-agree Minus (ListSteps.st-difference (ops N L)) (λ a v ts us A B i j. difference-true (since N L a) fits (since-refl v) i j) (λ a v ts us t u. st-difference-goes v t u) (below-two g l DIFFERENCE e difference refl)))
         (λ n5. agree-if (eqb k COMPLEMENT)
         (λ q. let e : k ≡ COMPLEMENT = eqb-true k COMPLEMENT q in
         same-agree (≈-sym (holds-complement g l e))
-        (one-agree Not (ListSteps.complementList (ops N L)) (λ a v ts A i. complement-true (since N L a) fits a (since-refl v) i) (λ a v ts t. complementList-goes v t) (below-one g l COMPLEMENT e complement refl)))
+        (one-agree Not (ListSteps.st-complement (ops N L)) (λ a v ts A i. complement-true (since N L a) fits a (since-refl v) i) (λ a v ts t. st-complement-goes v t) (below-one g l COMPLEMENT e complement refl)))
         (λ n6. agree-if (eqb k SEQUENCE) (λ q. sequence-agree (eqb-true k SEQUENCE q))
         (λ n7. agree-if (eqb k STAR) (λ q. star-agree (eqb-true k STAR q))
         (λ n8. agree-if (eqb k DUP) (λ q. same-agree (≈-sym (holds-dup g l (eqb-true k DUP q))) (list-step W (dup-true (since-refl g)) (dupList-goes g (W .lists .some))))

@@ -12,8 +12,8 @@ use Rattle.netkat.specs.Strings.{str}
 use Rattle.netkat.specs.Rules.{Language, Join, Star, Until, Next, In, dup}
 use Rattle.netkat.specs.Hops.{IsEpsilon, Hop, Late}
 use Rattle.netkat.specs.Laws.Hops.{sequence-hop, star-hop, until-hop, next-hop, dup-hop}
-use Rattle.netkat.specs.ListSteps.{Edge, singleton, MadeList, IsList}
-use Rattle.netkat.specs.Laws.ListSteps.{later-refl, later-trans, list-later, list-same, made-same, made-by, made-from, union-true, intersection-true, postcompose-true, precompose-true, tail-true, singleton-true}
+use Rattle.netkat.specs.ListSteps.{Edge, st-singleton, MadeList, IsList}
+use Rattle.netkat.specs.Laws.ListSteps.{later-refl, later-trans, list-later, list-same, made-same, made-by, made-from, union-true, intersection-true, st-postcompose-true, st-precompose-true, tail-true, st-singleton-true}
 use Rattle.spp_steps.specs.Laws.{Den, den-one, den-top}
 use Rattle.spp_steps.specs.Closure.{closure}
 use Rattle.aut_steps.specs.Relations as Rel
@@ -69,8 +69,8 @@ module _ {N : ℕ} {L : Limits} {σ₀ : Aut} where
         → IsList (since N L σ₀) A σ ts → IsList (since N L σ₀) (Holds N σ b) σ us → Gives (MadeList (since N L σ₀) (Join A (Holds N σ b)) σ) (sequenceList N L b ε ts us σ)
     unfolding sequenceList
     sequence-true {R = R} {ε} {b} l d e i j =
-        call (postcompose-true (since N L σ₀) fits σ s b l i) (λ σ₁ late M.
-        call (precompose-true (since N L σ₀) fits σ₁ (M .later .good) ε R (M .later .label ε R d) (list-later (since N L σ₀) (M .later) j)) (λ σ₂ early P.
+        call (st-postcompose-true (since N L σ₀) fits σ s b l i) (λ σ₁ late M.
+        call (st-precompose-true (since N L σ₀) fits σ₁ (M .later .good) ε R (M .later .label ε R d) (list-later (since N L σ₀) (M .later) j)) (λ σ₂ early P.
         made-by (since N L σ₀) (sequence-hop (Holds N σ b) e)
         (made-from (since N L σ₀) (later-trans (since N L σ₀) (M .later) (P .later))
         (union-true (since N L σ₀) fits σ₂ (P .later .good) (list-later (since N L σ₀) (P .later) (M .is)) (P .is)))))
@@ -79,10 +79,10 @@ module _ {N : ℕ} {L : Limits} {σ₀ : Aut} where
         → IsList (since N L σ₀) A σ ts → Gives (MadeList (since N L σ₀) (Star A) σ) (starList N L x ε* ts σ)
     unfolding starList
     star-true {A} {R} {ε*} {x} l h d e i =
-        call (postcompose-true (since N L σ₀) fits σ s x l i) (λ σ₁ late M.
+        call (st-postcompose-true (since N L σ₀) fits σ s x l i) (λ σ₁ late M.
         made-by (since N L σ₀) (star-hop A e (closure-is R))
         (made-from (since N L σ₀) (M .later)
-        (precompose-true (since N L σ₀) fits σ₁ (M .later .good) ε* (closure R) (M .later .label ε* (closure R) d)
+        (st-precompose-true (since N L σ₀) fits σ₁ (M .later .good) ε* (closure R) (M .later .label ε* (closure R) d)
         (list-same (since N L σ₀) {A = Late A (Holds N σ x)} {B = Late A (Star A)} (λ a k hs z. join-same (λ w. same) h (str k hs z)) (M .is)))))
 
     -- ---- LtlUntil and LtlNext
@@ -98,10 +98,10 @@ module _ {N : ℕ} {L : Limits} {σ₀ : Aut} where
         (union-true (since N L σ₀) fits σ₂ (P .later .good) (list-later (since N L σ₀) (later-trans (since N L σ₀) (M .later) (P .later)) j)
         (list-same (since N L σ₀) {A = λ w. Holds N σ a w × Hop allʳ (Holds N σ₁ u) w} {B = λ w. Holds N σ a w × Hop allʳ (Until (Holds N σ a) (Holds N σ b)) w} (λ p h hs z. (λ q. (q .0, (q .1 .0, M .strings (str h hs z) .0 (q .1 .1))), λ q. (q .0, (q .1 .0, M .strings (str h hs z) .1 (q .1 .1))))) (P .is))))))
 
-    pub next-true : {a : ℕ} → a < states σ → Gives (MadeList (since N L σ₀) (Next (Holds N σ a)) σ) (singleton (ops N L) (Rel.topAt N) a σ)
+    pub next-true : {a : ℕ} → a < states σ → Gives (MadeList (since N L σ₀) (Next (Holds N σ a)) σ) (st-singleton (ops N L) (Rel.topAt N) a σ)
     next-true {a} l =
         made-by (since N L σ₀) (next-hop (Holds N σ a))
-        (singleton-true (since N L σ₀) fits σ s (Rel.topAt N) a l (den-top (s .good .nodes) N (omega arith)))
+        (st-singleton-true (since N L σ₀) fits σ s (Rel.topAt N) a l (den-top (s .good .nodes) N (omega arith)))
 
     -- ---- Dup and Top
 
@@ -114,7 +114,7 @@ module _ {N : ℕ} {L : Limits} {σ₀ : Aut} where
           λ q. let p = dup-hop a h hs y .0 q in (p .0, M .strings (str h hs y) .1 (p .1)),
           λ q. dup-hop a h hs y .1 (q .0, M .strings (str h hs y) .0 (q .1)),
         ))
-        (singleton-true (since N L σ₀) fits σ₁ (M .later .good) (Rel.oneAt N) z (M .known) (den-one (M .later .good .good .nodes) N (omega arith)))))
+        (st-singleton-true (since N L σ₀) fits σ₁ (M .later .good) (Rel.oneAt N) z (M .known) (den-one (M .later .good .good .nodes) N (omega arith)))))
 
     pub top-true : Gives (MadeList (since N L σ₀) Whole σ) (topList N L σ)
     unfolding topList
@@ -122,4 +122,4 @@ module _ {N : ℕ} {L : Limits} {σ₀ : Aut} where
         call (fits-state s (mk-top-goes (s .good))) (λ σ₁ t M.
         made-from (since N L σ₀) (M .later)
         (made-same (since N L σ₀) (λ a h hs z. (λ q. tt, λ q. (tt, M .strings (str h hs z) .1 tt)))
-        (singleton-true (since N L σ₀) fits σ₁ (M .later .good) (Rel.topAt N) t (M .known) (den-top (M .later .good .good .nodes) N (omega arith)))))
+        (st-singleton-true (since N L σ₀) fits σ₁ (M .later .good) (Rel.topAt N) t (M .known) (den-top (M .later .good .good .nodes) N (omega arith)))))

@@ -11,7 +11,7 @@ use Rattle.common.specs.Follow.{given-of}
 use Rattle.common.specs.Runs as Runs
 use Rattle.common.specs.Runs.{Table, placed}
 use Rattle.netkat.specs.Rules.{union, intersection, xor, difference, complement, sequence, star, until}
-use Rattle.netkat.specs.ListSteps.{Edge, singleton, xorList, differenceList, complementList}
+use Rattle.netkat.specs.ListSteps.{Edge, st-singleton, st-xor, st-difference, st-complement}
 use Rattle.spp_steps.specs.Laws.{Wf, Ext, Den, sppTheory, by-test}
 use Rattle.spp_steps.specs.Star.{star-exact}
 use Rattle.spp_steps.specs.Closure.{closure}
@@ -73,13 +73,13 @@ module _ (N : ℕ) (L : Limits) where
       if eqb k SPP then return []
       else if eqb k UNION then unionAll N L (map v ys) []
       else if eqb k INTERSECT then intersectFirst N L (map v ys)
-      else if eqb k XOR then xorList (ops N L) (v a) (v b)
-      else if eqb k DIFFERENCE then differenceList (ops N L) (v a) (v b)
-      else if eqb k COMPLEMENT then complementList (ops N L) (v a)
+      else if eqb k XOR then st-xor (ops N L) (v a) (v b)
+      else if eqb k DIFFERENCE then st-difference (ops N L) (v a) (v b)
+      else if eqb k COMPLEMENT then st-complement (ops N L) (v a)
       else if eqb k SEQUENCE then sequenceList N L b e (v a) (v b)
       else if eqb k STAR then (onNodes (Rel.star N e) >>= λ h. starList N L x h (v a))
       else if eqb k DUP then dupList N L
-      else if eqb k NEXT then singleton (ops N L) (Rel.topAt N) a
+      else if eqb k NEXT then st-singleton (ops N L) (Rel.topAt N) a
       else if eqb k UNTIL then untilList N L a b (v a) (v b)
       else topList N L
 
@@ -334,11 +334,11 @@ module _ {N : ℕ} {L : Limits} {σ : Store} (W : Worked N L σ) {x : ℕ} (l : 
       (λ n2. by-test (eqb k INTERSECT)
       (λ q. is-kind (many-works INTERSECT (eqb-true k INTERSECT q) refl (omega arith, omega arith) (intersectFirst N L) refl (λ v c ys α. refl)) (simp (n1, n2, q)))
       (λ n3. by-test (eqb k XOR)
-      (λ q. is-kind (two-works XOR (eqb-true k XOR q) refl (xorList (ops N L)) refl (λ v c ys α. refl)) (simp (n1, n2, n3, q)))
+      (λ q. is-kind (two-works XOR (eqb-true k XOR q) refl (st-xor (ops N L)) refl (λ v c ys α. refl)) (simp (n1, n2, n3, q)))
       (λ n4. by-test (eqb k DIFFERENCE)
-      (λ q. is-kind (two-works DIFFERENCE (eqb-true k DIFFERENCE q) refl (differenceList (ops N L)) refl (λ v c ys α. refl)) (simp (n1, n2, n3, n4, q)))
+      (λ q. is-kind (two-works DIFFERENCE (eqb-true k DIFFERENCE q) refl (st-difference (ops N L)) refl (λ v c ys α. refl)) (simp (n1, n2, n3, n4, q)))
       (λ n5. by-test (eqb k COMPLEMENT)
-      (λ q. is-kind (one-works COMPLEMENT (eqb-true k COMPLEMENT q) refl (complementList (ops N L)) refl (λ v c ys α. refl)) (simp (n1, n2, n3, n4, n5, q)))
+      (λ q. is-kind (one-works COMPLEMENT (eqb-true k COMPLEMENT q) refl (st-complement (ops N L)) refl (λ v c ys α. refl)) (simp (n1, n2, n3, n4, n5, q)))
       (λ n6. by-test (eqb k SEQUENCE)
       (λ q. is-kind (sequence-works (eqb-true k SEQUENCE q)) (simp (n1, n2, n3, n4, n5, n6, q)))
       (λ n7. by-test (eqb k STAR)
@@ -346,7 +346,7 @@ module _ {N : ℕ} {L : Limits} {σ : Store} (W : Worked N L σ) {x : ℕ} (l : 
       (λ n8. by-test (eqb k DUP)
       (λ q. is-kind (none-works DUP (eqb-true k DUP q) refl (dupList N L) refl (λ v c ys α. refl)) (simp (n1, n2, n3, n4, n5, n6, n7, n8, q)))
       (λ n9. by-test (eqb k NEXT)
-      (λ q. is-kind (none-works NEXT (eqb-true k NEXT q) refl (singleton (ops N L) (Rel.topAt N) a) refl (λ v c ys α. refl)) (simp (n1, n2, n3, n4, n5, n6, n7, n8, n9, q)))
+      (λ q. is-kind (none-works NEXT (eqb-true k NEXT q) refl (st-singleton (ops N L) (Rel.topAt N) a) refl (λ v c ys α. refl)) (simp (n1, n2, n3, n4, n5, n6, n7, n8, n9, q)))
       (λ n10. by-test (eqb k UNTIL)
       (λ q. is-kind (two-works UNTIL (eqb-true k UNTIL q) refl (untilList N L a b) refl (λ v c ys α. refl)) (simp (n1, n2, n3, n4, n5, n6, n7, n8, n9, n10, q)))
       (λ n11. is-kind (none-works k refl (simp (n7, n8)) (topList N L) (simp (n2, n3, n4, n5, n6, n7, n8, n11)) (λ v c ys α. simp (n1, n2, n3, n4, n5, n6, n7, n8, n9, n10, n11)))

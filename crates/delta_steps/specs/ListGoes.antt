@@ -14,7 +14,7 @@ use Rattle.aut_steps.specs.Goes.{Goes, goes-return, goes-bind}
 use Rattle.aut_steps.specs.StateLaws.{mk-spp-goes, mk-top-goes, mk-until-goes}
 use Rattle.st_steps.specs.Operations.{ops}
 use Rattle.st_steps.specs.Edges.{EdgesAt, edges-grown}
-use Rattle.st_steps.specs.ListGoes.{ListAt, Label, State, list-grown, list-empty, label-grown, unionList-goes, intersectList-goes, postcompose-goes, precompose-goes, intersectTarget-goes, singleton-goes}
+use Rattle.st_steps.specs.ListGoes.{ListAt, Label, State, list-grown, list-empty, label-grown, st-union-goes, st-intersect-goes, st-postcompose-goes, st-precompose-goes, st-intersect-expr-goes, st-singleton-goes}
 use Rattle.delta_steps.specs.Delta.{unionAll, intersectAll, intersectFirst, sequenceList, starList, untilList, dupList, topList}
 use Rattle.delta_steps.specs.Fits.{readings}
 
@@ -39,12 +39,12 @@ module _ {N : ℕ} {L : Limits} where
   pub unionAll-goes : (lists : List (List Edge)) {σ : Aut} {r : List Edge} → Good N L σ → ListsAt N L σ lists → ListAt N L σ r → Goes N L (ListAt N L) σ (unionAll N L lists r σ)
   unfolding unionAll
   unionAll-goes [] {r = r} g ts t = goes-return r g t
-  unionAll-goes (es ∷ lists) g (with-list u us) t = goes-bind (unionList-goes g (t .edges) (u .edges)) (λ τ r w v p. unionAll-goes lists v (lists-grown w us) p)
+  unionAll-goes (es ∷ lists) g (with-list u us) t = goes-bind (st-union-goes g (t .edges) (u .edges)) (λ τ r w v p. unionAll-goes lists v (lists-grown w us) p)
 
   pub intersectAll-goes : (lists : List (List Edge)) {σ : Aut} {r : List Edge} → Good N L σ → ListsAt N L σ lists → ListAt N L σ r → Goes N L (ListAt N L) σ (intersectAll N L lists r σ)
   unfolding intersectAll
   intersectAll-goes [] {r = r} g ts t = goes-return r g t
-  intersectAll-goes (es ∷ lists) g (with-list u us) t = goes-bind (intersectList-goes g (t .edges) (u .edges)) (λ τ r w v p. intersectAll-goes lists v (lists-grown w us) p)
+  intersectAll-goes (es ∷ lists) g (with-list u us) t = goes-bind (st-intersect-goes g (t .edges) (u .edges)) (λ τ r w v p. intersectAll-goes lists v (lists-grown w us) p)
 
   pub intersectFirst-goes : (lists : List (List Edge)) {σ : Aut} → Good N L σ → ListsAt N L σ lists → Goes N L (ListAt N L) σ (intersectFirst N L lists σ)
   intersectFirst-goes [] {σ} g ts = goes-return [] g (list-empty σ)
@@ -54,27 +54,27 @@ module _ {N : ℕ} {L : Limits} where
     pub sequenceList-goes : {b ε : ℕ} {ts us : List Edge} → State σ b → Label N σ ε → EdgesAt N σ ts → EdgesAt N σ us → Goes N L (ListAt N L) σ (sequenceList N L b ε ts us σ)
     unfolding sequenceList
     sequenceList-goes k a t u =
-        goes-bind (postcompose-goes g t k) (λ σ₁ late w₁ v₁ p₁.
-        goes-bind (precompose-goes v₁ (label-grown w₁ a) (edges-grown w₁ u)) (λ σ₂ early w₂ v₂ p₂. unionList-goes v₂ (edges-grown w₂ (p₁ .edges)) (p₂ .edges)))
+        goes-bind (st-postcompose-goes g t k) (λ σ₁ late w₁ v₁ p₁.
+        goes-bind (st-precompose-goes v₁ (label-grown w₁ a) (edges-grown w₁ u)) (λ σ₂ early w₂ v₂ p₂. st-union-goes v₂ (edges-grown w₂ (p₁ .edges)) (p₂ .edges)))
 
     pub starList-goes : {x ε* : ℕ} {ts : List Edge} → State σ x → Label N σ ε* → EdgesAt N σ ts → Goes N L (ListAt N L) σ (starList N L x ε* ts σ)
     unfolding starList
-    starList-goes k a t = goes-bind (postcompose-goes g t k) (λ σ₁ late w₁ v₁ p₁. precompose-goes v₁ (label-grown w₁ a) (p₁ .edges))
+    starList-goes k a t = goes-bind (st-postcompose-goes g t k) (λ σ₁ late w₁ v₁ p₁. st-precompose-goes v₁ (label-grown w₁ a) (p₁ .edges))
 
     pub untilList-goes : {a b : ℕ} {ts us : List Edge} → State σ a → State σ b → EdgesAt N σ ts → EdgesAt N σ us → Goes N L (ListAt N L) σ (untilList N L a b ts us σ)
     unfolding untilList
     untilList-goes k m t u =
         goes-bind (mk-until-goes g k m) (λ σ₁ x w₁ v₁ p₁.
-        goes-bind (intersectTarget-goes v₁ (edges-grown w₁ t) (p₁ .state)) (λ σ₂ met w₂ v₂ p₂. unionList-goes v₂ (edges-grown (grown-trans w₁ w₂) u) (p₂ .edges)))
+        goes-bind (st-intersect-expr-goes v₁ (edges-grown w₁ t) (p₁ .state)) (λ σ₂ met w₂ v₂ p₂. st-union-goes v₂ (edges-grown (grown-trans w₁ w₂) u) (p₂ .edges)))
 
     module _ (one : 1 ≤ L .transitions) where
       pub dupList-goes : Goes N L (ListAt N L) σ (dupList N L σ)
       unfolding dupList
-      dupList-goes = goes-bind (mk-spp-goes g (den-one (g .nodes) N (omega arith))) (λ σ₁ x w v p. singleton-goes v (p .state) (record { at = den-one (v .nodes) N (omega arith) .at }) one)
+      dupList-goes = goes-bind (mk-spp-goes g (den-one (g .nodes) N (omega arith))) (λ σ₁ x w v p. st-singleton-goes v (p .state) (record { at = den-one (v .nodes) N (omega arith) .at }) one)
 
-      pub nextList-goes : {a : ℕ} → State σ a → Goes N L (ListAt N L) σ (ListSteps.singleton (ops N L) (Rel.topAt N) a σ)
-      nextList-goes k = singleton-goes g k (record { at = den-top (g .nodes) N (omega arith) .at }) one
+      pub nextList-goes : {a : ℕ} → State σ a → Goes N L (ListAt N L) σ (ListSteps.st-singleton (ops N L) (Rel.topAt N) a σ)
+      nextList-goes k = st-singleton-goes g k (record { at = den-top (g .nodes) N (omega arith) .at }) one
 
       pub topList-goes : Goes N L (ListAt N L) σ (topList N L σ)
       unfolding topList
-      topList-goes = goes-bind (mk-top-goes g) (λ σ₁ x w v p. singleton-goes v (p .state) (record { at = den-top (v .nodes) N (omega arith) .at }) one)
+      topList-goes = goes-bind (mk-top-goes g) (λ σ₁ x w v p. st-singleton-goes v (p .state) (record { at = den-top (v .nodes) N (omega arith) .at }) one)

@@ -46,5 +46,5 @@ none = store (aut (table [] 0) (table (replicate 240 0) 0) (table (replicate 40 
 orders : (membersOf ((onAut (onStates mk-dup) >>= λ x0. onAut (onStates mk-top) >>= λ x1. onAut (mk-xor 0 limits01 x1 x0) >>= λ x2. explore 0 9 0 (x2 ∷ [])) none) ≡ 3 ∷ 5 ∷ 5 ∷ 7 ∷ [])
     × (take 6 (drop 14 (membersOf ((onAut (onStates mk-dup) >>= λ x0. onAut (mk-sequence 0 limits01 x0 x0) >>= λ x1. onAut (mk-star 0 limits01 x1) >>= λ x2. onAut (onStates (mk-until limits01 x2 x2)) >>= λ x3. explore 0 9 0 (x3 ∷ [])) none))) ≡ 6 ∷ 7 ∷ 13 ∷ 6 ∷ 9 ∷ 6 ∷ [])
     × (membersOf ((onAut (onStates mk-dup) >>= λ x0. onAut (onStates (mk-complement 1 limits01 x0)) >>= λ x1. onAut (mk-intersect 1 limits01 x1 x0) >>= λ x2. explore 1 9 0 (x2 ∷ [])) (holding 20 40 20 [] [] [] [])) ≡ 0 ∷ 1 ∷ 5 ∷ 3 ∷ 3 ∷ 7 ∷ [])
-unfolding behind explore mk-spp mk-dup mk-top mk-union mk-union-n mk-intersect-n mk-intersect mk-intersect-n-base mk-complement mk-sequence mk-xor mk-difference sequence-by sequence-with mk-star mk-until unite meet openUnion openAll opened extend each countAll countOne product base bases finish addRelation uniteOne meetOne meetFinish addLast intern0 intern1 intern2 internL putL put seek same2 sameAt sameL storeMembers nestL roomS roomM put4 kindOf op1 op2 nest words least rise Spp.apply Spp.exit Spp.each Spp.complement Spp.sequence Spp.seqExit Spp.product Spp.star Spp.starExit Spp.blocks Spp.mk Spp.seek Spp.same Spp.kids Spp.kid Spp.room Spp.put Spp.zeroAt Spp.oneAt Spp.topAt ListSteps.unite ListSteps.enter ListSteps.enterIn ListSteps.place ListSteps.singleton ListSteps.split ListSteps.insert ListSteps.insertEach ListSteps.insertPairs ListSteps.unionList ListSteps.intersectList ListSteps.subtractRow ListSteps.subtractRows ListSteps.differenceList ListSteps.xorList ListSteps.coverAll ListSteps.complementList ListSteps.postcompose ListSteps.precompose ListSteps.intersectTarget epsilonOf setWord keepEpsilon eachOf uniteAll meetAll epsilon-by-kind epsilon-with epsilon-by epsilon startOf countOf edges flat roomT append listAt keepList unionAll intersectAll sequenceList starList untilList dupList topList delta-by-kind delta-with delta-by delta
+unfolding behind explore mk-spp mk-dup mk-top mk-union mk-union-n mk-intersect-n mk-intersect mk-intersect-n-base mk-complement mk-sequence mk-xor mk-difference sequence-by sequence-with mk-star mk-until unite meet openUnion openAll opened extend each countAll countOne product base bases finish addRelation uniteOne meetOne meetFinish addLast intern0 intern1 intern2 internL putL put seek same2 sameAt sameL storeMembers nestL roomS roomM put4 kindOf op1 op2 nest words least rise Spp.apply Spp.exit Spp.each Spp.complement Spp.sequence Spp.seqExit Spp.product Spp.star Spp.starExit Spp.blocks Spp.mk Spp.seek Spp.same Spp.kids Spp.kid Spp.room Spp.put Spp.zeroAt Spp.oneAt Spp.topAt ListSteps.unite ListSteps.enter ListSteps.enterIn ListSteps.place ListSteps.st-singleton ListSteps.split ListSteps.insert ListSteps.insertEach ListSteps.insertPairs ListSteps.st-union ListSteps.st-intersect ListSteps.subtractRow ListSteps.subtractRows ListSteps.st-difference ListSteps.st-xor ListSteps.coverAll ListSteps.st-complement ListSteps.st-postcompose ListSteps.st-precompose ListSteps.st-intersect-expr epsilonOf setWord keepEpsilon eachOf uniteAll meetAll epsilon-by-kind epsilon-with epsilon-by epsilon startOf countOf edges flat roomT append listAt keepList unionAll intersectAll sequenceList starList untilList dupList topList delta-by-kind delta-with delta-by delta
 orders = (refl, refl, refl)

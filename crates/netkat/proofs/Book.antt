@@ -16,7 +16,7 @@ use Rattle.common.specs.Outcome.{Outcome, refused, given, if_then_else_}
 use Rattle.common.specs.Follow.{given-of}
 use Rattle.netkat.specs.Strings.{Str}
 use Rattle.netkat.specs.Rules.{Rule, relation, sequence, dup, Language, In}
-use Rattle.netkat.specs.Lists.{State, Transition, to, Disjoint, IsDelta, placeIn, place, singleton, split, insert, insertEach, unionList, postcompose, precompose}
+use Rattle.netkat.specs.Lists.{State, Transition, to, Disjoint, IsDelta, placeIn, place, st-singleton, split, insert, insertEach, st-union, st-postcompose, st-precompose}
 use Rattle.netkat.specs.Search.{Log, Verdict, no, search}
 use Rattle.netkat.specs.Live.{IsLive, Reached, Step, pulled, Added, Worked, begun, added, Finished, pruned}
 use Rattle.netkat.specs.Laws.Hops.{relation-hop}
@@ -60,11 +60,11 @@ unfolding book
 two = omega arith
 
 list-to : (t : Transition State 1) → List·Memᴰ t list → t .target ≡ 3
-unfolding book delta placeIn place singleton split insert insertEach unionList postcompose precompose inhabited packets test bitOf same _⨾_ starts nonempty epsilon
+unfolding book delta placeIn place st-singleton split insert insertEach st-union st-postcompose st-precompose inhabited packets test bitOf same _⨾_ starts nonempty epsilon
 list-to t m = let (p, q) = numbered-from 3 (delta (ruleAt book 2)) t m in omega arith
 
 rule-three : ruleAt made 3 ≡ relation same
-unfolding book delta placeIn place singleton split insert insertEach unionList postcompose precompose inhabited packets test bitOf same _⨾_ starts nonempty epsilon
+unfolding book delta placeIn place st-singleton split insert insertEach st-union st-postcompose st-precompose inhabited packets test bitOf same _⨾_ starts nonempty epsilon
 rule-three = refl
 
 one-of : {s : State} → List·Memᴰ s (2 ∷ 3 ∷ []) → (s ≡ 2) ⊎ (s ≡ 3)
@@ -110,11 +110,11 @@ abbrev only : Transition State 1
 only = getD list 0 (to 0 noneʳ)
 
 only-listed : List·Memᴰ only list
-unfolding book delta placeIn place singleton split insert insertEach unionList postcompose precompose inhabited packets test bitOf same _⨾_ starts nonempty epsilon numbered
+unfolding book delta placeIn place st-singleton split insert insertEach st-union st-postcompose st-precompose inhabited packets test bitOf same _⨾_ starts nonempty epsilon numbered
 only-listed = List·Memᴰ·head refl
 
 only-one : (t : Transition State 1) → List·Memᴰ t list → t ≡ only
-unfolding book delta placeIn place singleton split insert insertEach unionList postcompose precompose inhabited packets test bitOf same _⨾_ starts nonempty epsilon numbered
+unfolding book delta placeIn place st-singleton split insert insertEach st-union st-postcompose st-precompose inhabited packets test bitOf same _⨾_ starts nonempty epsilon numbered
 only-one t m = List·Memᴰ·eq-of-singleton m
 
 abbrev back : Step reached
@@ -162,7 +162,7 @@ live-two = worked-live reached worked finished 2 (List·Memᴰ·head refl)
 
 -- `live 2 1 500`: 1 packet of 2
 live-count : tally (live 2) (packets 1) ≡ 1
-unfolding one tally book delta placeIn place singleton split insert insertEach unionList postcompose precompose inhabited packets test bitOf same _⨾_ starts preimage nonempty epsilon numbered
+unfolding one tally book delta placeIn place st-singleton split insert insertEach st-union st-postcompose st-precompose inhabited packets test bitOf same _⨾_ starts preimage nonempty epsilon numbered
 live-count = refl
 
 -- `pruned 2 1`, `pair 3 1`: one transition, to state 3, with one pair in its label
@@ -178,5 +178,5 @@ show [] = []
 show (t ∷ ts) = pair (t .target) (pairs (t .label) (packets 1)) ∷ show ts
 
 pruned-two : show (pruned live list) ≡ pair 3 1 ∷ []
-unfolding show pairs pruned one tally book delta placeIn place singleton split insert insertEach unionList postcompose precompose inhabited packets test bitOf same _⨾_ starts preimage nonempty epsilon numbered
+unfolding show pairs pruned one tally book delta placeIn place st-singleton split insert insertEach st-union st-postcompose st-precompose inhabited packets test bitOf same _⨾_ starts preimage nonempty epsilon numbered
 pruned-two = refl

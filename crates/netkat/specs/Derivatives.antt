@@ -9,7 +9,7 @@ use Rattle.common.specs.Packets.{Relation}
 use Rattle.common.specs.Relations.{same, noneʳ, allʳ, _∪ʳ_, _∩ʳ_, _∖ʳ_, _⊕ʳ_, ∁ʳ, _⨾_, starʳ}
 use Rattle.common.specs.Outcome.{given}
 use Rattle.netkat.specs.Rules.{Rule, Rules, relation, union, intersection, xor, difference, sequence, until, complement, star, next, dup, top, none, also}
-use Rattle.netkat.specs.Lists.{State, Transition, to, Targets, singleton, unionList, intersectList, differenceList, xorList, complementList, postcompose, precompose, intersectTarget}
+use Rattle.netkat.specs.Lists.{State, Transition, to, Targets, st-singleton, st-union, st-intersect, st-difference, st-xor, st-complement, st-postcompose, st-precompose, st-intersect-expr}
 use Rattle.netkat.specs.Search.{Automaton}
 use Rattle.netkat.specs.Promise.{Meaning}
 use Rattle.netkat.specs.Demand.{ofRules}
@@ -57,23 +57,23 @@ module _ {n : ℕ} where
     delta (relation r) = []
     delta (union rs) = deltaSome rs
     delta (intersection rs) = deltaEach rs
-    delta (xor a b) = xorList ruleTargets (delta a) (delta b)
-    delta (difference a b) = differenceList ruleTargets (delta a) (delta b)
-    delta (sequence a b) = unionList ruleTargets (postcompose ruleTargets (delta a) b) (precompose ruleTargets (epsilon a) (delta b))
-    delta (until a b) = unionList ruleTargets (delta b) (intersectTarget ruleTargets (delta a) (until a b))
-    delta (complement a) = complementList ruleTargets (delta a)
-    delta (star a) = precompose ruleTargets (starʳ (epsilon a)) (postcompose ruleTargets (delta a) (star a))
-    delta (next a) = singleton ruleTargets allʳ a
-    delta dup = singleton ruleTargets same (relation same)
-    delta top = singleton ruleTargets allʳ top
+    delta (xor a b) = st-xor ruleTargets (delta a) (delta b)
+    delta (difference a b) = st-difference ruleTargets (delta a) (delta b)
+    delta (sequence a b) = st-union ruleTargets (st-postcompose ruleTargets (delta a) b) (st-precompose ruleTargets (epsilon a) (delta b))
+    delta (until a b) = st-union ruleTargets (delta b) (st-intersect-expr ruleTargets (delta a) (until a b))
+    delta (complement a) = st-complement ruleTargets (delta a)
+    delta (star a) = st-precompose ruleTargets (starʳ (epsilon a)) (st-postcompose ruleTargets (delta a) (star a))
+    delta (next a) = st-singleton ruleTargets allʳ a
+    delta dup = st-singleton ruleTargets same (relation same)
+    delta top = st-singleton ruleTargets allʳ top
 
     pub deltaSome : Rules n → List (Transition (Rule n) n)
     deltaSome none = []
-    deltaSome (also r rs) = unionList ruleTargets (delta r) (deltaSome rs)
+    deltaSome (also r rs) = st-union ruleTargets (delta r) (deltaSome rs)
 
     pub deltaEach : Rules n → List (Transition (Rule n) n)
-    deltaEach none = singleton ruleTargets allʳ top
-    deltaEach (also r rs) = intersectList ruleTargets (delta r) (deltaEach rs)
+    deltaEach none = st-singleton ruleTargets allʳ top
+    deltaEach (also r rs) = st-intersect ruleTargets (delta r) (deltaEach rs)
 
   abbrev pub ruleAt : List (Rule n) → State → Rule n
   ruleAt σ s = getD σ s top

@@ -9,7 +9,7 @@ use Rattle.common.specs.Packets.{Packet, end, bit, packets, Set, Relation, inha
 use Rattle.common.specs.Relations.{same, noneʳ, allʳ, _⨾_, starts, preimage, nonempty}
 use Rattle.common.specs.Outcome.{Outcome, refused, given, return, if_then_else_}
 use Rattle.netkat.specs.Rules.{Rule, relation, union, intersection, sequence, complement, dup, top, none, also}
-use Rattle.netkat.specs.Lists.{State, Transition, to, placeIn, place, singleton, split, insert, insertEach, insertPairs, unionList, intersectList, complementList, postcompose, precompose}
+use Rattle.netkat.specs.Lists.{State, Transition, to, placeIn, place, st-singleton, split, insert, insertEach, insertPairs, st-union, st-intersect, st-complement, st-postcompose, st-precompose}
 use Rattle.netkat.specs.Search.{Automaton, Log, Verdict, yes, no, spent, walk, turn, run, search}
 use Rattle.netkat.specs.Promise.{most}
 use Rattle.netkat.specs.Live.{pulled, pruned}
@@ -44,29 +44,29 @@ unfoldable pub book : List (Rule 1)
 book = relation test ∷ dup ∷ sequence (relation test) dup ∷ []
 
 pub budget-ten : print (search rules 10 2 book) ≡ printed no 2
-unfolding print search run turn walk inhabited image relates packets book test bitOf same _⨾_ starts nonempty placeIn place singleton split insert insertEach unionList postcompose precompose epsilon delta numbered
+unfolding print search run turn walk inhabited image relates packets book test bitOf same _⨾_ starts nonempty placeIn place st-singleton split insert insertEach st-union st-postcompose st-precompose epsilon delta numbered
 budget-ten = refl
 
 budget-two : print (search rules 2 2 book) ≡ printed no 2
-unfolding print search run turn walk inhabited image relates packets book test bitOf same _⨾_ starts nonempty placeIn place singleton split insert insertEach unionList postcompose precompose epsilon delta numbered
+unfolding print search run turn walk inhabited image relates packets book test bitOf same _⨾_ starts nonempty placeIn place st-singleton split insert insertEach st-union st-postcompose st-precompose epsilon delta numbered
 budget-two = refl
 
 budget-one : print (search rules 1 2 book) ≡ printed spent 1
-unfolding print search run turn walk inhabited image relates packets book test bitOf same _⨾_ starts nonempty placeIn place singleton split insert insertEach unionList postcompose precompose epsilon delta numbered
+unfolding print search run turn walk inhabited image relates packets book test bitOf same _⨾_ starts nonempty placeIn place st-singleton split insert insertEach st-union st-postcompose st-precompose epsilon delta numbered
 budget-one = refl
 
 budget-none : print (search rules 0 2 book) ≡ printed spent 0
-unfolding print search run turn walk inhabited image relates packets book test bitOf same _⨾_ starts nonempty placeIn place singleton split insert insertEach unionList postcompose precompose epsilon delta numbered
+unfolding print search run turn walk inhabited image relates packets book test bitOf same _⨾_ starts nonempty placeIn place st-singleton split insert insertEach st-union st-postcompose st-precompose epsilon delta numbered
 budget-none = refl
 
 -- A relation holds no string with a hop, so the relation of all pairs is not Top: met with Dup it has no string, and the search says so after 1
 -- pair. Top has strings.
 all-is-not-top : print (search rules 5 0 (intersection (also (relation allʳ) (also dup none)) ∷ [])) ≡ printed yes 1
-unfolding print search run turn walk inhabited image relates packets same starts nonempty placeIn place singleton split insert insertEach insertPairs intersectList epsilon epsilonEach delta deltaEach numbered
+unfolding print search run turn walk inhabited image relates packets same starts nonempty placeIn place st-singleton split insert insertEach insertPairs st-intersect epsilon epsilonEach delta deltaEach numbered
 all-is-not-top = refl
 
 top-and-dup : print (search rules 5 0 (intersection (also top (also dup none)) ∷ [])) ≡ printed no 2
-unfolding print search run turn walk inhabited image relates packets same starts nonempty placeIn place singleton split insert insertEach insertPairs intersectList epsilon epsilonEach delta deltaEach numbered
+unfolding print search run turn walk inhabited image relates packets same starts nonempty placeIn place st-singleton split insert insertEach insertPairs st-intersect epsilon epsilonEach delta deltaEach numbered
 top-and-dup = refl
 
 -- ---- automata by a table
@@ -148,12 +148,12 @@ labels (t ∷ ts) = pairs (t .label) (packets 1) ∷ labels ts
 
 -- Complement of zero: one transition with all 4 pairs, to Top.
 complement-zero : labels (delta {n = 1} (complement (relation noneʳ))) ≡ 4 ∷ []
-unfolding labels pairs inhabited packets starts nonempty placeIn place split insert insertEach complementList delta
+unfolding labels pairs inhabited packets starts nonempty placeIn place split insert insertEach st-complement delta
 complement-zero = refl
 
 -- Dup or Top: where the labels meet (2 pairs) the union of the targets; the other 2 pairs go to Top alone.
 dup-or-top : labels (delta {n = 1} (union (also dup (also top none)))) ≡ 2 ∷ 2 ∷ []
-unfolding labels pairs inhabited packets same starts nonempty placeIn place singleton split insert insertEach unionList delta deltaSome
+unfolding labels pairs inhabited packets same starts nonempty placeIn place st-singleton split insert insertEach st-union delta deltaSome
 dup-or-top = refl
 
 -- ---- the same by steps over a store
@@ -174,17 +174,17 @@ stepLabels (given σ es) = go es
 begun : Made 1
 begun = record { relations = noneʳ ∷ same ∷ allʳ ∷ []; rules = relation same ∷ top ∷ [] }
 
-complement-zero-steps : stepLabels (ListSteps.complementList (workshop 1 64) [] begun) ≡ 4 ∷ []
-unfolding stepLabels begun pairs inhabited packets starts nonempty ListSteps.complementList ListSteps.insertEach ListSteps.coverAll ListSteps.insert ListSteps.split ListSteps.place ListSteps.enterIn ListSteps.enter
+complement-zero-steps : stepLabels (ListSteps.st-complement (workshop 1 64) [] begun) ≡ 4 ∷ []
+unfolding stepLabels begun pairs inhabited packets starts nonempty ListSteps.st-complement ListSteps.insertEach ListSteps.coverAll ListSteps.insert ListSteps.split ListSteps.place ListSteps.enterIn ListSteps.enter
 complement-zero-steps = refl
 
-dup-or-top-steps : stepLabels (ListSteps.unionList (workshop 1 64) (edge 0 1 ∷ []) (edge 1 2 ∷ []) begun) ≡ 2 ∷ 2 ∷ []
-unfolding stepLabels begun pairs inhabited packets same starts nonempty ListSteps.unionList ListSteps.insertEach ListSteps.insert ListSteps.split ListSteps.place ListSteps.enterIn ListSteps.enter
+dup-or-top-steps : stepLabels (ListSteps.st-union (workshop 1 64) (edge 0 1 ∷ []) (edge 1 2 ∷ []) begun) ≡ 2 ∷ 2 ∷ []
+unfolding stepLabels begun pairs inhabited packets same starts nonempty ListSteps.st-union ListSteps.insertEach ListSteps.insert ListSteps.split ListSteps.place ListSteps.enterIn ListSteps.enter
 dup-or-top-steps = refl
 
 -- with room for one transition the second is refused
-no-room-steps : refusal-of (ListSteps.unionList (workshop 1 1) (edge 0 1 ∷ []) (edge 1 2 ∷ []) begun) ≡ 9
-unfolding refusal-of begun pairs inhabited packets same starts nonempty ListSteps.unionList ListSteps.insertEach ListSteps.insert ListSteps.split ListSteps.place ListSteps.enterIn ListSteps.enter
+no-room-steps : refusal-of (ListSteps.st-union (workshop 1 1) (edge 0 1 ∷ []) (edge 1 2 ∷ []) begun) ≡ 9
+unfolding refusal-of begun pairs inhabited packets same starts nonempty ListSteps.st-union ListSteps.insertEach ListSteps.insert ListSteps.split ListSteps.place ListSteps.enterIn ListSteps.enter
 no-room-steps = refl
 
 -- ---- live: from packet 1 at state 3, the pair 0,1 leads back to packet 0 alone

@@ -75,8 +75,8 @@ module _ (𝓞 : Operations) where
     if eqb s z then return list else if leadsTo s list then unite s l list else enterIn s l list
 
   -- st_singleton
-  unfoldable pub singleton : Label → State → Step Store (List Edge)
-  singleton l s = if eqb l zero then return [] else do
+  unfoldable pub st-singleton : Label → State → Step Store (List Edge)
+  st-singleton l s = if eqb l zero then return [] else do
     z ← mkZero
     if eqb s z then return [] else return (edge s l ∷ [])
 
@@ -112,8 +112,8 @@ module _ (𝓞 : Operations) where
     insertPairs make ts us result₁
 
   -- st_union
-  unfoldable pub unionList : List Edge → List Edge → Step Store (List Edge)
-  unionList ts us = do
+  unfoldable pub st-union : List Edge → List Edge → Step Store (List Edge)
+  st-union ts us = do
     first ← insertEach return ts []
     insertEach return us first
 
@@ -124,8 +124,8 @@ module _ (𝓞 : Operations) where
     m ← intersect (t .label) (u .label)
     return (edge x m)
 
-  unfoldable pub intersectList : List Edge → List Edge → Step Store (List Edge)
-  intersectList ts us = insertPairs meetOf ts us []
+  unfoldable pub st-intersect : List Edge → List Edge → Step Store (List Edge)
+  st-intersect ts us = insertPairs meetOf ts us []
 
   -- st_difference: `sum` is the union of the labels' meets
   pub record Summed : Type 0 where
@@ -152,17 +152,17 @@ module _ (𝓞 : Operations) where
     d ← difference (t .label) sum
     return (edge (t .target) d)
 
-  unfoldable pub differenceList : List Edge → List Edge → Step Store (List Edge)
-  differenceList ts us = do
+  unfoldable pub st-difference : List Edge → List Edge → Step Store (List Edge)
+  st-difference ts us = do
     s ← subtractRows ts us (record { sum = zero; result = [] })
     insertEach (restOf (s .sum)) ts (s .result)
 
   -- st_xor
-  unfoldable pub xorList : List Edge → List Edge → Step Store (List Edge)
-  xorList ts us = do
-    left ← differenceList ts us
-    right ← differenceList us ts
-    unionList left right
+  unfoldable pub st-xor : List Edge → List Edge → Step Store (List Edge)
+  st-xor ts us = do
+    left ← st-difference ts us
+    right ← st-difference us ts
+    st-union left right
 
   -- st_complement
   abbrev pub complementOf : Edge → Step Store Edge
@@ -176,8 +176,8 @@ module _ (𝓞 : Operations) where
     sum₁ ← union sum (t .label)
     coverAll ts sum₁
 
-  unfoldable pub complementList : List Edge → Step Store (List Edge)
-  complementList ts = do
+  unfoldable pub st-complement : List Edge → Step Store (List Edge)
+  st-complement ts = do
     complements ← insertEach complementOf ts []
     covered ← coverAll ts zero
     rest ← complement covered
@@ -190,8 +190,8 @@ module _ (𝓞 : Operations) where
     x ← mkSequence (t .target) e
     return (edge x (t .label))
 
-  unfoldable pub postcompose : List Edge → State → Step Store (List Edge)
-  postcompose ts e = insertEach (followedBy e) ts []
+  unfoldable pub st-postcompose : List Edge → State → Step Store (List Edge)
+  st-postcompose ts e = insertEach (followedBy e) ts []
 
   -- st_precompose
   abbrev pub after : Label → Edge → Step Store Edge
@@ -199,8 +199,8 @@ module _ (𝓞 : Operations) where
     m ← sequence l (t .label)
     return (edge (t .target) m)
 
-  unfoldable pub precompose : Label → List Edge → Step Store (List Edge)
-  precompose l ts = insertEach (after l) ts []
+  unfoldable pub st-precompose : Label → List Edge → Step Store (List Edge)
+  st-precompose l ts = insertEach (after l) ts []
 
   -- st_intersect_expr
   abbrev pub metWith : State → Edge → Step Store Edge
@@ -208,8 +208,8 @@ module _ (𝓞 : Operations) where
     x ← mkIntersect (t .target) e
     return (edge x (t .label))
 
-  unfoldable pub intersectTarget : List Edge → State → Step Store (List Edge)
-  intersectTarget ts e = insertEach (metWith e) ts []
+  unfoldable pub st-intersect-expr : List Edge → State → Step Store (List Edge)
+  st-intersect-expr ts e = insertEach (metWith e) ts []
 
 -- ---- what states and labels mean in a store
 

@@ -119,8 +119,8 @@ module _ {Target : Type 0} {n : ℕ} (𝓣 : Targets Target) where
   place t list = if void t then list else placeIn t list
 
   -- st_singleton
-  unfoldable pub singleton : Relation n → Target → List (Transition Target n)
-  singleton r s = if void (to s r) then [] else (to s r ∷ [])
+  unfoldable pub st-singleton : Relation n → Target → List (Transition Target n)
+  st-singleton r s = if void (to s r) then [] else (to s r ∷ [])
 
   -- The walk of st_insert over what the list has: where the labels meet, the union of the targets; where they do not, what there was. What
   -- is left of the new label in the end goes to the new target.
@@ -148,37 +148,37 @@ module _ {Target : Type 0} {n : ℕ} (𝓣 : Targets Target) where
   insertPairs f (t ∷ ts) us result = insertPairs f ts us (insertEach (f t) us result)
 
   -- st_union
-  unfoldable pub unionList : List (Transition Target n) → List (Transition Target n) → List (Transition Target n)
-  unionList ts us = insertEach (λ u. u) us (insertEach (λ t. t) ts [])
+  unfoldable pub st-union : List (Transition Target n) → List (Transition Target n) → List (Transition Target n)
+  st-union ts us = insertEach (λ u. u) us (insertEach (λ t. t) ts [])
 
   -- st_intersect
-  unfoldable pub intersectList : List (Transition Target n) → List (Transition Target n) → List (Transition Target n)
-  intersectList ts us = insertPairs (λ t u. to (𝓣 .intersection (t .target) (u .target)) (t .label ∩ʳ u .label)) ts us []
+  unfoldable pub st-intersect : List (Transition Target n) → List (Transition Target n) → List (Transition Target n)
+  st-intersect ts us = insertPairs (λ t u. to (𝓣 .intersection (t .target) (u .target)) (t .label ∩ʳ u .label)) ts us []
 
   -- st_difference: the differences where the labels meet; where none does, what the first list has
-  unfoldable pub differenceList : List (Transition Target n) → List (Transition Target n) → List (Transition Target n)
-  differenceList ts us =
+  unfoldable pub st-difference : List (Transition Target n) → List (Transition Target n) → List (Transition Target n)
+  st-difference ts us =
       let met = insertPairs (λ t u. to (𝓣 .difference (t .target) (u .target)) (t .label ∩ʳ u .label)) ts us [] in
       insertEach (λ t. to (t .target) (t .label ∖ʳ (covers ts ∩ʳ covers us))) ts met
 
   -- st_xor
-  unfoldable pub xorList : List (Transition Target n) → List (Transition Target n) → List (Transition Target n)
-  xorList ts us = unionList (differenceList ts us) (differenceList us ts)
+  unfoldable pub st-xor : List (Transition Target n) → List (Transition Target n) → List (Transition Target n)
+  st-xor ts us = st-union (st-difference ts us) (st-difference us ts)
 
   -- st_complement: the complements of the targets; the rest of the packet pairs goes to Top
-  unfoldable pub complementList : List (Transition Target n) → List (Transition Target n)
-  complementList ts =
+  unfoldable pub st-complement : List (Transition Target n) → List (Transition Target n)
+  st-complement ts =
       let complements = insertEach (λ t. to (𝓣 .complement (t .target)) (t .label)) ts [] in
       insert (to (𝓣 .top) (∁ʳ (covers ts))) complements
 
   -- st_postcompose: each target followed by e
-  unfoldable pub postcompose : List (Transition Target n) → Target → List (Transition Target n)
-  postcompose ts e = insertEach (λ t. to (𝓣 .sequence (t .target) e) (t .label)) ts []
+  unfoldable pub st-postcompose : List (Transition Target n) → Target → List (Transition Target n)
+  st-postcompose ts e = insertEach (λ t. to (𝓣 .sequence (t .target) e) (t .label)) ts []
 
   -- st_precompose: r before each label
-  unfoldable pub precompose : Relation n → List (Transition Target n) → List (Transition Target n)
-  precompose r ts = insertEach (λ t. to (t .target) (r ⨾ t .label)) ts []
+  unfoldable pub st-precompose : Relation n → List (Transition Target n) → List (Transition Target n)
+  st-precompose r ts = insertEach (λ t. to (t .target) (r ⨾ t .label)) ts []
 
   -- st_intersect_expr: each target met with e
-  unfoldable pub intersectTarget : List (Transition Target n) → Target → List (Transition Target n)
-  intersectTarget ts e = insertEach (λ t. to (𝓣 .intersection (t .target) e) (t .label)) ts []
+  unfoldable pub st-intersect-expr : List (Transition Target n) → Target → List (Transition Target n)
+  st-intersect-expr ts e = insertEach (λ t. to (𝓣 .intersection (t .target) e) (t .label)) ts []

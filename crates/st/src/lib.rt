@@ -85,7 +85,7 @@ fn place_in(
 }
 
 // st_insert_helper
-fn place(
+fn st_insert_helper(
     nodes: &mut [u32],
     states: &mut [u32],
     scratch: &mut [u32],
@@ -172,7 +172,7 @@ fn meet_in(
     match both {
         State::Refused(e) => Met::Refused(e),
         State::Is(x, c2) => {
-            let listed = place(nodes, states, scratch, c2, limits, fields, x, meet, m);
+            let listed = st_insert_helper(nodes, states, scratch, c2, limits, fields, x, meet, m);
             match listed {
                 Listed::Refused(e) => Met::Refused(e),
                 Listed::List(c3, m3) => Met::Next(c3, meet, m3),
@@ -220,7 +220,7 @@ fn rest_in(
         members: c.members,
         transitions: c.transitions,
     };
-    let listed = place(
+    let listed = st_insert_helper(
         nodes,
         states,
         scratch,
@@ -343,7 +343,7 @@ fn walk(
 }
 
 // st_insert: a transition to s with the label l goes into the m at RESULT
-pub fn insert(
+pub fn st_insert(
     nodes: &mut [u32],
     states: &mut [u32],
     members: &mut [u32],
@@ -381,7 +381,7 @@ pub fn insert(
                 members: c1.members,
                 transitions: c1.transitions,
             };
-            place(nodes, states, scratch, c2, limits, fields, s, rest, k)
+            st_insert_helper(nodes, states, scratch, c2, limits, fields, s, rest, k)
         }
     }
 }

@@ -190,7 +190,7 @@ fn insert_made(
     let edged = make_edge(nodes, states, members, scratch, c, limits, fields, each, t);
     match edged {
         Edged::Refused(e) => Listed::Refused(e),
-        Edged::Edge(d, new) => st::insert(
+        Edged::Edge(d, new) => st::st_insert(
             nodes,
             states,
             members,

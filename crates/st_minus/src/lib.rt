@@ -74,7 +74,7 @@ fn subtract_one(
                 members: c1.members,
                 transitions: c1.transitions,
             };
-            let listed = st::insert(
+            let listed = st::st_insert(
                 nodes,
                 states,
                 members,

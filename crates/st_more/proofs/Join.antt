@@ -44,11 +44,11 @@ first-in = record { from = omega arith; to = omega arith }
 pub record Joins (N : ℕ) (l : Limits) (σ : Aut) (tr s : List ℕ) (whole left right : Step Aut (List Edge)) : Type 0 where
   pub ready : Ready N l σ s
   pub limit : l .transitions ≤ 64
-  pub is : whole σ ≡ after (left σ) (λ ls. right >>= St.unionList (ops N (limitsOf l)) ls)
+  pub is : whole σ ≡ after (left σ) (λ ls. right >>= St.st-union (ops N (limitsOf l)) ls)
 
 module _ {N : ℕ} {l : Limits} {σ : Aut} {tr s : List ℕ} {whole left right : Step Aut (List Edge)} (J : Joins N l σ tr s whole left right) where
   abbrev join : List Edge → List Edge → Step Aut (List Edge)
-  join = St.unionList (ops N (limitsOf l))
+  join = St.st-union (ops N (limitsOf l))
 
   stage-0 : (c : Counts) → Stage (autLayer N l) 0 1088 (whole σ) (after (left σ) (λ ls. right >>= join ls)) σ σ c c s s
   stage-0 c = begin (autLayer N l) 0 1088 (J .ready) (J .is)
@@ -117,8 +117,8 @@ module _ {N : ℕ} {l : Limits} {σ : Aut} {tr s : List ℕ} {whole left right :
 -- ---- st_xor
 
 pub xor-joins : {N : ℕ} {l : Limits} {σ : Aut} {tr s : List ℕ} {a b k j : ℕ} → StoredReady N l σ tr s a k b j
-    → Joins N l σ tr s (St.xorList (ops N (limitsOf l)) (edges tr a k) (edges tr b j)) (St.differenceList (ops N (limitsOf l)) (edges tr a k) (edges tr b j)) (St.differenceList (ops N (limitsOf l)) (edges tr b j) (edges tr a k))
-unfolding St.xorList
+    → Joins N l σ tr s (St.st-xor (ops N (limitsOf l)) (edges tr a k) (edges tr b j)) (St.st-difference (ops N (limitsOf l)) (edges tr a k) (edges tr b j)) (St.st-difference (ops N (limitsOf l)) (edges tr b j) (edges tr a k))
+unfolding St.st-xor
 xor-joins W = record { ready = W .first .ready; limit = W .first .limit; is = refl }
 
 -- the lists in later tables

@@ -11,7 +11,7 @@ ghost use Rattle.aut_rel.specs.Seen.{autOf};
 ghost use Rattle.st_stage.specs.Readings.{GivesList};
 ghost use Rattle.st_more.specs.Seen.{StoredReady};
 
-pub fn xor_list(
+pub fn st_xor(
     nodes: &mut [u32],
     states: &mut [u32],
     members: &mut [u32],
@@ -26,9 +26,9 @@ pub fn xor_list(
     j: usize,
 ) -> Listed
     requires { ⌜ StoredReady fields limits (autOf (now nodes) (now states) (now members) c) (now transitions) (now scratch) first k second j ⌝ }
-    ensures { λ r. ⌜ GivesList fields limits 0 1088 (St.xorList (ops fields (limitsOf limits)) (edges (now (transitions .entry)) first k) (edges (now (transitions .entry)) second j)) (autOf (now (nodes .entry)) (now (states .entry)) (now (members .entry)) c) c r (autOf (now (nodes .exit)) (now (states .exit)) (now (members .exit))) (now (scratch .entry)) (now (scratch .exit)) ⌝ }
+    ensures { λ r. ⌜ GivesList fields limits 0 1088 (St.st-xor (ops fields (limitsOf limits)) (edges (now (transitions .entry)) first k) (edges (now (transitions .entry)) second j)) (autOf (now (nodes .entry)) (now (states .entry)) (now (members .entry)) c) c r (autOf (now (nodes .exit)) (now (states .exit)) (now (members .exit))) (now (scratch .entry)) (now (scratch .exit)) ⌝ }
 {
-    let one = st_ops::difference_list(
+    let one = st_ops::st_difference(
         nodes,
         states,
         members,
@@ -46,7 +46,7 @@ pub fn xor_list(
         Listed::Refused(e) => Listed::Refused(e),
         Listed::List(d, n) => {
             st_edges::copy(scratch, st::RESULT, n, st::FIRST);
-            let other = st_ops::difference_list(
+            let other = st_ops::st_difference(
                 nodes,
                 states,
                 members,
@@ -64,7 +64,7 @@ pub fn xor_list(
                 Listed::Refused(e) => Listed::Refused(e),
                 Listed::List(f, m) => {
                     st_edges::copy(scratch, st::RESULT, m, st::SECOND);
-                    st_ops::union_list(
+                    st_ops::st_union(
                         nodes,
                         states,
                         members,

@@ -56,7 +56,7 @@ module _ {N : ℕ} {l : Limits} {σ : Aut} {tr s : List ℕ} {x : Source} {k : �
   ts = sourceOf x tr s k
 
   abbrev whole : Step Aut (List Edge)
-  whole = St.complementList (ops N (limitsOf l)) ts
+  whole = St.st-complement (ops N (limitsOf l)) ts
 
   abbrev targets : Step Aut (List Edge)
   targets = St.insertEach (ops N (limitsOf l)) (St.complementOf (ops N (limitsOf l))) ts (edges s RESULT 0)
@@ -71,7 +71,7 @@ module _ {N : ℕ} {l : Limits} {σ : Aut} {tr s : List ℕ} {x : Source} {k : �
   cover-then es τ = after (St.coverAll (ops N (limitsOf l)) ts (ops N (limitsOf l) .zero) τ) (λ h υ. after (onNodes (Spp.complement N N h) υ) (top-then es))
 
   stage-0 : (c : Counts) → Stage (autLayer N l) 0 832 (whole σ) (after (targets σ) cover-then) σ σ c c s s
-  unfolding St.complementList
+  unfolding St.st-complement
   stage-0 c = begin (autLayer N l) 0 832 (W .ready) (ap (λ (es : List Edge). after (St.insertEach (ops N (limitsOf l)) (St.complementOf (ops N (limitsOf l))) ts es σ) cover-then) (sym (none-at s)))
 
   pub targets-ready : EachReady N l σ tr s M.complement x k 0

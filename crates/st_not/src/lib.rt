@@ -68,7 +68,7 @@ fn rest_of(
     aut_rel::apply(nodes, scratch, n, fields, Op::Not, h, h)
 }
 
-pub fn complement_list(
+pub fn st_complement(
     nodes: &mut [u32],
     states: &mut [u32],
     members: &mut [u32],
@@ -81,7 +81,7 @@ pub fn complement_list(
     k: usize,
 ) -> Listed
     requires { ⌜ OneReady fields limits (autOf (now nodes) (now states) (now members) c) (now transitions) (now scratch) source k ⌝ }
-    ensures { λ r. ⌜ GivesList fields limits 0 832 (St.complementList (ops fields (limitsOf limits)) (sourceOf source (now (transitions .entry)) (now (scratch .entry)) k)) (autOf (now (nodes .entry)) (now (states .entry)) (now (members .entry)) c) c r (autOf (now (nodes .exit)) (now (states .exit)) (now (members .exit))) (now (scratch .entry)) (now (scratch .exit)) ⌝ }
+    ensures { λ r. ⌜ GivesList fields limits 0 832 (St.st-complement (ops fields (limitsOf limits)) (sourceOf source (now (transitions .entry)) (now (scratch .entry)) k)) (autOf (now (nodes .entry)) (now (states .entry)) (now (members .entry)) c) c r (autOf (now (nodes .exit)) (now (states .exit)) (now (members .exit))) (now (scratch .entry)) (now (scratch .exit)) ⌝ }
 {
     let listed = st_each::insert_each(
         nodes,
@@ -124,7 +124,7 @@ pub fn complement_list(
             );
             match state {
                 State::Refused(e) => Listed::Refused(e),
-                State::Is(top, f) => st::insert(
+                State::Is(top, f) => st::st_insert(
                     nodes,
                     states,
                     members,

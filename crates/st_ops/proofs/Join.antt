@@ -56,7 +56,7 @@ does-as e d = record { is = e ∙ d .is; beside = d .beside; left = d .left; nex
 
 module _ {N : ℕ} {l : Limits} {σ : Aut} {tr s : List ℕ} {x y : Source} {i j : ℕ} (W : TwoReady N l σ tr s x i y j) where
   abbrev union-all : Step Aut (List Edge)
-  union-all = St.unionList (ops N (limitsOf l)) (sourceOf x tr s i) (sourceOf y tr s j)
+  union-all = St.st-union (ops N (limitsOf l)) (sourceOf x tr s i) (sourceOf y tr s j)
 
   abbrev first-loop : Step Aut (List Edge)
   first-loop = St.insertEach (ops N (limitsOf l)) return (sourceOf x tr s i) (edges s RESULT 0)
@@ -65,7 +65,7 @@ module _ {N : ℕ} {l : Limits} {σ : Aut} {tr s : List ℕ} {x y : Source} {i j
   second-loop = St.insertEach (ops N (limitsOf l)) return (sourceOf y tr s j)
 
   union-0 : (c : Counts) → Stage (autLayer N l) 0 832 (union-all σ) (after (first-loop σ) second-loop) σ σ c c s s
-  unfolding St.unionList
+  unfolding St.st-union
   union-0 c = begin (autLayer N l) 0 832 (W .first .ready) (ap (λ (es : List Edge). after (St.insertEach (ops N (limitsOf l)) return (sourceOf x tr s i) es σ) second-loop) (sym (none-at s)))
 
   module _ {c : Counts} {r : Listed} {t st mem s′ : List ℕ} (D : DoesList N l 0 832 first-loop σ r c t st mem s s′) where
@@ -95,15 +95,15 @@ module _ {N : ℕ} {l : Limits} {σ : Aut} {tr s : List ℕ} {x y : Source} {i j
 module _ (N : ℕ) (l : Limits) (tr s : List ℕ) (x y : Source) (i j : ℕ) where
   pub intersect-does : {σ : Aut} {r : Listed} {c : Counts} {t st mem s′ : List ℕ}
       → DoesList N l 0 832 (St.insertPairs (ops N (limitsOf l)) (St.meetOf (ops N (limitsOf l))) (sourceOf x tr s i) (sourceOf y tr s j) (edges s RESULT 0)) σ r c t st mem s s′
-      → DoesList N l 0 832 (St.intersectList (ops N (limitsOf l)) (sourceOf x tr s i) (sourceOf y tr s j)) σ r c t st mem s s′
-  unfolding St.intersectList
+      → DoesList N l 0 832 (St.st-intersect (ops N (limitsOf l)) (sourceOf x tr s i) (sourceOf y tr s j)) σ r c t st mem s s′
+  unfolding St.st-intersect
   intersect-does {σ} D = does-as (ap (λ (es : List Edge). St.insertPairs (ops N (limitsOf l)) (St.meetOf (ops N (limitsOf l))) (sourceOf x tr s i) (sourceOf y tr s j) es σ) (sym (none-at s))) D
 
 -- ---- st_difference
 
 module _ {N : ℕ} {l : Limits} {σ : Aut} {tr s : List ℕ} {x y : Source} {i j : ℕ} (W : TwoReady N l σ tr s x i y j) {zero : ℕ} (zero-is : zeroAt N ≡ zero) where
   abbrev minus : Step Aut (List Edge)
-  minus = St.differenceList (ops N (limitsOf l)) (sourceOf x tr s i) (sourceOf y tr s j)
+  minus = St.st-difference (ops N (limitsOf l)) (sourceOf x tr s i) (sourceOf y tr s j)
 
   abbrev rows-loop : Step Aut (Sum (ops N (limitsOf l)))
   rows-loop = St.subtractRows (ops N (limitsOf l)) (sourceOf x tr s i) (sourceOf y tr s j) (sumOf N l s zero 0)
@@ -112,7 +112,7 @@ module _ {N : ℕ} {l : Limits} {σ : Aut} {tr s : List ℕ} {x y : Source} {i j
   rest-loop q = St.insertEach (ops N (limitsOf l)) (St.restOf (ops N (limitsOf l)) (q .sum)) (sourceOf x tr s i) (q .result)
 
   minus-0 : (c : Counts) → Stage (autLayer N l) 0 832 (minus σ) (after (rows-loop σ) rest-loop) σ σ c c s s
-  unfolding St.differenceList
+  unfolding St.st-difference
   minus-0 c = begin (autLayer N l) 0 832 (W .first .ready)
       (ap₂ (λ (h : ℕ) (es : List Edge). after (St.subtractRows (ops N (limitsOf l)) (sourceOf x tr s i) (sourceOf y tr s j) (record { sum = h; result = es }) σ) rest-loop) zero-is (sym (none-at s)))
 

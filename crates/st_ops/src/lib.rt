@@ -13,7 +13,7 @@ ghost use Rattle.st.specs.Seen.{DoesList};
 ghost use Rattle.st_source.specs.Seen.{sourceOf};
 ghost use Rattle.st_ops.specs.Seen.{TwoReady};
 
-pub fn union_list(
+pub fn st_union(
     nodes: &mut [u32],
     states: &mut [u32],
     members: &mut [u32],
@@ -28,7 +28,7 @@ pub fn union_list(
     j: usize,
 ) -> Listed
     requires { ⌜ TwoReady fields limits (autOf (now nodes) (now states) (now members) c) (now transitions) (now scratch) first k second j ⌝ }
-    ensures { λ r. ⌜ DoesList fields limits 0 832 (St.unionList (ops fields (limitsOf limits)) (sourceOf first (now (transitions .entry)) (now (scratch .entry)) k) (sourceOf second (now (transitions .entry)) (now (scratch .entry)) j)) (autOf (now (nodes .entry)) (now (states .entry)) (now (members .entry)) c) r c (now (nodes .exit)) (now (states .exit)) (now (members .exit)) (now (scratch .entry)) (now (scratch .exit)) ⌝ }
+    ensures { λ r. ⌜ DoesList fields limits 0 832 (St.st-union (ops fields (limitsOf limits)) (sourceOf first (now (transitions .entry)) (now (scratch .entry)) k) (sourceOf second (now (transitions .entry)) (now (scratch .entry)) j)) (autOf (now (nodes .entry)) (now (states .entry)) (now (members .entry)) c) r c (now (nodes .exit)) (now (states .exit)) (now (members .exit)) (now (scratch .entry)) (now (scratch .exit)) ⌝ }
 {
     let listed = st_each::insert_each(
         nodes,
@@ -63,7 +63,7 @@ pub fn union_list(
     }
 }
 
-pub fn intersect_list(
+pub fn st_intersect(
     nodes: &mut [u32],
     states: &mut [u32],
     members: &mut [u32],
@@ -78,7 +78,7 @@ pub fn intersect_list(
     j: usize,
 ) -> Listed
     requires { ⌜ TwoReady fields limits (autOf (now nodes) (now states) (now members) c) (now transitions) (now scratch) first k second j ⌝ }
-    ensures { λ r. ⌜ DoesList fields limits 0 832 (St.intersectList (ops fields (limitsOf limits)) (sourceOf first (now (transitions .entry)) (now (scratch .entry)) k) (sourceOf second (now (transitions .entry)) (now (scratch .entry)) j)) (autOf (now (nodes .entry)) (now (states .entry)) (now (members .entry)) c) r c (now (nodes .exit)) (now (states .exit)) (now (members .exit)) (now (scratch .entry)) (now (scratch .exit)) ⌝ }
+    ensures { λ r. ⌜ DoesList fields limits 0 832 (St.st-intersect (ops fields (limitsOf limits)) (sourceOf first (now (transitions .entry)) (now (scratch .entry)) k) (sourceOf second (now (transitions .entry)) (now (scratch .entry)) j)) (autOf (now (nodes .entry)) (now (states .entry)) (now (members .entry)) c) r c (now (nodes .exit)) (now (states .exit)) (now (members .exit)) (now (scratch .entry)) (now (scratch .exit)) ⌝ }
 {
     st_each::insert_pairs(
         nodes,
@@ -97,7 +97,7 @@ pub fn intersect_list(
     )
 }
 
-pub fn difference_list(
+pub fn st_difference(
     nodes: &mut [u32],
     states: &mut [u32],
     members: &mut [u32],
@@ -112,7 +112,7 @@ pub fn difference_list(
     j: usize,
 ) -> Listed
     requires { ⌜ TwoReady fields limits (autOf (now nodes) (now states) (now members) c) (now transitions) (now scratch) first k second j ⌝ }
-    ensures { λ r. ⌜ DoesList fields limits 0 832 (St.differenceList (ops fields (limitsOf limits)) (sourceOf first (now (transitions .entry)) (now (scratch .entry)) k) (sourceOf second (now (transitions .entry)) (now (scratch .entry)) j)) (autOf (now (nodes .entry)) (now (states .entry)) (now (members .entry)) c) r c (now (nodes .exit)) (now (states .exit)) (now (members .exit)) (now (scratch .entry)) (now (scratch .exit)) ⌝ }
+    ensures { λ r. ⌜ DoesList fields limits 0 832 (St.st-difference (ops fields (limitsOf limits)) (sourceOf first (now (transitions .entry)) (now (scratch .entry)) k) (sourceOf second (now (transitions .entry)) (now (scratch .entry)) j)) (autOf (now (nodes .entry)) (now (states .entry)) (now (members .entry)) c) r c (now (nodes .exit)) (now (states .exit)) (now (members .exit)) (now (scratch .entry)) (now (scratch .exit)) ⌝ }
 {
     let zero = spp::zero_at_depth(fields);
     let summed = st_minus::subtract_rows(

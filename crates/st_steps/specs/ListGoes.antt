@@ -12,7 +12,7 @@ use Rattle.common.specs.Packets.{Relation}
 use Rattle.common.specs.Outcome.{Step, return, after, if_then_else_}
 use Rattle.common.specs.Runs.{Table}
 use Rattle.netkat.specs.ListSteps as St
-use Rattle.netkat.specs.ListSteps.{Edge, edge, leadsTo, unite, enter, enterIn, place, singleton, split, insert, insertEach, insertPairs, unionList, meetOf, intersectList, Summed, subtractRow, subtractRows, restOf, differenceList, xorList, complementOf, coverAll, complementList, followedBy, postcompose, precompose, metWith, intersectTarget}
+use Rattle.netkat.specs.ListSteps.{Edge, edge, leadsTo, unite, enter, enterIn, place, st-singleton, split, insert, insertEach, insertPairs, st-union, meetOf, st-intersect, Summed, subtractRow, subtractRows, restOf, st-difference, st-xor, complementOf, coverAll, st-complement, followedBy, st-postcompose, st-precompose, metWith, st-intersect-expr}
 use Rattle.spp_steps.specs.Laws.{At, at-ext, den-zero, den-mem}
 use Rattle.spp_steps.specs.Model as Spp
 use Rattle.spp_steps.specs.Apply.{apply-exact}
@@ -139,9 +139,9 @@ module _ {N : ℕ} {L : Limits} where
         (λ _. enterIn-goes v (state-grown w x) (label-grown w a) (list-grown w p)))))
 
     -- st_singleton
-    pub singleton-goes : 1 ≤ L .transitions → Goes N L (ListAt N L) σ (singleton (ops N L) l s σ)
-    unfolding singleton
-    singleton-goes few =
+    pub st-singleton-goes : 1 ≤ L .transitions → Goes N L (ListAt N L) σ (st-singleton (ops N L) l s σ)
+    unfolding st-singleton
+    st-singleton-goes few =
         branch (eqb l (Rel.zeroAt N)) _ _ (λ _. goes-return [] g (list-empty σ))
         (λ _. goes-bind (zero-state-goes g) (λ τ z w v i. branch (eqb s z) _ _ (λ _. goes-return [] v (list-empty τ))
         (λ _. goes-return _ v (record { edges = also (record { state = state-grown w x; relation = label-grown w a .at }) none; short = few }))))
@@ -228,27 +228,27 @@ module _ {N : ℕ} {L : Limits} where
   module _ {σ : Aut} (g : Good N L σ) where
     module _ {ts us : List Edge} (a : EdgesAt N σ ts) (b : EdgesAt N σ us) where
       -- st_union
-      pub unionList-goes : Goes N L (ListAt N L) σ (unionList (ops N L) ts us σ)
-      unfolding unionList
-      unionList-goes = goes-bind (insertEach-goes g return (return-makes σ) ts a (list-empty σ)) (λ τ r w v p. insertEach-goes v return (return-makes τ) us (edges-grown w b) p)
+      pub st-union-goes : Goes N L (ListAt N L) σ (st-union (ops N L) ts us σ)
+      unfolding st-union
+      st-union-goes = goes-bind (insertEach-goes g return (return-makes σ) ts a (list-empty σ)) (λ τ r w v p. insertEach-goes v return (return-makes τ) us (edges-grown w b) p)
 
       -- st_intersect
-      pub intersectList-goes : Goes N L (ListAt N L) σ (intersectList (ops N L) ts us σ)
-      unfolding intersectList
-      intersectList-goes = insertPairs-goes g (meetOf (ops N L)) (λ τ t w v p. meet-makes τ t p) ts us a b (list-empty σ)
+      pub st-intersect-goes : Goes N L (ListAt N L) σ (st-intersect (ops N L) ts us σ)
+      unfolding st-intersect
+      st-intersect-goes = insertPairs-goes g (meetOf (ops N L)) (λ τ t w v p. meet-makes τ t p) ts us a b (list-empty σ)
 
     -- st_postcompose, st_precompose, st_intersect_expr
-    pub postcompose-goes : {ts : List Edge} → EdgesAt N σ ts → {x : ℕ} → State σ x → Goes N L (ListAt N L) σ (postcompose (ops N L) ts x σ)
-    unfolding postcompose
-    postcompose-goes {ts} a {x} i = insertEach-goes g (followedBy (ops N L) x) (follow-makes i) ts a (list-empty σ)
+    pub st-postcompose-goes : {ts : List Edge} → EdgesAt N σ ts → {x : ℕ} → State σ x → Goes N L (ListAt N L) σ (st-postcompose (ops N L) ts x σ)
+    unfolding st-postcompose
+    st-postcompose-goes {ts} a {x} i = insertEach-goes g (followedBy (ops N L) x) (follow-makes i) ts a (list-empty σ)
 
-    pub precompose-goes : {l : ℕ} → Label N σ l → {ts : List Edge} → EdgesAt N σ ts → Goes N L (ListAt N L) σ (precompose (ops N L) l ts σ)
-    unfolding precompose
-    precompose-goes {l} i {ts} a = insertEach-goes g (St.after (ops N L) l) (after-makes i) ts a (list-empty σ)
+    pub st-precompose-goes : {l : ℕ} → Label N σ l → {ts : List Edge} → EdgesAt N σ ts → Goes N L (ListAt N L) σ (st-precompose (ops N L) l ts σ)
+    unfolding st-precompose
+    st-precompose-goes {l} i {ts} a = insertEach-goes g (St.after (ops N L) l) (after-makes i) ts a (list-empty σ)
 
-    pub intersectTarget-goes : {ts : List Edge} → EdgesAt N σ ts → {x : ℕ} → State σ x → Goes N L (ListAt N L) σ (intersectTarget (ops N L) ts x σ)
-    unfolding intersectTarget
-    intersectTarget-goes {ts} a {x} i = insertEach-goes g (metWith (ops N L) x) (meet-with-makes i) ts a (list-empty σ)
+    pub st-intersect-expr-goes : {ts : List Edge} → EdgesAt N σ ts → {x : ℕ} → State σ x → Goes N L (ListAt N L) σ (st-intersect-expr (ops N L) ts x σ)
+    unfolding st-intersect-expr
+    st-intersect-expr-goes {ts} a {x} i = insertEach-goes g (metWith (ops N L) x) (meet-with-makes i) ts a (list-empty σ)
 
 -- ---- st_difference
 
@@ -278,19 +278,19 @@ module _ {N : ℕ} {L : Limits} where
       goes-bind (subtractRow-goes g (first-at a) us b p) (λ τ s w v q. subtractRows-goes v ts us (edges-grown w (rest-at a)) (edges-grown w b) q)
 
   module _ {σ : Aut} (g : Good N L σ) where
-    pub differenceList-goes : {ts us : List Edge} → EdgesAt N σ ts → EdgesAt N σ us → Goes N L (ListAt N L) σ (differenceList (ops N L) ts us σ)
-    unfolding differenceList
-    differenceList-goes {ts} {us} a b =
+    pub st-difference-goes : {ts us : List Edge} → EdgesAt N σ ts → EdgesAt N σ us → Goes N L (ListAt N L) σ (st-difference (ops N L) ts us σ)
+    unfolding st-difference
+    st-difference-goes {ts} {us} a b =
         goes-bind (subtractRows-goes g ts us a b (record { sum = zero-label g; result = list-empty σ }))
         (λ τ s w v p. insertEach-goes v (restOf (ops N L) (s .sum)) (rest-makes (p .sum)) ts (edges-grown w a) (p .result))
 
   module _ {σ : Aut} (g : Good N L σ) where
     -- st_xor
-    pub xorList-goes : {ts us : List Edge} → EdgesAt N σ ts → EdgesAt N σ us → Goes N L (ListAt N L) σ (xorList (ops N L) ts us σ)
-    unfolding xorList
-    xorList-goes a b =
-        goes-bind (differenceList-goes g a b) (λ τ₁ left w₁ v₁ p.
-        goes-bind (differenceList-goes v₁ (edges-grown w₁ b) (edges-grown w₁ a)) (λ τ₂ right w₂ v₂ q. unionList-goes v₂ (list-grown w₂ p .edges) (q .edges)))
+    pub st-xor-goes : {ts us : List Edge} → EdgesAt N σ ts → EdgesAt N σ us → Goes N L (ListAt N L) σ (st-xor (ops N L) ts us σ)
+    unfolding st-xor
+    st-xor-goes a b =
+        goes-bind (st-difference-goes g a b) (λ τ₁ left w₁ v₁ p.
+        goes-bind (st-difference-goes v₁ (edges-grown w₁ b) (edges-grown w₁ a)) (λ τ₂ right w₂ v₂ q. st-union-goes v₂ (list-grown w₂ p .edges) (q .edges)))
 
   -- ---- st_complement
 
@@ -300,9 +300,9 @@ module _ {N : ℕ} {L : Limits} where
   coverAll-goes g (t ∷ ts) a p = goes-bind (union-goes g p (relation-of (first-at a))) (λ τ m w v b. coverAll-goes v ts (edges-grown w (rest-at a)) b)
 
   module _ {σ : Aut} (g : Good N L σ) where
-    pub complementList-goes : {ts : List Edge} → EdgesAt N σ ts → Goes N L (ListAt N L) σ (complementList (ops N L) ts σ)
-    unfolding complementList
-    complementList-goes {ts} a =
+    pub st-complement-goes : {ts : List Edge} → EdgesAt N σ ts → Goes N L (ListAt N L) σ (st-complement (ops N L) ts σ)
+    unfolding st-complement
+    st-complement-goes {ts} a =
         goes-bind (insertEach-goes g (complementOf (ops N L)) (complement-makes σ) ts a (list-empty σ)) (λ τ₁ r w₁ v₁ p.
         goes-bind (coverAll-goes v₁ ts (edges-grown w₁ a) (zero-label v₁)) (λ τ₂ covered w₂ v₂ b₂.
         goes-bind (complement-goes v₂ b₂) (λ τ₃ rest w₃ v₃ b₃.

@@ -10,7 +10,7 @@ use native.Mathlib.Omega.{arith}
 use Rattle.common.specs.Packets.{Relation}
 use Rattle.common.specs.Relations.{noneʳ, _∪ʳ_, _∩ʳ_, _∖ʳ_}
 use Rattle.common.specs.Outcome.{if_then_else_}
-use Rattle.netkat.specs.Lists.{State, Transition, to, Above, Ascending, Targets, void, placeIn, place, singleton, split, insert, insertEach, insertPairs}
+use Rattle.netkat.specs.Lists.{State, Transition, to, Above, Ascending, Targets, void, placeIn, place, st-singleton, split, insert, insertEach, insertPairs}
 
 -- Two targets are one if their numbers are, and stand by their numbers.
 pub record ByNumber (𝓣 : Targets State) : Type 0 where
@@ -95,9 +95,9 @@ module _ {n : ℕ} (𝓣 : Targets State) (by : ByNumber 𝓣) where
   pairs-ascend f [] us list d = d
   pairs-ascend f (t ∷ ts) us list d = pairs-ascend f ts us (insertEach 𝓣 (f t) us list) (each-ascends (f t) us list d)
 
-  pub singleton-ascends : (r : Relation n) (s : State) → Ascending (singleton 𝓣 r s)
-  unfolding singleton
-  singleton-ascends r s = go (void 𝓣 (to s r))
+  pub st-singleton-ascends : (r : Relation n) (s : State) → Ascending (st-singleton 𝓣 r s)
+  unfolding st-singleton
+  st-singleton-ascends r s = go (void 𝓣 (to s r))
     where
       go : (b : Bool) → Ascending (if b then [] else (to s r ∷ []))
       go true = Ascending.none

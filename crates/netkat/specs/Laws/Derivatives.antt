@@ -15,7 +15,7 @@ use Rattle.common.specs.Outcome.{gives}
 use Rattle.netkat.specs.Strings.{Str, str}
 use Rattle.netkat.specs.Rules.{Rule, Rules, relation, union, intersection, xor, difference, sequence, until, complement, star, next, dup, top, none, also, In}
 use Rattle.netkat.specs.Hops.{IsEpsilon, SameHops, Hop}
-use Rattle.netkat.specs.Lists.{State, Transition, to, covers, Disjoint, Ascending, Allows, IsDelta, TargetsHold, singleton, unionList, differenceList, xorList, complementList, postcompose, precompose, intersectTarget}
+use Rattle.netkat.specs.Lists.{State, Transition, to, covers, Disjoint, Ascending, Allows, IsDelta, TargetsHold, st-singleton, st-union, st-difference, st-xor, st-complement, st-postcompose, st-precompose, st-intersect-expr}
 use Rattle.netkat.specs.Promise.{Kept, DeltaOf, Lawful, Promise}
 use Rattle.netkat.specs.Derivatives.{ruleTargets, epsilon, epsilonSome, epsilonEach, delta, deltaSome, deltaEach, ruleAt, numbered, targets, rules, rulesMeaning}
 use Rattle.netkat.specs.Laws.Hops
@@ -89,36 +89,36 @@ module _ {n : ℕ} where
 
   -- the operators whose hops are not those of a set operation
   sequence-delta : (a b : Rule n) {ts us : List (Transition (Rule n) n)} → IsDelta In ts (In a) → IsDelta In us (In b) →
-      IsDelta In (unionList ruleTargets (postcompose ruleTargets ts b) (precompose ruleTargets (epsilon a) us)) (In (sequence a b))
+      IsDelta In (st-union ruleTargets (st-postcompose ruleTargets ts b) (st-precompose ruleTargets (epsilon a) us)) (In (sequence a b))
   unfolding In
   sequence-delta a b d e = Lists.delta-by In (Hops.sequence-hop (In b) (epsilon-true a))
-      (Lists.union-delta ruleTargets In rules-hold (Lists.postcompose-delta ruleTargets In rules-hold d b) (Lists.precompose-delta ruleTargets In rules-hold e (epsilon a)))
+      (Lists.union-delta ruleTargets In rules-hold (Lists.st-postcompose-delta ruleTargets In rules-hold d b) (Lists.st-precompose-delta ruleTargets In rules-hold e (epsilon a)))
 
   star-delta : (a : Rule n) {ts : List (Transition (Rule n) n)} → IsDelta In ts (In a) →
-      IsDelta In (precompose ruleTargets (starʳ (epsilon a)) (postcompose ruleTargets ts (star a))) (In (star a))
+      IsDelta In (st-precompose ruleTargets (starʳ (epsilon a)) (st-postcompose ruleTargets ts (star a))) (In (star a))
   unfolding In
   star-delta a d = Lists.delta-by In (Hops.star-hop (In a) (epsilon-true a) (star-closure (epsilon a)))
-      (Lists.precompose-delta ruleTargets In rules-hold (Lists.postcompose-delta ruleTargets In rules-hold d (star a)) (starʳ (epsilon a)))
+      (Lists.st-precompose-delta ruleTargets In rules-hold (Lists.st-postcompose-delta ruleTargets In rules-hold d (star a)) (starʳ (epsilon a)))
 
   until-delta : (a b : Rule n) {ts us : List (Transition (Rule n) n)} → IsDelta In ts (In a) → IsDelta In us (In b) →
-      IsDelta In (unionList ruleTargets us (intersectTarget ruleTargets ts (until a b))) (In (until a b))
+      IsDelta In (st-union ruleTargets us (st-intersect-expr ruleTargets ts (until a b))) (In (until a b))
   unfolding In
   until-delta a b d e = Lists.delta-by In (Hops.until-hop (In a) (In b))
       (Lists.union-delta ruleTargets In rules-hold e (Lists.tail-delta ruleTargets In rules-hold d (until a b)))
 
-  next-delta : (a : Rule n) → IsDelta In (singleton ruleTargets allʳ a) (In (next a))
+  next-delta : (a : Rule n) → IsDelta In (st-singleton ruleTargets allʳ a) (In (next a))
   unfolding In
-  next-delta a = Lists.delta-by In (Hops.next-hop (In a)) (Lists.singleton-delta ruleTargets In rules-hold allʳ a)
+  next-delta a = Lists.delta-by In (Hops.next-hop (In a)) (Lists.st-singleton-delta ruleTargets In rules-hold allʳ a)
 
-  xor-delta : (a b : Rule n) {ts us : List (Transition (Rule n) n)} → IsDelta In ts (In a) → IsDelta In us (In b) → IsDelta In (xorList ruleTargets ts us) (In (xor a b))
+  xor-delta : (a b : Rule n) {ts us : List (Transition (Rule n) n)} → IsDelta In ts (In a) → IsDelta In us (In b) → IsDelta In (st-xor ruleTargets ts us) (In (xor a b))
   unfolding In
   xor-delta a b d e = Lists.xor-delta ruleTargets In rules-hold d e
 
-  difference-delta : (a b : Rule n) {ts us : List (Transition (Rule n) n)} → IsDelta In ts (In a) → IsDelta In us (In b) → IsDelta In (differenceList ruleTargets ts us) (In (difference a b))
+  difference-delta : (a b : Rule n) {ts us : List (Transition (Rule n) n)} → IsDelta In ts (In a) → IsDelta In us (In b) → IsDelta In (st-difference ruleTargets ts us) (In (difference a b))
   unfolding In
   difference-delta a b d e = Lists.difference-delta ruleTargets In rules-hold d e
 
-  complement-delta : (a : Rule n) {ts : List (Transition (Rule n) n)} → IsDelta In ts (In a) → IsDelta In (complementList ruleTargets ts) (In (complement a))
+  complement-delta : (a : Rule n) {ts : List (Transition (Rule n) n)} → IsDelta In ts (In a) → IsDelta In (st-complement ruleTargets ts) (In (complement a))
   unfolding In
   complement-delta a d = Lists.complement-delta ruleTargets In rules-hold d
 
@@ -139,15 +139,15 @@ module _ {n : ℕ} where
     delta-true (complement a) = complement-delta a (delta-true a)
     delta-true (star a) = star-delta a (delta-true a)
     delta-true (next a) = next-delta a
-    delta-true dup = Lists.delta-by In Hops.dup-hop (Lists.singleton-delta ruleTargets In rules-hold same (relation same))
-    delta-true top = Lists.delta-by In Hops.top-hop (Lists.singleton-delta ruleTargets In rules-hold allʳ top)
+    delta-true dup = Lists.delta-by In Hops.dup-hop (Lists.st-singleton-delta ruleTargets In rules-hold same (relation same))
+    delta-true top = Lists.delta-by In Hops.top-hop (Lists.st-singleton-delta ruleTargets In rules-hold allʳ top)
 
     some-delta : (rs : Rules n) → IsDelta In (deltaSome rs) (In (union rs))
     some-delta none = Lists.delta-same In union-none-hop (Lists.delta-none In)
     some-delta (also r rs) = Lists.delta-same In (union-also-hop r rs) (Lists.union-delta ruleTargets In rules-hold (delta-true r) (some-delta rs))
 
     each-delta : (rs : Rules n) → IsDelta In (deltaEach rs) (In (intersection rs))
-    each-delta none = Lists.delta-same In {A = In top} intersection-none-hop (Lists.delta-by In Hops.top-hop (Lists.singleton-delta ruleTargets In rules-hold allʳ top))
+    each-delta none = Lists.delta-same In {A = In top} intersection-none-hop (Lists.delta-by In Hops.top-hop (Lists.st-singleton-delta ruleTargets In rules-hold allʳ top))
     each-delta (also r rs) = Lists.delta-same In (intersection-also-hop r rs) (Lists.intersection-delta ruleTargets In rules-hold (delta-true r) (each-delta rs))
 
   -- ---- the automaton of rules

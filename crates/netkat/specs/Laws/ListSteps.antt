@@ -363,8 +363,8 @@ module _ {n : ℕ} {𝓞 : Operations} (𝓡 : Readings n 𝓞) where
       as-they-are σ s l q f k il = gives (record { later = later-refl (f .good); known = f .known s k; strings = λ w. (f .same s k w .1, f .same s k w .0); is = f .label l q il })
 
       module _ (g : Good σ₀) where
-        pub union-true : {ts us : List Edge} {A B : Language n} → IsList 𝓡 A σ₀ ts → IsList 𝓡 B σ₀ us → Gives (MadeList 𝓡 (Either A B) σ₀) (ListSteps.unionList 𝓞 ts us σ₀)
-        unfolding ListSteps.unionList
+        pub union-true : {ts us : List Edge} {A B : Language n} → IsList 𝓡 A σ₀ ts → IsList 𝓡 B σ₀ us → Gives (MadeList 𝓡 (Either A B) σ₀) (ListSteps.st-union 𝓞 ts us σ₀)
+        unfolding ListSteps.st-union
         union-true {ts} {us} {A} {B} i j =
             call (each-true (λ t. t .label) Own return as-they-are ts (i .are) (later-refl g) list-none) (λ σ₁ es₁ F.
             made-same {A = Either (Either (λ w. ⊥) (Through (λ t. t .label) Own (i .list))) (Through (λ t. t .label) Own (j .list))} same
@@ -386,8 +386,8 @@ module _ {n : ℕ} {𝓞 : Operations} (𝓡 : Readings n 𝓞) where
                 back (inr x) = inr (j .delta .allows a h hs z .1 x)
 
         pub intersection-true : {ts us : List Edge} {A B : Language n} → IsList 𝓡 A σ₀ ts → IsList 𝓡 B σ₀ us →
-            Gives (MadeList 𝓡 (λ w. A w × B w) σ₀) (ListSteps.intersectList 𝓞 ts us σ₀)
-        unfolding ListSteps.intersectList
+            Gives (MadeList 𝓡 (λ w. A w × B w) σ₀) (ListSteps.st-intersect 𝓞 ts us σ₀)
+        unfolding ListSteps.st-intersect
         intersection-true {ts} {us} {A} {B} i j = made-none same (pairs-true (λ t u. t .label ∩ʳ u .label) (λ t u v. Own t v × Own u v) (ListSteps.meetOf 𝓞) makes ts us (i .are) (j .are) (later-refl g) list-none)
           where
             same : SameHops (ThroughPair (λ t u. t .label ∩ʳ u .label) (λ t u v. Own t v × Own u v) (i .list) (j .list)) (λ w. A w × B w)
@@ -412,16 +412,16 @@ module _ {n : ℕ} {𝓞 : Operations} (𝓡 : Readings n 𝓞) where
                   is = M .is;
                 })))
 
-        pub postcompose-true : {ts : List Edge} {A : Language n} (e : State) → Known σ₀ e → IsList 𝓡 A σ₀ ts → Gives (MadeList 𝓡 (Late A (Holds σ₀ e)) σ₀) (ListSteps.postcompose 𝓞 ts e σ₀)
-        unfolding ListSteps.postcompose
-        postcompose-true {ts} {A} e ke i = made-none same (each-true (λ t. t .label) (λ t. Join (Own t) (Holds σ₀ e)) (ListSteps.followedBy 𝓞 e) makes ts (i .are) (later-refl g) list-none)
+        pub st-postcompose-true : {ts : List Edge} {A : Language n} (e : State) → Known σ₀ e → IsList 𝓡 A σ₀ ts → Gives (MadeList 𝓡 (Late A (Holds σ₀ e)) σ₀) (ListSteps.st-postcompose 𝓞 ts e σ₀)
+        unfolding ListSteps.st-postcompose
+        st-postcompose-true {ts} {A} e ke i = made-none same (each-true (λ t. t .label) (λ t. Join (Own t) (Holds σ₀ e)) (ListSteps.followedBy 𝓞 e) makes ts (i .are) (later-refl g) list-none)
           where
             same : SameHops (Through (λ t. t .label) (λ t. Join (Own t) (Holds σ₀ e)) (i .list)) (Late A (Holds σ₀ e))
             same a h hs z = (
               λ y.
-                  let j = Lists.postcompose-hops (Holds σ₀) (i .list) (Holds σ₀ e) a h hs z .0 y in
+                  let j = Lists.st-postcompose-hops (Holds σ₀) (i .list) (Holds σ₀ e) a h hs z .0 y in
                   record { first = j .first; dropped = j .dropped; second = j .second; joined = j .joined; left = i .delta .allows a h (j .first) (j .dropped) .0 (j .left); right = j .right },
-              λ j. Lists.postcompose-hops (Holds σ₀) (i .list) (Holds σ₀ e) a h hs z .1
+              λ j. Lists.st-postcompose-hops (Holds σ₀) (i .list) (Holds σ₀ e) a h hs z .1
                   (record { first = j .first; dropped = j .dropped; second = j .second; joined = j .joined; left = i .delta .allows a h (j .first) (j .dropped) .1 (j .left); right = j .right }),
             )
 
@@ -442,16 +442,16 @@ module _ {n : ℕ} {𝓞 : Operations} (𝓡 : Readings n 𝓞) where
                 newer : (w : Str n) → Join (Holds σ₀ s) (Holds σ₀ e) w → Join (Holds σ s) (Holds σ e) w
                 newer w j = record { first = j .first; dropped = j .dropped; second = j .second; joined = j .joined; left = f .same s k _ .0 (j .left); right = f .same e ke _ .0 (j .right) }
 
-        pub precompose-true : {ts : List Edge} {A : Language n} (l : Label) (r : Relation n) → IsLabel σ₀ l r → IsList 𝓡 A σ₀ ts → Gives (MadeList 𝓡 (Early r A) σ₀) (ListSteps.precompose 𝓞 l ts σ₀)
-        unfolding ListSteps.precompose
-        precompose-true {ts} {A} l r il i = made-none same (each-true (λ t. r ⨾ t .label) Own (ListSteps.after 𝓞 l) makes ts (i .are) (later-refl g) list-none)
+        pub st-precompose-true : {ts : List Edge} {A : Language n} (l : Label) (r : Relation n) → IsLabel σ₀ l r → IsList 𝓡 A σ₀ ts → Gives (MadeList 𝓡 (Early r A) σ₀) (ListSteps.st-precompose 𝓞 l ts σ₀)
+        unfolding ListSteps.st-precompose
+        st-precompose-true {ts} {A} l r il i = made-none same (each-true (λ t. r ⨾ t .label) Own (ListSteps.after 𝓞 l) makes ts (i .are) (later-refl g) list-none)
           where
             same : SameHops (Through (λ t. r ⨾ t .label) Own (i .list)) (Early r A)
             same a h hs z = (
               λ y.
-                  let e = Lists.precompose-hops (Holds σ₀) r (i .list) a h hs z .0 y in
+                  let e = Lists.st-precompose-hops (Holds σ₀) r (i .list) a h hs z .0 y in
                   record { dropped = e .dropped; left = e .left; right = i .delta .allows (e .dropped) h hs z .0 (e .right) },
-              λ e. Lists.precompose-hops (Holds σ₀) r (i .list) a h hs z .1 (record { dropped = e .dropped; left = e .left; right = i .delta .allows (e .dropped) h hs z .1 (e .right) }),
+              λ e. Lists.st-precompose-hops (Holds σ₀) r (i .list) a h hs z .1 (record { dropped = e .dropped; left = e .left; right = i .delta .allows (e .dropped) h hs z .1 (e .right) }),
             )
 
             makes : (σ : 𝓞 .Store) (s : State) (m : Label) (q : Relation n) → Later 𝓡 σ₀ σ → Known σ₀ s → IsLabel σ₀ m q → Gives (MadeEdge (r ⨾ q) (Holds σ₀ s) σ) (ListSteps.after 𝓞 l (edge s m) σ)
@@ -461,8 +461,8 @@ module _ {n : ℕ} {𝓞 : Operations} (𝓡 : Readings n 𝓞) where
                 gives {a = edge s p} (record { later = M .later; known = f₁ .known s k; strings = λ w. (f₁ .same s k w .1, f₁ .same s k w .0); is = M .is }))
 
         pub tail-true : {ts : List Edge} {A : Language n} (e : State) → Known σ₀ e → IsList 𝓡 A σ₀ ts →
-            Gives (MadeList 𝓡 (λ w. A w × Hop allʳ (Holds σ₀ e) w) σ₀) (ListSteps.intersectTarget 𝓞 ts e σ₀)
-        unfolding ListSteps.intersectTarget
+            Gives (MadeList 𝓡 (λ w. A w × Hop allʳ (Holds σ₀ e) w) σ₀) (ListSteps.st-intersect-expr 𝓞 ts e σ₀)
+        unfolding ListSteps.st-intersect-expr
         tail-true {ts} {A} e ke i = made-none same (each-true (λ t. t .label) (λ t v. Own t v × Holds σ₀ e v) (ListSteps.metWith 𝓞 e) makes ts (i .are) (later-refl g) list-none)
           where
             same : SameHops (Through (λ t. t .label) (λ t v. Own t v × Holds σ₀ e v) (i .list)) (λ w. A w × Hop allʳ (Holds σ₀ e) w)
@@ -485,9 +485,9 @@ module _ {n : ℕ} {𝓞 : Operations} (𝓡 : Readings n 𝓞) where
                   is = X .later .label l q (f .label l q il);
                 }))
 
-        pub singleton-true : (l : Label) (s : State) {r : Relation n} → Known σ₀ s → IsLabel σ₀ l r → Gives (MadeList 𝓡 (Hop r (Holds σ₀ s)) σ₀) (ListSteps.singleton 𝓞 l s σ₀)
-        unfolding ListSteps.singleton
-        singleton-true l s {r} ks il = branch (eqb l (𝓞 .zero)) _ _ σ₀
+        pub st-singleton-true : (l : Label) (s : State) {r : Relation n} → Known σ₀ s → IsLabel σ₀ l r → Gives (MadeList 𝓡 (Hop r (Holds σ₀ s)) σ₀) (ListSteps.st-singleton 𝓞 l s σ₀)
+        unfolding ListSteps.st-singleton
+        st-singleton-true l s {r} ks il = branch (eqb l (𝓞 .zero)) _ _ σ₀
             (λ e. gives (record { later = later-refl g; is = nothing (λ a h hs z x. fits .zero-has-none g (subst (λ l. IsLabel σ₀ l r) (eqb-true l (𝓞 .zero) e) il) a h (x .0)) }))
             (λ e. call (fits .mkZero-fits g) (λ σ₁ z Z. branch (eqb s z) _ _ σ₁
             (λ e. gives (record {
@@ -550,8 +550,8 @@ module _ {n : ℕ} {𝓞 : Operations} (𝓡 : Readings n 𝓞) where
             back a h (inl x) = inl (or-left (c a h) (q a h) x)
             back a h (inr x) = later-ones a h (either (q a h) (covers rest a h) x)
 
-        pub complement-true : {ts : List Edge} {A : Language n} → IsList 𝓡 A σ₀ ts → Gives (MadeList 𝓡 (λ w. ¬ A w) σ₀) (ListSteps.complementList 𝓞 ts σ₀)
-        unfolding ListSteps.complementList
+        pub complement-true : {ts : List Edge} {A : Language n} → IsList 𝓡 A σ₀ ts → Gives (MadeList 𝓡 (λ w. ¬ A w) σ₀) (ListSteps.st-complement 𝓞 ts σ₀)
+        unfolding ListSteps.st-complement
         complement-true {ts} {A} i =
             call (each-true (λ t. t .label) (λ t v. ¬ Own t v) (ListSteps.complementOf 𝓞) makes ts (i .are) (later-refl g) list-none) (λ σ₁ es₁ C.
             call (cover-true ts (i .are) (C .later) (fits .zero-is (C .later .good))) (λ σ₂ k K.
@@ -708,8 +708,8 @@ module _ {n : ℕ} {𝓞 : Operations} (𝓡 : Readings n 𝓞) where
             back a h d p (inr x) = second a h d p (x .1) (either (q a h) (covers rest a h) (x .0))
 
     pub difference-true : {σ₀ : 𝓞 .Store} {ts us : List Edge} {A B : Language n} → Good σ₀ → IsList 𝓡 A σ₀ ts → IsList 𝓡 B σ₀ us →
-        Gives (MadeList 𝓡 (λ w. A w × ¬ B w) σ₀) (ListSteps.differenceList 𝓞 ts us σ₀)
-    unfolding ListSteps.differenceList
+        Gives (MadeList 𝓡 (λ w. A w × ¬ B w) σ₀) (ListSteps.st-difference 𝓞 ts us σ₀)
+    unfolding ListSteps.st-difference
     difference-true {σ₀} {ts} {us} {A} {B} g i j =
         call (rows-true σ₀ g ts us (i .are) (j .are) (later-refl g) (fits .zero-is g) list-none) (λ σ₁ S R.
         made-same {A = Either (Either (λ w. ⊥) Met) (Through (λ t. t .label ∖ʳ R .met) (λ t. Holds σ₁ (t .target)) (i .list))} (same σ₁ (R .later) (R .met) (R .pairs))
@@ -761,8 +761,8 @@ module _ {n : ℕ} {𝓞 : Operations} (𝓡 : Readings n 𝓞) where
             back (inr x) = inr (kept .0 x)
 
     pub xor-true : {σ₀ : 𝓞 .Store} {ts us : List Edge} {A B : Language n} → Good σ₀ → IsList 𝓡 A σ₀ ts → IsList 𝓡 B σ₀ us →
-        Gives (MadeList 𝓡 (λ w. (A w × ¬ B w) ⊎ (B w × ¬ A w)) σ₀) (ListSteps.xorList 𝓞 ts us σ₀)
-    unfolding ListSteps.xorList
+        Gives (MadeList 𝓡 (λ w. (A w × ¬ B w) ⊎ (B w × ¬ A w)) σ₀) (ListSteps.st-xor 𝓞 ts us σ₀)
+    unfolding ListSteps.st-xor
     xor-true g i j =
         call (difference-true g i j) (λ σ₁ left L.
         call (difference-true (L .later .good) (list-later (L .later) j) (list-later (L .later) i)) (λ σ₂ right R.

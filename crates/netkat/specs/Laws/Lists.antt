@@ -20,7 +20,7 @@ use Rattle.common.specs.Outcome.{if_then_else_}
 use Rattle.netkat.specs.Strings.{Str, str}
 use Rattle.netkat.specs.Rules.{Language, Join}
 use Rattle.netkat.specs.Hops.{SameHops, Either, Hop, Late, Early}
-use Rattle.netkat.specs.Lists.{Transition, to, Apart, covers, Disjoint, none, also, Through, ThroughPair, Allows, IsDelta, Targets, TargetsHold, void, placeIn, place, singleton, split, insert, insertEach, insertPairs, unionList, intersectList, differenceList, xorList, complementList, postcompose, precompose, intersectTarget}
+use Rattle.netkat.specs.Lists.{Transition, to, Apart, covers, Disjoint, none, also, Through, ThroughPair, Allows, IsDelta, Targets, TargetsHold, void, placeIn, place, st-singleton, split, insert, insertEach, insertPairs, st-union, st-intersect, st-difference, st-xor, st-complement, st-postcompose, st-precompose, st-intersect-expr}
 
 module _ {Target : Type 0} {n : ℕ} where
   -- ---- a list by its members
@@ -536,8 +536,8 @@ module _ {Target : Type 0} {n : ℕ} where
             go (t, m, p) (inr c) = inr (through-of (λ t. t .label ∖ʳ shared) (λ t. Holds (t .target)) W m (minus-of (t .label a h) (shared a h) (p .0) (λ x. c (is-shared a h .0 x .1)), p .1))
 
     -- Postcompose: joins whose first hop is of the first string.
-    pub postcompose-hops : (ts : List (Transition Target n)) (E : Language n) → SameHops (Through (λ t. t .label) (λ t. Join (Holds (t .target)) E) ts) (Late (Allows Holds ts) E)
-    postcompose-hops ts E a h hs z = (there, back)
+    pub st-postcompose-hops : (ts : List (Transition Target n)) (E : Language n) → SameHops (Through (λ t. t .label) (λ t. Join (Holds (t .target)) E) ts) (Late (Allows Holds ts) E)
+    st-postcompose-hops ts E a h hs z = (there, back)
       where
         W : Str n
         W = str a (h ∷ hs) z
@@ -571,8 +571,8 @@ module _ {Target : Type 0} {n : ℕ} where
             )
 
     -- Precompose: joins of a pair of r and a string of the list.
-    pub precompose-hops : (r : Relation n) (ts : List (Transition Target n)) → SameHops (Through (λ t. r ⨾ t .label) (λ t. Holds (t .target)) ts) (Early r (Allows Holds ts))
-    precompose-hops r ts a h hs z = (there, back)
+    pub st-precompose-hops : (r : Relation n) (ts : List (Transition Target n)) → SameHops (Through (λ t. r ⨾ t .label) (λ t. Holds (t .target)) ts) (Early r (Allows Holds ts))
+    st-precompose-hops r ts a h hs z = (there, back)
       where
         W : Str n
         W = str a (h ∷ hs) z
@@ -760,9 +760,9 @@ module _ {Target : Type 0} {n : ℕ} (𝓣 : Targets Target) (Holds : Target →
       go true e = left-off (void-allows t (rw e tt))
       go false e = placed-in t list
 
-  pub singleton-delta : (r : Relation n) (s : Target) → IsDelta Holds (singleton 𝓣 r s) (Hop r (Holds s))
-  unfolding singleton
-  singleton-delta r s = go (void 𝓣 (to s r)) refl
+  pub st-singleton-delta : (r : Relation n) (s : Target) → IsDelta Holds (st-singleton 𝓣 r s) (Hop r (Holds s))
+  unfolding st-singleton
+  st-singleton-delta r s = go (void 𝓣 (to s r)) refl
     where
       out : (a h : Packet n) (hs : List (Packet n)) (z : Packet n) → (T (r a h) × Holds s (str h hs z)) ⊎ ⊥ → T (r a h) × Holds s (str h hs z)
       out a h hs z (inl x) = x
@@ -825,8 +825,8 @@ module _ {Target : Type 0} {n : ℕ} (𝓣 : Targets Target) (Holds : Target →
   as-is t a h hs z = (λ x. x, λ x. x)
 
   module _ {ts : Edges} {A : Language n} (d : IsDelta Holds ts A) where
-    pub complement-delta : IsDelta Holds (complementList 𝓣 ts) (λ w. ¬ A w)
-    unfolding complementList
+    pub complement-delta : IsDelta Holds (st-complement 𝓣 ts) (λ w. ¬ A w)
+    unfolding st-complement
     complement-delta = delta-same Holds (λ a h hs z. (there a h hs z, back a h hs z))
         (insert-delta (to (𝓣 .top) (∁ʳ (covers ts)))
         (each-from-none (λ t. t .label) (λ t v. ¬ Holds (t .target) v) (λ t. to (𝓣 .complement (t .target)) (t .label))
@@ -851,9 +851,9 @@ module _ {Target : Type 0} {n : ℕ} (𝓣 : Targets Target) (Holds : Target →
         back : (a h : Packet n) (hs : List (Packet n)) (z : Packet n) → ¬ A (str a (h ∷ hs) z) → Complements (str a (h ∷ hs) z) ⊎ Hop (∁ʳ (covers ts)) (Holds (𝓣 .top)) (str a (h ∷ hs) z)
         back a h hs z x = to-top a h hs z (complement-hops Holds (d .disjoint) a h hs z .1 (λ y. x (d .allows a h hs z .0 y)))
 
-    pub postcompose-delta : (e : Target) → IsDelta Holds (postcompose 𝓣 ts e) (Late A (Holds e))
-    unfolding postcompose
-    postcompose-delta e = delta-same Holds (λ a h hs z. (λ y. there a h hs z (postcompose-hops Holds ts (Holds e) a h hs z .0 y), λ y. postcompose-hops Holds ts (Holds e) a h hs z .1 (back a h hs z y)))
+    pub st-postcompose-delta : (e : Target) → IsDelta Holds (st-postcompose 𝓣 ts e) (Late A (Holds e))
+    unfolding st-postcompose
+    st-postcompose-delta e = delta-same Holds (λ a h hs z. (λ y. there a h hs z (st-postcompose-hops Holds ts (Holds e) a h hs z .0 y), λ y. st-postcompose-hops Holds ts (Holds e) a h hs z .1 (back a h hs z y)))
         (each-from-none (λ t. t .label) (λ t. Join (Holds (t .target)) (Holds e)) (λ t. to (𝓣 .sequence (t .target) e) (t .label))
         (λ t. made-of (t .label) (𝓣 .sequence (t .target) e) (Join (Holds (t .target)) (Holds e)) (mean .sequence-holds (t .target) e)) ts)
       where
@@ -877,9 +877,9 @@ module _ {Target : Type 0} {n : ℕ} (𝓣 : Targets Target) (Holds : Target →
           right = j .right;
         }
 
-    pub precompose-delta : (r : Relation n) → IsDelta Holds (precompose 𝓣 r ts) (Early r A)
-    unfolding precompose
-    precompose-delta r = delta-same Holds (λ a h hs z. (λ y. there a h hs z (precompose-hops Holds r ts a h hs z .0 y), λ y. precompose-hops Holds r ts a h hs z .1 (back a h hs z y)))
+    pub st-precompose-delta : (r : Relation n) → IsDelta Holds (st-precompose 𝓣 r ts) (Early r A)
+    unfolding st-precompose
+    st-precompose-delta r = delta-same Holds (λ a h hs z. (λ y. there a h hs z (st-precompose-hops Holds r ts a h hs z .0 y), λ y. st-precompose-hops Holds r ts a h hs z .1 (back a h hs z y)))
         (each-from-none (λ t. r ⨾ t .label) (λ t. Holds (t .target)) (λ t. to (t .target) (r ⨾ t .label)) (λ t a h hs z. (λ x. x, λ x. x)) ts)
       where
         there : (a h : Packet n) (hs : List (Packet n)) (z : Packet n) → Early r (Allows Holds ts) (str a (h ∷ hs) z) → Early r A (str a (h ∷ hs) z)
@@ -888,15 +888,15 @@ module _ {Target : Type 0} {n : ℕ} (𝓣 : Targets Target) (Holds : Target →
         back : (a h : Packet n) (hs : List (Packet n)) (z : Packet n) → Early r A (str a (h ∷ hs) z) → Early r (Allows Holds ts) (str a (h ∷ hs) z)
         back a h hs z e = record { dropped = e .dropped; left = e .left; right = d .allows (e .dropped) h hs z .1 (e .right) }
 
-    pub tail-delta : (e : Target) → IsDelta Holds (intersectTarget 𝓣 ts e) (λ w. A w × Hop allʳ (Holds e) w)
-    unfolding intersectTarget
+    pub tail-delta : (e : Target) → IsDelta Holds (st-intersect-expr 𝓣 ts e) (λ w. A w × Hop allʳ (Holds e) w)
+    unfolding st-intersect-expr
     tail-delta e = delta-same Holds (λ a h hs z. (λ y. let (x, v) = tail-hops Holds ts (Holds e) a h hs z .0 y in (d .allows a h hs z .0 x, v), λ y. tail-hops Holds ts (Holds e) a h hs z .1 (d .allows a h hs z .1 (y .0), y .1)))
         (each-from-none (λ t. t .label) (λ t v. Holds (t .target) v × Holds e v) (λ t. to (𝓣 .intersection (t .target) e) (t .label))
         (λ t. made-of (t .label) (𝓣 .intersection (t .target) e) (λ v. Holds (t .target) v × Holds e v) (mean .intersection-holds (t .target) e)) ts)
 
   module _ {ts us : Edges} {A B : Language n} (d : IsDelta Holds ts A) (e : IsDelta Holds us B) where
-    pub union-delta : IsDelta Holds (unionList 𝓣 ts us) (Either A B)
-    unfolding unionList
+    pub union-delta : IsDelta Holds (st-union 𝓣 ts us) (Either A B)
+    unfolding st-union
     union-delta = delta-same Holds (λ a h hs z. (there a h hs z, back a h hs z))
         (each-delta (λ t. t .label) (λ t. Holds (t .target)) (λ t. t) as-is us (each-from-none (λ t. t .label) (λ t. Holds (t .target)) (λ t. t) as-is ts))
       where
@@ -908,8 +908,8 @@ module _ {Target : Type 0} {n : ℕ} (𝓣 : Targets Target) (Holds : Target →
         back a h hs z (inl x) = inl (d .allows a h hs z .1 x)
         back a h hs z (inr x) = inr (e .allows a h hs z .1 x)
 
-    pub intersection-delta : IsDelta Holds (intersectList 𝓣 ts us) (λ w. A w × B w)
-    unfolding intersectList
+    pub intersection-delta : IsDelta Holds (st-intersect 𝓣 ts us) (λ w. A w × B w)
+    unfolding st-intersect
     intersection-delta =
         delta-same Holds (λ a h hs z. (
           λ y. let (x, v) = intersection-hops Holds ts us a h hs z .0 y in (d .allows a h hs z .0 x, e .allows a h hs z .0 v),
@@ -918,8 +918,8 @@ module _ {Target : Type 0} {n : ℕ} (𝓣 : Targets Target) (Holds : Target →
         (pairs-from-none (λ t u. t .label ∩ʳ u .label) (λ t u v. Holds (t .target) v × Holds (u .target) v) (λ t u. to (𝓣 .intersection (t .target) (u .target)) (t .label ∩ʳ u .label))
         (λ t u. made-of (t .label ∩ʳ u .label) (𝓣 .intersection (t .target) (u .target)) (λ v. Holds (t .target) v × Holds (u .target) v) (mean .intersection-holds (t .target) (u .target))) ts us)
 
-    pub difference-delta : IsDelta Holds (differenceList 𝓣 ts us) (λ w. A w × ¬ B w)
-    unfolding differenceList
+    pub difference-delta : IsDelta Holds (st-difference 𝓣 ts us) (λ w. A w × ¬ B w)
+    unfolding st-difference
     difference-delta =
         delta-same Holds (λ a h hs z. (
           λ y.
@@ -935,6 +935,6 @@ module _ {Target : Type 0} {n : ℕ} (𝓣 : Targets Target) (Holds : Target →
             (λ w. Allows Holds ts w × ¬ Allows Holds us w)
         law = difference-hops Holds ts us (e .disjoint) (covers ts ∩ʳ covers us) (λ a h. (each (covers ts a h) (covers us a h), λ x. both (covers ts a h) (covers us a h) (x .0) (x .1)))
 
-  pub xor-delta : {ts us : Edges} {A B : Language n} → IsDelta Holds ts A → IsDelta Holds us B → IsDelta Holds (xorList 𝓣 ts us) (λ w. (A w × ¬ B w) ⊎ (B w × ¬ A w))
-  unfolding xorList
+  pub xor-delta : {ts us : Edges} {A B : Language n} → IsDelta Holds ts A → IsDelta Holds us B → IsDelta Holds (st-xor 𝓣 ts us) (λ w. (A w × ¬ B w) ⊎ (B w × ¬ A w))
+  unfolding st-xor
   xor-delta d e = union-delta (difference-delta d e) (difference-delta e d)

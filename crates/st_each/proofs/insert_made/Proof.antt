@@ -7,7 +7,7 @@ use Rattle.st_each.proofs.insert_made.Statement.{statement}
 use Rattle.st_each.proofs.insert_made.Tie as tie
 use Rattle.st_each.proofs.insert_made.Reads as reads
 use Rattle.st_each.proofs.insert_made.Lts as lts
-use Rattle.st.proofs.insert.Reads as insert-reads
+use Rattle.st.proofs.st_insert.Reads as st-insert-reads
 use Rattle.st_each.proofs.make_edge.Reads as make-edge-reads
 
 -- src/lib.rt:162:9
@@ -24,8 +24,8 @@ enum-known-edged-2 : tie.Need-enum-known-edged-2
 enum-known-edged-2 c = search needs
 
 -- src/lib.rt:165:32
-insert-requires : tie.Need-insert-requires
-insert-requires c κs =
+st-insert-requires : tie.Need-st-insert-requires
+st-insert-requires c κs =
     let g = c .before .before .before .before .before .before .before .before .before .before .before .before .before .before .before .before .before .before .before .before .before .before .before .before .args in
     join.insert-ready (g .fields) (g .limits) (g .nodes .now) (g .states .now) (g .members .now) (g .scratch .now) (g .c) (eachOf (g .each)) (edgeOf (g .t)) (g .m) (c .before .before .before .before .before .before .before .before .before .before .before .before .before .before .before .before .before .before .before .before .before .before .before .before .pre)
     (c .before .before .before .before .before .before .before .before .before .before .before .before .before .before .before .make-edge .result) (c .before .before .before .before .before .before .before .before .before .before .before .before .before .before .before .make-edge .last .0) (c .before .before .before .before .before .before .before .before .before .before .before .before .before .before .before .make-edge .last .1 .0) (c .before .before .before .before .before .before .before .before .before .before .before .before .before .before .before .make-edge .last .1 .1 .0) (c .before .before .before .before .before .before .before .before .before .before .before .before .before .before .before .make-edge .last .1 .1 .1 .0) (c .before .before .before .before .before .before .before .before .before .before .before .before .before .before .before .make-edge .ensures) (c .before .before .before .before .before .before .before .before .before .before .before .before .before .before .before .make-edge .kept .1 .1 .1 .0) _ _ (c .before .before .before .before .before .edged2 .given .1)
@@ -60,22 +60,22 @@ returns c =
 -- src/lib.rt:147:1
 same-length-5 : tie.Need-same-length-5
 same-length-5 c =
-    c .before .before .before .before .before .before .before .before .insert .kept .0 ∙ c .before .before .before .before .before .before .before .before .before .before .before .before .before .before .before .before .before .before .before .before .before .before .before .before .make-edge .kept .0
+    c .before .before .before .before .before .before .before .before .st-insert .kept .0 ∙ c .before .before .before .before .before .before .before .before .before .before .before .before .before .before .before .before .before .before .before .before .before .before .before .before .make-edge .kept .0
 
 -- src/lib.rt:147:1
 same-length-6 : tie.Need-same-length-6
 same-length-6 c =
-    c .before .before .before .before .before .before .before .before .insert .kept .1 .0 ∙ c .before .before .before .before .before .before .before .before .before .before .before .before .before .before .before .before .before .before .before .before .before .before .before .before .make-edge .kept .1 .0
+    c .before .before .before .before .before .before .before .before .st-insert .kept .1 .0 ∙ c .before .before .before .before .before .before .before .before .before .before .before .before .before .before .before .before .before .before .before .before .before .before .before .before .make-edge .kept .1 .0
 
 -- src/lib.rt:147:1
 same-length-7 : tie.Need-same-length-7
 same-length-7 c =
-    c .before .before .before .before .before .before .before .before .insert .kept .1 .1 .0 ∙ c .before .before .before .before .before .before .before .before .before .before .before .before .before .before .before .before .before .before .before .before .before .before .before .before .make-edge .kept .1 .1 .0
+    c .before .before .before .before .before .before .before .before .st-insert .kept .1 .1 .0 ∙ c .before .before .before .before .before .before .before .before .before .before .before .before .before .before .before .before .before .before .before .before .before .before .before .before .make-edge .kept .1 .1 .0
 
 -- src/lib.rt:147:1
 same-length-8 : tie.Need-same-length-8
 same-length-8 c =
-    c .before .before .before .before .before .before .before .before .insert .kept .1 .1 .1 .0 ∙ c .before .before .before .before .before .before .before .before .before .before .before .before .before .before .before .before .before .before .before .before .before .before .before .before .make-edge .kept .1 .1 .1 .0
+    c .before .before .before .before .before .before .before .before .st-insert .kept .1 .1 .1 .0 ∙ c .before .before .before .before .before .before .before .before .before .before .before .before .before .before .before .before .before .before .before .before .before .before .before .before .make-edge .kept .1 .1 .1 .0
 
 -- src/lib.rt:147:1
 returns-2 : tie.Need-returns-2
@@ -83,7 +83,7 @@ returns-2 c =
     let g = c .before .before .before .before .before .before .before .before .before .before .before .before .before .before .before .before .before .before .before .before .before .before .before .before .before .before .before .before .before .before .before .before .before .args in
     join.inserted (g .fields) (g .limits) (g .nodes .now) (g .states .now) (g .members .now) (g .scratch .now) (g .c) (eachOf (g .each)) (edgeOf (g .t)) (g .m) (c .before .before .before .before .before .before .before .before .before .before .before .before .before .before .before .before .before .before .before .before .before .before .before .before .before .before .before .before .before .before .before .before .before .pre)
     (c .before .before .before .before .before .before .before .before .before .before .before .before .before .before .before .before .before .before .before .before .before .before .before .before .make-edge .result) (c .before .before .before .before .before .before .before .before .before .before .before .before .before .before .before .before .before .before .before .before .before .before .before .before .make-edge .last .0) (c .before .before .before .before .before .before .before .before .before .before .before .before .before .before .before .before .before .before .before .before .before .before .before .before .make-edge .last .1 .0) (c .before .before .before .before .before .before .before .before .before .before .before .before .before .before .before .before .before .before .before .before .before .before .before .before .make-edge .last .1 .1 .0) (c .before .before .before .before .before .before .before .before .before .before .before .before .before .before .before .before .before .before .before .before .before .before .before .before .make-edge .last .1 .1 .1 .0) (c .before .before .before .before .before .before .before .before .before .before .before .before .before .before .before .before .before .before .before .before .before .before .before .before .make-edge .ensures) (c .before .before .before .before .before .before .before .before .before .before .before .before .before .before .before .before .before .before .before .before .before .before .before .before .make-edge .kept .1 .1 .1 .0) _ _ (c .before .before .before .before .before .before .before .before .before .before .before .before .before .before .edged2 .given .1)
-    (c .before .before .before .before .before .before .before .before .insert .result) (c .before .before .before .before .before .before .before .before .insert .last .0) (c .before .before .before .before .before .before .before .before .insert .last .1 .0) (c .before .before .before .before .before .before .before .before .insert .last .1 .1 .0) (c .before .before .before .before .before .before .before .before .insert .last .1 .1 .1 .0) (c .before .before .before .before .before .before .before .before .insert .ensures)
+    (c .before .before .before .before .before .before .before .before .st-insert .result) (c .before .before .before .before .before .before .before .before .st-insert .last .0) (c .before .before .before .before .before .before .before .before .st-insert .last .1 .0) (c .before .before .before .before .before .before .before .before .st-insert .last .1 .1 .0) (c .before .before .before .before .before .before .before .before .st-insert .last .1 .1 .1 .0) (c .before .before .before .before .before .before .before .before .st-insert .ensures)
 
 pub insert-made-spec : {M : Type 1} → statement M
 insert-made-spec =
@@ -92,7 +92,7 @@ insert-made-spec =
     make-edge-requires
     enum-known-edged
     enum-known-edged-2
-    insert-requires
+    st-insert-requires
     same-length
     same-length-2
     same-length-3

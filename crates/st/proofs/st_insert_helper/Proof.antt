@@ -1,9 +1,9 @@
 use Rattle.st.proofs.Placing as placing
 use borrow.Author.Needs.{needs}
-use Rattle.st.proofs.place.Statement.{statement}
-use Rattle.st.proofs.place.Tie as tie
-use Rattle.st.proofs.place.Reads as reads
-use Rattle.st.proofs.place.Lts as lts
+use Rattle.st.proofs.st_insert_helper.Statement.{statement}
+use Rattle.st.proofs.st_insert_helper.Tie as tie
+use Rattle.st.proofs.st_insert_helper.Reads as reads
+use Rattle.st.proofs.st_insert_helper.Lts as lts
 use Rattle.aut.proofs.mk_spp.Reads as mk-spp-reads
 use Rattle.spp.proofs.zero_at_depth.Reads as zero-at-depth-reads
 use Rattle.st.proofs.place_in.Reads as place-in-reads
@@ -69,8 +69,8 @@ returns-4 : tie.Need-returns-4
 returns-4 c =
     let g = c .before .before .before .before .before .before .before .before .before .before .before .before .before .before .before .before .before .before .before .before .before .before .args in placing.placed-in (g .fields) (g .limits) (g .nodes .now) (g .states .now) (g .scratch .now) (g .c) (g .m) (g .s) (g .l .0) (c .before .before .before .before .before .before .before .before .before .before .before .before .before .before .before .before .before .before .before .before .before .before .pre) (c .before .before .before .before .before .before .before .before .before .before .before .before .before .before .before .before .before .before .zero-at-depth .result .0) (c .before .before .before .before .before .before .before .before .before .before .before .before .before .before .before .before .before .before .zero-at-depth .ensures (g .fields)) (c .before .before .before .before .before .before .before .before .before .before .before .before .before .before .before .if1 .left) (c .before .before .before .before .before .before .before .before .before .before .before .before .before .mk-spp .result) (c .before .before .before .before .before .before .before .before .before .before .before .before .before .mk-spp .last .0) (c .before .before .before .before .before .before .before .before .before .before .before .before .before .mk-spp .ensures) _ _ (c .before .before .before .before .before .before .before .before .before .put2 .given .1) (c .before .before .before .before .before .before .before .if2 .left) (c .before .before .before .before .place-in .result) (c .before .before .before .before .place-in .last .0) (c .before .before .before .before .place-in .last .1 .0) (c .before .before .before .before .place-in .ensures)
 
-pub place-spec : {M : Type 1} → statement M
-place-spec =
+pub st-insert-helper-spec : {M : Type 1} → statement M
+st-insert-helper-spec =
     tie.close
     (tie.spec
     zero-at-depth-requires

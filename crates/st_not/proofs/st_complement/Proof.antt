@@ -1,13 +1,13 @@
 use mathlib.Core.Path.{_∙_}
 use Rattle.st_not.proofs.Join as join
 use borrow.Author.Needs.{needs}
-use Rattle.st_not.proofs.complement_list.Statement.{statement}
-use Rattle.st_not.proofs.complement_list.Tie as tie
-use Rattle.st_not.proofs.complement_list.Reads as reads
-use Rattle.st_not.proofs.complement_list.Lts as lts
+use Rattle.st_not.proofs.st_complement.Statement.{statement}
+use Rattle.st_not.proofs.st_complement.Tie as tie
+use Rattle.st_not.proofs.st_complement.Reads as reads
+use Rattle.st_not.proofs.st_complement.Lts as lts
 use Rattle.aut.proofs.mk_top.Reads as mk-top-reads
 use Rattle.aut_rel.proofs.placed.Reads as placed-reads
-use Rattle.st.proofs.insert.Reads as insert-reads
+use Rattle.st.proofs.st_insert.Reads as st-insert-reads
 use Rattle.st_each.proofs.insert_each.Reads as insert-each-reads
 use Rattle.st_not.proofs.rest_of.Reads as rest-of-reads
 
@@ -76,8 +76,8 @@ enum-known-state-2 : tie.Need-enum-known-state-2
 enum-known-state-2 c = search needs
 
 -- src/lib.rt:127:38
-insert-requires : tie.Need-insert-requires
-insert-requires c κs =
+st-insert-requires : tie.Need-st-insert-requires
+st-insert-requires c κs =
     join.insert-ready (c .before .before .before .before .before .before .before .before .before .before .before .before .before .before .before .before .before .before .before .before .before .before .before .before .before .before .before .before .before .before .before .before .before .before .before .before .before .before .before .before .before .before .before .pre) (c .before .before .before .before .before .before .before .before .before .before .before .before .before .before .before .before .before .before .before .before .before .before .before .before .before .before .before .before .before .before .before .before .before .insert-each .ensures) (c .before .before .before .before .before .before .before .before .before .before .before .before .before .before .before .before .before .before .before .before .before .before .before .listed2 .given .1) (c .before .before .before .before .before .before .before .before .before .before .before .before .before .before .before .before .before .before .before .rest-of .result) (c .before .before .before .before .before .before .before .before .before .before .before .before .before .before .before .before .before .before .before .rest-of .ensures) (c .before .before .before .before .before .before .before .before .before .before .before .before .before .rest .given .1) (c .before .before .before .before .before .before .before .before .before .before .mk-top .result) (c .before .before .before .before .before .before .before .before .before .before .mk-top .last .0) (c .before .before .before .before .before .before .before .before .before .before .mk-top .ensures) (c .before .before .before .before .before .before .before .placed .ensures) (c .before .before .before .before .before .state2 .given .1)
 
 -- src/lib.rt:71:1
@@ -126,30 +126,30 @@ returns-3 c =
 -- src/lib.rt:71:1
 same-length-13 : tie.Need-same-length-13
 same-length-13 c =
-    c .before .before .before .before .before .before .before .before .insert .kept .0 ∙ c .before .before .before .before .before .before .before .before .before .before .before .before .before .before .before .before .before .before .before .before .before .before .before .before .before .before .before .before .rest-of .kept .0 ∙ c .before .before .before .before .before .before .before .before .before .before .before .before .before .before .before .before .before .before .before .before .before .before .before .before .before .before .before .before .before .before .before .before .before .before .before .before .before .before .before .before .before .before .insert-each .kept .0
+    c .before .before .before .before .before .before .before .before .st-insert .kept .0 ∙ c .before .before .before .before .before .before .before .before .before .before .before .before .before .before .before .before .before .before .before .before .before .before .before .before .before .before .before .before .rest-of .kept .0 ∙ c .before .before .before .before .before .before .before .before .before .before .before .before .before .before .before .before .before .before .before .before .before .before .before .before .before .before .before .before .before .before .before .before .before .before .before .before .before .before .before .before .before .before .insert-each .kept .0
 
 -- src/lib.rt:71:1
 same-length-14 : tie.Need-same-length-14
 same-length-14 c =
-    c .before .before .before .before .before .before .before .before .insert .kept .1 .0 ∙ c .before .before .before .before .before .before .before .before .before .before .before .before .before .before .before .before .before .before .before .mk-top .kept .0 ∙ c .before .before .before .before .before .before .before .before .before .before .before .before .before .before .before .before .before .before .before .before .before .before .before .before .before .before .before .before .before .before .before .before .before .before .before .before .before .before .before .before .before .before .insert-each .kept .1 .0
+    c .before .before .before .before .before .before .before .before .st-insert .kept .1 .0 ∙ c .before .before .before .before .before .before .before .before .before .before .before .before .before .before .before .before .before .before .before .mk-top .kept .0 ∙ c .before .before .before .before .before .before .before .before .before .before .before .before .before .before .before .before .before .before .before .before .before .before .before .before .before .before .before .before .before .before .before .before .before .before .before .before .before .before .before .before .before .before .insert-each .kept .1 .0
 
 -- src/lib.rt:71:1
 same-length-15 : tie.Need-same-length-15
 same-length-15 c =
-    c .before .before .before .before .before .before .before .before .insert .kept .1 .1 .0 ∙ c .before .before .before .before .before .before .before .before .before .before .before .before .before .before .before .before .before .before .before .before .before .before .before .before .before .before .before .before .before .before .before .before .before .before .before .before .before .before .before .before .before .before .insert-each .kept .1 .1 .0
+    c .before .before .before .before .before .before .before .before .st-insert .kept .1 .1 .0 ∙ c .before .before .before .before .before .before .before .before .before .before .before .before .before .before .before .before .before .before .before .before .before .before .before .before .before .before .before .before .before .before .before .before .before .before .before .before .before .before .before .before .before .before .insert-each .kept .1 .1 .0
 
 -- src/lib.rt:71:1
 same-length-16 : tie.Need-same-length-16
 same-length-16 c =
-    c .before .before .before .before .before .before .before .before .insert .kept .1 .1 .1 .0 ∙ c .before .before .before .before .before .before .before .before .before .before .before .before .before .before .before .before .before .before .before .before .before .before .before .before .before .before .before .before .rest-of .kept .1 .1 .0 ∙ c .before .before .before .before .before .before .before .before .before .before .before .before .before .before .before .before .before .before .before .before .before .before .before .before .before .before .before .before .before .before .before .before .before .before .before .before .before .before .before .before .before .before .insert-each .kept .1 .1 .1 .1 .0
+    c .before .before .before .before .before .before .before .before .st-insert .kept .1 .1 .1 .0 ∙ c .before .before .before .before .before .before .before .before .before .before .before .before .before .before .before .before .before .before .before .before .before .before .before .before .before .before .before .before .rest-of .kept .1 .1 .0 ∙ c .before .before .before .before .before .before .before .before .before .before .before .before .before .before .before .before .before .before .before .before .before .before .before .before .before .before .before .before .before .before .before .before .before .before .before .before .before .before .before .before .before .before .insert-each .kept .1 .1 .1 .1 .0
 
 -- src/lib.rt:71:1
 returns-4 : tie.Need-returns-4
 returns-4 c =
-    join.inserted (c .before .before .before .before .before .before .before .before .before .before .before .before .before .before .before .before .before .before .before .before .before .before .before .before .before .before .before .before .before .before .before .before .before .before .before .before .before .before .before .before .before .before .before .before .before .before .before .before .before .before .before .before .pre) (c .before .before .before .before .before .before .before .before .before .before .before .before .before .before .before .before .before .before .before .before .before .before .before .before .before .before .before .before .before .before .before .before .before .before .before .before .before .before .before .before .before .before .insert-each .ensures) (c .before .before .before .before .before .before .before .before .before .before .before .before .before .before .before .before .before .before .before .before .before .before .before .before .before .before .before .before .before .before .before .before .listed2 .given .1) (c .before .before .before .before .before .before .before .before .before .before .before .before .before .before .before .before .before .before .before .before .before .before .before .before .before .before .before .before .rest-of .result) (c .before .before .before .before .before .before .before .before .before .before .before .before .before .before .before .before .before .before .before .before .before .before .before .before .before .before .before .before .rest-of .ensures) (c .before .before .before .before .before .before .before .before .before .before .before .before .before .before .before .before .before .before .before .before .before .before .rest .given .1) (c .before .before .before .before .before .before .before .before .before .before .before .before .before .before .before .before .before .before .before .mk-top .result) (c .before .before .before .before .before .before .before .before .before .before .before .before .before .before .before .before .before .before .before .mk-top .last .0) (c .before .before .before .before .before .before .before .before .before .before .before .before .before .before .before .before .before .before .before .mk-top .ensures) (c .before .before .before .before .before .before .before .before .before .before .before .before .before .before .before .before .placed .ensures) (c .before .before .before .before .before .before .before .before .before .before .before .before .before .before .state2 .given .1) (c .before .before .before .before .before .before .before .before .insert .ensures)
+    join.inserted (c .before .before .before .before .before .before .before .before .before .before .before .before .before .before .before .before .before .before .before .before .before .before .before .before .before .before .before .before .before .before .before .before .before .before .before .before .before .before .before .before .before .before .before .before .before .before .before .before .before .before .before .before .pre) (c .before .before .before .before .before .before .before .before .before .before .before .before .before .before .before .before .before .before .before .before .before .before .before .before .before .before .before .before .before .before .before .before .before .before .before .before .before .before .before .before .before .before .insert-each .ensures) (c .before .before .before .before .before .before .before .before .before .before .before .before .before .before .before .before .before .before .before .before .before .before .before .before .before .before .before .before .before .before .before .before .listed2 .given .1) (c .before .before .before .before .before .before .before .before .before .before .before .before .before .before .before .before .before .before .before .before .before .before .before .before .before .before .before .before .rest-of .result) (c .before .before .before .before .before .before .before .before .before .before .before .before .before .before .before .before .before .before .before .before .before .before .before .before .before .before .before .before .rest-of .ensures) (c .before .before .before .before .before .before .before .before .before .before .before .before .before .before .before .before .before .before .before .before .before .before .rest .given .1) (c .before .before .before .before .before .before .before .before .before .before .before .before .before .before .before .before .before .before .before .mk-top .result) (c .before .before .before .before .before .before .before .before .before .before .before .before .before .before .before .before .before .before .before .mk-top .last .0) (c .before .before .before .before .before .before .before .before .before .before .before .before .before .before .before .before .before .before .before .mk-top .ensures) (c .before .before .before .before .before .before .before .before .before .before .before .before .before .before .before .before .placed .ensures) (c .before .before .before .before .before .before .before .before .before .before .before .before .before .before .state2 .given .1) (c .before .before .before .before .before .before .before .before .st-insert .ensures)
 
-pub complement-list-spec : {M : Type 1} → statement M
-complement-list-spec =
+pub st-complement-spec : {M : Type 1} → statement M
+st-complement-spec =
     tie.close
     (tie.spec
     insert-each-requires
@@ -167,7 +167,7 @@ complement-list-spec =
     placed-requires
     enum-known-state
     enum-known-state-2
-    insert-requires
+    st-insert-requires
     same-length-5
     same-length-6
     same-length-7

@@ -9,10 +9,10 @@ use Rattle.st.specs.Seen.{RESULT, DoesList}
 use Rattle.st_source.specs.Seen.{sourceOf}
 use Rattle.st_ops.proofs.Join as join
 use borrow.Author.Needs.{needs}
-use Rattle.st_ops.proofs.union_list.Statement.{statement}
-use Rattle.st_ops.proofs.union_list.Tie as tie
-use Rattle.st_ops.proofs.union_list.Reads as reads
-use Rattle.st_ops.proofs.union_list.Lts as lts
+use Rattle.st_ops.proofs.st_union.Statement.{statement}
+use Rattle.st_ops.proofs.st_union.Tie as tie
+use Rattle.st_ops.proofs.st_union.Reads as reads
+use Rattle.st_ops.proofs.st_union.Lts as lts
 use Rattle.st_each.proofs.insert_each.Reads as insert-each-reads
 
 -- src/lib.rt:33:9
@@ -75,8 +75,8 @@ returns-2 : tie.Need-returns-2
 returns-2 c =
     join.union-does (c .before .before .before .before .before .before .before .before .before .before .before .before .before .before .before .before .before .before .before .before .before .before .before .before .before .before .before .before .before .before .before .before .before .before .pre) (c .before .before .before .before .before .before .before .before .before .before .before .before .before .before .before .before .before .before .before .before .before .before .before .before .insert-each .ensures) (c .before .before .before .before .before .before .before .before .before .before .before .before .before .before .listed2 .given .1) (c .before .before .before .before .before .before .before .before .insert-each2 .ensures)
 
-pub union-list-spec : {M : Type 1} → statement M
-union-list-spec =
+pub st-union-spec : {M : Type 1} → statement M
+st-union-spec =
     tie.close
     (tie.spec
     insert-each-requires

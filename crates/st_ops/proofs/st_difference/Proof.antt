@@ -1,10 +1,10 @@
 use Rattle.aut_rel.specs.Seen.{autOf}
 use Rattle.st_ops.proofs.Join as join
 use borrow.Author.Needs.{needs}
-use Rattle.st_ops.proofs.difference_list.Statement.{statement}
-use Rattle.st_ops.proofs.difference_list.Tie as tie
-use Rattle.st_ops.proofs.difference_list.Reads as reads
-use Rattle.st_ops.proofs.difference_list.Lts as lts
+use Rattle.st_ops.proofs.st_difference.Statement.{statement}
+use Rattle.st_ops.proofs.st_difference.Tie as tie
+use Rattle.st_ops.proofs.st_difference.Reads as reads
+use Rattle.st_ops.proofs.st_difference.Lts as lts
 use Rattle.spp.proofs.zero_at_depth.Reads as zero-at-depth-reads
 use Rattle.st_each.proofs.insert_each.Reads as insert-each-reads
 use Rattle.st_minus.proofs.subtract_rows.Reads as subtract-rows-reads
@@ -73,8 +73,8 @@ returns-2 : tie.Need-returns-2
 returns-2 c =
     join.difference-does (c .before .before .before .before .before .before .before .before .before .before .before .before .before .before .before .before .before .before .before .before .before .before .before .before .before .before .before .before .before .before .before .before .before .before .before .pre) (c .before .before .before .before .before .before .before .before .before .before .before .before .before .before .before .before .before .before .before .before .before .before .before .before .before .before .before .before .before .zero-at-depth .ensures (c .before .before .before .before .before .before .before .before .before .before .before .before .before .before .before .before .before .before .before .before .before .before .before .before .before .before .before .before .before .before .before .before .before .before .before .args .fields)) (c .before .before .before .before .before .before .before .before .before .before .before .before .before .before .before .before .before .before .before .before .before .before .before .before .subtract-rows .ensures) (c .before .before .before .before .before .before .before .before .before .before .before .before .before .before .summed2 .given .1) (c .before .before .before .before .before .before .before .before .insert-each .ensures)
 
-pub difference-list-spec : {M : Type 1} → statement M
-difference-list-spec =
+pub st-difference-spec : {M : Type 1} → statement M
+st-difference-spec =
     tie.close
     (tie.spec
     zero-at-depth-requires

@@ -1,10 +1,10 @@
 use Rattle.netkat.specs.ListSteps as St
 use Rattle.st_ops.proofs.Join as join
 use borrow.Author.Needs.{needs}
-use Rattle.st_ops.proofs.intersect_list.Statement.{statement}
-use Rattle.st_ops.proofs.intersect_list.Tie as tie
-use Rattle.st_ops.proofs.intersect_list.Reads as reads
-use Rattle.st_ops.proofs.intersect_list.Lts as lts
+use Rattle.st_ops.proofs.st_intersect.Statement.{statement}
+use Rattle.st_ops.proofs.st_intersect.Tie as tie
+use Rattle.st_ops.proofs.st_intersect.Reads as reads
+use Rattle.st_ops.proofs.st_intersect.Lts as lts
 use Rattle.st_each.proofs.insert_pairs.Reads as insert-pairs-reads
 
 -- src/lib.rt:83:5
@@ -33,7 +33,7 @@ returns : tie.Need-returns
 returns c =
     let g = c .before .before .before .before .before .before .before .before .before .before .before .before .before .before .before .before .before .before .args in join.intersect-does (g .fields) (g .limits) (g .transitions .now) (g .scratch .now) (g .first) (g .second) (g .k) (g .j) (c .before .before .before .before .before .before .before .before .insert-pairs .ensures)
 
-pub intersect-list-spec : {M : Type 1} → statement M
-intersect-list-spec =
+pub st-intersect-spec : {M : Type 1} → statement M
+st-intersect-spec =
     tie.close
     (tie.spec insert-pairs-requires same-length same-length-2 same-length-3 same-length-4 returns)

@@ -1,0 +1,1 @@
+// No code: a layer of the rule for a run of calls (specs/).
