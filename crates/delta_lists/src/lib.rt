@@ -1,16 +1,153 @@
-// The lists of delta (aut.rs) of a kind, from stored lists of its operands. The result stands at RESULT.
+// The lists of delta (aut.rs) by kind, from stored lists of its operands, and the list operations that only they call. The result stands at RESULT.
+use aut::Config;
 use aut::Counts;
-use aut::Limits;
+use aut::State;
 use spp::SPP;
 use st::Listed;
 use st_each::Each;
 use st_source::Source;
+ghost use Rattle.netkat.specs.ListSteps as St;
+ghost use Rattle.aut_steps.specs.Relations.{topAt};
+ghost use Rattle.st_steps.specs.Operations.{ops};
 ghost use Rattle.st_steps.specs.Edges.{edges};
-ghost use Rattle.delta_steps.specs.Delta.{sequenceList};
+ghost use Rattle.delta_steps.specs.Delta.{sequenceList, starList, untilList, dupList, topList};
 ghost use Rattle.aut.specs.Seen.{limitsOf};
 ghost use Rattle.aut_rel.specs.Seen.{autOf};
+ghost use Rattle.st_source.specs.Seen.{sourceOf};
 ghost use Rattle.st_stage.specs.Readings.{GivesList};
-ghost use Rattle.delta_lists.specs.Seen.{SequenceReady};
+ghost use Rattle.delta_lists.specs.Seen.{ToReady, BehindReady, SequenceReady, StarReady, UntilReady, AloneReady, Anything, StateAt, EdgeAlone, GivesAlone};
+
+// ---- list operations
+
+// each target followed by the state e
+pub fn st_postcompose(
+    nodes: &mut [u32],
+    states: &mut [u32],
+    members: &mut [u32],
+    transitions: &[u32],
+    scratch: &mut [u32],
+    c: Counts,
+    config: Config,
+    source: Source,
+    k: usize,
+    e: u32,
+) -> Listed
+    requires { ⌜ ToReady (config .fields) (config .limits) (autOf (now nodes) (now states) (now members) c) (now transitions) (now scratch) source k e ⌝ }
+    ensures { λ r. ⌜ GivesList (config .fields) (config .limits) 0 832 (St.st-postcompose (ops (config .fields) (limitsOf (config .limits))) (sourceOf source (now (transitions .entry)) (now (scratch .entry)) k) e) (autOf (now (nodes .entry)) (now (states .entry)) (now (members .entry)) c) c r (autOf (now (nodes .exit)) (now (states .exit)) (now (members .exit))) (now (scratch .entry)) (now (scratch .exit)) ⌝ }
+{
+    st_each::insert_each(
+        nodes,
+        states,
+        members,
+        transitions,
+        scratch,
+        c,
+        config.limits,
+        config.fields,
+        Each::Sequence(e),
+        source,
+        k,
+        0,
+    )
+}
+
+// each label behind the relation l
+pub fn st_precompose(
+    nodes: &mut [u32],
+    states: &mut [u32],
+    members: &mut [u32],
+    transitions: &[u32],
+    scratch: &mut [u32],
+    c: Counts,
+    config: Config,
+    l: SPP,
+    source: Source,
+    k: usize,
+) -> Listed
+    requires { ⌜ BehindReady (config .fields) (config .limits) (autOf (now nodes) (now states) (now members) c) (now transitions) (now scratch) (l .0) source k ⌝ }
+    ensures { λ r. ⌜ GivesList (config .fields) (config .limits) 0 832 (St.st-precompose (ops (config .fields) (limitsOf (config .limits))) (l .0) (sourceOf source (now (transitions .entry)) (now (scratch .entry)) k)) (autOf (now (nodes .entry)) (now (states .entry)) (now (members .entry)) c) c r (autOf (now (nodes .exit)) (now (states .exit)) (now (members .exit))) (now (scratch .entry)) (now (scratch .exit)) ⌝ }
+{
+    st_each::insert_each(
+        nodes,
+        states,
+        members,
+        transitions,
+        scratch,
+        c,
+        config.limits,
+        config.fields,
+        Each::After(l),
+        source,
+        k,
+        0,
+    )
+}
+
+// each target met with the state e
+pub fn st_intersect_expr(
+    nodes: &mut [u32],
+    states: &mut [u32],
+    members: &mut [u32],
+    transitions: &[u32],
+    scratch: &mut [u32],
+    c: Counts,
+    config: Config,
+    source: Source,
+    k: usize,
+    e: u32,
+) -> Listed
+    requires { ⌜ ToReady (config .fields) (config .limits) (autOf (now nodes) (now states) (now members) c) (now transitions) (now scratch) source k e ⌝ }
+    ensures { λ r. ⌜ GivesList (config .fields) (config .limits) 0 832 (St.st-intersect-expr (ops (config .fields) (limitsOf (config .limits))) (sourceOf source (now (transitions .entry)) (now (scratch .entry)) k) e) (autOf (now (nodes .entry)) (now (states .entry)) (now (members .entry)) c) c r (autOf (now (nodes .exit)) (now (states .exit)) (now (members .exit))) (now (scratch .entry)) (now (scratch .exit)) ⌝ }
+{
+    st_each::insert_each(
+        nodes,
+        states,
+        members,
+        transitions,
+        scratch,
+        c,
+        config.limits,
+        config.fields,
+        Each::Intersect(e),
+        source,
+        k,
+        0,
+    )
+}
+
+// one transition, to `target` with the label `label`; none where the label is zero, or the target the zero state, which is interned for that. Relation nodes and members are not taken
+pub fn st_singleton(
+    states: &mut [u32],
+    scratch: &mut [u32],
+    c: Counts,
+    config: Config,
+    label: SPP,
+    target: u32,
+) -> Listed
+    requires { ⌜ AloneReady (config .fields) (config .limits) (now states) (now scratch) c ⌝ }
+    ensures { λ r. ⌜ GivesAlone (config .fields) (config .limits) (EdgeAlone (config .fields) target (label .0)) (St.st-singleton (ops (config .fields) (limitsOf (config .limits))) (label .0) target) c r (now (states .entry)) (now (scratch .entry)) (now (states .exit)) (now (scratch .exit)) ⌝ }
+{
+    let zero = spp::zero_at_depth(config.fields);
+    if label.0 == zero.0 {
+        return Listed::List(c, 0);
+    }
+    let put = aut::mk_spp(states, c.states, zero);
+    let state = aut_rel::placed(put, c);
+    match state {
+        State::Refused(e) => Listed::Refused(e),
+        State::Is(z, d) => {
+            if target == z {
+                return Listed::List(d, 0);
+            }
+            let j = 2 * st::RESULT;
+            scratch[j] = target;
+            scratch[j + 1] = label.0;
+            Listed::List(d, 1)
+        }
+    }
+}
+
+// ---- lists by kind
 
 // of a Sequence, whose second operand is y and whose first has the epsilon eps
 pub fn sequence_list(
@@ -20,8 +157,7 @@ pub fn sequence_list(
     transitions: &[u32],
     scratch: &mut [u32],
     c: Counts,
-    limits: Limits,
-    fields: u32,
+    config: Config,
     y: u32,
     eps: SPP,
     first: usize,
@@ -29,40 +165,36 @@ pub fn sequence_list(
     second: usize,
     j: usize,
 ) -> Listed
-    requires { ⌜ SequenceReady fields limits (autOf (now nodes) (now states) (now members) c) (now transitions) (now scratch) y (eps .0) first k second j ⌝ }
-    ensures { λ r. ⌜ GivesList fields limits 0 1088 (sequenceList fields (limitsOf limits) y (eps .0) (edges (now (transitions .entry)) first k) (edges (now (transitions .entry)) second j)) (autOf (now (nodes .entry)) (now (states .entry)) (now (members .entry)) c) c r (autOf (now (nodes .exit)) (now (states .exit)) (now (members .exit))) (now (scratch .entry)) (now (scratch .exit)) ⌝ }
+    requires { ⌜ SequenceReady (config .fields) (config .limits) (autOf (now nodes) (now states) (now members) c) (now transitions) (now scratch) y (eps .0) first k second j ⌝ }
+    ensures { λ r. ⌜ GivesList (config .fields) (config .limits) 0 1088 (sequenceList (config .fields) (limitsOf (config .limits)) y (eps .0) (edges (now (transitions .entry)) first k) (edges (now (transitions .entry)) second j)) (autOf (now (nodes .entry)) (now (states .entry)) (now (members .entry)) c) c r (autOf (now (nodes .exit)) (now (states .exit)) (now (members .exit))) (now (scratch .entry)) (now (scratch .exit)) ⌝ }
 {
-    let late = st_each::insert_each(
+    let late = st_postcompose(
         nodes,
         states,
         members,
         transitions,
         scratch,
         c,
-        limits,
-        fields,
-        Each::Sequence(y),
+        config,
         Source::Stored(first),
         k,
-        0,
+        y,
     );
     match late {
         Listed::Refused(e) => Listed::Refused(e),
         Listed::List(d, n) => {
             st_edges::copy(scratch, st::RESULT, n, st::FIRST);
-            let early = st_each::insert_each(
+            let early = st_precompose(
                 nodes,
                 states,
                 members,
                 transitions,
                 scratch,
                 d,
-                limits,
-                fields,
-                Each::After(eps),
+                config,
+                eps,
                 Source::Stored(second),
                 j,
-                0,
             );
             match early {
                 Listed::Refused(e) => Listed::Refused(e),
@@ -75,8 +207,8 @@ pub fn sequence_list(
                         transitions,
                         scratch,
                         f,
-                        limits,
-                        fields,
+                        config.limits,
+                        config.fields,
                         Source::Scratch(st::FIRST),
                         n,
                         Source::Scratch(st::SECOND),
@@ -84,6 +216,158 @@ pub fn sequence_list(
                     )
                 }
             }
+        }
+    }
+}
+
+// of the Star x; eps is the star of its operand's epsilon
+pub fn star_list(
+    nodes: &mut [u32],
+    states: &mut [u32],
+    members: &mut [u32],
+    transitions: &[u32],
+    scratch: &mut [u32],
+    c: Counts,
+    config: Config,
+    x: u32,
+    eps: SPP,
+    first: usize,
+    k: usize,
+) -> Listed
+    requires { ⌜ StarReady (config .fields) (config .limits) (autOf (now nodes) (now states) (now members) c) (now transitions) (now scratch) x (eps .0) first k ⌝ }
+    ensures { λ r. ⌜ GivesList (config .fields) (config .limits) 0 1088 (starList (config .fields) (limitsOf (config .limits)) x (eps .0) (edges (now (transitions .entry)) first k)) (autOf (now (nodes .entry)) (now (states .entry)) (now (members .entry)) c) c r (autOf (now (nodes .exit)) (now (states .exit)) (now (members .exit))) (now (scratch .entry)) (now (scratch .exit)) ⌝ }
+{
+    let late = st_postcompose(
+        nodes,
+        states,
+        members,
+        transitions,
+        scratch,
+        c,
+        config,
+        Source::Stored(first),
+        k,
+        x,
+    );
+    match late {
+        Listed::Refused(e) => Listed::Refused(e),
+        Listed::List(d, n) => {
+            st_edges::copy(scratch, st::RESULT, n, st::FIRST);
+            st_precompose(
+                nodes,
+                states,
+                members,
+                transitions,
+                scratch,
+                d,
+                config,
+                eps,
+                Source::Scratch(st::FIRST),
+                n,
+            )
+        }
+    }
+}
+
+// of the LtlUntil of a and b
+pub fn until_list(
+    nodes: &mut [u32],
+    states: &mut [u32],
+    members: &mut [u32],
+    transitions: &[u32],
+    scratch: &mut [u32],
+    c: Counts,
+    config: Config,
+    a: u32,
+    b: u32,
+    first: usize,
+    k: usize,
+    second: usize,
+    j: usize,
+) -> Listed
+    requires { ⌜ UntilReady (config .fields) (config .limits) (autOf (now nodes) (now states) (now members) c) (now transitions) (now scratch) a b first k second j ⌝ }
+    ensures { λ r. ⌜ GivesList (config .fields) (config .limits) 0 1088 (untilList (config .fields) (limitsOf (config .limits)) a b (edges (now (transitions .entry)) first k) (edges (now (transitions .entry)) second j)) (autOf (now (nodes .entry)) (now (states .entry)) (now (members .entry)) c) c r (autOf (now (nodes .exit)) (now (states .exit)) (now (members .exit))) (now (scratch .entry)) (now (scratch .exit)) ⌝ }
+{
+    let put = aut::mk_until(states, c.states, config.limits, a, b);
+    let state = aut_rel::placed(put, c);
+    match state {
+        State::Refused(e) => Listed::Refused(e),
+        State::Is(u, d) => {
+            let met = st_intersect_expr(
+                nodes,
+                states,
+                members,
+                transitions,
+                scratch,
+                d,
+                config,
+                Source::Stored(first),
+                k,
+                u,
+            );
+            match met {
+                Listed::Refused(e) => Listed::Refused(e),
+                Listed::List(f, n) => {
+                    st_edges::copy(scratch, st::RESULT, n, st::FIRST);
+                    st_ops::st_union(
+                        nodes,
+                        states,
+                        members,
+                        transitions,
+                        scratch,
+                        f,
+                        config.limits,
+                        config.fields,
+                        Source::Stored(second),
+                        j,
+                        Source::Scratch(st::FIRST),
+                        n,
+                    )
+                }
+            }
+        }
+    }
+}
+
+pub fn dup_list(states: &mut [u32], scratch: &mut [u32], c: Counts, config: Config) -> Listed
+    requires { ⌜ AloneReady (config .fields) (config .limits) (now states) (now scratch) c ⌝ }
+    ensures { λ r. ⌜ GivesAlone (config .fields) (config .limits) Anything (dupList (config .fields) (limitsOf (config .limits))) c r (now (states .entry)) (now (scratch .entry)) (now (states .exit)) (now (scratch .exit)) ⌝ }
+{
+    let one = spp::one_at_depth(config.fields, config.fields);
+    let put = aut::mk_spp(states, c.states, one);
+    let state = aut_rel::placed(put, c);
+    match state {
+        State::Refused(e) => Listed::Refused(e),
+        State::Is(x, d) => st_singleton(states, scratch, d, config, one, x),
+    }
+}
+
+// of the LtlNext of a
+pub fn next_list(
+    states: &mut [u32],
+    scratch: &mut [u32],
+    c: Counts,
+    config: Config,
+    a: u32,
+) -> Listed
+    requires { ⌜ AloneReady (config .fields) (config .limits) (now states) (now scratch) c ⌝ }
+    ensures { λ r. ⌜ GivesAlone (config .fields) (config .limits) (StateAt a) (St.st-singleton (ops (config .fields) (limitsOf (config .limits))) (topAt (config .fields)) a) c r (now (states .entry)) (now (scratch .entry)) (now (states .exit)) (now (scratch .exit)) ⌝ }
+{
+    let top = spp::top_at_depth(config.fields, config.fields);
+    st_singleton(states, scratch, c, config, top, a)
+}
+
+pub fn top_list(states: &mut [u32], scratch: &mut [u32], c: Counts, config: Config) -> Listed
+    requires { ⌜ AloneReady (config .fields) (config .limits) (now states) (now scratch) c ⌝ }
+    ensures { λ r. ⌜ GivesAlone (config .fields) (config .limits) Anything (topList (config .fields) (limitsOf (config .limits))) c r (now (states .entry)) (now (scratch .entry)) (now (states .exit)) (now (scratch .exit)) ⌝ }
+{
+    let put = aut::mk_top(states, c.states);
+    let state = aut_rel::placed(put, c);
+    match state {
+        State::Refused(e) => Listed::Refused(e),
+        State::Is(x, d) => {
+            let top = spp::top_at_depth(config.fields, config.fields);
+            st_singleton(states, scratch, d, config, top, x)
         }
     }
 }

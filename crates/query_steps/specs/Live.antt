@@ -127,11 +127,16 @@ module _ (N : ℕ) (L : Limits) (lent : ℕ) where
   abbrev pub settled : Found → Step Tables (ℕ → ℕ)
   settled f = settle (takes (f .states)) (f .states) (work (reverse (f .states)) (f .live))
 
-  unfoldable pub live-anew : ℕ → Step Tables ℕ
-  live-anew x =
+  -- as with no set stored: the states reached, with their live sets
+  unfoldable pub live-sets : ℕ → Step Tables Found
+  live-sets x =
       if ltb 0 (capacity lent)
-      then (explore (capacity lent) [] (x ∷ []) (λ t. Sp.zeroAt N) >>= λ f. settled f >>= λ live σ. given (keepLives (f .states) live σ) (live x))
+      then (explore (capacity lent) [] (x ∷ []) (λ t. Sp.zeroAt N) >>= λ f. settled f >>= λ live. return (found (f .states) live))
       else (λ σ. refused 24)
+
+  -- these are kept
+  unfoldable pub live-anew : ℕ → Step Tables ℕ
+  live-anew x = live-sets x >>= λ f σ. given (keepLives (f .states) (f .live) σ) (f .live x)
 
   unfoldable pub live-packets : ℕ → Step Tables ℕ
   live-packets x σ =

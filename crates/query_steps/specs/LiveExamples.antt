@@ -22,7 +22,7 @@ use Rattle.delta_steps.specs.Epsilon.{epsilonOf, setWord, keepEpsilon, eachOf, 
 use Rattle.st_steps.specs.Edges.{edges, flat}
 use Rattle.delta_steps.specs.Delta.{startOf, countOf, store, onAut, roomT, append, listAt, keepList, unionAll, intersectAll, sequenceList, starList, untilList, dupList, topList, delta-by-kind, delta-with, delta-by, delta}
 use Rattle.query_steps.specs.Tables.{Tables, tables, onSets, onBase, liveOf}
-use Rattle.query_steps.specs.Live.{enqueue, labelTo, enlarge, keepIn, explore, pullBack, pullFrom, pullAll, settle, live-anew, live-packets}
+use Rattle.query_steps.specs.Live.{enqueue, labelTo, enlarge, keepIn, explore, pullBack, pullFrom, pullAll, settle, live-sets, live-anew, live-packets}
 use Rattle.query_steps.specs.Pruned.{viable, prune, delta-pruned}
 use Rattle.query_steps.specs.Corners.{holding, room}
 
@@ -102,5 +102,5 @@ orders =
     × (stateWords 0 1 (begun 0 (zeroLine 0 >>= pruned 0)) ≡ 1 ∷ [])
 
 hold : orders
-unfolding enqueue labelTo enlarge keepIn explore pullBack pullFrom pullAll settle live-anew live-packets liveOf viable prune delta-pruned flip Sp.constants Sp.kid Sp.child Sp.same Sp.seek Sp.room Sp.put Sp.intern Sp.mk Sp.exit Sp.join Sp.both Sp.apply Sp.union Sp.complement Sp.difference Sp.isZero Sp.isUniversal Images.fwdNode Images.fwd Images.bwdNode Images.bwd Images.ifwdNode Images.ifwd Images.ledExit Images.pullNode Images.pull mk-spp mk-dup mk-top mk-union mk-union-n mk-intersect-n mk-intersect mk-intersect-n-base mk-complement mk-difference mk-xor mk-sequence sequence-by sequence-with mk-star mk-until unite meet openUnion openAll opened extend each countAll countOne product base bases finish addRelation uniteOne meetOne meetFinish addLast intern0 intern1 intern2 internL putL put seek same2 sameAt sameL storeMembers nestL roomS roomM put4 kindOf op1 op2 nest words least rise test Spp.constants Spp.zeros Spp.ones Spp.tops Spp.field Spp.apply Spp.exit Spp.each Spp.complement Spp.sequence Spp.seqExit Spp.product Spp.star Spp.starExit Spp.blocks Spp.mk Spp.seek Spp.same Spp.kids Spp.kid Spp.room Spp.put Spp.zeroAt Spp.oneAt Spp.topAt ListSteps.unite ListSteps.enter ListSteps.enterIn ListSteps.place ListSteps.st-singleton ListSteps.split ListSteps.insert ListSteps.insertEach ListSteps.insertPairs ListSteps.st-union ListSteps.st-intersect ListSteps.subtractRow ListSteps.subtractRows ListSteps.st-difference ListSteps.st-xor ListSteps.coverAll ListSteps.st-complement ListSteps.st-postcompose ListSteps.st-precompose ListSteps.st-intersect-expr epsilonOf setWord keepEpsilon eachOf uniteAll meetAll epsilon-by-kind epsilon-with epsilon-by epsilon startOf countOf edges flat roomT append listAt keepList unionAll intersectAll sequenceList starList untilList dupList topList delta-by-kind delta-with delta-by delta
+unfolding enqueue labelTo enlarge keepIn explore pullBack pullFrom pullAll settle live-sets live-anew live-packets liveOf viable prune delta-pruned flip Sp.constants Sp.kid Sp.child Sp.same Sp.seek Sp.room Sp.put Sp.intern Sp.mk Sp.exit Sp.join Sp.both Sp.apply Sp.union Sp.complement Sp.difference Sp.isZero Sp.isUniversal Images.fwdNode Images.fwd Images.bwdNode Images.bwd Images.ifwdNode Images.ifwd Images.ledExit Images.pullNode Images.pull mk-spp mk-dup mk-top mk-union mk-union-n mk-intersect-n mk-intersect mk-intersect-n-base mk-complement mk-difference mk-xor mk-sequence sequence-by sequence-with mk-star mk-until unite meet openUnion openAll opened extend each countAll countOne product base bases finish addRelation uniteOne meetOne meetFinish addLast intern0 intern1 intern2 internL putL put seek same2 sameAt sameL storeMembers nestL roomS roomM put4 kindOf op1 op2 nest words least rise test Spp.constants Spp.zeros Spp.ones Spp.tops Spp.field Spp.apply Spp.exit Spp.each Spp.complement Spp.sequence Spp.seqExit Spp.product Spp.star Spp.starExit Spp.blocks Spp.mk Spp.seek Spp.same Spp.kids Spp.kid Spp.room Spp.put Spp.zeroAt Spp.oneAt Spp.topAt ListSteps.unite ListSteps.enter ListSteps.enterIn ListSteps.place ListSteps.st-singleton ListSteps.split ListSteps.insert ListSteps.insertEach ListSteps.insertPairs ListSteps.st-union ListSteps.st-intersect ListSteps.subtractRow ListSteps.subtractRows ListSteps.st-difference ListSteps.st-xor ListSteps.coverAll ListSteps.st-complement ListSteps.st-postcompose ListSteps.st-precompose ListSteps.st-intersect-expr epsilonOf setWord keepEpsilon eachOf uniteAll meetAll epsilon-by-kind epsilon-with epsilon-by epsilon startOf countOf edges flat roomT append listAt keepList unionAll intersectAll sequenceList starList untilList dupList topList delta-by-kind delta-with delta-by delta
 hold = (refl, refl, refl, refl, refl, refl, refl, refl, refl)

@@ -4,10 +4,10 @@ use mathlib.Core.Path.{_≡_, refl, sym, _∙_, ap, subst}
 use mathlib.Core.Logic.{_↔_, _≢_, _⊎_, inl, inr, ⊎-elim}
 use mathlib.Core.Bool.{Bool, true, false}
 use mathlib.Core.List.{List, [], _∷_, List·Memᴰ, List·Memᴰ·head, List·Memᴰ·tail, List·Memᴰ·not-nil, List·Memᴰ·cases-cons}
-use Prim.Native.Nat.{ℕ, _+_, _*_, _-_, _<_}
+use Prim.Native.Nat.{ℕ, _+_, _*_, _-_, _≤_, _<_}
 use native.Mathlib.Omega.{arith}
 use lib.Dec.{T, eqb, ltb}
-use lib.ListN.{getD}
+use lib.ListN.{length, getD}
 use borrow.Author.Tests.{eqb-true, eqb-false, ltb-true, ltb-false}
 use Rattle.common.specs.Packets.{inhabited}
 use Rattle.common.specs.Outcome.{given, Gives, if_then_else_}
@@ -27,11 +27,11 @@ use Rattle.delta_steps.specs.Epsilon.{epsilonOf}
 use Rattle.delta_steps.specs.Delta.{startOf, countOf, Store, listAt}
 use Rattle.delta_steps.specs.Noted.{written, written-other, written-here, written-count, written-grown, written-good}
 use Rattle.delta_steps.specs.Worked.{epsilons-grown, extt-refl, Worked, SameWords, same-list, worked-aut}
-use Rattle.query_steps.specs.Tables.{Tables, liveOf, LiveSet, is-live-same, live-same, Ordered, live-there, Later, later-refl, later-trans, gone-later}
+use Rattle.query_steps.specs.Tables.{Tables, liveOf, LiveSet, is-live-same, live-same, Ordered, live-there, Gone, Later, later-refl, later-trans, gone-later}
 use Rattle.query_steps.specs.Search.{capacity}
-use Rattle.query_steps.specs.Steps.{no-entry, stopped-here, Ends, halts, comes, ends-gives, ends-bind, ends-branch}
+use Rattle.query_steps.specs.Steps.{gone-trans, no-entry, stopped-here, Ends, halts, comes, ends-gives, ends-bind, ends-branch}
 use Rattle.query_steps.specs.SearchLaws.{Searched}
-use Rattle.query_steps.specs.Live.{keepIn, keepLives, live-anew, live-packets}
+use Rattle.query_steps.specs.Live.{Found, keepIn, keepLives, live-sets, live-anew, live-packets}
 use Rattle.query_steps.specs.ExploreLaws.{Linked, Exploring, explore-ends}
 use Rattle.query_steps.specs.SettleLaws.{settled-ends}
 
@@ -161,8 +161,17 @@ pub record Lived (N : ℕ) (L : Limits) (x : ℕ) (σ τ : Tables) (l : ℕ) : T
   pub kept : liveOf (τ .base .aut .states .words) x ≡ l + 1
   pub set : LiveSet N (τ .sets) l (Holds N (τ .base .aut) x)
 
+-- The states reached from x, each with its list stored and its live set; the tables are in order.
+pub record Reached (N : ℕ) (L : Limits) (room x : ℕ) (σ τ : Tables) (f : Found) : Type 0 where
+  pub gone : Gone σ τ
+  pub ordered : Ordered N L τ
+  pub has : List·Memᴰ x (f .states)
+  pub links : (s : ℕ) → List·Memᴰ s (f .states) → Linked (τ .base) (f .states) s
+  pub lives : (s : ℕ) → List·Memᴰ s (f .states) → LiveSet N (τ .sets) (f .live s) (Holds N (τ .base .aut) s)
+  pub fits : length (f .states) ≤ room
+
 module _ {N : ℕ} {L : Limits} (lent : ℕ) {σ : Tables} (o : Ordered N L σ) {x : ℕ} (k : x < states (σ .base .aut)) where
-  begins : 0 < capacity lent → Exploring N L (capacity lent) σ [] (x ∷ []) (λ t. Sp.zeroAt N)
+  pub begins : 0 < capacity lent → Exploring N L (capacity lent) σ [] (x ∷ []) (λ t. Sp.zeroAt N)
   begins room = record {
     ordered = o;
     links = λ s m. absurd (List·Memᴰ·not-nil m);
@@ -172,27 +181,41 @@ module _ {N : ℕ} {L : Limits} (lent : ℕ) {σ : Tables} (o : Ordered N L σ) 
     fits = omega arith;
   }
 
-  pub anew-ends : Ends N L lent (Lived N L x σ) σ (live-anew N L lent x σ)
-  unfolding live-anew
-  anew-ends =
+  -- the sets worked out as with none stored
+  pub sets-ends : Ends N L lent (Reached N L (capacity lent) x σ) σ (live-sets N L lent x σ)
+  unfolding live-sets
+  sets-ends =
       ends-branch (ltb 0 (capacity lent)) _ _ σ
       (λ room.
       ends-bind (explore-ends lent (capacity lent) [] (x ∷ []) (λ t. Sp.zeroAt N) (begins (ltb-true 0 (capacity lent) room)) (omega arith)) (λ τ f X. (
         X .gone,
         ends-bind (settled-ends (τ .base) (X .ordered .worked) (f .states) (X .links) lent τ (f .live) refl (X .ordered) (X .some) (X .sets)) (λ υ live S. (
           S .gone,
-          let links : (s : ℕ) → List·Memᴰ s (f .states) → Linked (υ .base) (f .states) s = λ s m. subst (λ (b : Store). Linked b (f .states) s) (sym (S .base)) (X .links s m) in
-              let lives : (s : ℕ) → List·Memᴰ s (f .states) → LiveSet N (υ .sets) (live s) (Holds N (υ .base .aut) s) = λ s m. subst (λ (b : Store). LiveSet N (υ .sets) (live s) (Holds N (b .aut) s)) (sym (S .base)) (S .lives s m) in
-              let here = kept-here υ (f .states) live (S .ordered) links lives x (X .has x (List·Memᴰ·head refl)) in
-              comes (record {
-                later = later-trans (gone-later (X .gone)) (later-trans (gone-later (S .gone)) (kept-later υ (f .states) live (S .ordered) links lives));
-                ordered = kept-ordered υ (f .states) live (S .ordered) links lives;
-                kept = here .0;
-                set = here .1;
-              }),
+          comes (record {
+            gone = gone-trans (X .gone) (S .gone);
+            ordered = S .ordered;
+            has = X .has x (List·Memᴰ·head refl);
+            links = λ s m. subst (λ (b : Store). Linked b (f .states) s) (sym (S .base)) (X .links s m);
+            lives = λ s m. subst (λ (b : Store). LiveSet N (υ .sets) (live s) (Holds N (b .aut) s)) (sym (S .base)) (S .lives s m);
+            fits = X .fits;
+          }),
         )),
       )))
       (λ full. halts (stopped-here o (no-entry [] (λ s m. absurd (List·Memᴰ·not-nil m)) (ltb-false 0 (capacity lent) full))))
+
+  pub anew-ends : Ends N L lent (Lived N L x σ) σ (live-anew N L lent x σ)
+  unfolding live-anew
+  anew-ends =
+      ends-bind sets-ends (λ τ f R. (
+        R .gone,
+        let here = kept-here τ (f .states) (f .live) (R .ordered) (R .links) (R .lives) x (R .has) in
+            comes (record {
+              later = later-trans (gone-later (R .gone)) (kept-later τ (f .states) (f .live) (R .ordered) (R .links) (R .lives));
+              ordered = kept-ordered τ (f .states) (f .live) (R .ordered) (R .links) (R .lives);
+              kept = here .0;
+              set = here .1;
+            }),
+      ))
 
   -- unless it is refused, with its reason
   pub live-ends : Ends N L lent (Lived N L x σ) σ (live-packets N L lent x σ)

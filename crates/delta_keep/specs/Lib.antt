@@ -1,0 +1,2 @@
+-- A finished list stored: what is asked and what is promised.
+pub mod Contracts

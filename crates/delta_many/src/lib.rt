@@ -1,0 +1,239 @@
+// The lists of a Union and of an Intersect (delta of aut.rs), joined when every member's list stands in the tables. The list so far stands at RESULT, and waits at
+// FIRST while the next one is joined to it; the result stands at RESULT.
+use aut::Config;
+use aut::Counts;
+use st::Listed;
+use st_source::Source;
+ghost use mathlib.Core.List.{[]};
+ghost use Rattle.st_steps.specs.Edges.{edges};
+ghost use Rattle.delta_steps.specs.Delta.{listAt, unionAll, intersectFirst};
+ghost use Rattle.aut.specs.Seen.{limitsOf};
+ghost use Rattle.aut_rel.specs.Seen.{autOf};
+ghost use Rattle.st.specs.Seen.{RESULT, DoesList};
+ghost use Rattle.st_source.specs.Seen.{sourceOf};
+ghost use Rattle.st_ops.specs.Seen.{TwoReady};
+ghost use Rattle.st_stage.specs.Readings.{GivesList};
+ghost use Rattle.delta_stage.specs.OnStore.{storeOf};
+ghost use Rattle.delta_many.specs.Contracts.{PreMany, listsAt};
+ghost use Rattle.delta_many.specs.Joins.{joinOne, joinAll, PreFind, PostFind, PreNext, PreAll};
+
+// the operation that joins
+enum Join {
+    Union,
+    Intersect,
+}
+
+// where a stored list is
+struct Place {
+    start: usize,
+    count: usize,
+}
+
+// the list of state y
+fn find_list(states: &[u32], y: u32) -> Place
+    requires { ⌜ PreFind (now states) y ⌝ }
+    ensures { λ r. ⌜ PostFind (now (states .entry)) y r ⌝ }
+{
+    let i = y as usize;
+    let start = states[aut::STATE * i + aut::word::START] as usize;
+    let count = states[aut::STATE * i + aut::word::COUNT] as usize;
+    Place {
+        start: start,
+        count: count - 1,
+    }
+}
+
+fn join_two(
+    nodes: &mut [u32],
+    states: &mut [u32],
+    members: &mut [u32],
+    transitions: &[u32],
+    scratch: &mut [u32],
+    c: Counts,
+    config: Config,
+    join: Join,
+    first: Source,
+    k: usize,
+    second: Source,
+    j: usize,
+) -> Listed
+    requires { ⌜ TwoReady (config .fields) (config .limits) (autOf (now nodes) (now states) (now members) c) (now transitions) (now scratch) first k second j ⌝ }
+    ensures { λ r. ⌜ DoesList (config .fields) (config .limits) 0 832 (joinOne (config .fields) (limitsOf (config .limits)) join (sourceOf first (now (transitions .entry)) (now (scratch .entry)) k) (sourceOf second (now (transitions .entry)) (now (scratch .entry)) j)) (autOf (now (nodes .entry)) (now (states .entry)) (now (members .entry)) c) r c (now (nodes .exit)) (now (states .exit)) (now (members .exit)) (now (scratch .entry)) (now (scratch .exit)) ⌝ }
+{
+    match join {
+        Join::Union => st_ops::st_union(
+            nodes,
+            states,
+            members,
+            transitions,
+            scratch,
+            c,
+            config.limits,
+            config.fields,
+            first,
+            k,
+            second,
+            j,
+        ),
+        Join::Intersect => st_ops::st_intersect(
+            nodes,
+            states,
+            members,
+            transitions,
+            scratch,
+            c,
+            config.limits,
+            config.fields,
+            first,
+            k,
+            second,
+            j,
+        ),
+    }
+}
+
+// the n transitions at RESULT and the list of y
+fn join_next(
+    nodes: &mut [u32],
+    states: &mut [u32],
+    members: &mut [u32],
+    transitions: &[u32],
+    scratch: &mut [u32],
+    c: Counts,
+    config: Config,
+    join: Join,
+    n: usize,
+    y: u32,
+) -> Listed
+    requires { ⌜ PreNext (config .fields) (config .limits) (storeOf (now nodes) (now states) (now members) (now transitions) c) (now scratch) n y ⌝ }
+    ensures { λ r. ⌜ GivesList (config .fields) (config .limits) 0 1088 (joinOne (config .fields) (limitsOf (config .limits)) join (edges (now (scratch .entry)) RESULT n) (listAt (storeOf (now (nodes .entry)) (now (states .entry)) (now (members .entry)) (now (transitions .entry)) c) y)) (autOf (now (nodes .entry)) (now (states .entry)) (now (members .entry)) c) c r (autOf (now (nodes .exit)) (now (states .exit)) (now (members .exit))) (now (scratch .entry)) (now (scratch .exit)) ⌝ }
+{
+    let place = find_list(states, y);
+    st_edges::copy(scratch, st::RESULT, n, st::FIRST);
+    join_two(
+        nodes,
+        states,
+        members,
+        transitions,
+        scratch,
+        c,
+        config,
+        join,
+        Source::Scratch(st::FIRST),
+        n,
+        Source::Stored(place.start),
+        place.count,
+    )
+}
+
+// .. and the lists of the k members at `from`
+fn join_all(
+    nodes: &mut [u32],
+    states: &mut [u32],
+    members: &mut [u32],
+    transitions: &[u32],
+    scratch: &mut [u32],
+    c: Counts,
+    config: Config,
+    join: Join,
+    n: usize,
+    from: usize,
+    k: usize,
+) -> Listed
+    requires { ⌜ PreAll (config .fields) (config .limits) (storeOf (now nodes) (now states) (now members) (now transitions) c) (now scratch) n from k ⌝ }
+    ensures { λ r. ⌜ GivesList (config .fields) (config .limits) 0 1088 (joinAll (config .fields) (limitsOf (config .limits)) join (listsAt (storeOf (now (nodes .entry)) (now (states .entry)) (now (members .entry)) (now (transitions .entry)) c) from k) (edges (now (scratch .entry)) RESULT n)) (autOf (now (nodes .entry)) (now (states .entry)) (now (members .entry)) c) c r (autOf (now (nodes .exit)) (now (states .exit)) (now (members .exit))) (now (scratch .entry)) (now (scratch .exit)) ⌝ }
+{
+    let mut d = c;
+    let mut m = n;
+    let mut i = 0;
+    while i < k {
+        let y = members[from + i];
+        let listed = join_next(
+            nodes,
+            states,
+            members,
+            transitions,
+            scratch,
+            d,
+            config,
+            join,
+            m,
+            y,
+        );
+        match listed {
+            Listed::Refused(e) => {
+                return Listed::Refused(e);
+            }
+            Listed::List(d1, m1) => {
+                d = d1;
+                m = m1;
+            }
+        }
+        i += 1;
+    }
+    Listed::List(d, m)
+}
+
+// of a Union whose k members stand at `from`: joined from the empty list
+pub fn union_all(
+    nodes: &mut [u32],
+    states: &mut [u32],
+    members: &mut [u32],
+    transitions: &[u32],
+    scratch: &mut [u32],
+    c: Counts,
+    config: Config,
+    from: usize,
+    k: usize,
+) -> Listed
+    requires { ⌜ PreMany (config .fields) (config .limits) (storeOf (now nodes) (now states) (now members) (now transitions) c) (now scratch) from k ⌝ }
+    ensures { λ r. ⌜ GivesList (config .fields) (config .limits) 0 1088 (unionAll (config .fields) (limitsOf (config .limits)) (listsAt (storeOf (now (nodes .entry)) (now (states .entry)) (now (members .entry)) (now (transitions .entry)) c) from k) []) (autOf (now (nodes .entry)) (now (states .entry)) (now (members .entry)) c) c r (autOf (now (nodes .exit)) (now (states .exit)) (now (members .exit))) (now (scratch .entry)) (now (scratch .exit)) ⌝ }
+{
+    join_all(
+        nodes,
+        states,
+        members,
+        transitions,
+        scratch,
+        c,
+        config,
+        Join::Union,
+        0,
+        from,
+        k,
+    )
+}
+
+// of an Intersect: from its first member's list
+pub fn intersect_all(
+    nodes: &mut [u32],
+    states: &mut [u32],
+    members: &mut [u32],
+    transitions: &[u32],
+    scratch: &mut [u32],
+    c: Counts,
+    config: Config,
+    from: usize,
+    k: usize,
+) -> Listed
+    requires { ⌜ PreMany (config .fields) (config .limits) (storeOf (now nodes) (now states) (now members) (now transitions) c) (now scratch) from k ⌝ }
+    ensures { λ r. ⌜ GivesList (config .fields) (config .limits) 0 1088 (intersectFirst (config .fields) (limitsOf (config .limits)) (listsAt (storeOf (now (nodes .entry)) (now (states .entry)) (now (members .entry)) (now (transitions .entry)) c) from k)) (autOf (now (nodes .entry)) (now (states .entry)) (now (members .entry)) c) c r (autOf (now (nodes .exit)) (now (states .exit)) (now (members .exit))) (now (scratch .entry)) (now (scratch .exit)) ⌝ }
+{
+    let y = members[from];
+    let place = find_list(states, y);
+    let n = place.count;
+    aut::copy(scratch, 2 * st::RESULT, transitions, 2 * place.start, 2 * n);
+    join_all(
+        nodes,
+        states,
+        members,
+        transitions,
+        scratch,
+        c,
+        config,
+        Join::Intersect,
+        n,
+        from + 1,
+        k - 1,
+    )
+}
