@@ -1,0 +1,4 @@
+pub mod Stacks
+pub mod Walks
+pub mod Turns
+pub mod Runs

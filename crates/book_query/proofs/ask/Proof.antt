@@ -1,0 +1,183 @@
+use mathlib.Core.Path.{sym}
+use Rattle.book_query.proofs.Join as join
+use borrow.Author.Needs.{needs}
+use Rattle.book_query.proofs.ask.Statement.{statement}
+use Rattle.book_query.proofs.ask.Tie as tie
+use Rattle.book_query.proofs.ask.Reads as reads
+use Rattle.book_query.proofs.ask.Lts as lts
+use Rattle.book_query.proofs.ask_empty.Reads as ask-empty-reads
+use Rattle.book_query.proofs.ask_live.Reads as ask-live-reads
+use Rattle.book_query.proofs.ask_pruned.Reads as ask-pruned-reads
+
+-- src/lib.rt:275:13
+enum-told : tie.Need-enum-told
+enum-told c = search needs
+
+-- src/lib.rt:274:25
+ask-empty-requires : tie.Need-ask-empty-requires
+ask-empty-requires c κs = search needs
+
+-- src/lib.rt:290:13
+enum-told-2 : tie.Need-enum-told-2
+enum-told-2 c = search needs
+
+-- src/lib.rt:289:24
+ask-live-requires : tie.Need-ask-live-requires
+ask-live-requires c κs = search needs
+
+-- src/lib.rt:305:13
+enum-told-3 : tie.Need-enum-told-3
+enum-told-3 c = search needs
+
+-- src/lib.rt:304:26
+ask-pruned-requires : tie.Need-ask-pruned-requires
+ask-pruned-requires c κs = search needs
+
+-- src/lib.rt:254:1
+same-length : tie.Need-same-length
+same-length c = search needs
+
+-- src/lib.rt:254:1
+same-length-2 : tie.Need-same-length-2
+same-length-2 c = search needs
+
+-- src/lib.rt:254:1
+same-length-3 : tie.Need-same-length-3
+same-length-3 c = search needs
+
+-- src/lib.rt:254:1
+same-length-4 : tie.Need-same-length-4
+same-length-4 c = search needs
+
+-- src/lib.rt:254:1
+same-length-5 : tie.Need-same-length-5
+same-length-5 c = search needs
+
+-- src/lib.rt:254:1
+same-length-6 : tie.Need-same-length-6
+same-length-6 c = search needs
+
+-- src/lib.rt:254:1
+same-length-7 : tie.Need-same-length-7
+same-length-7 c = search needs
+
+-- src/lib.rt:254:1
+same-length-8 : tie.Need-same-length-8
+same-length-8 c = search needs
+
+-- src/lib.rt:254:1
+returns : tie.Need-returns
+returns c =
+    join.as-empty (c .before .before .before .before .before .before .before .before .before .before .before .before .before .before .before .before .before .before .before .before .before .before .before .before .before .enum-told .given .1) (c .before .before .before .before .before .before .before .before .before .before .before .before .before .before .before .before .ask-empty .ensures)
+
+-- src/lib.rt:254:1
+same-length-9 : tie.Need-same-length-9
+same-length-9 c = search needs
+
+-- src/lib.rt:254:1
+same-length-10 : tie.Need-same-length-10
+same-length-10 c = search needs
+
+-- src/lib.rt:254:1
+same-length-11 : tie.Need-same-length-11
+same-length-11 c = search needs
+
+-- src/lib.rt:254:1
+same-length-12 : tie.Need-same-length-12
+same-length-12 c = search needs
+
+-- src/lib.rt:254:1
+same-length-13 : tie.Need-same-length-13
+same-length-13 c = search needs
+
+-- src/lib.rt:254:1
+same-length-14 : tie.Need-same-length-14
+same-length-14 c = search needs
+
+-- src/lib.rt:254:1
+same-length-15 : tie.Need-same-length-15
+same-length-15 c = search needs
+
+-- src/lib.rt:254:1
+same-length-16 : tie.Need-same-length-16
+same-length-16 c = search needs
+
+-- src/lib.rt:254:1
+returns-2 : tie.Need-returns-2
+returns-2 c =
+    join.as-live (c .before .before .before .before .before .before .before .before .before .before .before .before .before .before .before .before .before .before .before .before .before .before .before .before .before .enum-told2 .given .1) (c .before .before .before .before .before .before .before .before .before .before .before .before .before .before .before .before .ask-live .ensures)
+
+-- src/lib.rt:254:1
+same-length-17 : tie.Need-same-length-17
+same-length-17 c = search needs
+
+-- src/lib.rt:254:1
+same-length-18 : tie.Need-same-length-18
+same-length-18 c = search needs
+
+-- src/lib.rt:254:1
+same-length-19 : tie.Need-same-length-19
+same-length-19 c = search needs
+
+-- src/lib.rt:254:1
+same-length-20 : tie.Need-same-length-20
+same-length-20 c = search needs
+
+-- src/lib.rt:254:1
+same-length-21 : tie.Need-same-length-21
+same-length-21 c = search needs
+
+-- src/lib.rt:254:1
+same-length-22 : tie.Need-same-length-22
+same-length-22 c = search needs
+
+-- src/lib.rt:254:1
+same-length-23 : tie.Need-same-length-23
+same-length-23 c = search needs
+
+-- src/lib.rt:254:1
+same-length-24 : tie.Need-same-length-24
+same-length-24 c = search needs
+
+-- src/lib.rt:254:1
+returns-3 : tie.Need-returns-3
+returns-3 c =
+    join.as-pruned (c .before .before .before .before .before .before .before .before .before .before .before .before .before .before .before .before .before .before .before .before .before .before .before .before .before .enum-told3 .given .1) (c .before .before .before .before .before .before .before .before .before .before .before .before .before .before .before .before .ask-pruned .ensures)
+
+pub ask-spec : {M : Type 1} → statement M
+ask-spec =
+    tie.close
+    (tie.spec
+    enum-told
+    ask-empty-requires
+    enum-told-2
+    ask-live-requires
+    enum-told-3
+    ask-pruned-requires
+    same-length
+    same-length-2
+    same-length-3
+    same-length-4
+    same-length-5
+    same-length-6
+    same-length-7
+    same-length-8
+    returns
+    same-length-9
+    same-length-10
+    same-length-11
+    same-length-12
+    same-length-13
+    same-length-14
+    same-length-15
+    same-length-16
+    returns-2
+    same-length-17
+    same-length-18
+    same-length-19
+    same-length-20
+    same-length-21
+    same-length-22
+    same-length-23
+    same-length-24
+    returns-3)

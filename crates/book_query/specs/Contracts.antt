@@ -1,0 +1,101 @@
+-- 01, "The book and its answers", the queries `empty`, `live` and `pruned`, and refusal 27, "output cannot hold the next answer's lines": what a query in code asks and promises. Its step is done, and its
+-- answer's lines stand in the output, or nothing was written.
+use mathlib.Core.Path.{_≡_}
+use mathlib.Core.List.{List, [], _∷_, _++_, map}
+use mathlib.Core.Option.{Option, none}
+use Prim.Native.Nat.{ℕ, _+_, _*_, _/_, _≤_, _<_}
+use lib.ListN.{length, getD, take}
+use Rattle.common.specs.Outcome.{Outcome, refused, given}
+use Rattle.common.specs.Runs.{Table}
+use Rattle.cache.specs.Cache.{Of, Own, Sound}
+use Rattle.netkat.specs.ListSteps.{Edge}
+use Rattle.spp_steps.specs.Model as Spp
+use Rattle.spp_steps.specs.Laws.{Wf, At}
+use Rattle.spp_img.specs.Reuse.{Counted}
+use Rattle.st_steps.specs.Edges.{edges}
+use Rattle.st.specs.Seen.{RESULT}
+use Rattle.query_steps.specs.Tables.{Tables, Later}
+use Rattle.book_steps.specs.Answers.{Pairs, pairLines, prunedAnswer}
+use Rattle.book_steps.specs.Reader as Reader
+use Rattle.book_steps.specs.Run as Run
+use Rattle.book_steps.specs.Run.{Place, place, query, after-asking}
+use Rattle.aut.specs.Seen.{limitsOf}
+use Rattle.aut.specs.declared.Counts.{Counts}
+use Rattle.aut_rel.specs.Behind.{LISTS, cached}
+use Rattle.aut_sets.specs.Contracts.{NotesBehind}
+use Rattle.query_stage.specs.Layer.{QueryReady, Zeroed, PreQuery}
+use Rattle.writer.specs.Seen.{Put, Answers}
+use Rattle.writer.specs.declared.Answered.{Answered}
+use Rattle.book_query.specs.declared.Setting.{Setting}
+use Rattle.book_query.specs.declared.Asked.{Asked}
+use Rattle.book_query.specs.declared.Asked.the-variants as asked
+
+-- the setting in the words of the steps, for what is lent of entries and of bytes
+abbrev pub settingOf : Setting → ℕ → ℕ → Run.Setting
+settingOf S entries room = record { fields = S .config .fields; budget = S .budget; limits = limitsOf (S .config .limits); entries = entries; room = room }
+
+-- ---- the lines of `pruned`
+
+-- what the lines of the transitions tell
+abbrev pub told : ℕ → Table → List Edge → List Pairs
+told N t es = map (λ (e : Edge). record { target = e .target; number = Spp.size (t .words) N (e .label) }) es
+
+-- the m transitions at RESULT have relations as labels, and numbers of pairs that are noted are right
+pub record PrePairs (N : ℕ) (t : Table) (s : List ℕ) (m : ℕ) : Type 0 where
+  pub few : N ≤ 31
+  pub wf : Wf N t
+  pub room : LISTS ≤ length s
+  pub sound : Sound (Of 17 17 (Counted t)) (cached s)
+  pub most : m ≤ 64
+  pub labels : (i : ℕ) → i < m → At t N (getD s (2 * (RESULT + i) + 1) 0)
+
+pub record PostNumber (N : ℕ) (t : Table) (i r : ℕ) (s s′ : List ℕ) : Type 0 where
+  pub is : r ≡ Spp.size (t .words) N (getD s (2 * (RESULT + i) + 1) 0)
+  pub left : NotesBehind (Own 17 17 (Counted t)) s s′
+
+pub record PostLength (N : ℕ) (t : Table) (m r : ℕ) (s s′ : List ℕ) : Type 0 where
+  pub is : r ≡ length (pairLines (told N t (edges s RESULT m)))
+  pub most : r ≤ 47 * m
+  pub left : NotesBehind (Own 17 17 (Counted t)) s s′
+
+pub record PrePut (N : ℕ) (t : Table) (s out : List ℕ) (at m : ℕ) : Type 0 where
+  pub pairs : PrePairs N t s m
+  pub fits : at + length (pairLines (told N t (edges s RESULT m))) ≤ length out
+
+pub record PostPairs (N : ℕ) (t : Table) (at m r : ℕ) (s s′ out out′ : List ℕ) : Type 0 where
+  pub put : Put at (pairLines (told N t (edges s RESULT m))) r out out′
+  pub left : NotesBehind (Own 17 17 (Counted t)) s s′
+
+pub record PostPruned (N : ℕ) (t : Table) (at line m : ℕ) (r : Answered) (s s′ out out′ : List ℕ) : Type 0 where
+  pub answers : Answers (prunedAnswer line (told N t (edges s RESULT m))) at r out out′
+  pub left : NotesBehind (Own 17 17 (Counted t)) s s′
+
+-- ---- a query
+
+-- tables, scratch and pending entries as a query finds them; the output is written up to `at`
+pub record PreAsk (S : Setting) (σ : Tables) (s p out : List ℕ) (at x : ℕ) : Type 0 where
+  pub query : PreQuery (S .config .fields) (S .config .limits) σ s p x
+  pub room : at ≤ length out
+
+-- the place behind the query, whatever the lines before it are; `at` is what the tables are then
+abbrev pub askedOf : Asked → List (Option ℕ) → (Counts → Tables) → List ℕ → Outcome Place ℕ
+askedOf (asked.Told d e) lines at out = given (place (at d) (lines ++ none ∷ []) (take e out)) 0
+askedOf (asked.Refused n) lines at out = refused n
+
+-- The tables are in order again and have come further; of the output, only the answer's bytes were written.
+pub record Goes (S : Setting) (pos e : ℕ) (σ τ : Tables) (s′ p′ out out′ : List ℕ) : Type 0 where
+  pub later : Later σ τ
+  pub ready : QueryReady (S .config .fields) (S .config .limits) τ s′
+  pub pending : Zeroed p′
+  pub from : pos ≤ e
+  pub to : e ≤ length out
+  pub beyond : (i : ℕ) → e ≤ i → getD out′ i 0 ≡ getD out i 0
+
+abbrev pub GoesBy : Setting → ℕ → Asked → Tables → (Counts → Tables) → List ℕ → List ℕ → List ℕ → List ℕ → Type 0
+GoesBy S pos (asked.Told d e) σ at s′ p′ out out′ = Goes S pos e σ (at d) s′ p′ out out′
+GoesBy S pos (asked.Refused n) σ at s′ p′ out out′ = out′ ≡ out
+
+-- the query of a line, whose state is x, has been done
+pub record PostAsk (S : Setting) (q : Reader.Query) (pos line x : ℕ) (σ : Tables) (r : Asked) (at : Counts → Tables) (s′ p p′ out out′ : List ℕ) : Type 0 where
+  pub is : (lines : List (Option ℕ)) → after-asking (settingOf S (length p / 2) (length out)) (place σ lines (take pos out)) (query (settingOf S (length p / 2) (length out)) q line x σ) ≡ askedOf r lines at out′
+  pub then : GoesBy S pos r σ at s′ p′ out out′

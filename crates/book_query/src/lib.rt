@@ -1,0 +1,320 @@
+// The queries of a book: each does its step and writes its answer, whole or not at all. The lists that the steps leave and the cache lie in scratch.
+use aut::Config;
+use aut::Counts;
+use aut_empty::Searched;
+use aut_live::Lived;
+use aut_pruned::Pruned;
+use reader::Query;
+use spp::SPP;
+use writer::Answered;
+ghost use mathlib.Core.Path.{_≡_};
+ghost use Prim.Native.Nat.{_≤_, _<_};
+ghost use lib.ListN.{length};
+ghost use Rattle.common.specs.Runs.{table};
+ghost use Rattle.book_steps.specs.Reader as Reader;
+ghost use Rattle.query_stage.specs.Layer.{tablesOf};
+ghost use Rattle.reader.specs.Seen.{queryOf};
+ghost use Rattle.aut_empty.specs.Contracts as Empty;
+ghost use Rattle.writer.specs.Seen as Writer;
+ghost use Rattle.book_query.specs.Contracts.{PrePairs, PostNumber, PostLength, PrePut, PostPairs, PostPruned, PreAsk, PostAsk};
+
+// what holds for the whole book
+pub struct Setting {
+    pub config: Config,
+    pub budget: u64,
+}
+
+// the records in use, and the place behind the answer in the output; or 01's number
+pub enum Asked {
+    Told(Counts, usize),
+    Refused(u32),
+}
+
+fn verdict_of(v: aut_empty::Verdict) -> writer::Verdict
+    ensures { λ r. ⌜ Writer.verdictOf r ≡ Empty.verdictOf v ⌝ }
+{
+    match v {
+        aut_empty::Verdict::Yes => writer::Verdict::Yes,
+        aut_empty::Verdict::No => writer::Verdict::No,
+        aut_empty::Verdict::Spent => writer::Verdict::Spent,
+    }
+}
+
+pub fn ask_empty(
+    sp: &mut [u32],
+    nodes: &mut [u32],
+    states: &mut [u32],
+    members: &mut [u32],
+    transitions: &mut [u32],
+    pending: &mut [u32],
+    scratch: &mut [u32],
+    output: &mut [u8],
+    c: Counts,
+    setting: Setting,
+    at: usize,
+    line: usize,
+    x: u32,
+) -> Asked
+    requires { ⌜ PreAsk setting (tablesOf (now sp) (now nodes) (now states) (now members) (now transitions) c) (now scratch) (now pending) (now output) at x ⌝ }
+    ensures { λ r. ⌜ PostAsk setting Reader.empty at line x (tablesOf (now (sp .entry)) (now (nodes .entry)) (now (states .entry)) (now (members .entry)) (now (transitions .entry)) c) r (tablesOf (now (sp .exit)) (now (nodes .exit)) (now (states .exit)) (now (members .exit)) (now (transitions .exit))) (now (scratch .exit)) (now (pending .entry)) (now (pending .exit)) (now (output .entry)) (now (output .exit)) ⌝ }
+{
+    let config = setting.config;
+    let searched = aut_empty::is_empty(
+        sp,
+        nodes,
+        states,
+        members,
+        transitions,
+        pending,
+        scratch,
+        c,
+        config,
+        setting.budget,
+        x,
+    );
+    match searched {
+        Searched::Refused(e) => Asked::Refused(e),
+        Searched::Answer(v, k, d) => {
+            let told = writer::empty_answer(output, at, line, verdict_of(v), k);
+            match told {
+                Answered::Full => Asked::Refused(27),
+                Answered::At(end) => Asked::Told(d, end),
+            }
+        }
+    }
+}
+
+pub fn ask_live(
+    sp: &mut [u32],
+    nodes: &mut [u32],
+    states: &mut [u32],
+    members: &mut [u32],
+    transitions: &mut [u32],
+    pending: &mut [u32],
+    scratch: &mut [u32],
+    output: &mut [u8],
+    c: Counts,
+    setting: Setting,
+    at: usize,
+    line: usize,
+    x: u32,
+) -> Asked
+    requires { ⌜ PreAsk setting (tablesOf (now sp) (now nodes) (now states) (now members) (now transitions) c) (now scratch) (now pending) (now output) at x ⌝ }
+    ensures { λ r. ⌜ PostAsk setting Reader.live at line x (tablesOf (now (sp .entry)) (now (nodes .entry)) (now (states .entry)) (now (members .entry)) (now (transitions .entry)) c) r (tablesOf (now (sp .exit)) (now (nodes .exit)) (now (states .exit)) (now (members .exit)) (now (transitions .exit))) (now (scratch .exit)) (now (pending .entry)) (now (pending .exit)) (now (output .entry)) (now (output .exit)) ⌝ }
+{
+    let config = setting.config;
+    let fields = config.fields;
+    let lived = aut_live::live_packets(
+        sp,
+        nodes,
+        states,
+        members,
+        transitions,
+        pending,
+        scratch,
+        c,
+        config,
+        x,
+    );
+    match lived {
+        Lived::Refused(e) => Asked::Refused(e),
+        Lived::Live(h, d) => {
+            let k = aut_sets::set_size(sp, scratch, d, fields, h);
+            let told = writer::live_answer(output, at, fields, line, k);
+            match told {
+                Answered::Full => Asked::Refused(27),
+                Answered::At(end) => Asked::Told(d, end),
+            }
+        }
+    }
+}
+
+// the number of packet pairs in the label of transition i
+fn number_at(nodes: &[u32], scratch: &mut [u32], c: Counts, fields: u32, m: usize, i: usize) -> u64
+    requires { ⌜ PrePairs fields (table (now nodes) (c .spp)) (now scratch) m × (i < m) ⌝ }
+    ensures { λ r. ⌜ PostNumber fields (table (now (nodes .entry)) (c .spp)) i r (now (scratch .entry)) (now (scratch .exit)) ⌝ }
+{
+    let label = SPP(scratch[2 * (st::RESULT + i) + 1]);
+    aut_sets::pair_count(nodes, scratch, c, fields, label)
+}
+
+// how long the lines of the m transitions are
+fn pairs_length(nodes: &[u32], scratch: &mut [u32], c: Counts, fields: u32, m: usize) -> usize
+    requires { ⌜ PrePairs fields (table (now nodes) (c .spp)) (now scratch) m ⌝ }
+    ensures { λ r. ⌜ PostLength fields (table (now (nodes .entry)) (c .spp)) m r (now (scratch .entry)) (now (scratch .exit)) ⌝ }
+{
+    let mut total = 0;
+    let mut i = 0;
+    while i < m {
+        let target = scratch[2 * (st::RESULT + i)];
+        let n = number_at(nodes, scratch, c, fields, m, i);
+        total += writer::pair_length(target, n);
+        i += 1;
+    }
+    total
+}
+
+// the lines of the m transitions, for which there is room
+fn put_pairs(
+    nodes: &[u32],
+    scratch: &mut [u32],
+    output: &mut [u8],
+    c: Counts,
+    fields: u32,
+    at: usize,
+    m: usize,
+) -> usize
+    requires { ⌜ PrePut fields (table (now nodes) (c .spp)) (now scratch) (now output) at m ⌝ }
+    ensures { λ r. ⌜ PostPairs fields (table (now (nodes .entry)) (c .spp)) at m r (now (scratch .entry)) (now (scratch .exit)) (now (output .entry)) (now (output .exit)) ⌝ }
+{
+    let mut end = at;
+    let mut i = 0;
+    while i < m {
+        let target = scratch[2 * (st::RESULT + i)];
+        let n = number_at(nodes, scratch, c, fields, m, i);
+        let Answered::At(next) = writer::pair_line(output, end, target, n) else {
+            return end;
+        };
+        end = next;
+        i += 1;
+    }
+    end
+}
+
+// the whole answer of `pruned`, for the m transitions at RESULT
+fn pruned_answer(
+    nodes: &[u32],
+    scratch: &mut [u32],
+    output: &mut [u8],
+    c: Counts,
+    fields: u32,
+    at: usize,
+    line: usize,
+    m: usize,
+) -> Answered
+    requires { ⌜ PrePairs fields (table (now nodes) (c .spp)) (now scratch) m × (at ≤ length (now output)) ⌝ }
+    ensures { λ r. ⌜ PostPruned fields (table (now (nodes .entry)) (c .spp)) at line m r (now (scratch .entry)) (now (scratch .exit)) (now (output .entry)) (now (output .exit)) ⌝ }
+{
+    let n = writer::head_length(line, m) + pairs_length(nodes, scratch, c, fields, m);
+    if output.len() - at < n {
+        return Answered::Full;
+    }
+    let Answered::At(next) = writer::pruned_head(output, at, line, m) else {
+        return Answered::Full;
+    };
+    let end = put_pairs(nodes, scratch, output, c, fields, next, m);
+    Answered::At(end)
+}
+
+pub fn ask_pruned(
+    sp: &mut [u32],
+    nodes: &mut [u32],
+    states: &mut [u32],
+    members: &mut [u32],
+    transitions: &mut [u32],
+    pending: &mut [u32],
+    scratch: &mut [u32],
+    output: &mut [u8],
+    c: Counts,
+    setting: Setting,
+    at: usize,
+    line: usize,
+    x: u32,
+) -> Asked
+    requires { ⌜ PreAsk setting (tablesOf (now sp) (now nodes) (now states) (now members) (now transitions) c) (now scratch) (now pending) (now output) at x ⌝ }
+    ensures { λ r. ⌜ PostAsk setting Reader.pruned at line x (tablesOf (now (sp .entry)) (now (nodes .entry)) (now (states .entry)) (now (members .entry)) (now (transitions .entry)) c) r (tablesOf (now (sp .exit)) (now (nodes .exit)) (now (states .exit)) (now (members .exit)) (now (transitions .exit))) (now (scratch .exit)) (now (pending .entry)) (now (pending .exit)) (now (output .entry)) (now (output .exit)) ⌝ }
+{
+    let config = setting.config;
+    let fields = config.fields;
+    let pruned = aut_pruned::delta_pruned(
+        sp,
+        nodes,
+        states,
+        members,
+        transitions,
+        pending,
+        scratch,
+        c,
+        config,
+        x,
+    );
+    match pruned {
+        Pruned::Refused(e) => Asked::Refused(e),
+        Pruned::List(d, m) => {
+            let told = pruned_answer(nodes, scratch, output, d, fields, at, line, m);
+            match told {
+                Answered::Full => Asked::Refused(27),
+                Answered::At(end) => Asked::Told(d, end),
+            }
+        }
+    }
+}
+
+// the query of line `line`, whose state is x
+pub fn ask(
+    sp: &mut [u32],
+    nodes: &mut [u32],
+    states: &mut [u32],
+    members: &mut [u32],
+    transitions: &mut [u32],
+    pending: &mut [u32],
+    scratch: &mut [u32],
+    output: &mut [u8],
+    c: Counts,
+    setting: Setting,
+    query: Query,
+    at: usize,
+    line: usize,
+    x: u32,
+) -> Asked
+    requires { ⌜ PreAsk setting (tablesOf (now sp) (now nodes) (now states) (now members) (now transitions) c) (now scratch) (now pending) (now output) at x ⌝ }
+    ensures { λ r. ⌜ PostAsk setting (queryOf query) at line x (tablesOf (now (sp .entry)) (now (nodes .entry)) (now (states .entry)) (now (members .entry)) (now (transitions .entry)) c) r (tablesOf (now (sp .exit)) (now (nodes .exit)) (now (states .exit)) (now (members .exit)) (now (transitions .exit))) (now (scratch .exit)) (now (pending .entry)) (now (pending .exit)) (now (output .entry)) (now (output .exit)) ⌝ }
+{
+    match query {
+        Query::Empty => ask_empty(
+            sp,
+            nodes,
+            states,
+            members,
+            transitions,
+            pending,
+            scratch,
+            output,
+            c,
+            setting,
+            at,
+            line,
+            x,
+        ),
+        Query::Live => ask_live(
+            sp,
+            nodes,
+            states,
+            members,
+            transitions,
+            pending,
+            scratch,
+            output,
+            c,
+            setting,
+            at,
+            line,
+            x,
+        ),
+        Query::Pruned => ask_pruned(
+            sp,
+            nodes,
+            states,
+            members,
+            transitions,
+            pending,
+            scratch,
+            output,
+            c,
+            setting,
+            at,
+            line,
+            x,
+        ),
+    }
+}

@@ -1,0 +1,261 @@
+-- A whole book: from zeroed tables to what is returned and left.
+use mathlib.Core.Path.{_≡_, refl, sym, _∙_, ap, ap₂, subst}
+use mathlib.Core.Bool.{Bool, true, false}
+use mathlib.Core.List.{List, [], _∷_, _++_}
+use mathlib.Core.Option.{Option, none, some}
+use Prim.Native.Nat.{ℕ, zero, suc, _+_, _-_, _/_, _≤_, _<_}
+use native.Mathlib.Omega.{arith}
+use lib.Dec.{ltb}
+use lib.ListN.{length, getD, take, drop, length-replicate}
+use lib.Seq.{length-take-le, getD-take}
+use borrow.Author.Tests.{lt-ltb, le-ltb}
+use Rattle.common.specs.Outcome.{Outcome, refused, given, if_then_else_}
+use Rattle.common.specs.Runs.{table}
+use Rattle.sp_steps.specs.Model as Sp
+use Rattle.spp_steps.specs.Model as Spp
+use Rattle.book_steps.specs.Text as Text
+use Rattle.book_steps.specs.Text.{cut, words}
+use Rattle.book_steps.specs.Reader as Reader
+use Rattle.book_steps.specs.Run as Run
+use Rattle.book_steps.specs.Run.{Lent, zeroed, Result, success, refusal, finish, headed, opened, outcome}
+use Rattle.book_steps.specs.Claim.{Slices, Written, Comes, EntrySpec}
+use Rattle.book_steps.proofs.Claim as Claim
+use Rattle.reader.specs.Seen.{Begins, BeginsBy, Cuts, cutOf, Within, rest, headingOf}
+use Rattle.reader.specs.declared.Cursor.{Cursor}
+use Rattle.reader.specs.declared.Cut.{Cut}
+use Rattle.reader.specs.declared.Cut.the-variants as cut-read
+use Rattle.reader.specs.declared.Heading.{Heading}
+use Rattle.reader.specs.declared.Heading.the-variants as heading
+use Rattle.book_query.specs.declared.Setting.{Setting}
+use Rattle.book_line.specs.declared.Place.{Place}
+use Rattle.book_line.specs.Contracts.{LINES, WORK, Memory, memory, placeOf, Standing}
+use Rattle.book_run.specs.declared.Header.{Header}
+use Rattle.book_run.specs.declared.Begun.{Begun}
+use Rattle.book_run.specs.declared.Begun.the-variants as begun
+use Rattle.book_run.specs.declared.Went.{Went}
+use Rattle.book_run.specs.declared.Went.the-variants as went
+use Rattle.book_run.specs.declared.Ran.{Ran}
+use Rattle.book_run.specs.declared.Ran.the-variants as ran
+use Rattle.book_run.specs.Contracts.{lengthsOf, SameLengths, TablesZeroed, WorkZeroed, headerOf, settingFor, PreBegin, fresh, begunOf, Wrote, Begins as Started, BeginsBy as StartedBy, PostBegin, lending, PreGo, wentOf, writtenBy, PostGo, Empty, resultOf, PreStarted, PostStarted, PostOpen, ranOf, SameTables, TablesBy, PostFinish, numberOf, textLineOf, lengthOf, slices, lentOf}
+use Rattle.book_run.proofs.Zero.{zeroed-length, zeroed-own}
+
+-- ---- the constants, and the lines
+
+unwritten : (out : List ℕ) → Wrote 0 out out
+unwritten out = record { fits = omega arith; beyond = λ i l. refl }
+
+-- the end of a run, and the outcome that it gives
+finished : (lent : Lent) (S : Run.Setting) (x : Went) (m : Memory) → finish lent {S = S} (wentOf {S = S} x m) ≡ resultOf lent x m
+finished lent S (went.End q) m = refl
+finished lent S (went.Stopped e k n) m = refl
+
+wide : (lent : Lent) (h : Reader.Header) → 31 < h .fields → Run.begin lent h ≡ refused 2
+unfolding Run.begin
+wide lent h l = ap (λ (b : Bool). if b then refused 2 else Run.begun lent h (Sp.constants (h .fields) (table (zeroed (lent .sp)) 0)) (Spp.constants (h .fields) (table (zeroed (lent .spp)) 0))) (lt-ltb 31 (h .fields) l)
+
+abbrev lentBy : (sp spp states members transitions pending scratch output : ℕ) → Lent
+lentBy a b c d e f g h = record { sp = a; spp = b; states = c; members = d; transitions = e; pending = f; scratch = g; output = h }
+
+module _ (book : List ℕ) (m : Memory) (h : Header) (from : ℕ) (P : PreStarted book m h from) where
+  pub started-begin : PreBegin (m .sp) (m .nodes) h
+  started-begin = record { few = P .few; sp = P .empty .tables .sp; nodes = P .empty .tables .nodes }
+
+  module _ {r : Begun} {sp′ nodes′ out′ : List ℕ} (B : PostBegin h r (m .sp) (m .nodes) (m .output) sp′ nodes′ out′) where
+    abbrev m₁ : Memory
+    m₁ = memory sp′ nodes′ (m .states) (m .members) (m .transitions) (m .pending) (m .scratch) out′
+
+    fresh-is : fresh (lengthsOf m) sp′ nodes′ out′ ≡ m₁
+    fresh-is =
+        ap₂ (λ (a b : List ℕ). memory sp′ nodes′ a b (zeroed (length (m .transitions))) (zeroed (length (m .pending))) (zeroed (length (m .scratch))) out′) (sym (P .empty .tables .states)) (sym (P .empty .tables .members))
+        ∙ ap₂ (λ (a b : List ℕ). memory sp′ nodes′ (m .states) (m .members) a b (zeroed (length (m .scratch))) out′) (sym (P .empty .tables .transitions)) (sym (P .empty .work .pending))
+        ∙ ap (λ (a : List ℕ). memory sp′ nodes′ (m .states) (m .members) (m .transitions) (m .pending) a out′) (sym (P .empty .work .scratch))
+
+    begin-is : {x : Begun} → r ≡ x → Run.begin (lengthsOf m) (headerOf h) ≡ begunOf x m₁
+    begin-is e = B .is (lengthsOf m) refl refl refl ∙ ap (begunOf r) fresh-is ∙ ap (λ (z : Begun). begunOf z m₁) e
+
+    then-is : {x : Begun} → r ≡ x → StartedBy h x (lengthsOf m) sp′ nodes′ (m .output) out′
+    then-is e = subst (λ (z : Begun). StartedBy h z (lengthsOf m) sp′ nodes′ (m .output) out′) e (B .then (lengthsOf m))
+
+    pub started-refused : {e : ℕ} → r ≡ begun.Refused e → PostStarted book m h from (went.Stopped e 1 0) m₁
+    started-refused {e} q = record {
+      is = ap (Run.started (lengthsOf m) (headerOf h) (drop from book)) (begin-is q);
+      wrote = subst (Wrote 0 (m .output)) (sym (then-is q)) (unwritten (m .output));
+    }
+
+    module _ {p : Place} (q : r ≡ begun.At p) (len : length out′ ≡ length (m .output)) (S : Setting) (u : S ≡ settingFor h) where
+      begun-go : PreGo book (settingFor h) m₁ p from 2 2048
+      begun-go = record {
+        standing = subst (λ (n : Memory). Standing (settingFor h) n p) fresh-is (then-is q .standing (omega (arith, P .room)));
+        inside = P .inside;
+        more = omega (arith, then-is q .lines);
+        small = omega arith;
+      }
+
+      pub started-go : PreGo book S m₁ p from 2 2048
+      started-go = subst (λ (s : Setting). PreGo book s m₁ p from 2 2048) (sym u) begun-go
+
+      begun-went : {x : Went} {m′ : Memory} → PostGo book (settingFor h) m₁ p from 2 2048 x m′ → PostStarted book m h from x m′
+      begun-went {x} {m′} G = record {
+        is = ap (Run.started (lengthsOf m) (headerOf h) (drop from book)) (begin-is q)
+            ∙ ap (finish (lengthsOf m) {S = Run.settingOf (lengthsOf m) (headerOf h)}) (G .is (length (m .pending)) (length (m .output)) refl (sym len))
+            ∙ finished (lengthsOf m) (Run.settingOf (lengthsOf m) (headerOf h)) x m′;
+        wrote = record {
+          fits = omega (arith, G .wrote .fits);
+          beyond = λ i l. G .wrote .beyond i l ∙ then-is q .wrote .beyond i (omega (arith, G .on));
+        };
+      }
+
+      pub started-went : {x : Went} {m′ : Memory} → PostGo book S m₁ p from 2 2048 x m′ → PostStarted book m h from x m′
+      started-went {x} {m′} G = begun-went (subst (λ (s : Setting). PostGo book s m₁ p from 2 2048 x m′) u G)
+
+-- ---- the header
+
+by-scratch : (lent : Lent) (book : List ℕ) {b : Bool} → ltb (lent .scratch) 6144 ≡ b → outcome lent book ≡ (if b then refusal lent 26 0 [] else opened lent (cut book))
+unfolding outcome
+by-scratch lent book e = ap (λ (b : Bool). if b then refusal lent 26 0 [] else opened lent (cut book)) e
+
+module _ (book : List ℕ) (m : Memory) where
+  pub open-short : length (m .scratch) < 6144 → PostOpen book m (went.Stopped 26 0 0) m
+  open-short l = record { is = by-scratch (lengthsOf m) book (lt-ltb (length (m .scratch)) 6144 l); wrote = unwritten (m .output) }
+
+  module _ (l : 6144 ≤ length (m .scratch)) {r : Cut} (C : Cuts book 0 r) where
+    open-by : {x : Cut} → r ≡ x → outcome (lengthsOf m) book ≡ opened (lengthsOf m) (cutOf book x)
+    open-by e = by-scratch (lengthsOf m) book (le-ltb (length (m .scratch)) 6144 l) ∙ ap (opened (lengthsOf m)) (C .is ∙ ap (cutOf book) e)
+
+    pub open-unended : r ≡ cut-read.Unended → PostOpen book m (went.Stopped 1 1 0) m
+    open-unended e = record { is = open-by e; wrote = unwritten (m .output) }
+
+    module _ {c : Cursor} (e : r ≡ cut-read.Line c) where
+      begins : Begins book 0 c
+      begins = subst (BeginsBy book 0) e (C .begins)
+
+      pub header-within : Within book c
+      header-within = begins .within
+
+      module _ (g : Heading) (H : Reader.header (rest book c) ≡ headingOf g) where
+        header-by : {x : Heading} → g ≡ x → outcome (lengthsOf m) book ≡ headed (lengthsOf m) (headingOf x) (drop (c .end + 1) book)
+        header-by f = open-by e ∙ ap (λ (o : Option Reader.Header). headed (lengthsOf m) o (drop (c .end + 1) book)) (ap Reader.header (sym (begins .all)) ∙ H ∙ ap headingOf f)
+
+        pub open-headless : g ≡ heading.Bad → PostOpen book m (went.Stopped 1 1 0) m
+        open-headless f = record { is = header-by f; wrote = unwritten (m .output) }
+
+        module _ {n b : ℕ} (f : g ≡ heading.Is n b) where
+          pub open-wide : 31 < n → PostOpen book m (went.Stopped 2 1 0) m
+          open-wide k = record { is = header-by f ∙ ap (Run.started (lengthsOf m) (record { fields = n; budget = b }) (drop (c .end + 1) book)) (wide (lengthsOf m) (record { fields = n; budget = b }) k); wrote = unwritten (m .output) }
+
+          module _ (k : n ≤ 31) (E : Empty m) where
+            pub open-ready : PreStarted book m (record { fields = n; budget = b }) (c .end + 1)
+            open-ready = record { empty = E; few = k; room = l; inside = omega (arith, begins .within .inside) }
+
+            pub open-started : {x : Went} {m′ : Memory} → PostStarted book m (record { fields = n; budget = b }) (c .end + 1) x m′ → PostOpen book m x m′
+            open-started S = record { is = header-by f ∙ S .is; wrote = S .wrote }
+
+-- ---- what is left
+
+-- zeroed tables are zeroed of their own lengths
+pub empty-of : {sp nodes states members transitions pending scratch sp′ nodes′ states′ members′ transitions′ pending′ scratch′ : List ℕ} (out : List ℕ) → TablesZeroed sp nodes states members transitions sp′ nodes′ states′ members′ transitions′
+    → WorkZeroed pending scratch pending′ scratch′ → Empty (memory sp′ nodes′ states′ members′ transitions′ pending′ scratch′ out)
+empty-of {sp} {nodes} {states} {members} {transitions} {pending} {scratch} out T W = record {
+  tables = record { sp = zeroed-own (length sp) (T .sp); nodes = zeroed-own (length nodes) (T .nodes); states = zeroed-own (length states) (T .states); members = zeroed-own (length members) (T .members); transitions = zeroed-own (length transitions) (T .transitions) };
+  work = record { pending = zeroed-own (length pending) (W .pending); scratch = zeroed-own (length scratch) (W .scratch) };
+}
+
+-- the lengths lent are those of the zeroed tables
+pub record Zeroes (m m₁ : Memory) : Type 0 where
+  pub tables : TablesZeroed (m .sp) (m .nodes) (m .states) (m .members) (m .transitions) (m₁ .sp) (m₁ .nodes) (m₁ .states) (m₁ .members) (m₁ .transitions)
+  pub work : WorkZeroed (m .pending) (m .scratch) (m₁ .pending) (m₁ .scratch)
+  pub output : m₁ .output ≡ m .output
+
+lent-same : {m m₁ : Memory} → SameLengths m m₁ → lengthsOf m₁ ≡ lengthsOf m
+lent-same {m} {m₁} s =
+    ap₂ (λ (a b : ℕ). lentBy a b (length (m₁ .states)) (length (m₁ .members)) (length (m₁ .transitions)) (length (m₁ .pending)) (length (m₁ .scratch)) (length (m₁ .output))) (s .sp) (s .nodes)
+    ∙ ap₂ (λ (a b : ℕ). lentBy (length (m .sp)) (length (m .nodes)) a b (length (m₁ .transitions)) (length (m₁ .pending)) (length (m₁ .scratch)) (length (m₁ .output))) (s .states) (s .members)
+    ∙ ap₂ (λ (a b : ℕ). lentBy (length (m .sp)) (length (m .nodes)) (length (m .states)) (length (m .members)) a b (length (m₁ .scratch)) (length (m₁ .output))) (s .transitions) (s .pending)
+    ∙ ap₂ (λ (a b : ℕ). lentBy (length (m .sp)) (length (m .nodes)) (length (m .states)) (length (m .members)) (length (m .transitions)) (length (m .pending)) a b) (s .scratch) (s .output)
+
+written-is : {n : ℕ} {out out′ : List ℕ} → length out′ ≡ length out → Wrote n out out′ → Written (take n out′) out out′
+written-is {n} {out} {out′} len w =
+    let e : length (take n out′) ≡ n = length-take-le n out′ (omega (arith, w .fits)) in
+    record {
+      len = len;
+      fits = omega (arith, w .fits);
+      is = λ i l. sym (getD-take n out′ i 0 (omega arith));
+      untouched = λ i l. w .beyond i (omega arith);
+    }
+
+taken-length : {n : ℕ} {out out′ : List ℕ} → length out′ ≡ length out → Wrote n out out′ → n ≡ length (take n out′)
+taken-length {n} {out} {out′} len w = sym (length-take-le n out′ (omega (arith, w .fits)))
+
+abbrev slicesOf : Memory → Slices
+slicesOf m = slices (m .sp) (m .nodes) (m .states) (m .members) (m .transitions) (m .pending) (m .scratch) (m .output)
+
+-- without the output
+abbrev bare : Memory → Memory
+bare m = memory (m .sp) (m .nodes) (m .states) (m .members) (m .transitions) (m .pending) (m .scratch) []
+
+module _ {book : List ℕ} (m m₁ m₂ m₃ : Memory) {w : Went} {r : Ran} (Z : Zeroes m m₁) (O : PostOpen book m₁ w m₂) (s₁ : SameLengths m m₁) (s₂ : SameLengths m₁ m₂) (F : PostFinish w r (bare m₂) (bare m₃)) (o : m₃ .output ≡ m₂ .output) where
+  outcome-is : outcome (lengthsOf m) book ≡ resultOf (lengthsOf m) w m₂
+  outcome-is = ap (λ (l : Lent). outcome l book) (sym (lent-same s₁)) ∙ O .is ∙ ap (λ (l : Lent). resultOf l w m₂) (lent-same s₁)
+
+  bytes : Wrote (writtenBy w) (m .output) (m₃ .output)
+  bytes = subst (λ (b : List ℕ). Wrote (writtenBy w) b (m₃ .output)) (Z .output) (subst (Wrote (writtenBy w) (m₁ .output)) (sym o) (O .wrote))
+
+  size : length (m₃ .output) ≡ length (m .output)
+  size = ap length o ∙ s₂ .output ∙ s₁ .output
+
+  comes : (v : Went) → w ≡ v → Comes (resultOf (lengthsOf m) v m₂) (numberOf (ranOf v)) (textLineOf (ranOf v)) (lengthOf (ranOf v)) (m .output) (m₃ .output) (m₃ .sp) (m₃ .nodes) (m₃ .states) (m₃ .members) (m₃ .transitions) (m₃ .pending) (m₃ .scratch)
+  comes (went.End q) e =
+      let b : Wrote (q .output) (m .output) (m₃ .output) = subst (λ (v : Went). Wrote (writtenBy v) (m .output) (m₃ .output)) e bytes in
+      let t : SameTables (bare m₂) (bare m₃) = subst (λ (v : Went). TablesBy v (bare m₂) (bare m₃)) e (F .tables) in
+      record {
+        number-is = refl;
+        line-is = refl;
+        length-is = taken-length size b ∙ ap (λ (x : List ℕ). length (take (q .output) x)) o;
+        output-is = subst (λ (x : List ℕ). Written (take (q .output) x) (m .output) (m₃ .output)) o (written-is size b);
+        sp-is = t .sp;
+        spp-is = t .nodes;
+        states-are = t .states;
+        members-are = t .members;
+        transitions-are = t .transitions;
+        pending-is = F .work .pending ∙ ap zeroed (s₂ .pending ∙ s₁ .pending);
+        scratch-is = F .work .scratch ∙ ap zeroed (s₂ .scratch ∙ s₁ .scratch);
+      }
+  comes (went.Stopped x k n) e =
+      let b : Wrote n (m .output) (m₃ .output) = subst (λ (v : Went). Wrote (writtenBy v) (m .output) (m₃ .output)) e bytes in
+      let t : TablesZeroed (m₂ .sp) (m₂ .nodes) (m₂ .states) (m₂ .members) (m₂ .transitions) (m₃ .sp) (m₃ .nodes) (m₃ .states) (m₃ .members) (m₃ .transitions) = subst (λ (v : Went). TablesBy v (bare m₂) (bare m₃)) e (F .tables) in
+      record {
+        number-is = refl;
+        line-is = refl;
+        length-is = taken-length size b ∙ ap (λ (z : List ℕ). length (take n z)) o;
+        output-is = subst (λ (z : List ℕ). Written (take n z) (m .output) (m₃ .output)) o (written-is size b);
+        sp-is = t .sp ∙ ap zeroed (s₂ .sp ∙ s₁ .sp);
+        spp-is = t .nodes ∙ ap zeroed (s₂ .nodes ∙ s₁ .nodes);
+        states-are = t .states ∙ ap zeroed (s₂ .states ∙ s₁ .states);
+        members-are = t .members ∙ ap zeroed (s₂ .members ∙ s₁ .members);
+        transitions-are = t .transitions ∙ ap zeroed (s₂ .transitions ∙ s₁ .transitions);
+        pending-is = F .work .pending ∙ ap zeroed (s₂ .pending ∙ s₁ .pending);
+        scratch-is = F .work .scratch ∙ ap zeroed (s₂ .scratch ∙ s₁ .scratch);
+      }
+
+  pub runs : EntrySpec (lengthsOf m) book (slicesOf m) (numberOf r) (textLineOf r) (lengthOf r) (slicesOf m₃)
+  runs = Claim.entry
+      (record { sp = refl; spp = refl; states = refl; members = refl; transitions = refl; pending = refl; scratch = refl; output = refl })
+      (subst (λ (x : Result). Comes x (numberOf r) (textLineOf r) (lengthOf r) (m .output) (m₃ .output) (m₃ .sp) (m₃ .nodes) (m₃ .states) (m₃ .members) (m₃ .transitions) (m₃ .pending) (m₃ .scratch)) (sym outcome-is)
+      (subst (λ (y : Ran). Comes (resultOf (lengthsOf m) w m₂) (numberOf y) (textLineOf y) (lengthOf y) (m .output) (m₃ .output) (m₃ .sp) (m₃ .nodes) (m₃ .states) (m₃ .members) (m₃ .transitions) (m₃ .pending) (m₃ .scratch)) (sym (F .is)) (comes w refl)))
+
+-- ---- the end
+
+module _ {m : Memory} {p₁ s₁ : List ℕ} (w : Went) (W : WorkZeroed (m .pending) (m .scratch) p₁ s₁) where
+  pub finish-end : {q : Place} → w ≡ went.End q → PostFinish w (ran.Answered (q .output)) m (memory (m .sp) (m .nodes) (m .states) (m .members) (m .transitions) p₁ s₁ (m .output))
+  finish-end {q} e = record {
+    is = sym (ap ranOf e);
+    work = W;
+    tables = subst (λ (v : Went). TablesBy v m (memory (m .sp) (m .nodes) (m .states) (m .members) (m .transitions) p₁ s₁ (m .output))) (sym e) (record { sp = refl; nodes = refl; states = refl; members = refl; transitions = refl });
+  }
+
+  pub finish-stopped : {e k n : ℕ} {a b c d f : List ℕ} → w ≡ went.Stopped e k n → TablesZeroed (m .sp) (m .nodes) (m .states) (m .members) (m .transitions) a b c d f → PostFinish w (ran.Refused e k n) m (memory a b c d f p₁ s₁ (m .output))
+  finish-stopped {a = a} {b = b} {c = c} {d = d} {f = f} q T = record {
+    is = sym (ap ranOf q);
+    work = W;
+    tables = subst (λ (v : Went). TablesBy v m (memory a b c d f p₁ s₁ (m .output))) (sym q) T;
+  }

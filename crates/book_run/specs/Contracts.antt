@@ -1,0 +1,249 @@
+-- 01, promise 1, in code: a book and what is lent come to the defined outcome (book_steps, `outcome`). What each part of a run asks and promises: zeroing, the header, a line, the lines from any place in order, and the end;
+-- and the number, line and length of what is returned.
+use mathlib.Core.Path.{_≡_}
+use mathlib.Core.List.{List, [], _∷_}
+use mathlib.Core.Option.{Option}
+use Prim.Native.Nat.{ℕ, zero, suc, _+_, _/_, _≤_, _<_}
+use lib.ListN.{length, getD, take, drop}
+use Rattle.common.specs.Outcome.{Outcome, refused, given}
+use Rattle.book_steps.specs.Text.{cut}
+use Rattle.book_steps.specs.Reader as Reader
+use Rattle.book_steps.specs.Run as Run
+use Rattle.book_steps.specs.Run.{Lent, zeroed, with-line, answered, stopped, Result, success, refusal, outcome}
+use Rattle.book_steps.specs.Claim.{Slices}
+use Rattle.aut.specs.declared.Limits.{Limits}
+use Rattle.aut_rel.specs.Behind.{LISTS}
+use Rattle.query_stage.specs.Layer.{Zeroed}
+use Rattle.book_query.specs.Contracts.{settingOf}
+use Rattle.book_query.specs.declared.Setting.{Setting}
+use Rattle.book_line.specs.declared.Place.{Place}
+use Rattle.book_line.specs.Contracts.{LINES, WORK, Memory, memory, placeOf, Standing}
+use Rattle.book_run.specs.declared.Header.{Header}
+use Rattle.book_run.specs.declared.Begun.{Begun}
+use Rattle.book_run.specs.declared.Begun.the-variants as begun
+use Rattle.book_run.specs.declared.Turned.{Turned}
+use Rattle.book_run.specs.declared.Turned.the-variants as turned
+use Rattle.book_run.specs.declared.Went.{Went}
+use Rattle.book_run.specs.declared.Went.the-variants as went
+use Rattle.book_run.specs.declared.Ran.{Ran}
+use Rattle.book_run.specs.declared.Ran.the-variants as ran
+
+-- ---- what is lent
+
+abbrev pub lengthsOf : Memory → Lent
+lengthsOf m = record {
+  sp = length (m .sp);
+  spp = length (m .nodes);
+  states = length (m .states);
+  members = length (m .members);
+  transitions = length (m .transitions);
+  pending = length (m .pending);
+  scratch = length (m .scratch);
+  output = length (m .output);
+}
+
+-- the same lengths
+pub record SameLengths (m m′ : Memory) : Type 0 where
+  pub sp : length (m′ .sp) ≡ length (m .sp)
+  pub nodes : length (m′ .nodes) ≡ length (m .nodes)
+  pub states : length (m′ .states) ≡ length (m .states)
+  pub members : length (m′ .members) ≡ length (m .members)
+  pub transitions : length (m′ .transitions) ≡ length (m .transitions)
+  pub pending : length (m′ .pending) ≡ length (m .pending)
+  pub scratch : length (m′ .scratch) ≡ length (m .scratch)
+  pub output : length (m′ .output) ≡ length (m .output)
+
+-- ---- zeroing
+
+pub record TablesZeroed (a b c d e a′ b′ c′ d′ e′ : List ℕ) : Type 0 where
+  pub sp : a′ ≡ zeroed (length a)
+  pub nodes : b′ ≡ zeroed (length b)
+  pub states : c′ ≡ zeroed (length c)
+  pub members : d′ ≡ zeroed (length d)
+  pub transitions : e′ ≡ zeroed (length e)
+
+pub record WorkZeroed (p s p′ s′ : List ℕ) : Type 0 where
+  pub pending : p′ ≡ zeroed (length p)
+  pub scratch : s′ ≡ zeroed (length s)
+
+-- ---- before the instructions
+
+abbrev pub headerOf : Header → Reader.Header
+headerOf h = record { fields = h .fields; budget = h .budget }
+
+-- 01's limits
+abbrev pub limits : Limits
+limits = record { nesting = 256; list = 64; products = 32; transitions = 64 }
+
+abbrev pub settingFor : Header → Setting
+settingFor h = record { config = record { fields = h .fields; limits = limits }; budget = h .budget }
+
+pub record PreBegin (a b : List ℕ) (h : Header) : Type 0 where
+  pub few : h .fields ≤ 31
+  pub sp : a ≡ zeroed (length a)
+  pub nodes : b ≡ zeroed (length b)
+
+-- zeroed tables, but for the nodes; `lent` is lent
+abbrev pub fresh : Lent → (sp nodes output : List ℕ) → Memory
+fresh lent sp nodes output = memory sp nodes (zeroed (lent .states)) (zeroed (lent .members)) (zeroed (lent .transitions)) (zeroed (lent .pending)) (zeroed (lent .scratch)) output
+
+abbrev pub begunOf : Begun → Memory → Outcome Run.Place ℕ
+begunOf (begun.At p) m = given (placeOf m p) 0
+begunOf (begun.Refused e) m = refused e
+
+-- of the output, only bytes up to n are written
+pub record Wrote (n : ℕ) (out out′ : List ℕ) : Type 0 where
+  pub fits : n ≤ length out
+  pub beyond : (i : ℕ) → n ≤ i → getD out′ i 0 ≡ getD out i 0
+
+pub record Begins (h : Header) (p : Place) (lent : Lent) (sp′ nodes′ out out′ : List ℕ) : Type 0 where
+  pub standing : WORK + LISTS ≤ lent .scratch → Standing (settingFor h) (fresh lent sp′ nodes′ out′) p
+  pub lines : p .lines ≡ 0
+  pub wrote : Wrote (p .output) out out′
+
+abbrev pub BeginsBy : Header → Begun → Lent → (sp′ nodes′ out out′ : List ℕ) → Type 0
+BeginsBy h (begun.At p) lent sp′ nodes′ out out′ = Begins h p lent sp′ nodes′ out out′
+BeginsBy h (begun.Refused e) lent sp′ nodes′ out out′ = out′ ≡ out
+
+pub record PostBegin (h : Header) (r : Begun) (sp nodes out sp′ nodes′ out′ : List ℕ) : Type 0 where
+  pub is : (lent : Lent) → lent .sp ≡ length sp → lent .spp ≡ length nodes → lent .output ≡ length out → Run.begin lent (headerOf h) ≡ begunOf r (fresh lent sp′ nodes′ out′)
+  pub then : (lent : Lent) → BeginsBy h r lent sp′ nodes′ out out′
+
+-- ---- a line
+
+pub record PreTurn (book : List ℕ) (S : Setting) (m : Memory) (p : Place) (at : ℕ) : Type 0 where
+  pub standing : Standing S m p
+  pub more : LINES + p .lines < WORK
+  pub inside : at < length book
+
+-- the setting for the entries and bytes lent
+abbrev pub lending : Setting → ℕ → ℕ → Run.Setting
+lending S pending output = settingOf S (pending / 2) output
+
+pub record TurnsTo (book : List ℕ) (S : Setting) (m m′ : Memory) (p q : Place) (at next : ℕ) : Type 0 where
+  pub is : (pending output : ℕ) → pending ≡ length (m .pending) → output ≡ length (m .output) → (k : ℕ) (go : List ℕ → ℕ → Run.Place → Run.Ran (lending S pending output))
+      → with-line (lending S pending output) go k (placeOf m p) (cut (drop at book)) ≡ go (drop next book) (suc k) (placeOf m′ q)
+  pub standing : Standing S m′ q
+  pub lines : q .lines ≡ p .lines + 1
+  pub further : at < next
+  pub inside : next ≤ length book
+  pub from : p .output ≤ q .output
+  pub beyond : (i : ℕ) → q .output ≤ i → getD (m′ .output) i 0 ≡ getD (m .output) i 0
+
+pub record TurnsDown (book : List ℕ) (S : Setting) (m m′ : Memory) (p : Place) (at e : ℕ) : Type 0 where
+  pub is : (pending output : ℕ) → pending ≡ length (m .pending) → output ≡ length (m .output) → (k : ℕ) (go : List ℕ → ℕ → Run.Place → Run.Ran (lending S pending output))
+      → with-line (lending S pending output) go k (placeOf m p) (cut (drop at book)) ≡ stopped e k (take (p .output) (m .output))
+  pub output : m′ .output ≡ m .output
+
+abbrev pub PostTurn : List ℕ → Setting → Memory → Place → ℕ → Turned → Memory → Type 0
+PostTurn book S m p at (turned.Next q next) m′ = TurnsTo book S m m′ p q at next
+PostTurn book S m p at (turned.Refused e) m′ = TurnsDown book S m m′ p at e
+
+-- ---- the lines from a place on
+
+-- the lines left fit into the table of lines
+pub record PreGo (book : List ℕ) (S : Setting) (m : Memory) (p : Place) (from first left : ℕ) : Type 0 where
+  pub standing : Standing S m p
+  pub inside : from ≤ length book
+  pub more : LINES + (p .lines + left) ≤ WORK
+  pub small : first + left < 4294967296
+
+abbrev pub wentOf : {S : Run.Setting} → Went → Memory → Run.Ran S
+wentOf (went.End q) m = answered (placeOf m q)
+wentOf (went.Stopped e k n) m = stopped e k (take n (m .output))
+
+-- the length of what is written
+abbrev pub writtenBy : Went → ℕ
+writtenBy (went.End q) = q .output
+writtenBy (went.Stopped e k n) = n
+
+abbrev pub EndsIn : Setting → Went → Memory → Type 0
+EndsIn S (went.End q) m = Standing S m q
+EndsIn S (went.Stopped e k n) m = Unit
+
+pub record PostGo (book : List ℕ) (S : Setting) (m : Memory) (p : Place) (from first left : ℕ) (r : Went) (m′ : Memory) : Type 0 where
+  pub is : (pending output : ℕ) → pending ≡ length (m .pending) → output ≡ length (m .output) → Run.run (lending S pending output) left (drop from book) first (placeOf m p) ≡ wentOf r m′
+  pub ends : EndsIn S r m′
+  pub on : p .output ≤ writtenBy r
+  pub wrote : Wrote (writtenBy r) (m .output) (m′ .output)
+
+-- ---- a whole book
+
+-- every table is zeroed
+pub record Empty (m : Memory) : Type 0 where
+  pub tables : TablesZeroed (m .sp) (m .nodes) (m .states) (m .members) (m .transitions) (m .sp) (m .nodes) (m .states) (m .members) (m .transitions)
+  pub work : WorkZeroed (m .pending) (m .scratch) (m .pending) (m .scratch)
+
+abbrev pub resultOf : Lent → Went → Memory → Result
+resultOf lent (went.End q) m = success lent (placeOf m q)
+resultOf lent (went.Stopped e k n) m = refusal lent e k (take n (m .output))
+
+pub record PreStarted (book : List ℕ) (m : Memory) (h : Header) (from : ℕ) : Type 0 where
+  pub empty : Empty m
+  pub few : h .fields ≤ 31
+  pub room : 6144 ≤ length (m .scratch)
+  pub inside : from ≤ length book
+
+pub record PostStarted (book : List ℕ) (m : Memory) (h : Header) (from : ℕ) (r : Went) (m′ : Memory) : Type 0 where
+  pub is : Run.started (lengthsOf m) (headerOf h) (drop from book) (Run.begin (lengthsOf m) (headerOf h)) ≡ resultOf (lengthsOf m) r m′
+  pub wrote : Wrote (writtenBy r) (m .output) (m′ .output)
+
+abbrev pub PreOpen : Memory → Type 0
+PreOpen m = Empty m
+
+pub record PostOpen (book : List ℕ) (m : Memory) (r : Went) (m′ : Memory) : Type 0 where
+  pub is : outcome (lengthsOf m) book ≡ resultOf (lengthsOf m) r m′
+  pub wrote : Wrote (writtenBy r) (m .output) (m′ .output)
+
+-- ---- the end
+
+abbrev pub ranOf : Went → Ran
+ranOf (went.End q) = ran.Answered (q .output)
+ranOf (went.Stopped e k n) = ran.Refused e k n
+
+pub record SameTables (m m′ : Memory) : Type 0 where
+  pub sp : m′ .sp ≡ m .sp
+  pub nodes : m′ .nodes ≡ m .nodes
+  pub states : m′ .states ≡ m .states
+  pub members : m′ .members ≡ m .members
+  pub transitions : m′ .transitions ≡ m .transitions
+
+abbrev pub TablesBy : Went → Memory → Memory → Type 0
+TablesBy (went.End q) m m′ = SameTables m m′
+TablesBy (went.Stopped e k n) m m′ = TablesZeroed (m .sp) (m .nodes) (m .states) (m .members) (m .transitions) (m′ .sp) (m′ .nodes) (m′ .states) (m′ .members) (m′ .transitions)
+
+pub record PostFinish (w : Went) (r : Ran) (m m′ : Memory) : Type 0 where
+  pub is : r ≡ ranOf w
+  pub work : WorkZeroed (m .pending) (m .scratch) (m′ .pending) (m′ .scratch)
+  pub tables : TablesBy w m m′
+
+-- ---- the public entry
+
+-- "Each returns its number, the text line counted from 1 (0 for 26), and the output length of the lines before. Success returns 0 and line 0."
+abbrev pub numberOf : Ran → ℕ
+numberOf (ran.Answered n) = 0
+numberOf (ran.Refused e k n) = e
+
+abbrev pub textLineOf : Ran → ℕ
+textLineOf (ran.Answered n) = 0
+textLineOf (ran.Refused e k n) = k
+
+abbrev pub lengthOf : Ran → ℕ
+lengthOf (ran.Answered n) = n
+lengthOf (ran.Refused e k n) = n
+
+abbrev pub slices : (sp spp states members transitions pending scratch output : List ℕ) → Slices
+slices a b c d e f g h = record { sp = a; spp = b; states = c; members = d; transitions = e; pending = f; scratch = g; output = h }
+
+-- the lent lengths
+abbrev pub lentOf : Slices → Lent
+lentOf m = record {
+  sp = length (m .sp);
+  spp = length (m .spp);
+  states = length (m .states);
+  members = length (m .members);
+  transitions = length (m .transitions);
+  pending = length (m .pending);
+  scratch = length (m .scratch);
+  output = length (m .output);
+}

@@ -1,0 +1,2 @@
+-- What the proofs of the entry use.
+pub mod Lines

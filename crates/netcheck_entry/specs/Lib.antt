@@ -1,0 +1,2 @@
+-- The entry for C: its answer as a struct.
+pub mod Outcome
