@@ -3,44 +3,42 @@ use mathlib.Core.Path.{_≡_, refl, sym, _∙_, ap, ap₂, subst}
 use mathlib.Core.Logic.{inl}
 use mathlib.Core.List.{List, [], _∷_, _++_}
 use mathlib.Core.Option.{Option, none, some}
-use Prim.Native.Nat.{ℕ, zero, suc, _+_, _-_, _/_, _≤_, _<_}
+use Prim.Native.Nat.{ℕ, suc, _+_, _-_, _/_, _≤_, _<_}
 use native.Mathlib.Omega.{arith}
-use lib.ListN.{length, getD, set, take, length-drop, length-set}
+use lib.ListN.{length, set, take, length-drop, length-set}
 use Rattle.common.specs.Outcome.{Outcome, refused, given}
 use Rattle.common.specs.Runs.{table, placed}
 use Rattle.cache.specs.Cache.{notes-map}
 use Rattle.netkat.specs.Rules.{In}
-use Rattle.aut_steps.specs.Tables.{Limits, Aut}
-use Rattle.aut_steps.specs.Good.{states, state-grown}
+use Rattle.aut_steps.specs.Tables.{Aut}
+use Rattle.aut_steps.specs.Good.{states}
 use Rattle.aut_steps.specs.Meaning.{rule, Is}
-use Rattle.aut_steps.specs.Scratch.{Kept}
 use Rattle.line_steps.specs.Lines as Lines
 use Rattle.line_steps.specs.LineLaws.{make-goes}
 use Rattle.delta_steps.specs.Delta.{store, putAut, onAut}
-use Rattle.query_steps.specs.Tables.{Tables, tables, putBase, onBase, Later, later-refl}
+use Rattle.query_steps.specs.Tables.{Tables, tables, putBase, onBase}
 use Rattle.query_steps.specs.Steps.{Ends, Steps, goes-ends}
 use Rattle.book_steps.specs.Reader as Reader
 use Rattle.book_steps.specs.Reader.{makes, asks, refuses}
 use Rattle.book_steps.specs.Run as Run
-use Rattle.book_steps.specs.Run.{place, perform, obey, after-making, after-asking, query}
+use Rattle.book_steps.specs.Run.{place, perform, obey, after-making, query}
 use Rattle.aut.specs.Seen.{limitsOf}
 use Rattle.aut.specs.declared.Config.{Config}
 use Rattle.aut.specs.declared.Counts.{Counts}
 use Rattle.aut.specs.declared.State.{State}
 use Rattle.aut.specs.declared.State.the-variants as state
 use Rattle.aut_rel.specs.Behind.{LISTS}
-use Rattle.aut_rel.specs.Behind as Behind
 use Rattle.aut_rel.specs.Seen as Rel
 use Rattle.aut_rel.specs.Seen.{autOf, Ready}
 use Rattle.aut_stage.specs.Stage.{Post, gave}
 use Rattle.line.specs.Seen as Line
 use Rattle.line.specs.Seen.{LineReady, Made}
 use Rattle.line.specs.declared.Line as line
-use Rattle.reader.specs.Seen.{rest, queryOf, saidOf, Says}
+use Rattle.reader.specs.Seen.{rest, queryOf, Says}
 use Rattle.reader.specs.declared.Cursor.{Cursor}
 use Rattle.reader.specs.declared.Query.{Query}
 use Rattle.reader.specs.declared.Said.{Said}
-use Rattle.query_stage.specs.Layer.{Leaves, QueryReady, query-ready, queryLayer, by-ends, Zeroed}
+use Rattle.query_stage.specs.Layer.{Leaves, QueryReady, queryLayer, by-ends}
 use Rattle.book_query.specs.Contracts.{PreAsk, PostAsk}
 use Rattle.book_query.specs.declared.Setting.{Setting}
 use Rattle.book_query.specs.declared.Asked.{Asked}
@@ -50,8 +48,8 @@ use Rattle.book_line.specs.declared.Told.{Told}
 use Rattle.book_line.specs.declared.Told.the-variants as told
 use Rattle.book_line.specs.declared.Obeyed.{Obeyed}
 use Rattle.book_line.specs.declared.Obeyed.the-variants as obeyed
-use Rattle.book_line.specs.Contracts.{LINES, WORK, work, standsFor, linesOf, Below, toldOf, ToldReady, PreTold, PostTold, PreMake, MadeLine, PostMake, Memory, memory, tablesAt, settingIn, placeOf, Standing, PreAskLine, AskedLine, PostAskLine, Gives, Stops, ObeyedBy, PrePerform, PostPerform, PreObey, PostObey}
-use Rattle.book_line.proofs.Scratch.{lines-same, below-more, stands-one, lent, back, lent-is, back-work, back-below, back-length, wrote-work, wrote-lines, kept-lines, kept-work, work-length}
+use Rattle.book_line.specs.Contracts.{LINES, WORK, work, linesOf, Below, toldOf, ToldReady, PreTold, PostTold, PreMake, MadeLine, PostMake, Memory, memory, tablesAt, settingIn, placeOf, Standing, PreAskLine, AskedLine, PostAskLine, Gives, Stops, PrePerform, PostPerform, PreObey, PostObey}
+use Rattle.book_line.proofs.Scratch.{below-more, stands-one, lent, back, lent-is, back-work, back-length, wrote-work, wrote-lines, kept-lines, kept-work, work-length}
 
 -- ---- a constructor, in the part of scratch that is lent
 

@@ -1,21 +1,21 @@
 -- The lines that a line names, one after the other.
-use mathlib.Core.Path.{_≡_, refl, sym, _∙_, ap, ap₂, subst}
-use mathlib.Core.Bool.{Bool, true, false}
+use mathlib.Core.Path.{_≡_, refl, sym, _∙_, ap, subst}
+use mathlib.Core.Bool.{true, false}
 use mathlib.Core.List.{List, [], _∷_, _++_, append-nil, append-assoc}
 use mathlib.Core.Option.{Option, none, some}
-use Prim.Native.Nat.{ℕ, zero, suc, _+_, _-_, _≤_, _<_}
+use Prim.Native.Nat.{ℕ, _+_, _-_, _≤_, _<_}
 use native.Mathlib.Omega.{arith}
 use lib.Dec.{ltb}
 use borrow.Author.Tests.{ltb-true, ltb-false}
 use Rattle.spp_steps.specs.Laws.{by-test}
-use lib.ListN.{length, getD, set, drop, length-set, length-append, length-drop}
+use lib.ListN.{length, getD, set, drop, length-append, length-drop}
 use lib.Seq.{drop-set-add}
 use Rattle.aut_steps.specs.Tables.{words}
 use Rattle.aut_steps.specs.ListLaws.{All, all-append}
-use Rattle.aut_steps.specs.Scratch.{Kept, kept-refl, kept-trans, kept-wide, kept-sets, words-append}
+use Rattle.aut_steps.specs.Scratch.{Kept, kept-refl, kept-trans, kept-sets, words-append}
 use Rattle.book_steps.specs.Reader as Reader
 use Rattle.book_steps.specs.Reader.{given, giving, numbers, refuses}
-use Rattle.reader.specs.Seen.{rest, Within, behind, bad, taken, TakesNumber, counted}
+use Rattle.reader.specs.Seen.{rest, behind, bad, taken, TakesNumber, counted}
 use Rattle.reader.specs.declared.Number.{Number}
 use Rattle.reader.specs.declared.Number.the-variants as number-read
 use Rattle.reader.specs.declared.Cursor.{Cursor}
@@ -24,7 +24,7 @@ use Rattle.book_line.specs.declared.Named.{Named}
 use Rattle.book_line.specs.declared.Named.the-variants as named
 use Rattle.book_line.specs.declared.Operand.{Operand}
 use Rattle.book_line.specs.declared.Operand.the-variants as operand
-use Rattle.book_line.specs.Contracts.{LINES, WORK, work, linesOf, Below, namedOf, NamedIs, PreOperand, Took, Missed, no-number, no-line, PostOperand, PreOperands, Found, PostOperands}
+use Rattle.book_line.specs.Contracts.{WORK, work, linesOf, Below, namedOf, NamedIs, PreOperand, Took, Missed, no-number, no-line, PostOperand, PreOperands, PostOperands}
 use Rattle.book_line.proofs.Scratch.{kept-lines}
 
 -- ---- what follows of all names

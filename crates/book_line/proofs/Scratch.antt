@@ -1,5 +1,5 @@
 -- Scratch: the table of lines, and the part that is lent on.
-use mathlib.Core.Path.{_≡_, refl, sym, _∙_, ap, ap₂, subst}
+use mathlib.Core.Path.{_≡_, refl, sym, _∙_, ap, ap₂}
 use mathlib.Core.Bool.{Bool, true, false}
 use mathlib.Core.Logic.{⊎-elim}
 use mathlib.Core.List.{List, [], _∷_, _++_, append-nil}
@@ -8,8 +8,8 @@ use Prim.Native.Nat.{ℕ, zero, suc, _+_, _-_, _≤_, _<_}
 use native.Mathlib.Omega.{arith}
 use native.Mathlib.Nat.{eq-or-lt-of-le}
 use lib.Dec.{ltb}
-use lib.ListN.{length, getD, set, take, drop, length-set, length-append, length-drop, drop-of-length-le, List·getD-append, List·getD-eq-default}
-use lib.Seq.{length-take-le, take-all, drop-at, drop-set-lt, drop-set-add, getD-take, getD-drop, getD-at, getD-set-same, getD-set-other}
+use lib.ListN.{length, getD, set, take, drop, length-append, length-drop, drop-of-length-le, List·getD-append, List·getD-eq-default}
+use lib.Seq.{length-take-le, take-all, drop-at, drop-set-lt, getD-take, getD-drop, getD-at, getD-set-same, getD-set-other}
 use borrow.Author.Tests.{ltb-true, ltb-false}
 use Rattle.aut_steps.specs.Scratch.{Kept}
 use Rattle.book_line.specs.Contracts.{LINES, WORK, work, standsFor, linesOf, Below}

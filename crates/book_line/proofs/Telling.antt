@@ -1,28 +1,28 @@
 -- What a line is told to do, by what it says and by the lines before it.
 use mathlib.Core.Path.{_≡_, refl, sym, _∙_, ap, ap₂, subst}
 use mathlib.Core.Bool.{Bool, true, false, _&&_}
-use mathlib.Core.List.{List, [], _∷_, _++_}
+use mathlib.Core.List.{List}
 use mathlib.Core.Option.{Option, none, some}
-use Prim.Native.Nat.{ℕ, zero, suc, _+_, _-_, _≤_, _<_}
+use Prim.Native.Nat.{ℕ, zero, _+_, _-_, _≤_, _<_}
 use native.Mathlib.Omega.{arith}
 use lib.Dec.{ltb, eqb}
 use lib.ListN.{length, getD}
-use borrow.Author.Tests.{ltb-true, ltb-false, lt-ltb, le-ltb}
+use borrow.Author.Tests.{lt-ltb, le-ltb}
 use Rattle.common.specs.Outcome.{Outcome, refused, if_then_else_}
 use Rattle.common.specs.Runs.{placed}
 use Rattle.aut_steps.specs.Tables.{Limits, Aut, words}
 use Rattle.aut_steps.specs.ListLaws.{All}
 use Rattle.aut_steps.specs.Constructors.{mk-union-n, mk-intersect-n}
-use Rattle.aut_steps.specs.Scratch.{Kept, kept-refl}
+use Rattle.aut_steps.specs.Scratch.{kept-refl}
 use Rattle.line_steps.specs.Lines as Lines
 use Rattle.delta_steps.specs.Delta.{putAut}
-use Rattle.query_steps.specs.Tables.{Tables, putBase}
+use Rattle.query_steps.specs.Tables.{putBase}
 use Rattle.book_steps.specs.Reader as Reader
 use Rattle.book_steps.specs.Reader.{given, tell, makes, asks, refuses, numbers}
 use Rattle.book_steps.specs.Run.{place, perform, obey, after-making}
 use Rattle.aut.specs.Seen.{limitsOf}
 use Rattle.aut.specs.declared.Config.{Config}
-use Rattle.line.specs.Seen.{constantOf, bitOf, singleOf, pairOf, listedOf, LineReady}
+use Rattle.line.specs.Seen.{constantOf, bitOf, singleOf, pairOf, listedOf}
 use Rattle.line.specs.declared.Constant.{Constant}
 use Rattle.line.specs.declared.Bit.{Bit}
 use Rattle.line.specs.declared.Single.{Single}

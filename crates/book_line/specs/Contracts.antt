@@ -1,7 +1,6 @@
 -- 01, "The book and its answers": a line behind the first, in code. What the table of lines says, when a place of a book that runs is in order, and what a line does: its step (book_steps, `obey`), or 01's number.
 use mathlib.Core.Path.{_≡_}
 use mathlib.Core.Bool.{Bool, true, false}
-use mathlib.Core.Logic.{_⊎_}
 use mathlib.Core.List.{List, [], _∷_, _++_}
 use mathlib.Core.Option.{Option, none, some}
 use Prim.Native.Nat.{ℕ, zero, suc, _+_, _/_, _≤_, _<_}
@@ -21,7 +20,7 @@ use Rattle.aut.specs.declared.Config.{Config}
 use Rattle.aut.specs.declared.Counts.{Counts}
 use Rattle.aut.specs.declared.State.{State}
 use Rattle.aut.specs.declared.State.the-variants as state
-use Rattle.aut_rel.specs.Seen.{autOf, Ready}
+use Rattle.aut_rel.specs.Seen.{Ready}
 use Rattle.line.specs.Seen as Line
 use Rattle.line.specs.Seen.{bitOf, pairOf, listedOf, LineReady, Made}
 use Rattle.line.specs.declared.Bit.{Bit}

@@ -12,18 +12,11 @@ use reader::Cursor;
 use reader::Number;
 use reader::Query;
 use reader::Said;
-ghost use mathlib.Core.Path.{_≡_};
-ghost use mathlib.Core.Option.{some};
 ghost use Prim.Native.Nat.{_+_, _≤_, _<_};
-ghost use lib.ListN.{length, getD};
+ghost use lib.ListN.{length};
 ghost use Rattle.aut_rel.specs.Seen.{autOf};
-ghost use Rattle.book_steps.specs.Reader as Reader;
-ghost use Rattle.book_steps.specs.Run as Run;
-ghost use Rattle.line.specs.Seen.{bitOf, pairOf, listedOf};
-ghost use Rattle.reader.specs.Seen.{rest, Within, counted, queryOf, saidOf, SaidListed};
-ghost use Rattle.query_stage.specs.Layer.{tablesOf};
 ghost use Rattle.book_line.specs.Contracts as Its;
-ghost use Rattle.book_line.specs.Contracts.{linesOf, NamedIs, PreOperand, PostOperand, PreOperands, PostOperands, PostTold, PreMake, PostMake, PreAskLine, PostAskLine, memory, Standing, toldOf, ToldReady, placeOf, settingIn, ObeyedBy};
+ghost use Rattle.book_line.specs.Contracts.{NamedIs, PreOperand, PostOperand, PreOperands, PostOperands, PostTold, PreMake, PostMake, PreAskLine, PostAskLine, memory};
 
 // Two places in scratch: the table of lines, a constructor line's state + 1, a query's 0; and behind it told is lent on as the scratch of the steps.
 pub const LINES: usize = 0;

@@ -1,42 +1,37 @@
 -- A query's step and its answer's lines, put together.
-use mathlib.Core.Path.{_≡_, refl, sym, _∙_, ap, ap₂, subst}
-use mathlib.Core.Bool.{Bool, true, false}
-use mathlib.Core.Logic.{_⊎_, inl, inr}
+use mathlib.Core.Path.{_≡_, refl, sym, _∙_, ap, subst}
+use mathlib.Core.Bool.{Bool}
+use mathlib.Core.Logic.{inl, inr}
 use mathlib.Core.List.{List, [], _∷_, _++_}
 use mathlib.Core.Option.{Option, none}
 use Prim.Native.Nat.{ℕ, _+_, _/_, _^_, _≤_, _<_}
 use native.Mathlib.Omega.{arith}
 use lib.Dec.{leb}
-use lib.ListN.{length, getD, take, length-append}
+use lib.ListN.{length, take, length-append}
 use lib.Seq.{length-take-le}
 use borrow.Author.Tests.{le-leb, lt-leb}
 use Rattle.common.specs.Outcome.{Outcome, refused, given, after, if_then_else_}
-use Rattle.cache.specs.Cache.{Own, Notes, sound-map, notes-map}
+use Rattle.cache.specs.Cache.{sound-map, notes-map}
 use Rattle.netkat.specs.ListSteps.{Edge}
 use Rattle.netkat.specs.Search as Plain
 use Rattle.sp_steps.specs.Model as Sp
 use Rattle.sp_steps.specs.Size.{size-most}
 use Rattle.sp_steps.specs.Laws as SpLaws
-use Rattle.sp_steps.specs.Reuse.{SpNoted}
-use Rattle.spp_img.specs.Reuse.{Counted}
-use Rattle.spp_steps.specs.Model as Spp
-use Rattle.aut_steps.specs.Good.{states}
-use Rattle.st_steps.specs.Edges.{edges, EdgesAt}
+use Rattle.st_steps.specs.Edges.{edges}
 use Rattle.st_steps.specs.Places.{edge-at, edges-length}
 use Rattle.st.specs.Seen.{RESULT}
-use Rattle.query_steps.specs.Tables.{Tables, Later, later-refl, later-trans}
+use Rattle.query_steps.specs.Tables.{Tables, Later, later-refl}
 use Rattle.query_steps.specs.Search.{is-empty}
 use Rattle.query_steps.specs.Live.{live-packets}
 use Rattle.query_steps.specs.Pruned.{delta-pruned}
 use Rattle.book_steps.specs.Answers.{emptyAnswer, liveAnswer, prunedAnswer}
 use Rattle.book_steps.specs.Reader as Reader
-use Rattle.book_steps.specs.Run.{Place, place, query, after-asking}
+use Rattle.book_steps.specs.Run.{place, query, after-asking}
 use Rattle.aut.specs.Seen.{limitsOf}
 use Rattle.aut.specs.declared.Counts.{Counts}
-use Rattle.aut_rel.specs.Behind.{LISTS, cached}
-use Rattle.aut_stage.specs.Stage.{Post, gave, refusal}
-use Rattle.aut_sets.specs.Contracts.{NotesBehind, PreSet, PostSize}
-use Rattle.query_stage.specs.Layer.{Notable, Leaves, QueryReady, query-ready, queryLayer, Zeroed}
+use Rattle.aut_stage.specs.Stage.{Post}
+use Rattle.aut_sets.specs.Contracts.{PreSet, PostSize}
+use Rattle.query_stage.specs.Layer.{Leaves, QueryReady, query-ready, queryLayer, Zeroed}
 use Rattle.aut_empty.specs.Contracts as Empty
 use Rattle.aut_empty.specs.Contracts.{PostSearch}
 use Rattle.aut_empty.specs.declared.Verdict as empty-verdict
@@ -62,7 +57,7 @@ use Rattle.book_query.specs.declared.Asked.the-variants as asked
 use Rattle.reader.specs.declared.Query.{Query}
 use Rattle.reader.specs.declared.Query.the-variants as queries
 use Rattle.reader.specs.Seen.{queryOf}
-use Rattle.book_query.specs.Contracts.{settingOf, told, PrePairs, PostPruned, PreAsk, PostAsk}
+use Rattle.book_query.specs.Contracts.{settingOf, told, PrePairs, PostPruned, PostAsk}
 
 -- ---- the ends of a query
 

@@ -11,12 +11,11 @@ use Rattle.spp_steps.specs.Model as Spp
 use Rattle.spp_steps.specs.Laws.{At}
 use Rattle.spp_img.specs.Reuse.{Counted}
 use Rattle.st_steps.specs.Edges.{edges}
-use Rattle.st_steps.specs.Places.{edgeAt, edges-on, edges-done, edges-same, edges-length}
+use Rattle.st_steps.specs.Places.{edges-on, edges-done, edges-same, edges-length}
 use Rattle.st.specs.Seen.{RESULT}
 use Rattle.book_steps.specs.Answers.{pairLines, prunedAnswer}
-use Rattle.aut_rel.specs.Behind.{LISTS}
 use Rattle.aut_sets.specs.Contracts.{NotesBehind}
-use Rattle.writer.specs.Seen.{Put, Wrote, Answers, pairLine, prunedHead, put-append, pairs-are, pruned-is}
+use Rattle.writer.specs.Seen.{Put, Answers, pairLine, prunedHead, put-append, pairs-are}
 use Rattle.writer.specs.declared.Answered.{Answered}
 use Rattle.writer.specs.declared.Answered.the-variants as answered
 use Rattle.book_query.specs.Contracts.{told, PrePairs, PostNumber, PostLength, PrePut, PostPairs, PostPruned}

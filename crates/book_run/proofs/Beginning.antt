@@ -1,10 +1,10 @@
 -- The constants in zeroed tables, and the first line of the output.
 use mathlib.Core.Path.{_≡_, refl, sym, _∙_, ap, ap₂, subst}
-use mathlib.Core.Bool.{Bool, true, false}
+use mathlib.Core.Bool.{Bool}
 use mathlib.Core.Logic.{⊎-elim}
-use mathlib.Core.List.{List, [], _∷_, _++_}
+use mathlib.Core.List.{List, []}
 use mathlib.Core.Option.{Option}
-use Prim.Native.Nat.{ℕ, _+_, _*_, _≤_, _<_}
+use Prim.Native.Nat.{ℕ, _+_, _*_, _≤_}
 use native.Mathlib.Omega.{arith}
 use lib.Dec.{ltb, leb}
 use lib.ListN.{length, getD, take, length-drop, length-replicate}
@@ -14,7 +14,7 @@ use Rattle.common.specs.Outcome.{Outcome, refused, given, if_then_else_}
 use Rattle.common.specs.Runs.{Table, table}
 use Rattle.cache.specs.Cache.{Sound, sound-zero, sound-map}
 use Rattle.sp_steps.specs.Model as Sp
-use Rattle.sp_steps.specs.Reuse.{SpCode, valid-not, code-range}
+use Rattle.sp_steps.specs.Reuse.{valid-not, code-range}
 use Rattle.sp.specs.Seen as Sets
 use Rattle.sp.specs.declared.Made as sets
 use Rattle.sp.specs.declared.Made.the-variants as set-made
@@ -24,27 +24,25 @@ use Rattle.spp.specs.Seen as Relations
 use Rattle.spp.specs.declared.Started.{Started}
 use Rattle.spp.specs.declared.Started.the-variants as started
 use Rattle.spp.specs.declared.Constants.{Constants}
-use Rattle.aut_steps.specs.Tables.{aut, limits01}
+use Rattle.aut_steps.specs.Tables.{aut}
 use Rattle.delta_steps.specs.Delta.{store}
 use Rattle.query_steps.specs.Tables.{Tables, tables, Ordered, begun-ordered}
 use Rattle.aut.specs.Seen.{limitsOf}
 use Rattle.aut.specs.declared.Counts.{Counts}
 use Rattle.aut_rel.specs.Behind.{LISTS, cached}
-use Rattle.query_stage.specs.Layer.{Readable, QueryReady, Zeroed}
+use Rattle.query_stage.specs.Layer.{Readable}
 use Rattle.book_steps.specs.Answers.{fieldsAnswer}
-use Rattle.book_steps.specs.Reader as Reader
 use Rattle.book_steps.specs.Run as Run
 use Rattle.book_steps.specs.Run.{Lent, zeroed, place}
 use Rattle.writer.specs.Seen.{Put, Answers, put-take}
 use Rattle.writer.specs.declared.Answered.{Answered}
 use Rattle.writer.specs.declared.Answered.the-variants as answered
 use Rattle.book_line.specs.declared.Place.{Place}
-use Rattle.book_line.specs.Contracts.{LINES, WORK, work, linesOf, Below, Memory, tablesAt, placeOf, Standing}
+use Rattle.book_line.specs.Contracts.{WORK, work, linesOf, tablesAt, Standing}
 use Rattle.book_line.proofs.Scratch.{line-beyond}
 use Rattle.book_run.specs.declared.Header.{Header}
-use Rattle.book_run.specs.declared.Begun.{Begun}
 use Rattle.book_run.specs.declared.Begun.the-variants as begun
-use Rattle.book_run.specs.Contracts.{headerOf, limits, settingFor, PreBegin, fresh, begunOf, Wrote, Begins, BeginsBy, PostBegin}
+use Rattle.book_run.specs.Contracts.{headerOf, limits, settingFor, PreBegin, fresh, PostBegin}
 use Rattle.book_run.proofs.Zero.{zeros}
 
 -- ---- an empty cache

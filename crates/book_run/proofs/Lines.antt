@@ -1,18 +1,15 @@
 -- The lines of a book, one after the other.
-use mathlib.Core.Path.{_≡_, refl, sym, _∙_, ap, ap₂, subst}
+use mathlib.Core.Path.{_≡_, refl, sym, _∙_, ap, subst}
 use mathlib.Core.List.{List, [], _∷_}
-use Prim.Native.Nat.{ℕ, zero, suc, _+_, _-_, _/_, _≤_, _<_}
+use Prim.Native.Nat.{ℕ, zero, suc, _+_, _-_, _≤_, _<_}
 use native.Mathlib.Omega.{arith}
 use lib.ListN.{length, getD, take, drop, length-drop}
-use lib.Seq.{drop-cons}
 use Rattle.common.specs.Outcome.{Outcome}
-use Rattle.bytes.specs.Bytes.{slice}
-use Rattle.book_steps.specs.Text as Text
-use Rattle.book_steps.specs.Text.{cut, words}
+use Rattle.book_steps.specs.Text.{cut}
 use Rattle.book_steps.specs.Reader as Reader
 use Rattle.book_steps.specs.Run as Run
 use Rattle.book_steps.specs.Run.{with-line, onward, answered, stopped, obey}
-use Rattle.reader.specs.Seen.{Begins, BeginsBy, Cuts, cutOf, Within, rest}
+use Rattle.reader.specs.Seen.{Begins, BeginsBy, Cuts, cutOf, rest}
 use Rattle.reader.specs.declared.Cursor.{Cursor}
 use Rattle.reader.specs.declared.Cut.{Cut}
 use Rattle.reader.specs.declared.Cut.the-variants as cut-read
@@ -20,12 +17,12 @@ use Rattle.book_query.specs.declared.Setting.{Setting}
 use Rattle.book_line.specs.declared.Place.{Place}
 use Rattle.book_line.specs.declared.Obeyed.{Obeyed}
 use Rattle.book_line.specs.declared.Obeyed.the-variants as obeyed
-use Rattle.book_line.specs.Contracts.{LINES, WORK, Memory, memory, placeOf, settingIn, Standing, Gives, Stops, ObeyedBy, PreObey, PostObey}
+use Rattle.book_line.specs.Contracts.{LINES, WORK, Memory, placeOf, settingIn, Standing, PreObey, PostObey}
 use Rattle.book_run.specs.declared.Turned.{Turned}
 use Rattle.book_run.specs.declared.Turned.the-variants as turned
 use Rattle.book_run.specs.declared.Went.{Went}
 use Rattle.book_run.specs.declared.Went.the-variants as went
-use Rattle.book_run.specs.Contracts.{SameLengths, lending, Wrote, PreTurn, TurnsTo, TurnsDown, PostTurn, PreGo, wentOf, writtenBy, EndsIn, PostGo}
+use Rattle.book_run.specs.Contracts.{SameLengths, lending, Wrote, PreTurn, PostTurn, PreGo, wentOf, PostGo}
 
 -- ---- one line
 

@@ -1,23 +1,22 @@
 -- A whole book: from zeroed tables to what is returned and left.
 use mathlib.Core.Path.{_≡_, refl, sym, _∙_, ap, ap₂, subst}
-use mathlib.Core.Bool.{Bool, true, false}
-use mathlib.Core.List.{List, [], _∷_, _++_}
-use mathlib.Core.Option.{Option, none, some}
-use Prim.Native.Nat.{ℕ, zero, suc, _+_, _-_, _/_, _≤_, _<_}
+use mathlib.Core.Bool.{Bool}
+use mathlib.Core.List.{List, []}
+use mathlib.Core.Option.{Option}
+use Prim.Native.Nat.{ℕ, zero, _+_, _-_, _≤_, _<_}
 use native.Mathlib.Omega.{arith}
 use lib.Dec.{ltb}
-use lib.ListN.{length, getD, take, drop, length-replicate}
+use lib.ListN.{length, getD, take, drop}
 use lib.Seq.{length-take-le, getD-take}
 use borrow.Author.Tests.{lt-ltb, le-ltb}
-use Rattle.common.specs.Outcome.{Outcome, refused, given, if_then_else_}
+use Rattle.common.specs.Outcome.{refused, if_then_else_}
 use Rattle.common.specs.Runs.{table}
 use Rattle.sp_steps.specs.Model as Sp
 use Rattle.spp_steps.specs.Model as Spp
-use Rattle.book_steps.specs.Text as Text
-use Rattle.book_steps.specs.Text.{cut, words}
+use Rattle.book_steps.specs.Text.{cut}
 use Rattle.book_steps.specs.Reader as Reader
 use Rattle.book_steps.specs.Run as Run
-use Rattle.book_steps.specs.Run.{Lent, zeroed, Result, success, refusal, finish, headed, opened, outcome}
+use Rattle.book_steps.specs.Run.{Lent, zeroed, Result, refusal, finish, headed, opened, outcome}
 use Rattle.book_steps.specs.Claim.{Slices, Written, Comes, EntrySpec}
 use Rattle.book_steps.proofs.Claim as Claim
 use Rattle.reader.specs.Seen.{Begins, BeginsBy, Cuts, cutOf, Within, rest, headingOf}
@@ -28,7 +27,7 @@ use Rattle.reader.specs.declared.Heading.{Heading}
 use Rattle.reader.specs.declared.Heading.the-variants as heading
 use Rattle.book_query.specs.declared.Setting.{Setting}
 use Rattle.book_line.specs.declared.Place.{Place}
-use Rattle.book_line.specs.Contracts.{LINES, WORK, Memory, memory, placeOf, Standing}
+use Rattle.book_line.specs.Contracts.{Memory, memory, Standing}
 use Rattle.book_run.specs.declared.Header.{Header}
 use Rattle.book_run.specs.declared.Begun.{Begun}
 use Rattle.book_run.specs.declared.Begun.the-variants as begun
@@ -36,8 +35,8 @@ use Rattle.book_run.specs.declared.Went.{Went}
 use Rattle.book_run.specs.declared.Went.the-variants as went
 use Rattle.book_run.specs.declared.Ran.{Ran}
 use Rattle.book_run.specs.declared.Ran.the-variants as ran
-use Rattle.book_run.specs.Contracts.{lengthsOf, SameLengths, TablesZeroed, WorkZeroed, headerOf, settingFor, PreBegin, fresh, begunOf, Wrote, Begins as Started, BeginsBy as StartedBy, PostBegin, lending, PreGo, wentOf, writtenBy, PostGo, Empty, resultOf, PreStarted, PostStarted, PostOpen, ranOf, SameTables, TablesBy, PostFinish, numberOf, textLineOf, lengthOf, slices, lentOf}
-use Rattle.book_run.proofs.Zero.{zeroed-length, zeroed-own}
+use Rattle.book_run.specs.Contracts.{lengthsOf, SameLengths, TablesZeroed, WorkZeroed, headerOf, settingFor, PreBegin, fresh, begunOf, Wrote, Begins as Started, BeginsBy as StartedBy, PostBegin, PreGo, wentOf, writtenBy, PostGo, Empty, resultOf, PreStarted, PostStarted, PostOpen, ranOf, SameTables, TablesBy, PostFinish, numberOf, textLineOf, lengthOf, slices}
+use Rattle.book_run.proofs.Zero.{zeroed-own}
 
 -- ---- the constants, and the lines
 

@@ -1,5 +1,5 @@
 -- Tables that are zeroed.
-use mathlib.Core.Path.{_≡_, refl, sym, _∙_, ap, subst}
+use mathlib.Core.Path.{_≡_, refl, sym, _∙_, ap}
 use mathlib.Core.Logic.{⊎-elim}
 use mathlib.Core.List.{List}
 use Prim.Native.Nat.{ℕ, _+_, _≤_, _<_}
@@ -12,7 +12,6 @@ use borrow.Author.Tests.{ltb-true, ltb-false}
 use Rattle.spp_steps.specs.Laws.{by-test}
 use Rattle.book_steps.specs.Run.{zeroed}
 use Rattle.query_stage.specs.Layer.{Zeroed}
-use Rattle.book_run.specs.Contracts.{TablesZeroed, WorkZeroed}
 
 -- i words are zero
 pub record Clearing (t₀ t : List ℕ) (i : ℕ) : Type 0 where

@@ -1,8 +1,7 @@
 -- 01, promise 1, in code: a book and what is lent come to the defined outcome (book_steps, `outcome`). What each part of a run asks and promises: zeroing, the header, a line, the lines from any place in order, and the end;
 -- and the number, line and length of what is returned.
 use mathlib.Core.Path.{_≡_}
-use mathlib.Core.List.{List, [], _∷_}
-use mathlib.Core.Option.{Option}
+use mathlib.Core.List.{List}
 use Prim.Native.Nat.{ℕ, zero, suc, _+_, _/_, _≤_, _<_}
 use lib.ListN.{length, getD, take, drop}
 use Rattle.common.specs.Outcome.{Outcome, refused, given}
