@@ -14,7 +14,7 @@ use Rattle.common.specs.Runs.{Table, Runs, runs-map, runs-is, runs-return, runs
 use Rattle.sp_steps.specs.Word.{flip}
 use Rattle.sp_steps.specs.Op.{Op, sem}
 use Rattle.sp_steps.specs.Model.{child, mk, zeroAt, oneAt, Exit, out, on, pick, ordered, exit, join, both, follow, last, apply}
-use Rattle.sp_steps.specs.Laws.{Wf, Ext, At, Den, spTheory, ext-trans, child-ext, den-ext, den-map, den-child, den-flip, den-zero, den-one}
+use Rattle.sp_steps.specs.Laws.{WfIn, Ext, At, Den, theoryIn, ext-trans, at-low, child-ext, den-ext, den-map, den-child, den-flip, den-zero, den-one}
 use Rattle.sp_steps.specs.Make.{side, node, mk-runs}
 
 -- ---- exits
@@ -33,8 +33,8 @@ Leads σ d S (out h) = Den σ d h S
 Leads σ d S (on o x y) = Going σ d S o x y
 
 pick-leads : (P : Exit → Type 0) (c : Bool) (x y : Exit) → (c ≡ true → P x) → (c ≡ false → P y) → P (pick c x y)
-pick-leads P true x y f g = f refl
-pick-leads P false x y f g = g refl
+pick-leads Q true x y f g = f refl
+pick-leads Q false x y f g = g refl
 
 or-either : (a b : Bool) → (a || b) ≡ true → (a ≡ true) ⊎ (b ≡ true)
 or-either true b e = inl refl
@@ -68,7 +68,7 @@ sem-comm Op.xor false false = refl
 pub agree : {σ : Table} {d x y : ℕ} {S T : Set d} → Den σ d x S → Den σ d y T → x ≡ y → (p : Packet d) → S p ≡ T p
 agree {σ} {d} {T} X Y e p = sym (X .means p) ∙ subst (λ (k : ℕ). Den σ d k T) (sym e) Y .means p
 
-module _ {N d a b : ℕ} {σ : Table} {A B : Set d} (w : Wf N σ) (l : d ≤ N) (X : Den σ d a A) (Y : Den σ d b B) where
+module _ {P : ℕ → Type 0} {N d a b : ℕ} {σ : Table} {A B : Set d} (w : WfIn P N σ) (l : d ≤ N) (X : Den σ d a A) (Y : Den σ d b B) where
   ordered-leads : (o : Op) → Leads σ d (λ p. sem o (A p) (B p)) (ordered o a b)
   ordered-leads o =
       pick-leads (Leads σ d (λ p. sem o (A p) (B p))) (ltb b a) (on o b a) (on o a b)
@@ -92,39 +92,39 @@ module _ {N d a b : ℕ} {σ : Table} {A B : Set d} (w : Wf N σ) (l : d ≤ N) 
   pub exit-right : (o : Op) → Leads σ d (λ p. sem o (A p) (B p)) (exit o d a b)
   unfolding exit
   exit-right Op.union =
-      pick-leads P (eqb a b) (out a) _
+      pick-leads Q (eqb a b) (out a) _
       (λ e. den-map (λ p. sym (or-self (A p)) ∙ ap (λ (m : Bool). A p || m) (agree X Y (eqb-true a b e) p)) X)
-      (λ _. pick-leads P (eqb a (flip 1 b)) (out (oneAt d)) _
+      (λ _. pick-leads Q (eqb a (flip 1 b)) (out (oneAt d)) _
       (λ e. den-map (λ p. or-not (B p) ∙ ap (λ (m : Bool). m || B p) (sym (agree X (den-flip Y) (eqb-true a (flip 1 b) e) p))) (den-one w d l))
-      (λ _. pick-leads P (eqb a (zeroAt d) || eqb b (oneAt d)) (out b) _
+      (λ _. pick-leads Q (eqb a (zeroAt d) || eqb b (oneAt d)) (out b) _
       (λ e. den-map (λ p. ⊎-elim
       (λ q. ap (λ (m : Bool). m || B p) (a-zero q p))
       (λ q. sym (b-one q p) ∙ sym (or-true (A p)) ∙ ap (λ (m : Bool). A p || m) (b-one q p))
       (or-either _ _ e)) Y)
-      (λ _. pick-leads P (eqb b (zeroAt d) || eqb a (oneAt d)) (out a) (ordered Op.union a b)
+      (λ _. pick-leads Q (eqb b (zeroAt d) || eqb a (oneAt d)) (out a) (ordered Op.union a b)
       (λ e. den-map (λ p. ⊎-elim
       (λ q. sym (or-false (A p)) ∙ ap (λ (m : Bool). A p || m) (b-zero q p))
       (λ q. sym (a-one q p) ∙ ap (λ (m : Bool). m || B p) (a-one q p))
       (or-either _ _ e)) X)
       (λ _. ordered-leads Op.union))))
     where
-      P : Exit → Type 0
-      P = Leads σ d (λ p. A p || B p)
+      Q : Exit → Type 0
+      Q = Leads σ d (λ p. A p || B p)
   exit-right Op.xor =
-      pick-leads P (eqb a b) (out (zeroAt d)) _
+      pick-leads Q (eqb a b) (out (zeroAt d)) _
       (λ e. den-map (λ p. xor-self (A p) ∙ ap (sem Op.xor (A p)) (agree X Y (eqb-true a b e) p)) (den-zero w d l))
-      (λ _. pick-leads P (eqb a (zeroAt d)) (out b) _
+      (λ _. pick-leads Q (eqb a (zeroAt d)) (out b) _
       (λ e. den-map (λ p. ap (λ (m : Bool). sem Op.xor m (B p)) (a-zero e p)) Y)
-      (λ _. pick-leads P (eqb b (zeroAt d)) (out a) _
+      (λ _. pick-leads Q (eqb b (zeroAt d)) (out a) _
       (λ e. den-map (λ p. xor-false (A p) ∙ ap (sem Op.xor (A p)) (b-zero e p)) X)
-      (λ _. pick-leads P (eqb a (oneAt d)) (out (flip 1 b)) _
+      (λ _. pick-leads Q (eqb a (oneAt d)) (out (flip 1 b)) _
       (λ e. den-map (λ p. ap (λ (m : Bool). sem Op.xor m (B p)) (a-one e p)) (den-flip Y))
-      (λ _. pick-leads P (eqb b (oneAt d)) (out (flip 1 a)) (ordered Op.xor a b)
+      (λ _. pick-leads Q (eqb b (oneAt d)) (out (flip 1 a)) (ordered Op.xor a b)
       (λ e. den-map (λ p. xor-true (A p) ∙ ap (sem Op.xor (A p)) (b-one e p)) (den-flip X))
       (λ _. ordered-leads Op.xor)))))
     where
-      P : Exit → Type 0
-      P = Leads σ d (λ p. sem Op.xor (A p) (B p))
+      Q : Exit → Type 0
+      Q = Leads σ d (λ p. sem Op.xor (A p) (B p))
 
 -- at depth 0 an exit is always taken
 pub exit-flat : (o : Op) (a b : ℕ) → a < 2 → b < 2 → exit o 0 a b ≡ out (last (exit o 0 a b))
@@ -166,18 +166,18 @@ both-ext f {σ} {τ} d a b e x y =
     ∙ ap₂ (λ (u v : ℕ). join f (child (σ .words) false a) (child (σ .words) false b) u v τ) (child-ext e true a (x .0) (x .1)) (child-ext e true b (y .0) (y .1))
 
 -- f makes the operation o of two sets of depth d
-abbrev pub Makes : ℕ → ℕ → Op → (ℕ → ℕ → Step Table ℕ) → Type 0
-Makes N d o f = (σ : Table) (a b : ℕ) (A B : Set d) → Wf N σ → Den σ d a A → Den σ d b B
-    → Runs (spTheory N) (f a b) (λ τ h. Den τ d h (λ p. sem o (A p) (B p))) σ
+abbrev pub Makes : (ℕ → Type 0) → ℕ → ℕ → Op → (ℕ → ℕ → Step Table ℕ) → Type 0
+Makes P N d o f = (σ : Table) (a b : ℕ) (A B : Set d) → WfIn P N σ → Den σ d a A → Den σ d b B
+    → Runs (theoryIn P N) (f a b) (λ τ h. Den τ d h (λ p. sem o (A p) (B p))) σ
 
-pub both-runs : (N d : ℕ) (o : Op) (f : ℕ → ℕ → Step Table ℕ) → Makes N d o f → (σ : Table) (a b : ℕ) (A B : Set (suc d))
-    → Wf N σ → Den σ (suc d) a A → Den σ (suc d) b B → Runs (spTheory N) (both f a b) (λ τ h. Den τ (suc d) h (λ p. sem o (A p) (B p))) σ
+pub both-runs : (P : ℕ → Type 0) (N d : ℕ) (o : Op) (f : ℕ → ℕ → Step Table ℕ) → Makes P N d o f → (σ : Table) (a b : ℕ) (A B : Set (suc d))
+    → WfIn P N σ → Den σ (suc d) a A → Den σ (suc d) b B → Runs (theoryIn P N) (both f a b) (λ τ h. Den τ (suc d) h (λ p. sem o (A p) (B p))) σ
 unfolding join
-both-runs N d o f makes σ a b A B w X Y =
-    runs-is (spTheory N) (λ τ e. both-ext f d a b e (X .at) (Y .at))
-    (runs-bind (spTheory N) (makes σ _ _ _ _ w (den-child X false) (den-child Y false)) (λ τ x0 e v D.
-    runs-bind (spTheory N) (makes τ _ _ _ _ v (den-ext e (den-child X true)) (den-ext e (den-child Y true))) (λ υ x1 g u E.
-    runs-map (spTheory N) (λ ω h _ _ H. den-map whole H) (mk-runs u (den-ext g D) E))))
+both-runs P N d o f makes σ a b A B w X Y =
+    runs-is (theoryIn P N) (λ τ e. both-ext f d a b e (X .at) (Y .at))
+    (runs-bind (theoryIn P N) (makes σ _ _ _ _ w (den-child X false) (den-child Y false)) (λ τ x0 e v D.
+    runs-bind (theoryIn P N) (makes τ _ _ _ _ v (den-ext e (den-child X true)) (den-ext e (den-child Y true))) (λ υ x1 g u E.
+    runs-map (theoryIn P N) (λ ω h _ _ H. den-map whole H) (mk-runs u (at-low w d a (X .at)) (den-ext g D) E))))
   where
     whole : (p : Packet (suc d)) → node (λ p. sem o (A (bit false p)) (B (bit false p))) (λ p. sem o (A (bit true p)) (B (bit true p))) p ≡ sem o (A p) (B p)
     whole (bit false p) = refl
@@ -185,18 +185,18 @@ both-runs N d o f makes σ a b A B w X Y =
 
 -- ---- the law of every operation
 
-pub apply-runs : (N : ℕ) (o : Op) (d : ℕ) → d ≤ N → Makes N d o (apply o d)
+pub apply-runs : (P : ℕ → Type 0) (N : ℕ) (o : Op) (d : ℕ) → d ≤ N → Makes P N d o (apply o d)
 unfolding apply
-apply-runs N o zero l σ a b A B w X Y =
-    runs-return (spTheory N) (last (exit o zero a b)) w (subst (Leads σ zero (λ p. sem o (A p) (B p))) (exit-flat o a b (X .at) (Y .at)) (exit-right w l X Y o))
-apply-runs N o (suc d) l σ a b A B w X Y = at-exit (λ u. apply-runs N u d (omega arith)) (exit o (suc d) a b) refl (exit-right w l X Y o)
+apply-runs P N o zero l σ a b A B w X Y =
+    runs-return (theoryIn P N) (last (exit o zero a b)) w (subst (Leads σ zero (λ p. sem o (A p) (B p))) (exit-flat o a b (X .at) (Y .at)) (exit-right w l X Y o))
+apply-runs P N o (suc d) l σ a b A B w X Y = at-exit (λ u. apply-runs P N u d (omega arith)) (exit o (suc d) a b) refl (exit-right w l X Y o)
   where
     S : Set (suc d)
     S p = sem o (A p) (B p)
 
-    at-exit : ((u : Op) → Makes N d u (apply u d)) → (z : Exit) → exit o (suc d) a b ≡ z → Leads σ (suc d) S z
-        → Runs (spTheory N) (follow (exit o (suc d) a b) (λ o′. apply o′ d)) (λ τ h. Den τ (suc d) h S) σ
-    at-exit rec (out h) q m = runs-is (spTheory N) (λ τ _. ap (λ (z : Exit). follow z (λ o′. apply o′ d) τ) q) (runs-return (spTheory N) h w m)
+    at-exit : ((u : Op) → Makes P N d u (apply u d)) → (z : Exit) → exit o (suc d) a b ≡ z → Leads σ (suc d) S z
+        → Runs (theoryIn P N) (follow (exit o (suc d) a b) (λ o′. apply o′ d)) (λ τ h. Den τ (suc d) h S) σ
+    at-exit rec (out h) q m = runs-is (theoryIn P N) (λ τ _. ap (λ (z : Exit). follow z (λ o′. apply o′ d) τ) q) (runs-return (theoryIn P N) h w m)
     at-exit rec (on u x y) q m =
-        runs-is (spTheory N) (λ τ _. ap (λ (z : Exit). follow z (λ o′. apply o′ d) τ) q)
-        (runs-map (spTheory N) (λ τ h _ _ H. den-map (m .makes) H) (both-runs N d u (apply u d) (rec u) σ x y (m .left) (m .right) w (m .den-x) (m .den-y)))
+        runs-is (theoryIn P N) (λ τ _. ap (λ (z : Exit). follow z (λ o′. apply o′ d) τ) q)
+        (runs-map (theoryIn P N) (λ τ h _ _ H. den-map (m .makes) H) (both-runs P N d u (apply u d) (rec u) σ x y (m .left) (m .right) w (m .den-x) (m .den-y)))

@@ -14,15 +14,6 @@ use Rattle.common.specs.Runs.{Table, Theory}
 use Rattle.sp_steps.specs.Word.{flip, flip-half, flip-mod, flip-flip, flip-one, flip-zero, halves}
 use Rattle.sp_steps.specs.Model.{kid, child, mem, most, zeroAt, oneAt}
 
--- A store for N fields: the nodes fit, each stored left child is even, no two nodes are equal, and the empty sets of depth 1 to N come first.
-pub record Wf (N : ℕ) (σ : Table) : Type 0 where
-  pub fits : 2 * σ .count ≤ length (σ .words)
-  pub small : σ .count ≤ most
-  pub even : (i : ℕ) → i < σ .count → kid (σ .words) false i % 2 ≡ 0
-  pub once : (i j : ℕ) → i < σ .count → j < σ .count → ((b : Bool) → kid (σ .words) b i ≡ kid (σ .words) b j) → i ≡ j
-  pub many : N ≤ σ .count
-  pub const : (i : ℕ) → i < N → (b : Bool) → kid (σ .words) b i ≡ zeroAt i
-
 -- τ is later than σ: it has all of σ's nodes as they were, and past its own nodes the words are as they were.
 pub record Ext (σ τ : Table) : Type 0 where
   pub more : σ .count ≤ τ .count
@@ -34,6 +25,43 @@ pub record Ext (σ τ : Table) : Type 0 where
 abbrev pub At : Table → ℕ → ℕ → Type 0
 At σ zero h = h < 2
 At σ (suc d) h = (2 ≤ h) × (h / 2 ≤ σ .count) × ((b : Bool) → At σ d (child (σ .words) b h))
+
+-- each stored child is a handle of an earlier node, or of depth 0
+abbrev pub Rising : List ℕ → ℕ → Type 0
+Rising t n = (b : Bool) (i : ℕ) → i < n → kid t b i / 2 ≤ i
+
+-- Node i has children that are handles of one depth, which is one of P.
+pub record Level (P : ℕ → Type 0) (σ : Table) (i : ℕ) : Type 0 where
+  pub depth : ℕ
+  pub low : P depth
+  pub children : (b : Bool) → At σ depth (kid (σ .words) b i)
+
+-- A store with the constants of N fields: the nodes fit, each stored left child is even, no two nodes are equal, the empty sets of depth 1 to N come first,
+-- each child is a handle of an earlier node or of depth 0, and the two children of a node are of one depth, one of P.
+pub record WfIn (P : ℕ → Type 0) (N : ℕ) (σ : Table) : Type 0 where
+  pub fits : 2 * σ .count ≤ length (σ .words)
+  pub small : σ .count ≤ most
+  pub even : (i : ℕ) → i < σ .count → kid (σ .words) false i % 2 ≡ 0
+  pub once : (i j : ℕ) → i < σ .count → j < σ .count → ((b : Bool) → kid (σ .words) b i ≡ kid (σ .words) b j) → i ≡ j
+  pub many : N ≤ σ .count
+  pub const : (i : ℕ) → i < N → (b : Bool) → kid (σ .words) b i ≡ zeroAt i
+  pub rising : Rising (σ .words) (σ .count)
+  pub level : (i : ℕ) → i < σ .count → Level P σ i
+
+-- the depths below N, and every depth
+abbrev pub Below : ℕ → ℕ → Type 0
+Below N d = d < N
+
+abbrev pub Any : ℕ → Type 0
+Any d = Unit
+
+-- A store for N fields: all nodes have children of a depth below N.
+abbrev pub Wf : ℕ → Table → Type 0
+Wf N σ = WfIn (Below N) N σ
+
+-- A store for N fields or more.
+abbrev pub WfAny : ℕ → Table → Type 0
+WfAny N σ = WfIn Any N σ
 
 -- h is a handle of depth d and means the set S
 pub record Den (σ : Table) (d h : ℕ) (S : Set d) : Type 0 where
@@ -52,8 +80,11 @@ ext-trans e f = record {
 }
 
 -- packet sets for N fields, as a kind of store
+abbrev pub theoryIn : (ℕ → Type 0) → ℕ → Theory
+theoryIn P N = record { Store = Table; Wf = WfIn P N; Ext = Ext; ext-refl = ext-refl; ext-trans = λ σ τ υ. ext-trans }
+
 abbrev pub spTheory : ℕ → Theory
-spTheory N = record { Store = Table; Wf = Wf N; Ext = Ext; ext-refl = ext-refl; ext-trans = λ σ τ υ. ext-trans }
+spTheory N = theoryIn (Below N) N
 
 -- ---- old handles
 
@@ -118,7 +149,7 @@ den-flip {σ} {d} {h} x = record { at = at-flip σ d h (x .at); means = λ p. me
 
 -- ---- one handle for a set
 
-pub low-child : {N : ℕ} {σ : Table} → Wf N σ → (h : ℕ) → 2 ≤ h → h / 2 ≤ σ .count → child (σ .words) false h % 2 ≡ h % 2
+pub low-child : {P : ℕ → Type 0} {N : ℕ} {σ : Table} → WfIn P N σ → (h : ℕ) → 2 ≤ h → h / 2 ≤ σ .count → child (σ .words) false h % 2 ≡ h % 2
 unfolding child
 low-child {σ} w h l m = omega (arith, flip-mod (h % 2) (kid (σ .words) false (h / 2 - 1)), w .even (h / 2 - 1) (omega arith))
 
@@ -128,7 +159,7 @@ zeros zero = end
 zeros (suc d) = bit false (zeros d)
 
 -- it is in the sets with an odd handle
-pub mem-zeros : {N : ℕ} {σ : Table} → Wf N σ → (d h : ℕ) → At σ d h → mem (σ .words) d h (zeros d) ≡ eqb (h % 2) 1
+pub mem-zeros : {P : ℕ → Type 0} {N : ℕ} {σ : Table} → WfIn P N σ → (d h : ℕ) → At σ d h → mem (σ .words) d h (zeros d) ≡ eqb (h % 2) 1
 unfolding mem zeros
 mem-zeros w zero h a = refl
 mem-zeros w (suc d) h a = mem-zeros w d _ (a .2 false) ∙ ap (λ (k : ℕ). eqb k 1) (low-child w h (a .0) (a .1))
@@ -157,7 +188,7 @@ unfolding child
 stored-of t x y l c e = flip-inj (y % 2) _ _ (ap (λ (s : ℕ). flip s (kid t c (x / 2 - 1))) (sym l) ∙ e)
 
 -- two handles of one depth with the same packets are one handle
-pub canonical : {N : ℕ} {σ : Table} → Wf N σ → (d x y : ℕ) → At σ d x → At σ d y
+pub canonical : {P : ℕ → Type 0} {N : ℕ} {σ : Table} → WfIn P N σ → (d x y : ℕ) → At σ d x → At σ d y
     → ((p : Packet d) → mem (σ .words) d x p ≡ mem (σ .words) d y p) → x ≡ y
 unfolding mem
 canonical w zero x y a b e = let q : x % 2 ≡ y % 2 = odd-eq x y (e end) in omega arith
@@ -167,12 +198,12 @@ canonical {σ} w (suc d) x y a b e =
     let i : x / 2 - 1 ≡ y / 2 - 1 = w .once _ _ (at-lt x (a .0) (a .1)) (at-lt y (b .0) (b .1)) (λ c. stored-of (σ .words) x y low c (kids c)) in
     halves x y (half-of x y (a .0) (b .0) i) low
 
-pub den-same : {N : ℕ} {σ : Table} {d x y : ℕ} {S T : Set d} → Wf N σ → Den σ d x S → Den σ d y T → ((p : Packet d) → S p ≡ T p) → x ≡ y
+pub den-same : {P : ℕ → Type 0} {N : ℕ} {σ : Table} {d x y : ℕ} {S T : Set d} → WfIn P N σ → Den σ d x S → Den σ d y T → ((p : Packet d) → S p ≡ T p) → x ≡ y
 den-same {d} {x} {y} w a b e = canonical w d x y (a .at) (b .at) (λ p. a .means p ∙ e p ∙ sym (b .means p))
 
 -- ---- the constants
 
-pub child-zero : {N : ℕ} {σ : Table} → Wf N σ → (d : ℕ) → d < N → (b : Bool) → child (σ .words) b (zeroAt (suc d)) ≡ zeroAt d
+pub child-zero : {P : ℕ → Type 0} {N : ℕ} {σ : Table} → WfIn P N σ → (d : ℕ) → d < N → (b : Bool) → child (σ .words) b (zeroAt (suc d)) ≡ zeroAt d
 unfolding child
 child-zero {σ} w d l b =
     ap (λ (s : ℕ). flip s (kid (σ .words) b (2 * suc d / 2 - 1))) {y = 0} (omega arith)
@@ -180,24 +211,24 @@ child-zero {σ} w d l b =
     ∙ ap (kid (σ .words) b) {y = d} (omega arith)
     ∙ w .const d l b
 
-pub zero-at : {N : ℕ} {σ : Table} → Wf N σ → (d : ℕ) → d ≤ N → At σ d (zeroAt d)
+pub zero-at : {P : ℕ → Type 0} {N : ℕ} {σ : Table} → WfIn P N σ → (d : ℕ) → d ≤ N → At σ d (zeroAt d)
 zero-at w zero l = omega arith
 zero-at {σ} w (suc d) l =
     (omega arith, omega (arith, w .many), λ b. subst (At σ d) (sym (child-zero w d l b)) (zero-at w d (omega arith)))
 
-pub zero-mem : {N : ℕ} {σ : Table} → Wf N σ → (d : ℕ) → d ≤ N → (p : Packet d) → mem (σ .words) d (zeroAt d) p ≡ false
+pub zero-mem : {P : ℕ → Type 0} {N : ℕ} {σ : Table} → WfIn P N σ → (d : ℕ) → d ≤ N → (p : Packet d) → mem (σ .words) d (zeroAt d) p ≡ false
 unfolding mem
 zero-mem w d l end = refl
 zero-mem {σ} w d l (bit {n} b p) = ap (λ (k : ℕ). mem (σ .words) n k p) (child-zero w n l b) ∙ zero-mem w n (omega arith) p
 
-pub den-zero : {N : ℕ} {σ : Table} → Wf N σ → (d : ℕ) → d ≤ N → Den σ d (zeroAt d) (λ p. false)
+pub den-zero : {P : ℕ → Type 0} {N : ℕ} {σ : Table} → WfIn P N σ → (d : ℕ) → d ≤ N → Den σ d (zeroAt d) (λ p. false)
 den-zero w d l = record { at = zero-at w d l; means = zero-mem w d l }
 
 pub one-flip : (d : ℕ) → flip 1 (zeroAt d) ≡ oneAt d
 unfolding flip
 one-flip d = omega arith
 
-pub den-one : {N : ℕ} {σ : Table} → Wf N σ → (d : ℕ) → d ≤ N → Den σ d (oneAt d) (λ p. true)
+pub den-one : {P : ℕ → Type 0} {N : ℕ} {σ : Table} → WfIn P N σ → (d : ℕ) → d ≤ N → Den σ d (oneAt d) (λ p. true)
 den-one {σ} w d l = subst (λ (h : ℕ). Den σ d h (λ p. true)) (one-flip d) (den-flip (den-zero w d l))
 
 -- ---- depths
@@ -209,8 +240,34 @@ one-depth σ zero (suc e) h a b = absurd (omega arith)
 one-depth σ (suc d) zero h a b = absurd (omega arith)
 one-depth σ (suc d) (suc e) h a b = ap suc (one-depth σ d e _ (a .2 false) (b .2 false))
 
+-- a handle is of an earlier node than the next, or of depth 0
+pub at-half : (σ : Table) (d h : ℕ) → At σ d h → h / 2 ≤ σ .count
+at-half σ zero h a = omega arith
+at-half σ (suc d) h a = a .1
+
+pub level-ext : {P : ℕ → Type 0} {σ τ : Table} (i : ℕ) → Ext σ τ → i < σ .count → Level P σ i → Level P τ i
+level-ext {τ} i e l v = record {
+  depth = v .depth;
+  low = v .low;
+  children = λ b. subst (At τ (v .depth)) (sym (e .keep b i l)) (at-ext e (v .depth) _ (v .children b));
+}
+
+pub at-flip-by : (σ : Table) (d h s : ℕ) → s < 2 → At σ d h → At σ d (flip s h)
+at-flip-by σ d h zero l a = subst (At σ d) (sym (flip-zero h)) a
+at-flip-by σ d h (suc zero) l a = at-flip σ d h a
+at-flip-by σ d h (suc (suc s)) l a = absurd (omega arith)
+
+-- the depth below that of a handle with children is one of P
+pub at-low : {P : ℕ → Type 0} {N : ℕ} {σ : Table} → WfIn P N σ → (d h : ℕ) → At σ (suc d) h → P d
+unfolding child
+at-low {P} {σ} w d h a =
+    subst P (sym (one-depth σ d (v .depth) _ (a .2 false) (at-flip-by σ (v .depth) _ (h % 2) (omega arith) (v .children false)))) (v .low)
+  where
+    v : Level P σ (h / 2 - 1)
+    v = w .level (h / 2 - 1) (at-lt h (a .0) (a .1))
+
 -- fewer constants are asked for
-pub wf-down : {N M : ℕ} {σ : Table} → Wf N σ → M ≤ N → Wf M σ
+pub wf-down : {P : ℕ → Type 0} {N M : ℕ} {σ : Table} → WfIn P N σ → M ≤ N → WfAny M σ
 wf-down w l = record {
   fits = w .fits;
   small = w .small;
@@ -218,15 +275,6 @@ wf-down w l = record {
   once = w .once;
   many = le-trans l (w .many);
   const = λ i m b. w .const i (le-trans m l) b;
-}
-
--- a later store has the constants of an earlier one
-pub wf-up : {N M : ℕ} {σ τ : Table} → Wf N σ → Ext σ τ → Wf M τ → Wf N τ
-wf-up w e v = record {
-  fits = v .fits;
-  small = v .small;
-  even = v .even;
-  once = v .once;
-  many = le-trans (w .many) (e .more);
-  const = λ i m b. e .keep b i (le-trans m (w .many)) ∙ w .const i m b;
+  rising = w .rising;
+  level = λ i m. let v = w .level i m in record { depth = v .depth; low = tt; children = v .children };
 }

@@ -16,7 +16,7 @@ use Rattle.common.specs.Outcome.{Outcome, refused, given, Step, Gives, refusal,
 use Rattle.common.specs.Runs.{Table, table, Good, Runs, runs-map}
 use Rattle.sp_steps.specs.Word.{flip, flip-half, flip-mod, flip-flip, flip-one, flip-zero, halves}
 use Rattle.sp_steps.specs.Model.{kid, child, mem, most, same, seek, room, put, handle, putIf, foundIf, intern, mk}
-use Rattle.sp_steps.specs.Laws.{Wf, Ext, At, Den, spTheory, ext-refl, ext-trans, at-ext, mem-ext, child-ext, low-child}
+use Rattle.sp_steps.specs.Laws.{WfIn, Ext, At, Den, theoryIn, ext-refl, ext-trans, at-ext, mem-ext, child-ext, low-child, level-ext, at-half, at-flip-by}
 
 and-left : (a b : Bool) → (a && b) ≡ true → a ≡ true
 and-left true b e = refl
@@ -117,8 +117,13 @@ split l = eq-or-lt-of-le (omega arith)
 abbrev pub Missing : Table → ℕ → ℕ → Type 0
 Missing σ x y = (i : ℕ) → i < σ .count → ((b : Bool) → kid (σ .words) b i ≡ side b x y) → ⊥
 
-put-wf : (N x y : ℕ) (σ : Table) → Wf N σ → 2 * σ .count + 1 < length (σ .words) → σ .count < most → x % 2 ≡ 0 → Missing σ x y → Wf N (put x y σ)
-put-wf N x y σ w l c z fresh = record {
+at-side : (σ : Table) (d x y : ℕ) → At σ d x → At σ d y → (b : Bool) → At σ d (side b x y)
+at-side σ d x y a c false = a
+at-side σ d x y a c true = c
+
+put-wf : {P : ℕ → Type 0} {N : ℕ} (d x y : ℕ) (σ : Table) → WfIn P N σ → P d → At σ d x → At σ d y → 2 * σ .count + 1 < length (σ .words) → σ .count < most → x % 2 ≡ 0
+    → Missing σ x y → WfIn P N (put x y σ)
+put-wf d x y σ w low at-x at-y l c z fresh = record {
   fits = omega (arith, put-len x y σ, put-count x y σ);
   small = omega (arith, put-count x y σ);
   even = λ i m. ⊎-elim
@@ -134,8 +139,21 @@ put-wf N x y σ w l c z fresh = record {
       (at i m);
   many = omega (arith, w .many, put-count x y σ);
   const = λ i m b. put-old x y σ b i (le-trans m (w .many)) ∙ w .const i m b;
+  rising = λ b i m. ⊎-elim
+      (λ q. omega (arith, q, ap (kid (put x y σ .words) b) q ∙ put-new x y σ b l, at-half σ d (side b x y) (at-sides b)))
+      (λ q. omega (arith, put-old x y σ b i q, w .rising b i q)) (at i m);
+  level = λ i m. ⊎-elim
+      (λ q. record {
+        depth = d;
+        low = low;
+        children = λ b. subst (At (put x y σ) d) (sym (ap (kid (put x y σ .words) b) q ∙ put-new x y σ b l)) (at-ext (put-ext x y σ) d (side b x y) (at-sides b));
+      })
+      (λ q. level-ext i (put-ext x y σ) q (w .level i q)) (at i m);
 }
   where
+    at-sides : (b : Bool) → At σ d (side b x y)
+    at-sides b = at-side σ d x y at-x at-y b
+
     at : (i : ℕ) → i < put x y σ .count → (i ≡ σ .count) ⊎ (i < σ .count)
     at i l = split (subst (λ (k : ℕ). i < k) (put-count x y σ) l)
 
@@ -168,16 +186,12 @@ side-flip : (b : Bool) (s x y : ℕ) → flip s (side b (flip s x) (flip s y)) �
 side-flip false s x y = flip-flip s x
 side-flip true s x y = flip-flip s y
 
-at-side : (σ : Table) (d x y : ℕ) → At σ d x → At σ d y → (b : Bool) → At σ d (side b x y)
-at-side σ d x y a c false = a
-at-side σ d x y a c true = c
-
 kid-back : (t : List ℕ) (h s x : ℕ) (b : Bool) → child t b h ≡ x → s ≡ h % 2 → kid t b (h / 2 - 1) ≡ flip s x
 unfolding child
 kid-back t h s x b e q = sym (flip-flip s (kid t b (h / 2 - 1))) ∙ ap (flip s) (ap (λ (k : ℕ). flip k (kid t b (h / 2 - 1))) q ∙ e)
 
 -- the handle whose children are at hand is found again
-pub mk-again : {N : ℕ} {σ : Table} (d h x0 x1 : ℕ) → Wf N σ → At σ (suc d) h → ((b : Bool) → child (σ .words) b h ≡ side b x0 x1) → mk x0 x1 σ ≡ given σ h
+pub mk-again : {P : ℕ → Type 0} {N : ℕ} {σ : Table} (d h x0 x1 : ℕ) → WfIn P N σ → At σ (suc d) h → ((b : Bool) → child (σ .words) b h ≡ side b x0 x1) → mk x0 x1 σ ≡ given σ h
 unfolding mk intern
 mk-again {σ} d h x0 x1 w a k =
     by-test (ltb j n)
@@ -232,10 +246,10 @@ pub record Made (σ : Table) (d x0 x1 : ℕ) (τ : Table) (h : ℕ) : Type 0 whe
   pub kids : (b : Bool) → child (τ .words) b h ≡ side b x0 x1
   pub one-more : τ .count ≤ σ .count + 1
 
-module _ {N d x0 x1 : ℕ} {σ : Table} where
+module _ {P : ℕ → Type 0} {N d x0 x1 : ℕ} {σ : Table} where
   -- node i of a later store has the stored children flip s x0 and flip s x1
-  found : (τ : Table) (i s : ℕ) → Ext σ τ → τ .count ≤ σ .count + 1 → Wf N τ → At σ d x0 → At σ d x1 → s < 2 → i < τ .count
-      → ((b : Bool) → kid (τ .words) b i ≡ side b (flip s x0) (flip s x1)) → Good (spTheory N) (mk x0 x1) (Made σ d x0 x1) σ τ (handle s i)
+  found : (τ : Table) (i s : ℕ) → Ext σ τ → τ .count ≤ σ .count + 1 → WfIn P N τ → At σ d x0 → At σ d x1 → s < 2 → i < τ .count
+      → ((b : Bool) → kid (τ .words) b i ≡ side b (flip s x0) (flip s x1)) → Good (theoryIn P N) (mk x0 x1) (Made σ d x0 x1) σ τ (handle s i)
   found τ i s e o w a0 a1 l m k = record {
     ext = e;
     wf = w;
@@ -249,9 +263,9 @@ module _ {N d x0 x1 : ℕ} {σ : Table} where
       at : At τ (suc d) (handle s i)
       at = (omega (arith, handle-half s i), omega (arith, handle-half s i), λ b. subst (At τ d) (sym (ks b)) (at-ext e d _ (at-side σ d x0 x1 a0 a1 b)))
 
-  pub mk-made : Wf N σ → At σ d x0 → At σ d x1 → Runs (spTheory N) (mk x0 x1) (Made σ d x0 x1) σ
+  pub mk-made : WfIn P N σ → P d → At σ d x0 → At σ d x1 → Runs (theoryIn P N) (mk x0 x1) (Made σ d x0 x1) σ
   unfolding mk intern
-  mk-made w a0 a1 = at-test (ltb i n) refl
+  mk-made w low a0 a1 = at-test (ltb i n) refl
     where
       t : List ℕ
       t = σ .words
@@ -272,7 +286,7 @@ module _ {N d x0 x1 : ℕ} {σ : Table} where
       i = seek t x y 0 n
 
       Is : Outcome Table ℕ → Type 0
-      Is o = Gives (Good (spTheory N) (mk x0 x1) (Made σ d x0 x1) σ) o
+      Is o = Gives (Good (theoryIn P N) (mk x0 x1) (Made σ d x0 x1) σ) o
 
       at-room : ltb i n ≡ false → (c : Bool) → room σ ≡ c → Is (putIf c s x y σ)
       at-room e false r = refusal
@@ -280,7 +294,7 @@ module _ {N d x0 x1 : ℕ} {σ : Table} where
           let l : (2 * n + 1 < length t) × (n < most) = room-fits σ r in
           let miss : Missing σ x y = λ j m k. false-true (sym (seek-miss t x y 0 n (omega (arith, ltb-false i n e)) j (omega arith) (omega arith)) ∙ kids-same t x y j k) in
           gives (found (put x y σ) n s (put-ext x y σ) (omega (arith, put-count x y σ))
-          (put-wf N x y σ w (l .0) (l .1) (omega (arith, flip-mod s x0)) miss) a0 a1 (mod-lt x0) (omega (arith, put-count x y σ)) (λ b. put-new x y σ b (l .0)))
+          (put-wf d x y σ w low (at-flip-by σ d x0 s (mod-lt x0) a0) (at-flip-by σ d x1 s (mod-lt x0) a1) (l .0) (l .1) (omega (arith, flip-mod s x0)) miss) a0 a1 (mod-lt x0) (omega (arith, put-count x y σ)) (λ b. put-new x y σ b (l .0)))
 
       at-test : (c : Bool) → ltb i n ≡ c → Is (foundIf c i s x y σ)
       at-test true e =
@@ -302,9 +316,9 @@ made-den {d} {x0} {x1} {σ} {τ} {h} {S} {T} e D E m = record { at = m .at; mean
     means : (p : Packet (suc d)) → mem (τ .words) (suc d) h p ≡ node S T p
     means (bit b p) = ap (λ (k : ℕ). mem (τ .words) d k p) (m .kids b) ∙ of b p
 
-pub mk-runs : {N d x0 x1 : ℕ} {σ : Table} {S T : Set d} → Wf N σ → Den σ d x0 S → Den σ d x1 T
-    → Runs (spTheory N) (mk x0 x1) (λ τ h. Den τ (suc d) h (node S T)) σ
-mk-runs {N} w D E = runs-map (spTheory N) (λ τ h e v m. made-den e D E m) (mk-made w (D .at) (E .at))
+pub mk-runs : {P : ℕ → Type 0} {N d x0 x1 : ℕ} {σ : Table} {S T : Set d} → WfIn P N σ → P d → Den σ d x0 S → Den σ d x1 T
+    → Runs (theoryIn P N) (mk x0 x1) (λ τ h. Den τ (suc d) h (node S T)) σ
+mk-runs {P} {N} w low D E = runs-map (theoryIn P N) (λ τ h e v m. made-den e D E m) (mk-made w low (D .at) (E .at))
 
 -- ---- refusal
 

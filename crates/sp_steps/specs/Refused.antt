@@ -9,7 +9,7 @@ use Rattle.common.specs.Outcome.{Outcome, refused, given, Step, return, after, 
 use Rattle.common.specs.Runs.{Table, Good, Runs}
 use Rattle.sp_steps.specs.Op.{Op, sem}
 use Rattle.sp_steps.specs.Model.{child, mk, Exit, out, on, exit, join, both, follow, apply, union, xor, complement, intersect, difference}
-use Rattle.sp_steps.specs.Laws.{Wf, Ext, At, Den, spTheory, ext-refl, ext-trans, den-child, den-ext}
+use Rattle.sp_steps.specs.Laws.{Wf, Below, Ext, At, Den, spTheory, ext-refl, ext-trans, den-child, den-ext}
 use Rattle.sp_steps.specs.Make.{Short, mk-refused}
 use Rattle.sp_steps.specs.Apply.{Going, Leads, exit-right, apply-runs}
 use Rattle.sp_steps.specs.Sets.{complement-den}
@@ -71,8 +71,8 @@ apply-stops N o (suc d) l σ a b A B w X Y =
     at-exit rec (on u x y) m =
         let D : (c : Bool) → Den σ d (child (σ .words) c x) _ = den-child (m .den-x) in
         let E : (c : Bool) → Den σ d (child (σ .words) c y) _ = den-child (m .den-y) in
-        stops-after (apply u d (child (σ .words) false x) (child (σ .words) false y) σ) _ (rec u σ _ _ _ _ w (D false) (E false)) (apply-runs N u d (omega arith) σ _ _ _ _ w (D false) (E false)) (λ τ x0 g.
-        stops-after (apply u d (child (σ .words) true x) (child (σ .words) true y) τ) _ (rec u τ _ _ _ _ (g .wf) (den-ext (g .ext) (D true)) (den-ext (g .ext) (E true))) (apply-runs N u d (omega arith) τ _ _ _ _ (g .wf) (den-ext (g .ext) (D true)) (den-ext (g .ext) (E true))) (λ υ x1 f.
+        stops-after (apply u d (child (σ .words) false x) (child (σ .words) false y) σ) _ (rec u σ _ _ _ _ w (D false) (E false)) (apply-runs (Below N) N u d (omega arith) σ _ _ _ _ w (D false) (E false)) (λ τ x0 g.
+        stops-after (apply u d (child (σ .words) true x) (child (σ .words) true y) τ) _ (rec u τ _ _ _ _ (g .wf) (den-ext (g .ext) (D true)) (den-ext (g .ext) (E true))) (apply-runs (Below N) N u d (omega arith) τ _ _ _ _ (g .wf) (den-ext (g .ext) (D true)) (den-ext (g .ext) (E true))) (λ υ x1 f.
         mk-stops N d x0 x1 υ (f .wf) (den-ext (f .ext) (g .holds) .at) (f .holds .at)))
 
 module _ (N d : ℕ) (l : d ≤ N) (σ : Table) (a b : ℕ) (A B : Set d) (w : Wf N σ) (X : Den σ d a A) (Y : Den σ d b B) where

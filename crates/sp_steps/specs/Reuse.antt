@@ -11,7 +11,7 @@ use Rattle.common.specs.Follow.{given-of}
 use Rattle.common.specs.Runs.{Table, Good, Runs}
 use Rattle.sp_steps.specs.Op.{Op, sem}
 use Rattle.sp_steps.specs.Model.{mem, both, apply, size}
-use Rattle.sp_steps.specs.Laws.{Wf, Ext, At, Den, spTheory, ext-refl, ext-trans, at-ext, one-depth, den-mem, wf-down}
+use Rattle.sp_steps.specs.Laws.{WfAny, Any, Ext, At, Den, theoryIn, ext-refl, ext-trans, at-ext, one-depth, den-mem, wf-down}
 use Rattle.sp_steps.specs.Size.{size-ext}
 use Rattle.sp_steps.specs.Apply.{apply-runs, both-runs}
 
@@ -31,7 +31,7 @@ pub record Applied (o : Op) (σ : Table) (a b r : ℕ) : Type 0 where
   pub below : ℕ
   pub at-a : At σ (suc below) a
   pub at-b : At σ (suc below) b
-  pub again : (τ : Table) → Ext σ τ → Wf (suc below) τ → both (apply o below) a b τ ≡ given τ r
+  pub again : (τ : Table) → Ext σ τ → WfAny (suc below) τ → both (apply o below) a b τ ≡ given τ r
 
 pub record Counted (σ : Table) (a b r : ℕ) : Type 0 where
   pub depth : ℕ
@@ -93,7 +93,7 @@ code-range (counts e) = inr e
 
 -- ---- reuse
 
-pub reuse : (o : Op) (d a b r : ℕ) (σ : Table) → Wf (suc d) σ → At σ (suc d) a → SpValid σ (code o) a b r → both (apply o d) a b σ ≡ given σ r
+pub reuse : (o : Op) (d a b r : ℕ) (σ : Table) → WfAny (suc d) σ → At σ (suc d) a → SpValid σ (code o) a b r → both (apply o d) a b σ ≡ given σ r
 reuse o d a b r σ w x v =
     let s = v .applied o refl in
     let e : s .below ≡ d = let q = one-depth σ (suc (s .below)) (suc d) a (s .at-a) x in omega arith in
@@ -106,7 +106,7 @@ reuse-count d a b r σ x v =
 
 -- ---- what may be kept
 
-pub keep-applied : (o : Op) (d a b r : ℕ) (σ τ : Table) → Wf (suc d) σ → At σ (suc d) a → At σ (suc d) b → both (apply o d) a b σ ≡ given τ r → SpNoted τ (code o) a b r
+pub keep-applied : (o : Op) (d a b r : ℕ) (σ τ : Table) → WfAny (suc d) σ → At σ (suc d) a → At σ (suc d) b → both (apply o d) a b σ ≡ given τ r → SpNoted τ (code o) a b r
 keep-applied o d a b r σ τ w x y q = record {
   own = applies o refl;
   valid = record {
@@ -121,8 +121,8 @@ keep-applied o d a b r σ τ w x y q = record {
     B : Set (suc d)
     B = mem (σ .words) (suc d) b
 
-    good : Good (spTheory (suc d)) (both (apply o d) a b) (λ υ h. Den υ (suc d) h (λ p. sem o (A p) (B p))) σ τ r
-    good = given-of (both-runs (suc d) d o (apply o d) (apply-runs (suc d) o d (omega arith)) σ a b A B w (den-mem x) (den-mem y)) q
+    good : Good (theoryIn Any (suc d)) (both (apply o d) a b) (λ υ h. Den υ (suc d) h (λ p. sem o (A p) (B p))) σ τ r
+    good = given-of (both-runs Any (suc d) d o (apply o d) (apply-runs Any (suc d) o d (omega arith)) σ a b A B w (den-mem x) (den-mem y)) q
 
     here : Applied o τ a b r
     here = record {

@@ -11,7 +11,7 @@ use Rattle.common.specs.Runs.{Table, Runs, runs-bind, runs-return}
 use Rattle.sp_steps.specs.Word.{flip}
 use Rattle.sp_steps.specs.Op.{Op, sem}
 use Rattle.sp_steps.specs.Model.{zeroAt, oneAt, apply, union, xor, complement, intersect, difference, isZero, isUniversal}
-use Rattle.sp_steps.specs.Laws.{Wf, At, Den, spTheory, den-map, den-flip, den-zero, den-one, den-same}
+use Rattle.sp_steps.specs.Laws.{Wf, Below, At, Den, spTheory, den-map, den-flip, den-zero, den-one, den-same}
 use Rattle.sp_steps.specs.Apply.{Makes, apply-runs, agree}
 
 infixl 40 _∩_ _⊕_
@@ -42,11 +42,11 @@ not-or false y = refl
 module _ (N d : ℕ) (l : d ≤ N) where
   pub union-runs : Does N d (union d) _∪_
   unfolding union
-  union-runs = apply-runs N Op.union d l
+  union-runs = apply-runs (Below N) N Op.union d l
 
   pub xor-runs : Does N d (xor d) _⊕_
   unfolding xor
-  xor-runs = apply-runs N Op.xor d l
+  xor-runs = apply-runs (Below N) N Op.xor d l
 
   pub intersect-runs : Does N d (intersect d) _∩_
   unfolding intersect

@@ -16,7 +16,7 @@ use Rattle.common.specs.Follow.{call, given-of}
 use Rattle.common.specs.Runs.{Table, table, Good, Runs}
 use Rattle.sp_steps.specs.Word.{flip, flip-zero}
 use Rattle.sp_steps.specs.Model.{kid, child, room, most, mk, zeroAt, oneAt, constants}
-use Rattle.sp_steps.specs.Laws.{Wf, Ext, At, Den, spTheory, ext-refl, ext-trans, low-child, zero-at, child-zero, den-one, one-flip, child-flip}
+use Rattle.sp_steps.specs.Laws.{WfIn, Wf, WfAny, Any, Ext, At, Den, ext-refl, ext-trans, low-child, zero-at, child-zero, den-one, one-flip, child-flip}
 use Rattle.sp_steps.specs.Make.{Made, mk-made, mk-again, mk-refused, side, by-test}
 
 -- what holds when the store for N fields is begun in σ
@@ -26,7 +26,14 @@ pub record Begun (N : ℕ) (σ τ : Table) (h : ℕ) : Type 0 where
   pub count-is : τ .count ≡ N
   pub zero-is : h ≡ zeroAt N
 
-pub none-yet : (t : List ℕ) → Wf 0 (table t 0)
+-- on the way there
+record Part (N : ℕ) (σ τ : Table) (h : ℕ) : Type 0 where
+  later : Ext σ τ
+  wf : WfAny N τ
+  count-is : τ .count ≡ N
+  zero-is : h ≡ zeroAt N
+
+none-yet : (t : List ℕ) → WfAny 0 (table t 0)
 none-yet t = record {
   fits = omega arith;
   small = omega arith;
@@ -34,13 +41,15 @@ none-yet t = record {
   once = λ i j l m e. absurd (omega arith);
   many = omega arith;
   const = λ i l b. absurd (omega arith);
+  rising = λ b i l. absurd (omega arith);
+  level = λ i l. absurd (omega arith);
 }
 
 side-same : {A : Type 0} (b : Bool) (x : A) → side b x x ≡ x
 side-same false x = refl
 side-same true x = refl
 
-module _ (d : ℕ) (σ τ : Table) (h : ℕ) (n : σ .count ≡ d) (wf : Wf d τ) (M : Made σ d (zeroAt d) (zeroAt d) τ h) where
+module _ (d : ℕ) (σ τ : Table) (h : ℕ) (n : σ .count ≡ d) (wf : WfAny d τ) (M : Made σ d (zeroAt d) (zeroAt d) τ h) where
   low : h % 2 ≡ 0
   low = sym (low-child wf h (M .at .0) (M .at .1)) ∙ ap (λ (k : ℕ). k % 2) (M .kids false) ∙ omega arith
 
@@ -63,7 +72,7 @@ module _ (d : ℕ) (σ τ : Table) (h : ℕ) (n : σ .count ≡ d) (wf : Wf d τ
   stored : (b : Bool) → kid (τ .words) b d ≡ zeroAt d
   stored b = ap (kid (τ .words) b) (sym index) ∙ plain b
 
-  wf-more : Wf (suc d) τ
+  wf-more : WfAny (suc d) τ
   wf-more = record {
     fits = wf .fits;
     small = wf .small;
@@ -71,6 +80,8 @@ module _ (d : ℕ) (σ τ : Table) (h : ℕ) (n : σ .count ≡ d) (wf : Wf d τ
     once = wf .once;
     many = omega (arith, count-of);
     const = λ i l b. ⊎-elim (λ q. ap (kid (τ .words) b) q ∙ stored b ∙ ap zeroAt (sym q)) (λ q. wf .const i q b) (last i l);
+    rising = wf .rising;
+    level = wf .level;
   }
     where
       last : (i : ℕ) → i < suc d → (i ≡ d) ⊎ (i < d)
@@ -83,22 +94,42 @@ gives-of : {P Q : Table → ℕ → Type 0} {o : Outcome Table ℕ} → ((τ : T
 gives-of f refusal = refusal
 gives-of f (gives {σ} {a} p) = gives (f σ a p)
 
-begun-next : (d : ℕ) (σ τ : Table) (z : ℕ) → Begun d σ τ z → Gives (Begun (suc d) σ) (mk z z τ)
-begun-next d σ τ z B =
-    subst (λ (k : ℕ). Gives (Begun (suc d) σ) (mk k k τ)) (sym (B .zero-is))
+part-next : (d : ℕ) (σ τ : Table) (z : ℕ) → Part d σ τ z → Gives (Part (suc d) σ) (mk z z τ)
+part-next d σ τ z B =
+    subst (λ (k : ℕ). Gives (Part (suc d) σ) (mk k k τ)) (sym (B .zero-is))
     (gives-of (λ υ h g. record {
       later = ext-trans (B .later) (g .ext);
       wf = wf-more d τ υ h (B .count-is) (g .wf) (g .holds);
       count-is = count-of d τ υ h (B .count-is) (g .wf) (g .holds);
       zero-is = zero-of d τ υ h (B .count-is) (g .wf) (g .holds);
     })
-    (mk-made (B .wf) (zero-at (B .wf) d (le-refl d)) (zero-at (B .wf) d (le-refl d))))
+    (mk-made (B .wf) tt (zero-at (B .wf) d (le-refl d)) (zero-at (B .wf) d (le-refl d))))
+
+part : (N : ℕ) (t : List ℕ) → Gives (Part N (table t 0)) (constants N (table t 0))
+unfolding constants
+part zero t = gives (record { later = ext-refl (table t 0); wf = none-yet t; count-is = refl; zero-is = refl })
+part (suc d) t = call (part d t) (λ τ z B. part-next d (table t 0) τ z B)
+
+-- all nodes are constants
+wf-whole : (N : ℕ) (σ : Table) → WfAny N σ → σ .count ≡ N → Wf N σ
+wf-whole N σ w e = record {
+  fits = w .fits;
+  small = w .small;
+  even = w .even;
+  once = w .once;
+  many = w .many;
+  const = w .const;
+  rising = w .rising;
+  level = λ i l. record {
+    depth = i;
+    low = omega arith;
+    children = λ b. subst (At σ i) (sym (w .const i (omega arith) b)) (zero-at w i (omega arith));
+  };
+}
 
 -- unless refused, the store is begun
 pub begun : (N : ℕ) (t : List ℕ) → Gives (Begun N (table t 0)) (constants N (table t 0))
-unfolding constants
-begun zero t = gives (record { later = ext-refl (table t 0); wf = none-yet t; count-is = refl; zero-is = refl })
-begun (suc d) t = call (begun d t) (λ τ z B. begun-next d (table t 0) τ z B)
+begun N t = gives-of (λ τ h B. record { later = B .later; wf = wf-whole N τ (B .wf) (B .count-is); count-is = B .count-is; zero-is = B .zero-is }) (part N t)
 
 -- 0 fields: no nodes
 pub begun-none : (t : List ℕ) → constants 0 (table t 0) ≡ given (table t 0) 0
@@ -106,8 +137,8 @@ unfolding constants
 begun-none t = refl
 
 -- the full set of each depth is there: the Rust's `one_at_depth` makes nothing
-pub one-made : {N : ℕ} {σ : Table} → Wf N σ → (d : ℕ) → d < N → mk (oneAt d) (oneAt d) σ ≡ given σ (oneAt (suc d))
-one-made {N} {σ} w d l = mk-again d (oneAt (suc d)) (oneAt d) (oneAt d) w (den-one w (suc d) l .at) (λ b. kids b ∙ sym (side-same b (oneAt d)))
+pub one-made : {P : ℕ → Type 0} {N : ℕ} {σ : Table} → WfIn P N σ → (d : ℕ) → d < N → mk (oneAt d) (oneAt d) σ ≡ given σ (oneAt (suc d))
+one-made {σ} w d l = mk-again d (oneAt (suc d)) (oneAt d) (oneAt d) w (den-one w (suc d) l .at) (λ b. kids b ∙ sym (side-same b (oneAt d)))
   where
     kids : (b : Bool) → child (σ .words) b (oneAt (suc d)) ≡ oneAt d
     kids b = ap (child (σ .words) b) (sym (one-flip (suc d))) ∙ child-flip (σ .words) b (zeroAt (suc d)) ∙ ap (flip 1) (child-zero w d l b) ∙ one-flip d

@@ -13,7 +13,7 @@ use Rattle.common.specs.Runs.{Table}
 use Rattle.spp_steps.specs.Exact.{Exact, exact-bind, exact-map, exact-read, exact-return}
 use Rattle.spp_steps.specs.Model.{Quad, quad, kids, mem, zeroAt, topAt, Op, union, intersect, xor, difference, not, Exit, out, on, sorted, exit, follow, each, down, apply}
 use Rattle.spp_steps.specs.Relations.{part}
-use Rattle.spp_steps.specs.Laws.{Wf, Ext, At, Den, ext-refl, ext-trans, kids-path, den-ext, den-is, den-kid, den-zero, den-top, agree}
+use Rattle.spp_steps.specs.Laws.{Wf, at-low, Ext, At, Den, ext-refl, ext-trans, kids-path, den-ext, den-is, den-kid, den-zero, den-top, agree}
 use Rattle.spp_steps.specs.Make.{sppLimits, mk-exact, quad-den}
 
 -- what an operation does to a pair's two bits of membership
@@ -181,7 +181,7 @@ each-exact N d o f makes σ a b R S w X Y = down-exact d (each f) (X .at) (Y .at
     exact-bind (sppLimits N) (entry τ2 true false f2 w2) (λ τ3 x10 e3 w3 D3.
     let f3 = ext-trans f2 e3 in
     exact-bind (sppLimits N) (entry τ3 true true f3 w3) (λ τ4 x11 e4 w4 D4.
-    mk-exact (quad x00 x01 x10 x11) (pointwise o R S) w4
+    mk-exact (quad x00 x01 x10 x11) (pointwise o R S) w4 (at-low w d a (X .at))
     (quad-den (pointwise o R S) (den-ext (ext-trans e2 (ext-trans e3 e4)) D1) (den-ext (ext-trans e3 e4) D2) (den-ext e4 D3) D4))))))
   where
     entry : (τ : Table) (i j : Bool) → Ext σ τ → Wf N τ

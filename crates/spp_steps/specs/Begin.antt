@@ -13,7 +13,7 @@ use Rattle.common.specs.Outcome.{Outcome, refused, given, Step, after, Gives, r
 use Rattle.common.specs.Follow.{given-of}
 use Rattle.common.specs.Runs.{Table, table}
 use Rattle.spp_steps.specs.Model.{Quad, quad, kid, cap, room, mk, zeroAt, oneAt, topAt, zeros, ones, tops, Constants, constants}
-use Rattle.spp_steps.specs.Laws.{Nodes, Wf, Ext, ext-refl, ext-trans, by-test}
+use Rattle.spp_steps.specs.Laws.{Nodes, Fixed, Level, Wf, Ext, At, ext-refl, ext-trans, zero-den, one-den, top-den, by-test}
 use Rattle.spp_steps.specs.Make.{Missing, Ways, there, fresh, short, ways, grown-nodes, put-ext, put-new, room-fits}
 
 -- ---- the fixed handles differ
@@ -43,6 +43,21 @@ zero-top N zero zero l e = omega arith
 zero-top N zero (suc d) l e = omega arith
 zero-top N (suc k) zero l e = omega arith
 zero-top N (suc k) (suc d) l e = omega arith
+
+zero-most : (N d : ℕ) → zeroAt N d ≤ d + 1
+unfolding zeroAt
+zero-most N zero = omega arith
+zero-most N (suc d) = omega arith
+
+one-most : (N d : ℕ) → oneAt N d ≤ N + d + 1
+unfolding oneAt
+one-most N zero = omega arith
+one-most N (suc d) = omega arith
+
+top-most : (N d : ℕ) → topAt N d ≤ 2 * N + d + 1
+unfolding topAt
+top-most N zero = omega arith
+top-most N (suc d) = omega arith
 
 -- ---- stages
 
@@ -77,13 +92,13 @@ comes-after : {A B : Type 0} {F : Type 0} {P : Table → A → Type 0} {Q : Tabl
 comes-after (fails x) f = fails x
 comes-after (comes {τ} {a} p) f = f τ a p
 
-mk-new : {σ : Table} (X : Quad) → Nodes σ → Missing X σ → Comes (room (σ .words) (σ .count) ≡ false) (New X σ) (mk X σ)
-mk-new {σ} X n miss = go (mk X σ) (ways X σ)
+mk-new : {σ : Table} (X : Quad) → Nodes σ → ((i j : Bool) → X i j < σ .count + 2) → Missing X σ → Comes (room (σ .words) (σ .count) ≡ false) (New X σ) (mk X σ)
+mk-new {σ} X n below miss = go (mk X σ) (ways X σ)
   where
     go : (o : Outcome Table ℕ) → Ways X σ o → Comes (room (σ .words) (σ .count) ≡ false) (New X σ) o
     go o (there k l q) = absurd (miss k l q)
     go o (fresh m r) =
-        comes (record { ext = put-ext (σ .words) (σ .count) X; nodes = grown-nodes X n m r; count = refl; handle = refl; kids = put-new (σ .words) (σ .count) X (room-fits _ _ r .0) })
+        comes (record { ext = put-ext (σ .words) (σ .count) X; nodes = grown-nodes X σ m r n below; count = refl; handle = refl; kids = put-new (σ .words) (σ .count) X (room-fits _ _ r .0) })
     go o (short z) = fails (z .no-room)
 
 last : {d : ℕ} {k : ℕ} → k < suc d → (k ≡ d) ⊎ (k < d)
@@ -94,6 +109,12 @@ quad-all x false false = refl
 quad-all x false true = refl
 quad-all x true false = refl
 quad-all x true true = refl
+
+quad-below : {n x00 x01 x10 x11 : ℕ} → x00 < n → x01 < n → x10 < n → x11 < n → (i j : Bool) → quad x00 x01 x10 x11 i j < n
+quad-below a b c d false false = a
+quad-below a b c d false true = b
+quad-below a b c d true false = c
+quad-below a b c d true true = d
 
 -- node m of υ, which is the one that mk made
 at-new : {X : Quad} {τ υ : Table} {h : ℕ} (m : ℕ) → New X τ υ h → m ≡ τ .count → (i j : Bool) → kid (υ .words) m i j ≡ X i j
@@ -175,6 +196,19 @@ module _ (N : ℕ) (σ : Table) where
           let q : n ≡ d = top-inj N n d (sym (S .tops n b false false) ∙ ap (λ (k : ℕ). kid (τ .words) k false false) (sym c) ∙ e false false) in
           omega arith
 
+  -- its children are there
+  zero-below : (d : ℕ) {τ : Table} → Stage N d 0 0 σ τ → (i j : Bool) → quad (zeroAt N d) (zeroAt N d) (zeroAt N d) (zeroAt N d) i j < τ .count + 2
+  zero-below d S = let z = zero-most N d in quad-below (omega (arith, S .count)) (omega (arith, S .count)) (omega (arith, S .count)) (omega (arith, S .count))
+
+  one-below : (d : ℕ) {τ : Table} → d < N → Stage N N d 0 σ τ → (i j : Bool) → quad (oneAt N d) (zeroAt N d) (zeroAt N d) (oneAt N d) i j < τ .count + 2
+  one-below d l S =
+      let z = zero-most N d in
+      let o = one-most N d in
+      quad-below (omega (arith, S .count)) (omega (arith, S .count)) (omega (arith, S .count)) (omega (arith, S .count))
+
+  top-below : (d : ℕ) {τ : Table} → Stage N N N d σ τ → (i j : Bool) → quad (topAt N d) (topAt N d) (topAt N d) (topAt N d) i j < τ .count + 2
+  top-below d S = let z = top-most N d in quad-below (omega (arith, S .count)) (omega (arith, S .count)) (omega (arith, S .count)) (omega (arith, S .count))
+
 -- the table t has not as many records as the constants of N fields
 abbrev pub TooFew : ℕ → List ℕ → Type 0
 TooFew N t = (length t / 4 < 3 * N) ⊎ (cap < 3 * N)
@@ -187,6 +221,37 @@ too-few N σ τ e l r =
     (λ c. _⊎_.inl (omega (arith, ltb-false (τ .count) (length (τ .words) / 4) c, e .len)))
 
 -- ---- the start
+
+-- all nodes are constants
+whole : (N : ℕ) (σ : Table) → Nodes σ → Fixed N σ → σ .count ≡ 3 * N → Wf N σ
+whole N σ n w e = record {
+  nodes = n;
+  fixed = w;
+  level = λ k l.
+      by-test (ltb k N)
+      (λ c. at-depth k k (ltb-true k N c) (λ i j. subst (At σ k) (sym (w .zeros k (ltb-true k N c) i j)) (zero k (ltb-true k N c))))
+      (λ c. by-test (ltb k (2 * N))
+      (λ b. mid k (k - N) (omega (arith, ltb-false k N c)) (omega (arith, ltb-false k N c, ltb-true k (2 * N) b)))
+      (λ b. high k (k - 2 * N) (omega (arith, ltb-false k (2 * N) b)) (omega (arith, ltb-false k (2 * N) b))));
+}
+  where
+    at-depth : (k d : ℕ) → d < N → ((i j : Bool) → At σ d (kid (σ .words) k i j)) → Level N σ k
+    at-depth k d l a = record { depth = d; low = l; children = a }
+
+    zero : (d : ℕ) → d < N → At σ d (zeroAt N d)
+    zero d l = zero-den w d (omega arith) .at
+
+    one : (d : ℕ) → d < N → (i j : Bool) → At σ d (quad (oneAt N d) (zeroAt N d) (zeroAt N d) (oneAt N d) i j)
+    one d l false false = one-den w d (omega arith) .at
+    one d l false true = zero d l
+    one d l true false = zero d l
+    one d l true true = one-den w d (omega arith) .at
+
+    mid : (k d : ℕ) → k ≡ N + d → d < N → Level N σ k
+    mid k d q l = at-depth k d l (λ i j. subst (At σ d) (sym (ap (λ (k : ℕ). kid (σ .words) k i j) q ∙ w .ones d l i j)) (one d l i j))
+
+    high : (k d : ℕ) → k ≡ 2 * N + d → d < N → Level N σ k
+    high k d q l = at-depth k d l (λ i j. subst (At σ d) (sym (ap (λ (k : ℕ). kid (σ .words) k i j) q ∙ w .tops d l i j)) (top-den w d (omega arith) .at))
 
 -- A store for N fields as it is begun, from the table σ.
 pub record Begun (N : ℕ) (σ τ : Table) (c : Constants) : Type 0 where
@@ -210,7 +275,7 @@ module _ (N : ℕ) (t : List ℕ) where
       comes (
         record {
           ext = ext-refl σ;
-          nodes = record { fits = omega arith; small = omega arith; once = λ k l a b e. absurd (omega arith) };
+          nodes = record { fits = omega arith; small = omega arith; once = λ k l a b e. absurd (omega arith); rising = λ k l i j. absurd (omega arith) };
           count = refl;
           zeros = λ k l i j. absurd (omega arith);
           ones = λ k l i j. absurd (omega arith);
@@ -221,7 +286,7 @@ module _ (N : ℕ) (t : List ℕ) where
   zeros-stage (suc d) l =
       comes-after (zeros-stage d (omega arith)) (λ τ z P. rw (P .1)
       (comes-map (too-few N σ τ (P .0 .ext) (omega (arith, P .0 .count))) (λ υ h M. (more-zeros N σ d (P .0) M, omega (arith, M .handle, P .0 .count)))
-      (mk-new _ (P .0 .nodes) (no-zero N σ d (P .0)))))
+      (mk-new _ (P .0 .nodes) (zero-below N σ d (P .0)) (no-zero N σ d (P .0)))))
 
   ones-stage : (τ : Table) → Stage N N 0 0 σ τ → (d : ℕ) → d ≤ N → Comes F (λ υ h. Stage N N d 0 σ υ × (h ≡ oneAt N d)) (ones N d τ)
   unfolding ones oneAt F
@@ -229,7 +294,7 @@ module _ (N : ℕ) (t : List ℕ) where
   ones-stage τ S (suc d) l =
       comes-after (ones-stage τ S d (omega arith)) (λ υ x P. rw (P .1)
       (comes-map (too-few N σ υ (P .0 .ext) (omega (arith, P .0 .count))) (λ ω h M. (more-ones N σ d l (P .0) M, omega (arith, M .handle, P .0 .count)))
-      (mk-new _ (P .0 .nodes) (no-one N σ d l (P .0)))))
+      (mk-new _ (P .0 .nodes) (one-below N σ d l (P .0)) (no-one N σ d l (P .0)))))
 
   tops-stage : (τ : Table) → Stage N N N 0 σ τ → (d : ℕ) → d ≤ N → Comes F (λ υ h. Stage N N N d σ υ × (h ≡ topAt N d)) (tops d τ)
   unfolding tops topAt F
@@ -237,7 +302,7 @@ module _ (N : ℕ) (t : List ℕ) where
   tops-stage τ S (suc d) l =
       comes-after (tops-stage τ S d (omega arith)) (λ υ x P. rw (P .1)
       (comes-map (too-few N σ υ (P .0 .ext) (omega (arith, P .0 .count))) (λ ω h M. (more-tops N σ d l (P .0) M, omega (arith, M .handle, P .0 .count)))
-      (mk-new _ (P .0 .nodes) (no-top N σ d l (P .0)))))
+      (mk-new _ (P .0 .nodes) (top-below N σ d (P .0)) (no-top N σ d l (P .0)))))
 
   all-stages : Comes F (Begun N σ) (constants N σ)
   unfolding constants
@@ -246,7 +311,7 @@ module _ (N : ℕ) (t : List ℕ) where
       comes-after (ones-stage τ (P .0) N (omega arith)) (λ υ o Q.
       comes-after (tops-stage υ (Q .0) N (omega arith)) (λ ω h R. comes (record {
         ext = R .0 .ext;
-        wf = record { nodes = R .0 .nodes; many = omega (arith, R .0 .count); zeros = R .0 .zeros; ones = R .0 .ones; tops = R .0 .tops };
+        wf = whole N ω (R .0 .nodes) (record { many = omega (arith, R .0 .count); zeros = R .0 .zeros; ones = R .0 .ones; tops = R .0 .tops }) (omega (arith, R .0 .count));
         count = omega (arith, R .0 .count);
         zero-is = P .1;
         one-is = Q .1;

@@ -20,10 +20,10 @@ module _ (N : ℕ) (entry : ℕ → ℕ → Quad) (G : (d : ℕ) → ℕ → Rel
   unfolding field
   field-exact zero f l m σ w = absurd (omega arith)
   field-exact (suc d) zero l m σ w =
-      mk-exact (entry (oneAt N d) (zeroAt N d)) (G (suc d) zero) w (here d σ (oneAt N d) (zeroAt N d) (den-one w d (omega arith)) (den-zero w d (omega arith)))
+      mk-exact (entry (oneAt N d) (zeroAt N d)) (G (suc d) zero) w l (here d σ (oneAt N d) (zeroAt N d) (den-one w d (omega arith)) (den-zero w d (omega arith)))
   field-exact (suc d) (suc f) l m σ w =
       exact-bind (sppLimits N) (field-exact d f (omega arith) (omega arith) σ w) (λ τ x e v D.
-      mk-exact (quad x (zeroAt N d) (zeroAt N d) x) (G (suc d) (suc f)) v (above d f τ x (zeroAt N d) D (den-zero v d (omega arith))))
+      mk-exact (quad x (zeroAt N d) (zeroAt N d) x) (G (suc d) (suc f)) v l (above d f τ x (zeroAt N d) D (den-zero v d (omega arith))))
 
 -- ---- the entries
 

@@ -102,9 +102,9 @@ union-exact N d l σ a b A B w X Y = record { runs = SpSets.union-runs N d l σ 
     go (SpRefused.lacks z) = stuck (z .later) (z .wf) (record { number-is = refl; left = z .left; right = z .right; short = z .short })
     go SpRefused.goes = goes
 
-set-exact : {N d x0 x1 : ℕ} {σ : Table} {S T : Set d} → SpLaws.Wf N σ → SpLaws.Den σ d x0 S → SpLaws.Den σ d x1 T
+set-exact : {N d x0 x1 : ℕ} {σ : Table} {S T : Set d} → SpLaws.Wf N σ → d < N → SpLaws.Den σ d x0 S → SpLaws.Den σ d x1 T
     → Exact (spLimits N) (Sp.mk x0 x1) (λ τ h. SpLaws.Den τ (suc d) h (SpMake.node S T)) σ
-set-exact {N} {d} {x0} {x1} {σ} w X Y = record { runs = SpMake.mk-runs w X Y; stops = go (Sp.mk x0 x1 σ) (SpMake.mk-refused x0 x1 σ) }
+set-exact {N} {d} {x0} {x1} {σ} w l X Y = record { runs = SpMake.mk-runs w l X Y; stops = go (Sp.mk x0 x1 σ) (SpMake.mk-refused x0 x1 σ) }
   where
     go : (o : Outcome Table ℕ) → ((number : ℕ) → o ≡ refused number → (number ≡ 20) × SpMake.Short x0 x1 σ) → Stops (spLimits N) σ o
     go (refused number) f = let (q, z) = f number refl in stuck (SpLaws.ext-refl σ) w (record { number-is = q; left = x0; right = x1; short = z })
@@ -127,13 +127,13 @@ module _ {N d : ℕ} {σ : Stores} {S0 S1 S2 S3 : Set d} where
       f τ4 a b c e w4 (SpLaws.den-ext (both-trans e2 h3 .sp-ext) D0) (SpLaws.den-ext (h3 .sp-ext) D1) (SpLaws.den-ext (e4 .sp-ext) D2) D3))))
 
   -- their unions two and two, and the node: the set U
-  halves-exact : (U : Set (suc d)) (a b c e : ℕ) → d ≤ N → BothWf N σ → SetAt σ d a S0 → SetAt σ d b S1 → SetAt σ d c S2 → SetAt σ d e S3
+  halves-exact : (U : Set (suc d)) (a b c e : ℕ) → d < N → BothWf N σ → SetAt σ d a S0 → SetAt σ d b S1 → SetAt σ d c S2 → SetAt σ d e S3
       → ((p : Packet d) → (S0 p || S1 p) ≡ U (bit false p)) → ((p : Packet d) → (S2 p || S3 p) ≡ U (bit true p))
       → Exact (setLimits N) (onSp (Sp.union d a b) >>= λ x0. onSp (Sp.union d c e) >>= λ x1. onSp (Sp.mk x0 x1)) (λ υ h. SetAt υ (suc d) h U) σ
   halves-exact U a b c e l w A B C E low high =
-      exact-bind (setLimits N) (exact-on (spLimits N) (inSp N) w (union-exact N d l (σ .sp) a b S0 S1 (w .sp-wf) A B)) (λ τ x0 e1 w1 X.
-      exact-bind (setLimits N) (exact-on (spLimits N) (inSp N) w1 (union-exact N d l (τ .sp) c e S2 S3 (w1 .sp-wf) (SpLaws.den-ext (e1 .sp-ext) C) (SpLaws.den-ext (e1 .sp-ext) E))) (λ υ x1 e2 w2 Y.
-      exact-map (setLimits N) (λ ω h _ _ H. SpLaws.den-map parts H) (exact-on (spLimits N) (inSp N) w2 (set-exact (w2 .sp-wf) (SpLaws.den-ext (e2 .sp-ext) X) Y))))
+      exact-bind (setLimits N) (exact-on (spLimits N) (inSp N) w (union-exact N d (omega arith) (σ .sp) a b S0 S1 (w .sp-wf) A B)) (λ τ x0 e1 w1 X.
+      exact-bind (setLimits N) (exact-on (spLimits N) (inSp N) w1 (union-exact N d (omega arith) (τ .sp) c e S2 S3 (w1 .sp-wf) (SpLaws.den-ext (e1 .sp-ext) C) (SpLaws.den-ext (e1 .sp-ext) E))) (λ υ x1 e2 w2 Y.
+      exact-map (setLimits N) (λ ω h _ _ H. SpLaws.den-map parts H) (exact-on (spLimits N) (inSp N) w2 (set-exact (w2 .sp-wf) l (SpLaws.den-ext (e2 .sp-ext) X) Y))))
     where
       parts : (p : Packet (suc d)) → SpMake.node (S0 ∪ S1) (S2 ∪ S3) p ≡ U p
       parts (bit false p) = low p
@@ -220,7 +220,7 @@ ifwdNode-exact N d f lifts σ s S w X =
     (exact-bind (relLimits N) (lifts σ _ _ w (SpLaws.den-child X false)) (λ τ x00 e v A.
     exact-bind (relLimits N) (lifts τ _ _ v (SpLaws.den-ext (e .sp-ext) (SpLaws.den-child X true))) (λ υ x01 g u B.
     exact-on (sppLimits N) (inSpp N) u
-    (let A′ : RelAt υ d x00 (λ p q. S (bit false q)) = den-ext (g .spp-ext) A in mk-exact (quad x00 x01 x00 x01) (λ p q. S q) (u .spp-wf) (quad-den (λ p q. S q) A′ B A′ B)))))
+    (let A′ : RelAt υ d x00 (λ p q. S (bit false q)) = den-ext (g .spp-ext) A in mk-exact (quad x00 x01 x00 x01) (λ p q. S q) (u .spp-wf) (SpLaws.at-low (w .sp-wf) d s (X .at)) (quad-den (λ p q. S q) A′ B A′ B)))))
 
 pub ifwd-exact : (N d : ℕ) → Lifts N d (ifwd d)
 unfolding ifwd

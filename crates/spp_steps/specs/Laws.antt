@@ -2,6 +2,7 @@
 -- Old handles keep their meaning; equal relations of one depth have one handle; the constants are where they should be.
 use mathlib.Core.Path.{_≡_, refl, sym, _∙_, ap, subst, fun-ext}
 use mathlib.Core.Bool.{Bool, true, false}
+use mathlib.Core.List.{List}
 use Prim.Native.Nat.{ℕ, zero, suc, _+_, _*_, _-_, _≤_, _<_}
 use native.Mathlib.Omega.{arith}
 use native.Mathlib.Nat.{le-trans}
@@ -15,20 +16,6 @@ use Rattle.spp_steps.specs.Model.{quad, kid, kids, mem, cap, zeroAt, one
 use Rattle.common.specs.Relations.{same as samePacket}
 use Rattle.spp_steps.specs.Relations.{part, equal}
 
--- The nodes fit, and no two are equal.
-pub record Nodes (σ : Table) : Type 0 where
-  pub fits : 4 * σ .count ≤ length (σ .words)
-  pub small : σ .count ≤ cap
-  pub once : (k l : ℕ) → k < σ .count → l < σ .count → ((i j : Bool) → kid (σ .words) k i j ≡ kid (σ .words) l i j) → k ≡ l
-
--- A store for N fields: the zeros of depth 1 to N come first, then the identities, then the tops.
-pub record Wf (N : ℕ) (σ : Table) : Type 0 where
-  pub nodes : Nodes σ
-  pub many : 3 * N ≤ σ .count
-  pub zeros : (d : ℕ) → d < N → (i j : Bool) → kid (σ .words) d i j ≡ zeroAt N d
-  pub ones : (d : ℕ) → d < N → (i j : Bool) → kid (σ .words) (N + d) i j ≡ quad (oneAt N d) (zeroAt N d) (zeroAt N d) (oneAt N d) i j
-  pub tops : (d : ℕ) → d < N → (i j : Bool) → kid (σ .words) (2 * N + d) i j ≡ topAt N d
-
 -- τ is later than σ: it has all of σ's nodes as they were, and past its own nodes the words are as they were.
 pub record Ext (σ τ : Table) : Type 0 where
   pub more : σ .count ≤ τ .count
@@ -40,6 +27,36 @@ pub record Ext (σ τ : Table) : Type 0 where
 abbrev pub At : Table → ℕ → ℕ → Type 0
 At σ zero h = h < 2
 At σ (suc d) h = (2 ≤ h) × (h < σ .count + 2) × ((i j : Bool) → At σ d (kids (σ .words) h i j))
+
+-- each child of a node is a handle of an earlier node, or of depth 0
+abbrev pub Rising : List ℕ → ℕ → Type 0
+Rising t n = (k : ℕ) → k < n → (i j : Bool) → kid t k i j < k + 2
+
+-- The nodes fit, no two are equal, and none has itself or a later one as a child.
+pub record Nodes (σ : Table) : Type 0 where
+  pub fits : 4 * σ .count ≤ length (σ .words)
+  pub small : σ .count ≤ cap
+  pub once : (k l : ℕ) → k < σ .count → l < σ .count → ((i j : Bool) → kid (σ .words) k i j ≡ kid (σ .words) l i j) → k ≡ l
+  pub rising : Rising (σ .words) (σ .count)
+
+-- The zeros of depth 1 to N come first, then the identities, then the tops.
+pub record Fixed (N : ℕ) (σ : Table) : Type 0 where
+  pub many : 3 * N ≤ σ .count
+  pub zeros : (d : ℕ) → d < N → (i j : Bool) → kid (σ .words) d i j ≡ zeroAt N d
+  pub ones : (d : ℕ) → d < N → (i j : Bool) → kid (σ .words) (N + d) i j ≡ quad (oneAt N d) (zeroAt N d) (zeroAt N d) (oneAt N d) i j
+  pub tops : (d : ℕ) → d < N → (i j : Bool) → kid (σ .words) (2 * N + d) i j ≡ topAt N d
+
+-- Node k has children that are handles of one depth below N.
+pub record Level (N : ℕ) (σ : Table) (k : ℕ) : Type 0 where
+  pub depth : ℕ
+  pub low : depth < N
+  pub children : (i j : Bool) → At σ depth (kid (σ .words) k i j)
+
+-- A store for N fields: with its constants, and each node's children of one depth below N.
+pub record Wf (N : ℕ) (σ : Table) : Type 0 where
+  pub nodes : Nodes σ
+  pub fixed : Fixed N σ
+  pub level : (k : ℕ) → k < σ .count → Level N σ k
 
 -- h is a handle of depth d and means the relation R
 pub record Den (σ : Table) (d h : ℕ) (R : Relation d) : Type 0 where
@@ -61,16 +78,6 @@ ext-trans e f = record {
 abbrev pub sppTheory : ℕ → Theory
 sppTheory N = record { Store = Table; Wf = Wf N; Ext = Ext; ext-refl = ext-refl; ext-trans = λ σ τ υ. ext-trans }
 
--- a later store has the constants of an earlier one
-pub wf-ext : {N : ℕ} {σ τ : Table} → Wf N σ → Ext σ τ → Nodes τ → Wf N τ
-wf-ext w e n = record {
-  nodes = n;
-  many = le-trans (w .many) (e .more);
-  zeros = λ d l i j. e .keep d (omega (arith, w .many)) i j ∙ w .zeros d l i j;
-  ones = λ d l i j. e .keep _ (omega (arith, w .many)) i j ∙ w .ones d l i j;
-  tops = λ d l i j. e .keep _ (omega (arith, w .many)) i j ∙ w .tops d l i j;
-}
-
 -- ---- old handles
 
 pub kids-ext : {σ τ : Table} → Ext σ τ → (h : ℕ) → 2 ≤ h → h < σ .count + 2 → (i j : Bool) → kids (τ .words) h i j ≡ kids (σ .words) h i j
@@ -84,6 +91,22 @@ pub at-ext : {σ τ : Table} → Ext σ τ → (d h : ℕ) → At σ d h → At 
 at-ext e zero h a = a
 at-ext {τ} e (suc d) h a =
     (a .0, omega (arith, a .1, e .more), λ i j. subst (At τ d) (sym (kids-ext e h (a .0) (a .1) i j)) (at-ext e d _ (a .2 i j)))
+
+-- what a store has, a later one has
+pub fixed-ext : {N : ℕ} {σ τ : Table} → Fixed N σ → Ext σ τ → Fixed N τ
+fixed-ext w e = record {
+  many = le-trans (w .many) (e .more);
+  zeros = λ d l i j. e .keep d (omega (arith, w .many)) i j ∙ w .zeros d l i j;
+  ones = λ d l i j. e .keep _ (omega (arith, w .many)) i j ∙ w .ones d l i j;
+  tops = λ d l i j. e .keep _ (omega (arith, w .many)) i j ∙ w .tops d l i j;
+}
+
+pub level-ext : {N : ℕ} {σ τ : Table} (k : ℕ) → Ext σ τ → k < σ .count → Level N σ k → Level N τ k
+level-ext {τ} k e l v = record {
+  depth = v .depth;
+  low = v .low;
+  children = λ i j. subst (At τ (v .depth)) (sym (e .keep k l i j)) (at-ext e (v .depth) _ (v .children i j));
+}
 
 pub mem-ext : {σ τ : Table} → Ext σ τ → (d h : ℕ) (p q : Packet d) → At σ d h → mem (τ .words) d h p q ≡ mem (σ .words) d h p q
 unfolding mem
@@ -159,6 +182,11 @@ pub at-below : (σ : Table) (d h : ℕ) → At σ d h → h < σ .count + 2
 at-below σ zero h a = omega arith
 at-below σ (suc d) h a = a .1
 
+-- the depth below that of a handle with children is below N
+pub at-low : {N : ℕ} {σ : Table} → Wf N σ → (d h : ℕ) → At σ (suc d) h → d < N
+unfolding kids
+at-low {σ} w d h a = let v = w .level (h - 2) (at-lt h (a .0) (a .1)) in omega (arith, v .low, one-depth σ d (v .depth) _ (a .2 false false) (v .children false false))
+
 -- ---- the constants
 
 -- the fixed handles above depth 0
@@ -177,45 +205,55 @@ unfolding topAt
 topAt-above N zero l = absurd (omega arith)
 topAt-above N (suc d) l = refl
 
-module _ {N : ℕ} {σ : Table} (w : Wf N σ) where
+module _ {N : ℕ} {σ : Table} (w : Fixed N σ) where
   -- the handle h + 2 of a constant: its node is at h
   at-node : (d k : ℕ) (R : Relation (suc d)) → k < σ .count → ((i j : Bool) → Den σ d (kid (σ .words) k i j) (part R i j)) → Den σ (suc d) (k + 2) R
   unfolding kids
   at-node d k R l D =
       den-node (omega arith) (omega arith) (λ i j. subst (λ (m : ℕ). Den σ d (kid (σ .words) m i j) (part R i j)) {x = k} (omega arith) (D i j))
 
-  pub den-zero : (d : ℕ) → d ≤ N → Den σ d (zeroAt N d) (λ p q. false)
+  pub zero-den : (d : ℕ) → d ≤ N → Den σ d (zeroAt N d) (λ p q. false)
   unfolding zeroAt mem
-  den-zero zero l = record { at = omega arith; means = low }
+  zero-den zero l = record { at = omega arith; means = low }
     where
       low : (p q : Packet zero) → mem (σ .words) zero 0 p q ≡ false
       low end end = refl
-  den-zero (suc d) l =
+  zero-den (suc d) l =
       subst (λ (h : ℕ). Den σ (suc d) h (λ p q. false)) {x = d + 2} (omega arith)
-      (at-node d d (λ p q. false) (omega (arith, w .many)) (λ i j. subst (λ (h : ℕ). Den σ d h (λ p q. false)) (sym (w .zeros d l i j)) (den-zero d (omega arith))))
+      (at-node d d (λ p q. false) (omega (arith, w .many)) (λ i j. subst (λ (h : ℕ). Den σ d h (λ p q. false)) (sym (w .zeros d l i j)) (zero-den d (omega arith))))
 
-  pub den-top : (d : ℕ) → d ≤ N → Den σ d (topAt N d) (λ p q. true)
+  pub top-den : (d : ℕ) → d ≤ N → Den σ d (topAt N d) (λ p q. true)
   unfolding topAt mem
-  den-top zero l = record { at = omega arith; means = low }
+  top-den zero l = record { at = omega arith; means = low }
     where
       low : (p q : Packet zero) → mem (σ .words) zero 1 p q ≡ true
       low end end = refl
-  den-top (suc d) l =
+  top-den (suc d) l =
       subst (λ (h : ℕ). Den σ (suc d) h (λ p q. true)) {x = 2 * N + d + 2} (omega arith)
-      (at-node d (2 * N + d) (λ p q. true) (omega (arith, w .many)) (λ i j. subst (λ (h : ℕ). Den σ d h (λ p q. true)) (sym (w .tops d l i j)) (den-top d (omega arith))))
+      (at-node d (2 * N + d) (λ p q. true) (omega (arith, w .many)) (λ i j. subst (λ (h : ℕ). Den σ d h (λ p q. true)) (sym (w .tops d l i j)) (top-den d (omega arith))))
 
-  pub den-one : (d : ℕ) → d ≤ N → Den σ d (oneAt N d) equal
+  pub one-den : (d : ℕ) → d ≤ N → Den σ d (oneAt N d) equal
   unfolding oneAt mem samePacket
-  den-one zero l = record { at = omega arith; means = low }
+  one-den zero l = record { at = omega arith; means = low }
     where
       low : (p q : Packet zero) → mem (σ .words) zero 1 p q ≡ equal p q
       low end end = refl
-  den-one (suc d) l =
+  one-den (suc d) l =
       subst (λ (h : ℕ). Den σ (suc d) h equal) {x = N + d + 2} (omega arith)
-      (at-node d (N + d) equal (omega (arith, w .many)) (λ i j. subst (λ (h : ℕ). Den σ d h (part equal i j)) (sym (w .ones d l i j)) (entry (den-one d (omega arith)) i j)))
+      (at-node d (N + d) equal (omega (arith, w .many)) (λ i j. subst (λ (h : ℕ). Den σ d h (part equal i j)) (sym (w .ones d l i j)) (entry (one-den d (omega arith)) i j)))
     where
       entry : Den σ d (oneAt N d) equal → (i j : Bool) → Den σ d (quad (oneAt N d) (zeroAt N d) (zeroAt N d) (oneAt N d) i j) (part equal i j)
       entry x false false = x
-      entry x false true = den-zero d (omega arith)
-      entry x true false = den-zero d (omega arith)
+      entry x false true = zero-den d (omega arith)
+      entry x true false = zero-den d (omega arith)
       entry x true true = x
+
+module _ {N : ℕ} {σ : Table} (w : Wf N σ) where
+  pub den-zero : (d : ℕ) → d ≤ N → Den σ d (zeroAt N d) (λ p q. false)
+  den-zero = zero-den (w .fixed)
+
+  pub den-top : (d : ℕ) → d ≤ N → Den σ d (topAt N d) (λ p q. true)
+  den-top = top-den (w .fixed)
+
+  pub den-one : (d : ℕ) → d ≤ N → Den σ d (oneAt N d) equal
+  den-one = one-den (w .fixed)

@@ -17,7 +17,7 @@ use Rattle.common.specs.Runs.{Table, table, Good}
 use Rattle.spp_steps.specs.Exact.{Limited, Stops, stuck, goes, Exact}
 use Rattle.spp_steps.specs.Model.{Quad, quad, kid, kids, same, seek, cap, room, put, putIf, foundIf, mk}
 use Rattle.spp_steps.specs.Relations.{part}
-use Rattle.spp_steps.specs.Laws.{Nodes, Wf, Ext, Den, sppTheory, ext-refl, wf-ext, den-ext, den-node, by-test, false-true}
+use Rattle.spp_steps.specs.Laws.{Nodes, Level, Wf, Ext, At, Den, sppTheory, ext-refl, at-ext, fixed-ext, level-ext, at-below, den-ext, den-node, by-test, false-true}
 
 -- ---- same
 
@@ -188,32 +188,45 @@ mk-short X σ z = go (mk X σ) (ways X σ)
     go o (fresh m r) = absurd (false-true (sym (z .no-room) ∙ r))
     go o (short z) = refl
 
-pub grown-nodes : {σ : Table} (X : Quad) → Nodes σ → Missing X σ → room (σ .words) (σ .count) ≡ true → Nodes (grown X σ)
-grown-nodes {σ} X w miss r = record { fits = omega (arith, put-len (σ .words) (σ .count) X, l .0); small = omega (arith, l); once = once }
-  where
-    t : List ℕ
-    t = σ .words
+module _ (X : Quad) (σ : Table) (miss : Missing X σ) (r : room (σ .words) (σ .count) ≡ true) where
+  abbrev t : List ℕ
+  t = σ .words
 
-    n : ℕ
-    n = σ .count
+  abbrev n : ℕ
+  n = σ .count
 
-    l : (4 * n + 3 < length t) × (n < cap)
-    l = room-fits t n r
+  l : (4 * n + 3 < length t) × (n < cap)
+  l = room-fits (σ .words) (σ .count) r
 
-    split : {k : ℕ} → k < n + 1 → (k ≡ n) ⊎ (k < n)
-    split m = eq-or-lt-of-le (omega arith)
+  split : {k : ℕ} → k < n + 1 → (k ≡ n) ⊎ (k < n)
+  split m = eq-or-lt-of-le (omega arith)
 
-    new : {k : ℕ} → k ≡ n → (i j : Bool) → kid (put t n X) k i j ≡ X i j
-    new p i j = ap (λ (k : ℕ). kid (put t n X) k i j) p ∙ put-new t n X (l .0) i j
+  new : {k : ℕ} → k ≡ n → (i j : Bool) → kid (put t n X) k i j ≡ X i j
+  new p i j = ap (λ (k : ℕ). kid (put t n X) k i j) p ∙ put-new t n X (l .0) i j
 
-    once : (k m : ℕ) → k < n + 1 → m < n + 1 → ((i j : Bool) → kid (put t n X) k i j ≡ kid (put t n X) m i j) → k ≡ m
-    once k m a b e =
-        ⊎-elim
-        (λ p. ⊎-elim (λ q. p ∙ sym q) (λ q. absurd (miss m q (λ i j. sym (put-old t n X m q i j) ∙ sym (e i j) ∙ new p i j))) (split b))
-        (λ p. ⊎-elim
-        (λ q. absurd (miss k p (λ i j. sym (put-old t n X k p i j) ∙ e i j ∙ new q i j)))
-        (λ q. w .once k m p q (λ i j. sym (put-old t n X k p i j) ∙ e i j ∙ put-old t n X m q i j)) (split b))
-        (split a)
+  pub grown-nodes : Nodes σ → ((i j : Bool) → X i j < σ .count + 2) → Nodes (grown X σ)
+  grown-nodes w below = record { fits = omega (arith, put-len t n X, l .0); small = omega (arith, l); once = once; rising = rising }
+    where
+      once : (k m : ℕ) → k < n + 1 → m < n + 1 → ((i j : Bool) → kid (put t n X) k i j ≡ kid (put t n X) m i j) → k ≡ m
+      once k m a b e =
+          ⊎-elim
+          (λ p. ⊎-elim (λ q. p ∙ sym q) (λ q. absurd (miss m q (λ i j. sym (put-old t n X m q i j) ∙ sym (e i j) ∙ new p i j))) (split b))
+          (λ p. ⊎-elim
+          (λ q. absurd (miss k p (λ i j. sym (put-old t n X k p i j) ∙ e i j ∙ new q i j)))
+          (λ q. w .once k m p q (λ i j. sym (put-old t n X k p i j) ∙ e i j ∙ put-old t n X m q i j)) (split b))
+          (split a)
+
+      rising : (k : ℕ) → k < n + 1 → (i j : Bool) → kid (put t n X) k i j < k + 2
+      rising k a i j = ⊎-elim (λ p. omega (arith, p, new p i j, below i j)) (λ p. omega (arith, put-old t n X k p i j, w .rising k p i j)) (split a)
+
+  pub grown-wf : {N : ℕ} (d : ℕ) → Wf N σ → d < N → ((i j : Bool) → At σ d (X i j)) → Wf N (grown X σ)
+  grown-wf {N} d w low at = record {
+    nodes = grown-nodes (w .nodes) (λ i j. at-below σ d (X i j) (at i j));
+    fixed = fixed-ext (w .fixed) (put-ext t n X);
+    level = λ k m. ⊎-elim
+        (λ p. record { depth = d; low = low; children = λ i j. subst (At (grown X σ) d) (sym (new p i j)) (at-ext (put-ext t n X) d (X i j) (at i j)) })
+        (λ p. level-ext k (put-ext t n X) p (w .level k p)) (split m);
+  }
 
 -- 01, 21: a node of relations is lacking
 pub record Lacks (number : ℕ) (σ : Table) : Type 0 where
@@ -236,14 +249,14 @@ module _ {N d : ℕ} {σ : Table} (X : Quad) (R : Relation (suc d)) where
     stable = λ υ x v. mk-there X k (v .nodes) (omega (arith, x .more)) (λ i j. x .keep k l i j ∙ q i j);
   }
 
-  pub mk-exact : Wf N σ → ((i j : Bool) → Den σ d (X i j) (part R i j)) → Exact (sppLimits N) (mk X) (λ τ h. Den τ (suc d) h R) σ
-  mk-exact w D = record { runs = go (mk X σ) (ways X σ); stops = halt (mk X σ) (ways X σ) }
+  pub mk-exact : Wf N σ → d < N → ((i j : Bool) → Den σ d (X i j) (part R i j)) → Exact (sppLimits N) (mk X) (λ τ h. Den τ (suc d) h R) σ
+  mk-exact w low D = record { runs = go (mk X σ) (ways X σ); stops = halt (mk X σ) (ways X σ) }
     where
       go : (o : Outcome Table ℕ) → Ways X σ o → Gives (Good (sppTheory N) (mk X) (λ τ h. Den τ (suc d) h R) σ) o
       go o (there k l q) = gives (found σ k (ext-refl σ) w l q D)
       go o (fresh m r) =
           let e : Ext σ (grown X σ) = put-ext (σ .words) (σ .count) X in
-          gives (found (grown X σ) (σ .count) e (wf-ext w e (grown-nodes X (w .nodes) m r)) (omega arith) (put-new (σ .words) (σ .count) X (room-fits _ _ r .0)) D)
+          gives (found (grown X σ) (σ .count) e (grown-wf X σ m r d w low (λ i j. D i j .at)) (omega arith) (put-new (σ .words) (σ .count) X (room-fits _ _ r .0)) D)
       go o (short z) = refusal
 
       halt : (o : Outcome Table ℕ) → Ways X σ o → Stops (sppLimits N) σ o

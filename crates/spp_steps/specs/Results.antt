@@ -24,8 +24,8 @@ use Rattle.spp_steps.specs.Images.{BothWf, bothTheory, SetAt, RelAt, fwd
 -- ---- one relation more
 
 module _ (N : ℕ) {d : ℕ} {σ : Table} (w : Wf N σ) where
-  pub mk-runs : (X : Quad) (R : Relation (suc d)) → ((i j : Bool) → Den σ d (X i j) (part R i j)) → Runs (sppTheory N) (mk X) (λ τ h. Den τ (suc d) h R) σ
-  mk-runs X R D = mk-exact X R w D .runs
+  pub mk-runs : d < N → (X : Quad) (R : Relation (suc d)) → ((i j : Bool) → Den σ d (X i j) (part R i j)) → Runs (sppTheory N) (mk X) (λ τ h. Den τ (suc d) h R) σ
+  mk-runs l X R D = mk-exact X R w l D .runs
 
   module _ (l : d ≤ N) where
     pub test-runs : (f : ℕ) (v : Bool) → f < d → Runs (sppTheory N) (test N d f v) (λ τ h. Den τ d h (testing f v)) σ

@@ -11,7 +11,7 @@ use Rattle.common.specs.Runs.{Table}
 use Rattle.spp_steps.specs.Exact.{Exact, exact-bind, exact-return}
 use Rattle.spp_steps.specs.Model.{quad, kids, zeroAt, oneAt, union, apply, down, Early, done, more, finish, seqExit, product, sequence}
 use Rattle.spp_steps.specs.Relations.{part, compose, compose-part, compose-equal, equal-compose, compose-nothing, nothing-compose}
-use Rattle.spp_steps.specs.Laws.{Wf, Ext, Den, ext-refl, ext-trans, den-ext, den-is, den-kid, den-zero, den-one, agree-path}
+use Rattle.spp_steps.specs.Laws.{Wf, at-low, Ext, Den, ext-refl, ext-trans, den-ext, den-is, den-kid, den-zero, den-one, agree-path}
 use Rattle.spp_steps.specs.Make.{sppLimits, mk-exact, quad-den}
 use Rattle.spp_steps.specs.Apply.{Makes, pointwise, down-exact, apply-exact, by-if, or-cases, by-bits}
 
@@ -71,7 +71,7 @@ product-exact N d f u makes adds σ a b R S w X Y = down-exact d (product f u) (
     exact-bind (sppLimits N) (adds τ9 _ _ _ _ w9 (den-ext (ext-trans g3 e9) D3) (den-ext (ext-trans g4 e9) D4)) (λ τ10 x01 e10 w10 D10. let h10 = ext-trans e9 e10 in
     exact-bind (sppLimits N) (adds τ10 _ _ _ _ w10 (den-ext (ext-trans g5 h10) D5) (den-ext (ext-trans g6 h10) D6)) (λ τ11 x10 e11 w11 D11. let h11 = ext-trans h10 e11 in
     exact-bind (sppLimits N) (adds τ11 _ _ _ _ w11 (den-ext (ext-trans e8 h11) D7) (den-ext h11 D8)) (λ τ12 x11 e12 w12 D12.
-    mk-exact (quad x00 x01 x10 x11) (compose R S) w12
+    mk-exact (quad x00 x01 x10 x11) (compose R S) w12 (at-low w d a (X .at))
     (quad-den (compose R S) (sum false false (den-ext (ext-trans e10 (ext-trans e11 e12)) D9)) (sum false true (den-ext (ext-trans e11 e12) D10))
     (sum true false (den-ext e12 D11)) (sum true true D12)))))))))))))))
   where

@@ -12,7 +12,7 @@ use Rattle.spp_steps.specs.Exact.{Exact, exact-bind, exact-read}
 use Rattle.spp_steps.specs.Model.{quad, kids, zeroAt, oneAt, topAt, union, apply, Early, done, more, starExit, sequence, blocks, under, star}
 use Rattle.spp_steps.specs.Relations.{part, compose}
 use Rattle.spp_steps.specs.Closure.{closure, block, closure-nothing, closure-equal, closure-top, closure-part}
-use Rattle.spp_steps.specs.Laws.{Wf, Den, ext-trans, kids-path, den-ext, den-is, den-kid, den-zero, den-one, den-top, agree-path}
+use Rattle.spp_steps.specs.Laws.{Wf, at-low, Den, ext-trans, kids-path, den-ext, den-is, den-kid, den-zero, den-one, den-top, agree-path}
 use Rattle.spp_steps.specs.Make.{sppLimits, mk-exact, quad-den}
 use Rattle.spp_steps.specs.Apply.{Makes, pointwise, apply-exact, by-if, or-cases}
 use Rattle.spp_steps.specs.Sequence.{Ends, finish-exact, finish-low, sequence-exact}
@@ -60,7 +60,7 @@ blocks-exact N d s f u closes makes adds σ a R w Y =
     exact-bind (sppLimits N) (makes τ8 _ _ _ _ w8 D8 (den-ext g8 D2)) (λ τ9 x10bd* e9 w9 D9. let g9 = ext-trans g8 e9 in
     exact-bind (sppLimits N) (adds τ9 _ _ _ _ w9 (den-ext (ext-trans e2 g9) D1) D9) (λ τ10 x11 e10 w10 D10.
     let h9 = ext-trans e9 e10 in let h7 = ext-trans e7 (ext-trans e8 h9) in
-    mk-exact (quad x00 x01 x10 x11) (closure R) w10
+    mk-exact (quad x00 x01 x10 x11) (closure R) w10 (at-low w d a (Y .at))
     (quad-den (closure R) (entry false false (den-ext (ext-trans e6 h7) D5)) (entry false true (den-ext h7 D6)) (entry true false (den-ext h9 D8)) (entry true true D10)))))))))))))
   where
     X : (i j : Bool) → Den σ d (kids (σ .words) a i j) (part R i j)
