@@ -19,6 +19,11 @@ pub and-true : (a b : Bool) → (a && b) ≡ true → (a ≡ true) × (b ≡ tru
 and-true true b e = (refl, e)
 and-true false b e = let z : _≡_ {A = ℕ} 0 1 = cc in absurd (omega arith)
 
+pub and-false : (a b : Bool) → (a && b) ≡ false → a ≡ true → b ≡ true → ⊥
+and-false true true e p q = let z : _≡_ {A = ℕ} 0 1 = cc in omega arith
+and-false true false e p q = let z : _≡_ {A = ℕ} 0 1 = cc in omega arith
+and-false false b e p q = let z : _≡_ {A = ℕ} 0 1 = cc in omega arith
+
 -- ---- words
 
 pub words-length : (s : List ℕ) (a k : ℕ) → length (words s a k) ≡ k

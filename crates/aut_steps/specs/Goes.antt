@@ -1,9 +1,9 @@
 -- What a step on tables in order leaves: a refusal with its reason, or tables that have grown and are in order, with words 4 to 11 of every state as they were,
 -- and something of its answer. And a new state: what has to hold of it, so that the tables stay in order.
-use mathlib.Core.Path.{_≡_, refl, sym, _∙_, ap, subst}
+use mathlib.Core.Path.{_≡_, refl, sym, _∙_, ap, ap₂, subst}
 use mathlib.Core.Bool.{Bool, true, false}
 use mathlib.Core.List.{List, [], _∷_}
-use Prim.Native.Nat.{ℕ, _+_, _*_, _≤_, _<_}
+use Prim.Native.Nat.{ℕ, suc, _+_, _*_, _≤_, _<_}
 use native.Mathlib.Omega.{arith}
 use lib.Dec.{leb}
 use lib.ListN.{length, getD}
@@ -17,9 +17,11 @@ use Rattle.aut_steps.specs.Tables.{UNION, INTERSECT, words, Limits, stat
 use Rattle.aut_steps.specs.Intern.{nestL}
 use Rattle.aut_steps.specs.Constructors.{sizes}
 use Rattle.aut_steps.specs.Kinds.{form, operandsBy}
-use Rattle.aut_steps.specs.ListLaws.{All, all-map, all-with, all-split}
+use Rattle.aut_steps.specs.ListLaws.{All, all-map}
+use Rattle.aut_steps.specs.Made.{MadeOf}
 use Rattle.aut_steps.specs.Facts.{put4-length, put4-other, put4-kind, put4-op1, put4-op2, put4-nest}
-use Rattle.aut_steps.specs.Good.{states, kind, first, second, nesting, members, ExtM, Grown, grown-refl, grown-trans, grown-nodes, kind-grown, second-grown, members-grown, Ok, United, Meeting, LastSpp, operands, Good, ok-as, ok-grown, operands-grown, nesting-grown}
+use Rattle.aut_steps.specs.Good.{states, kind, first, second, nesting, members, ExtM, Grown, grown-refl, grown-trans, grown-nodes, kind-grown, second-grown, members-grown, Ok, United, Meeting, Made, lengthAs, membersBefore, operands, Good, ok-as, ok-grown, operands-grown, nesting-grown, meeting-grown}
+use Rattle.aut_steps.specs.MadeLaws.{made-at, before-grown, made-kept, packed-kept}
 
 -- words 4 to 11 of every state are as they were
 abbrev pub Memos : Aut → Aut → Type 0
@@ -94,11 +96,15 @@ good-nodes {N} {σ = σ} {t} g e w = record {
   short = g .short;
   unions = g .unions;
   intersects = g .intersects;
+  made = g .made;
+  packed = λ x l a b. packed-kept (grown-nodes {σ = σ} e) g x l a b;
+  counted = g .counted ∙ sym (before-grown (grown-nodes {σ = σ} e) (states σ) (omega arith));
   once = g .once;
 }
 
 -- zeroed tables beside a relation store that is well formed
 pub good-begun : {N : ℕ} {L : Limits} {r : Table} (s m : List ℕ) → Wf N r → ((j : ℕ) → getD s j 0 ≡ 0) → Good N L (aut r (table s 0) (table m 0))
+unfolding membersBefore
 good-begun s m w z = record {
   nodes = w;
   fits = omega arith;
@@ -111,6 +117,9 @@ good-begun s m w z = record {
   short = λ x l. absurd (omega arith);
   unions = λ x l. absurd (omega arith);
   intersects = λ x l. absurd (omega arith);
+  made = λ x l. absurd (omega arith);
+  packed = λ x l. absurd (omega arith);
+  counted = refl;
   once = λ x y l m. absurd (omega arith);
 }
 
@@ -120,23 +129,6 @@ pub unworked : {N : ℕ} {L : Limits} {A : Type 0} {P : Aut → A → Type 0} {�
 unworked g r x w l a b = r .memos x w a b ∙ g .fresh (12 * x + w) (omega arith)
 
 -- ---- a new state
-
-last-grown : {σ τ : Aut} → Grown σ τ → (xs : List ℕ) → All (λ y. y < states σ) xs → LastSpp (σ .states .words) xs → LastSpp (τ .states .words) xs
-last-grown g [] a m = tt
-last-grown g (x ∷ xs) a m = (kind-grown g x (a .0) ∙ m .0, m .1)
-
-meeting-grown : {σ τ : Aut} → Grown σ τ → (xs : List ℕ) → All (λ y. y < states σ) xs → Meeting (σ .states .words) xs → Meeting (τ .states .words) xs
-meeting-grown {σ} {τ} g xs a m =
-    let parts = all-split (λ y. y < states σ) (m .others) (m .last) (subst (All (λ y. y < states σ)) (m .parts) a) in
-    record {
-      others = m .others;
-      last = m .last;
-      parts = m .parts;
-      some = m .some;
-      rising = m .rising;
-      no-spp = all-with (m .others) (λ y l f e. f (sym (kind-grown g y l) ∙ e)) (parts .0) (m .no-spp);
-      spp-last = last-grown g (m .last) (parts .1) (m .spp-last);
-    }
 
 -- what holds of the first n numbers and of n holds of the first n + 1
 one-more : {n : ℕ} (P : ℕ → Type 0) → ((z : ℕ) → z < n → P z) → P n → (z : ℕ) → z < n + 1 → P z
@@ -186,6 +178,9 @@ module _ {N : ℕ} {L : Limits} {σ : Aut} (g : Good N L σ) (k x y e : ℕ) (m�
     pub short : UNION ≤ k → k ≤ INTERSECT → y ≤ L .list
     pub united : k ≡ UNION → United (members plus n)
     pub meeting : k ≡ INTERSECT → Meeting (plus .states .words) (members plus n)
+    pub made : MadeOf N (plus .states .words) k x y (members plus n)
+    pub packed : UNION ≤ k → k ≤ INTERSECT → x ≡ σ .members .count
+    pub counted : m′ .count ≡ σ .members .count + lengthAs k y
     pub new : (z : ℕ) → z < n → kind σ z ≡ k → operandsBy (form {N = N} k) (σ .states .words) (σ .members .words) z ≡ operandsBy (form {N = N} k) (plus .states .words) m′.words n → ⊥
 
   operands-old : (z : ℕ) → z < n → operands N plus z ≡ operands N σ z
@@ -200,8 +195,11 @@ module _ {N : ℕ} {L : Limits} {σ : Aut} (g : Good N L σ) (k x y e : ℕ) (m�
       (ap (λ (j : ℕ). operandsBy (form {N = N} j) (σ .states .words) (σ .members .words) z) (sym s) ∙ sym (operands-old z l) ∙ b
       ∙ ap (λ (j : ℕ). operandsBy (form {N = N} j) (plus .states .words) (m′ .words) n) kind-plus)
 
+  members-before : σ .members .count ≡ membersBefore plus n
+  members-before = g .counted ∙ sym (before-grown grown-plus n (omega arith))
+
   pub good-plus : New → Good N L plus
-  unfolding form
+  unfolding form membersBefore
   good-plus v = record {
     nodes = g .nodes;
     fits = omega (arith, put4-length (σ .states .words) n k x y e);
@@ -228,6 +226,13 @@ module _ {N : ℕ} {L : Limits} {σ : Aut} (g : Good N L σ) (k x y e : ℕ) (m�
         subst (Meeting (plus .states .words)) (sym (members-grown grown-plus z l (o .inside)))
         (meeting-grown grown-plus (members σ z) (all-map (members σ z) (λ u m. omega arith) (o .earlier)) (g .intersects z l s)))
         (λ q. v .meeting (sym kind-plus ∙ q));
+    made = one-more (Made N plus) (made-kept grown-plus g) (made-at kind-plus first-plus second-plus (v .made));
+    packed = one-more (λ z. UNION ≤ kind plus z → kind plus z ≤ INTERSECT → first plus z ≡ membersBefore plus z)
+        (packed-kept grown-plus g)
+        (λ p q. first-plus ∙ v .packed (omega (arith, kind-plus)) (omega (arith, kind-plus)) ∙ members-before);
+    counted =
+        v .counted ∙ ap₂ (λ (a b : ℕ). a + b) members-before (ap₂ lengthAs (sym kind-plus) (sym second-plus))
+        ∙ ap (membersBefore plus) {x = suc n} {y = n + 1} (omega arith);
     once = λ z u a b. one-more (λ z. kind plus z ≡ kind plus u → operands N plus z ≡ operands N plus u → z ≡ u) (λ z l. old z l u b) (new u b) z a;
   }
     where

@@ -1,19 +1,23 @@
 -- Tables in order. The relation store is well formed; the tables fit; past the states in use the words are 0; each state's operands are earlier states, its nesting is 1 + the highest operand's
 -- (0 for SPP, Dup, Top) and at most the limit; lists are among the members, within the limit; Union's ascend without duplicates, Intersect's too, with the SPP member last;
+-- each state is one that its constructor gives; members are without gaps: a list starts where the lists of the states before it end;
 -- no two states are equal; an SPP state's relation is valid at depth N. And when tables have grown: they have all that was there, as it was.
 -- Words 4 to 11 of a state may change later, so of them nothing is said.
 use mathlib.Core.Path.{_≡_, refl, sym, _∙_, ap, ap₂, subst}
 use mathlib.Core.List.{List, [], _∷_, _++_}
-use Prim.Native.Nat.{ℕ, _+_, _*_, _≤_, _<_, max}
+use Prim.Native.Nat.{ℕ, zero, suc, _+_, _*_, _≤_, _<_, max}
 use native.Mathlib.Omega.{arith}
 use native.Mathlib.Nat.{le-trans}
+use lib.Dec.{eqb}
 use lib.ListN.{length, getD}
+use Rattle.common.specs.Outcome.{if_then_else_}
 use Rattle.common.specs.Runs.{Table}
 use Rattle.spp_steps.specs.Laws.{Wf, Ext, At, ext-refl, ext-trans, at-ext}
 use Rattle.aut_steps.specs.Tables.{SPP, UNION, INTERSECT, kindOf, op1, op2, nest, words, listOf, Limits, stateCap, memberCap, Aut, aut}
 use Rattle.aut_steps.specs.Intern.{nestL}
 use Rattle.aut_steps.specs.Kinds.{Form, leaf, constant, one, two, many, nothing, form, operandsBy}
-use Rattle.aut_steps.specs.ListLaws.{All, Rising, all-map}
+use Rattle.aut_steps.specs.Made.{MadeOf}
+use Rattle.aut_steps.specs.ListLaws.{All, Rising, all-map, all-with, all-split}
 use Rattle.aut_steps.specs.Facts.{words-same}
 
 -- ---- the words of a state, in a store
@@ -177,6 +181,19 @@ pub record Meeting (st xs : List ℕ) : Type 0 where
   pub no-spp : All (λ y. kindOf st y ≡ SPP → ⊥) others
   pub spp-last : LastSpp st last
 
+-- state x is as its constructor gives it
+abbrev pub Made : ℕ → Aut → ℕ → Type 0
+Made N σ x = MadeOf N (σ .states .words) (kind σ x) (first σ x) (second σ x) (members σ x)
+
+-- how many members a state of kind k with the second operand c has
+abbrev pub lengthAs : ℕ → ℕ → ℕ
+lengthAs k c = if eqb k UNION then c else if eqb k INTERSECT then c else 0
+
+-- how many the states before x have
+unfoldable pub membersBefore : Aut → ℕ → ℕ
+membersBefore σ zero = 0
+membersBefore σ (suc x) = membersBefore σ x + lengthAs (kind σ x) (second σ x)
+
 abbrev pub operands : ℕ → Aut → ℕ → List ℕ
 operands N σ x = operandsBy (form {N = N} (kind σ x)) (σ .states .words) (σ .members .words) x
 
@@ -192,6 +209,9 @@ pub record Good (N : ℕ) (L : Limits) (σ : Aut) : Type 0 where
   pub short : (x : ℕ) → x < states σ → UNION ≤ kind σ x → kind σ x ≤ INTERSECT → second σ x ≤ L .list
   pub unions : (x : ℕ) → x < states σ → kind σ x ≡ UNION → United (members σ x)
   pub intersects : (x : ℕ) → x < states σ → kind σ x ≡ INTERSECT → Meeting (σ .states .words) (members σ x)
+  pub made : (x : ℕ) → x < states σ → Made N σ x
+  pub packed : (x : ℕ) → x < states σ → UNION ≤ kind σ x → kind σ x ≤ INTERSECT → first σ x ≡ membersBefore σ x
+  pub counted : σ .members .count ≡ membersBefore σ (states σ)
   pub once : (x y : ℕ) → x < states σ → y < states σ → kind σ x ≡ kind σ y → operands N σ x ≡ operands N σ y → x ≡ y
 
 -- a state of a kind is in order as that kind is
@@ -241,3 +261,20 @@ operands-grown g (one c) x l o = ap₂ (λ (a b : ℕ). a ∷ b ∷ []) (first-g
 operands-grown g (two c) x l o = ap₂ (λ (a b : ℕ). a ∷ b ∷ []) (first-grown g x l) (second-grown g x l)
 operands-grown g (many c) x l o = members-grown g x l (o .inside)
 operands-grown g nothing x l o = absurd o
+
+last-grown : {σ τ : Aut} → Grown σ τ → (xs : List ℕ) → All (λ y. y < states σ) xs → LastSpp (σ .states .words) xs → LastSpp (τ .states .words) xs
+last-grown g [] a m = tt
+last-grown g (x ∷ xs) a m = (kind-grown g x (a .0) ∙ m .0, m .1)
+
+pub meeting-grown : {σ τ : Aut} → Grown σ τ → (xs : List ℕ) → All (λ y. y < states σ) xs → Meeting (σ .states .words) xs → Meeting (τ .states .words) xs
+meeting-grown {σ} {τ} g xs a m =
+    let parts = all-split (λ y. y < states σ) (m .others) (m .last) (subst (All (λ y. y < states σ)) (m .parts) a) in
+    record {
+      others = m .others;
+      last = m .last;
+      parts = m .parts;
+      some = m .some;
+      rising = m .rising;
+      no-spp = all-with (m .others) (λ y l f e. f (sym (kind-grown g y l) ∙ e)) (parts .0) (m .no-spp);
+      spp-last = last-grown g (m .last) (parts .1) (m .spp-last);
+    }

@@ -12,12 +12,14 @@ use Rattle.common.specs.Outcome.{Outcome, refused, given, if_then_else_}
 use Rattle.common.specs.Runs.{Table, table, placed}
 use Rattle.spp_steps.specs.Laws.{At, by-test}
 use Rattle.netkat.specs.Rules.{Rule, Rules}
-use Rattle.aut_steps.specs.Tables.{UNION, INTERSECT, op1, op2, words, Limits, roomS, roomM, put4, exprs, Aut, putStates, putExprs, onStates, onExprs, kindOf, memberCap}
+use Rattle.aut_steps.specs.Tables.{UNION, INTERSECT, STAR, op1, op2, words, Limits, roomS, roomM, put4, exprs, Aut, putStates, putExprs, onStates, onExprs, kindOf, memberCap}
 use Rattle.aut_steps.specs.Intern.{seek, same2, sameL, put, intern0, intern1, intern2, nestL, store, putL, internL}
 use Rattle.aut_steps.specs.Kinds.{Form, leaf, constant, one, two, many, nothing, form, operandsBy}
 use Rattle.aut_steps.specs.ListLaws.{All}
+use Rattle.aut_steps.specs.Made.{MadeOf}
 use Rattle.aut_steps.specs.Facts.{seek-hit, seek-miss, Is2, same2-is, is-same2, IsL, sameL-is, is-sameL, sets-below, sets-above, words-sets, room-state, room-members}
-use Rattle.aut_steps.specs.Good.{states, kind, first, second, nesting, members, ExtM, extm-refl, Grown, nesting-grown, nestL-grown, Ok, United, Meeting, Good, kind-grown}
+use Rattle.aut_steps.specs.Good.{states, kind, first, second, nesting, members, ExtM, extm-refl, Grown, nesting-grown, nestL-grown, Ok, United, Meeting, lengthAs, Good, kind-grown}
+use Rattle.aut_steps.specs.MadeLaws.{made-given, made-list, Below, made-grown, none-as}
 use Rattle.aut_steps.specs.Goes.{too-deep, no-state, no-members, Goes, comes, stops-here, goes-return, plus, grown-plus, memos-plus, kind-plus, first-plus, second-plus, nesting-plus, good-plus}
 
 -- state z of τ has this kind and these operands
@@ -51,6 +53,14 @@ module _ {N : ℕ} {L : Limits} {σ : Aut} (g : Good N L σ) where
   -- ---- no list
 
   module _ (k x y e : ℕ) where
+    fit-below : (f : Form N) (xs : List ℕ) → Fit f σ x y e → Below f (states σ) x y xs
+    fit-below leaf xs v = tt
+    fit-below (constant r) xs v = tt
+    fit-below (one c) xs v = v .0
+    fit-below (two c) xs v = (v .0, v .1)
+    fit-below (many c) xs v = absurd v
+    fit-below nothing xs v = absurd v
+
     fit-ok : (f : Form N) (room : 12 * states σ + 11 < length (σ .states .words)) → Fit f σ x y e → Ok f (plus g k x y e (σ .members) (extm-refl (σ .members)) room) (states σ)
     fit-ok f room v = go f v
       where
@@ -84,10 +94,10 @@ module _ {N : ℕ} {L : Limits} {σ : Aut} (g : Good N L σ) where
         go (many c) v = absurd v
         go nothing v = absurd v
 
-    put-goes : Fit (form {N = N} k) σ x y e → e ≤ L .nesting → states σ ≤ seek (same2 (σ .states .words) k x y) 0 (states σ)
+    put-goes : Fit (form {N = N} k) σ x y e → ((xs : List ℕ) → MadeOf N (σ .states .words) k x y xs) → e ≤ L .nesting → states σ ≤ seek (same2 (σ .states .words) k x y) 0 (states σ)
         → Goes N L (State2 k x y) σ (placed putStates σ (put k x y e (σ .states)))
     unfolding put form
-    put-goes v d miss = go (roomS (σ .states)) refl
+    put-goes v made d miss = go (roomS (σ .states)) refl
       where
         no-list : UNION ≤ k → k ≤ INTERSECT → ⊥
         no-list a b =
@@ -115,6 +125,9 @@ module _ {N : ℕ} {L : Limits} {σ : Aut} (g : Good N L σ) where
                 short = λ a b. absurd (no-list a b);
                 united = λ u. absurd (subst (λ (j : ℕ). Fit (form {N = N} j) σ x y e) u v);
                 meeting = λ u. absurd (subst (λ (j : ℕ). Fit (form {N = N} j) σ x y e) u v);
+                made = made-grown (grown-plus g k x y e (σ .members) m room) k x y _ (fit-below (form k) _ v) (made _);
+                packed = λ a b. absurd (no-list a b);
+                counted = omega (arith, none-as k y no-list);
                 new = λ z l a b.
                     let st : List ℕ = plus g k x y e (σ .members) m room .states .words in
                     let c : op1 (σ .states .words) z ∷ op2 (σ .states .words) z ∷ [] ≡ op1 st (states σ) ∷ op2 st (states σ) ∷ [] =
@@ -153,22 +166,23 @@ module _ {N : ℕ} {L : Limits} {σ : Aut} (g : Good N L σ) where
       go true q = stops-here g (too-deep xs a (omega (arith, ltb-true (L .nesting) e q)))
       go false q = f (ltb-false (L .nesting) e q)
 
-  pub intern0-goes : (k x : ℕ) → Fit (form {N = N} k) σ x 0 0 → Goes N L (State2 k x 0) σ (onStates (intern0 k x) σ)
+  pub intern0-goes : (k x : ℕ) → (UNION ≤ k → STAR < k) → Fit (form {N = N} k) σ x 0 0 → Goes N L (State2 k x 0) σ (onStates (intern0 k x) σ)
   unfolding intern0
-  intern0-goes k x v = find k x 0 (put k x 0 0 (σ .states)) (put-goes k x 0 0 v (omega arith))
+  intern0-goes k x f v = find k x 0 (put k x 0 0 (σ .states)) (put-goes k x 0 0 v (λ xs. made-given f) (omega arith))
 
-  pub intern1-goes : (k x : ℕ) → x < states σ → Fit (form {N = N} k) σ x 0 (nesting σ x + 1) → Goes N L (State2 k x 0) σ (onStates (intern1 L k x) σ)
+  pub intern1-goes : (k x : ℕ) → ((xs : List ℕ) → MadeOf N (σ .states .words) k x 0 xs) → x < states σ → Fit (form {N = N} k) σ x 0 (nesting σ x + 1) → Goes N L (State2 k x 0) σ (onStates (intern1 L k x) σ)
   unfolding intern1 nestL
-  intern1-goes k x l v = find k x 0 _ (λ m. deep putStates (x ∷ []) (nesting σ x + 1) _ (l, tt) (omega arith) (λ d. put-goes k x 0 (nesting σ x + 1) v d m))
+  intern1-goes k x made l v = find k x 0 _ (λ m. deep putStates (x ∷ []) (nesting σ x + 1) _ (l, tt) (omega arith) (λ d. put-goes k x 0 (nesting σ x + 1) v made d m))
 
-  pub intern2-goes : (k x y : ℕ) → x < states σ → y < states σ → Fit (form {N = N} k) σ x y (max (nesting σ x) (nesting σ y) + 1) → Goes N L (State2 k x y) σ (onStates (intern2 L k x y) σ)
+  pub intern2-goes : (k x y : ℕ) → ((xs : List ℕ) → MadeOf N (σ .states .words) k x y xs) → x < states σ → y < states σ → Fit (form {N = N} k) σ x y (max (nesting σ x) (nesting σ y) + 1) → Goes N L (State2 k x y) σ (onStates (intern2 L k x y) σ)
   unfolding intern2 nestL
-  intern2-goes k x y l l′ v = find k x y _ (λ m. deep putStates (x ∷ y ∷ []) (max (nesting σ x) (nesting σ y) + 1) _ (l, (l′, tt)) (omega arith) (λ d. put-goes k x y (max (nesting σ x) (nesting σ y) + 1) v d m))
+  intern2-goes k x y made l l′ v = find k x y _ (λ m. deep putStates (x ∷ y ∷ []) (max (nesting σ x) (nesting σ y) + 1) _ (l, (l′, tt)) (omega arith) (λ d. put-goes k x y (max (nesting σ x) (nesting σ y) + 1) v made d m))
 
   -- ---- a list
 
   module _ (k : ℕ) (c : Rules N → Rule N) (q : form {N = N} k ≡ many c) (xs : List ℕ) (a : All (λ x. x < states σ) xs) (few : length xs ≤ L .list)
-      (united : k ≡ UNION → United xs) (meeting : k ≡ INTERSECT → (st : List ℕ) → ((y : ℕ) → y < states σ → kindOf st y ≡ kind σ y) → Meeting st xs) where
+      (united : k ≡ UNION → United xs) (meeting : k ≡ INTERSECT → (st : List ℕ) → ((y : ℕ) → y < states σ → kindOf st y ≡ kind σ y) → Meeting st xs)
+      (made : (x y : ℕ) → MadeOf N (σ .states .words) k x y xs) (whole : (n : ℕ) → lengthAs k n ≡ n) where
     abbrev nm : ℕ
     nm = σ .members .count
 
@@ -218,6 +232,9 @@ module _ {N : ℕ} {L : Limits} {σ : Aut} (g : Good N L σ) where
                 short = λ _ _. few;
                 united = λ u. subst United (sym list) (united u);
                 meeting = λ u. subst (Meeting (τ .states .words)) (sym list) (meeting u (τ .states .words) (λ y l. kind-grown gr y l));
+                made = made-list (λ _ _. list) (made-grown gr k nm (length xs) xs (subst (λ (f : Form N). Below f (states σ) nm (length xs) xs) (sym q) a) (made nm (length xs)));
+                packed = λ _ _. refl;
+                counted = omega (arith, whole (length xs));
                 new = λ z l p b.
                     let old : members σ z ≡ xs =
                     ap (λ (f : Form N). operandsBy f (σ .states .words) (σ .members .words) z) (sym q) ∙ b

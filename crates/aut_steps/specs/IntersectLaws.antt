@@ -2,13 +2,13 @@
 use mathlib.Core.Path.{_≡_, refl, sym, _∙_, ap, subst}
 use mathlib.Core.Bool.{Bool, true, false, _&&_}
 use mathlib.Core.List.{List, [], _∷_, _++_, append-nil}
-use mathlib.Core.Logic.{_↔_, _⊎_, inl, inr}
+use mathlib.Core.Logic.{_↔_, _≢_, _⊎_, inl, inr}
 use Prim.Native.Nat.{ℕ, zero, suc, _+_, _≤_, _<_}
 use native.Mathlib.Omega.{arith}
 use native.Mathlib.Nat.{one-mul}
 use lib.Dec.{T, eqb, ltb, leb}
 use lib.ListN.{length, getD, length-append}
-use borrow.Author.Tests.{eqb-true, eqb-false, ltb-true, leb-true, leb-false}
+use borrow.Author.Tests.{eqb-true, eqb-false, eq-eqb, ltb-true, leb-true, leb-false}
 use Rattle.common.specs.Packets.{Packet, Relation}
 use Rattle.common.specs.Outcome.{return, _>>=_, if_then_else_}
 use Rattle.common.specs.Runs.{placed}
@@ -23,13 +23,15 @@ use Rattle.aut_steps.specs.Kinds.{form}
 use Rattle.aut_steps.specs.ListLaws.{one-if, All, all-map, all-append, all-split, st-singleton, all-sorted, sorted-length, sorted-rising, all-with}
 use Rattle.aut_steps.specs.Languages.{_so_, back, same, sum-same, sum-assoc, sum-none, none-sum, _≈_, _then_, Rel, Both, both-rel, rel-same}
 use Rattle.aut_steps.specs.RelationLaws.{Makes, intersect-made}
-use Rattle.aut_steps.specs.Facts.{and-true}
+use Rattle.aut_steps.specs.Facts.{and-true, and-false}
+use Rattle.aut_steps.specs.Made.{Part}
+use Rattle.aut_steps.specs.MadeLaws.{made-intersect}
 use Rattle.aut_steps.specs.Good.{states, kind, first, members, Grown, grown-refl, kind-grown, state-grown, states-grown, Meeting, Good}
 use Rattle.aut_steps.specs.Goes.{long-list, many-products, Goes, stops-here, goes-return, goes-bind, goes-map, choose, branch, branch-in, nodes-after, placed-map}
 use Rattle.aut_steps.specs.InternLaws.{internL-goes}
 use Rattle.aut_steps.specs.Meaning.{Holds, HoldsSome, HoldsAll, Is, is-same, holds-spp, holds-top, holds-intersect}
 use Rattle.aut_steps.specs.StateLaws.{nodes-goes, handle, spp-state, mk-spp-goes, zero-goes, mk-top-goes, spp-of-goes, both-spp}
-use Rattle.aut_steps.specs.UnionLaws.{Alike, alike-grown, alike-self, Extended, fits, passes, extended, all-grown, some-grown, opened-states, some-append, mk-union-n-goes}
+use Rattle.aut_steps.specs.UnionLaws.{Alike, alike-grown, alike-self, kinds-grown, Plain, plain-parts, relation-part, Extended, fits, passes, extended, all-grown, some-grown, opened-states, some-append, mk-union-n-goes}
 use Rattle.aut_steps.specs.Products.{counted, passed, product-states, in-product, sizes-grown, product-grown}
 
 -- ---- products of types
@@ -66,19 +68,27 @@ module _ {N : ℕ} {L : Limits} {σ : Aut} (g : Good N L σ) where
   all-both : (xs ys : List ℕ) (u : Str N) → HoldsAll N σ (xs ++ ys) u ↔ (HoldsAll N σ xs u × HoldsAll N σ ys u)
   all-both xs ys u = (all-split (λ x. Holds N σ x u) xs ys, λ (a, b). all-append (λ x. Holds N σ x u) xs ys a b)
 
+  opened-other : (x : ℕ) → x < states σ → All (λ y. kind σ y ≢ INTERSECT) (opened INTERSECT (σ .states .words) (σ .members .words) x)
+  unfolding opened
+  opened-other x l = go (eqb (kind σ x) INTERSECT) refl
+    where
+      go : (b : Bool) → eqb (kind σ x) INTERSECT ≡ b → All (λ y. kind σ y ≢ INTERSECT) (if b then members σ x else x ∷ [])
+      go true e = all-map (members σ x) (λ y p. p .other) (g .made x l .intersect (eqb-true (kind σ x) INTERSECT e))
+      go false e = (eqb-false (kind σ x) INTERSECT e, tt)
+
   abbrev Opens : ℕ → List ℕ → List ℕ → Within (List ℕ) → Type 0
-  Opens most xs acc (within ys) = All (λ y. y < states σ) ys × (length ys ≤ most) × (HoldsAll N σ ys ≈ Both (HoldsAll N σ acc) (HoldsAll N σ xs))
+  Opens most xs acc (within ys) = All (λ y. y < states σ) ys × All (λ y. kind σ y ≢ INTERSECT) ys × (length ys ≤ most) × (HoldsAll N σ ys ≈ Both (HoldsAll N σ acc) (HoldsAll N σ xs))
   Opens most xs acc beyond = (zs : List ℕ) × All (λ z. z < states σ) zs × (most < length zs)
 
   opens-more : (most x : ℕ) (xs acc acc′ : List ℕ) → HoldsAll N σ acc′ ≈ Both (HoldsAll N σ acc) (Holds N σ x) → (o : Within (List ℕ)) → Opens most xs acc′ o → Opens most (x ∷ xs) acc o
-  opens-more most x xs acc acc′ e (within ys) (a, l, f) = (a, l, λ u. f u so both-same (e u) same so back both-assoc)
+  opens-more most x xs acc acc′ e (within ys) (a, b, l, f) = (a, b, l, λ u. f u so both-same (e u) same so back both-assoc)
   opens-more most x xs acc acc′ e beyond o = o
 
-  open-all : (most : ℕ) (xs acc : List ℕ) → All (λ x. x < states σ) xs → All (λ x. x < states σ) acc → length acc ≤ most
+  open-all : (most : ℕ) (xs acc : List ℕ) → All (λ x. x < states σ) xs → All (λ x. x < states σ) acc → All (λ x. kind σ x ≢ INTERSECT) acc → length acc ≤ most
       → Opens most xs acc (openAll most (σ .states .words) (σ .members .words) xs acc)
   unfolding openAll form
-  open-all most [] acc a b l = (b, l, λ u. back both-unit)
-  open-all most (x ∷ xs) acc a b l = at-room (λ acc′ c k. open-all most xs acc′ (a .1) c k) (extended most acc ys)
+  open-all most [] acc a b d l = (b, d, l, λ u. back both-unit)
+  open-all most (x ∷ xs) acc a b d l = at-room (λ acc′ c e k. open-all most xs acc′ (a .1) c e k) (extended most acc ys)
     where
       ys : List ℕ
       ys = opened INTERSECT (σ .states .words) (σ .members .words) x
@@ -86,12 +96,12 @@ module _ {N : ℕ} {L : Limits} {σ : Aut} (g : Good N L σ) where
       all : All (λ x. x < states σ) (acc ++ ys)
       all = all-append (λ x. x < states σ) acc ys b (opened-states g INTERSECT intersection refl x (a .0))
 
-      at-room : ((acc′ : List ℕ) → All (λ x. x < states σ) acc′ → length acc′ ≤ most → Opens most xs acc′ (openAll most (σ .states .words) (σ .members .words) xs acc′))
+      at-room : ((acc′ : List ℕ) → All (λ x. x < states σ) acc′ → All (λ x. kind σ x ≢ INTERSECT) acc′ → length acc′ ≤ most → Opens most xs acc′ (openAll most (σ .states .words) (σ .members .words) xs acc′))
           → {o : Within (List ℕ)} → Extended most (acc ++ ys) o → Opens most (x ∷ xs) acc (thenWithin o (openAll most (σ .states .words) (σ .members .words) xs))
       at-room ih (fits k) =
           opens-more most x xs acc (acc ++ ys) (λ u. all-both acc ys u so both-same same (opened-all x (a .0) u))
           (openAll most (σ .states .words) (σ .members .words) xs (acc ++ ys))
-          (ih (acc ++ ys) all k)
+          (ih (acc ++ ys) all (all-append (λ x. kind σ x ≢ INTERSECT) acc ys d (opened-other x (a .0))) k)
       at-room ih (passes k) = (acc ++ ys, all, k)
 
 -- ---- the relations intersected, and the other members
@@ -103,7 +113,7 @@ When false A u = Unit {0}
 record MetOk (N : ℕ) (τ : Aut) (p : Met) : Type 0 where
   handle : At (τ .nodes) N (p .relation)
   others : All (λ x. x < states τ) (p .others)
-  no-spp : All (λ x. kind τ x ≡ SPP → ⊥) (p .others)
+  plain : All (λ x. Plain INTERSECT (kind τ x)) (p .others)
   -- with no relation so far it is the top
   top : p .some ≡ false → (a b : Packet N) → Spp.pairs N (τ .nodes) (p .relation) a b ≡ true
 
@@ -124,32 +134,29 @@ when-rel : {N : ℕ} (b : Bool) (R S : Relation N) → (b ≡ false → (p q : P
 when-rel true R S f u = back (both-rel R S u)
 when-rel false R S f u = rel-same (λ p q. ap (λ (b : Bool). b && S p q) (f refl p q)) u so back (unit-both tt)
 
-no-spp-grown : {σ τ : Aut} → Grown σ τ → (xs : List ℕ) → All (λ x. x < states σ) xs → All (λ x. kind σ x ≡ SPP → ⊥) xs → All (λ x. kind τ x ≡ SPP → ⊥) xs
-no-spp-grown w xs a b = all-with xs (λ x l f e. f (sym (kind-grown w x l) ∙ e)) a b
-
 module _ {N : ℕ} {L : Limits} where
-  meet-one : {σ : Aut} → Good N L σ → (st : List ℕ) (x : ℕ) → Alike st σ x → (p : Met) → MetOk N σ p → Goes N L (Gathered N σ (x ∷ []) p) σ (onNodes (meetOne N st x p) σ)
+  meet-one : {σ : Aut} → Good N L σ → (st : List ℕ) (x : ℕ) → Alike st σ x → kind σ x ≢ INTERSECT → (p : Met) → MetOk N σ p → Goes N L (Gathered N σ (x ∷ []) p) σ (onNodes (meetOne N st x p) σ)
   unfolding meetOne
-  meet-one {σ} g st x r p o =
+  meet-one {σ} g st x r d p o =
       branch-in putNodes σ (eqb (kindOf st x) TOP) _ _ (σ .nodes)
       (λ q. let e : kind σ x ≡ TOP = sym (r .kind-is) ∙ eqb-true (kindOf st x) TOP q in
       goes-return p g (record { ok = o; few = omega arith; strings = λ u. back both-unit so both-same same (back both-unit so both-same (back (holds-top g (r .state) e u)) same) }))
-      (λ _. branch-in putNodes σ (eqb (kindOf st x) SPP) _ _ (σ .nodes)
+      (λ t. branch-in putNodes σ (eqb (kindOf st x) SPP) _ _ (σ .nodes)
       (λ q. let e : kind σ x ≡ SPP = sym (r .kind-is) ∙ eqb-true (kindOf st x) SPP q in
       placed-map putNodes σ (Spp.intersect N (p .relation) (op1 st x) (σ .nodes)) (λ h. met true h (p .others))
       (nodes-goes g (subst (λ (h : ℕ). Makes N (λ a b. Spp.pairs N (σ .nodes) (p .relation) a b && Spp.pairs N (σ .nodes) (first σ x) a b) (σ .nodes) (Spp.intersect N (p .relation) h (σ .nodes))) (sym (r .first-is))
       (intersect-made N (σ .nodes) (g .nodes) (p .relation) (first σ x) (o .handle) (handle g (r .state) e))))
-      (λ τ h w v d. record {
+      (λ τ h w v m. record {
         ok = record {
-          handle = d .at;
+          handle = m .at;
           others = states-grown w (p .others) (o .others);
-          no-spp = no-spp-grown w (p .others) (o .others) (o .no-spp);
+          plain = kinds-grown w (Plain INTERSECT) (p .others) (o .others) (o .plain);
           top = λ q. let z : _≡_ {A = ℕ} 0 1 = cc in absurd (omega arith);
         };
         few = omega arith;
         strings = λ u.
             both-same
-            (rel-same (d .means) u so when-rel (p .some) (Spp.pairs N (σ .nodes) (p .relation)) (Spp.pairs N (σ .nodes) (first σ x)) (o .top) u so both-same same (back (holds-spp g (r .state) e u)))
+            (rel-same (m .means) u so when-rel (p .some) (Spp.pairs N (σ .nodes) (p .relation)) (Spp.pairs N (σ .nodes) (first σ x)) (o .top) u so both-same same (back (holds-spp g (r .state) e u)))
             (all-grown g w (p .others) (o .others) u)
             so both-swap so both-same same (back both-unit);
       }))
@@ -157,20 +164,21 @@ module _ {N : ℕ} {L : Limits} where
         ok = record {
           handle = o .handle;
           others = all-append (λ y. y < states σ) (p .others) (x ∷ []) (o .others) (r .state, tt);
-          no-spp = all-append (λ y. kind σ y ≡ SPP → ⊥) (p .others) (x ∷ []) (o .no-spp) (λ e. eqb-false (kindOf st x) SPP n (r .kind-is ∙ e), tt);
+          plain = all-append (λ y. Plain INTERSECT (kind σ y)) (p .others) (x ∷ []) (o .plain)
+              ((λ e. eqb-false (kindOf st x) SPP n (r .kind-is ∙ e), d, λ e. eqb-false (kindOf st x) TOP t (r .kind-is ∙ e)), tt);
           top = o .top;
         };
         few = omega (arith, length-append (p .others) (x ∷ []));
         strings = λ u. both-same same (all-both g (p .others) (x ∷ []) u) so both-assoc;
       })))
 
-  meet-each : {σ : Aut} → Good N L σ → (st xs : List ℕ) → All (Alike st σ) xs → (p : Met) → MetOk N σ p → Goes N L (Gathered N σ xs p) σ (onNodes (each (meetOne N st) xs p) σ)
+  meet-each : {σ : Aut} → Good N L σ → (st xs : List ℕ) → All (Alike st σ) xs → All (λ x. kind σ x ≢ INTERSECT) xs → (p : Met) → MetOk N σ p → Goes N L (Gathered N σ xs p) σ (onNodes (each (meetOne N st) xs p) σ)
   unfolding each
-  meet-each g st [] r p o = goes-return p g (record { ok = o; few = omega arith; strings = λ u. back both-unit })
-  meet-each {σ} g st (x ∷ xs) r p o =
+  meet-each g st [] r d p o = goes-return p g (record { ok = o; few = omega arith; strings = λ u. back both-unit })
+  meet-each {σ} g st (x ∷ xs) r d p o =
       nodes-after σ (meetOne N st x p (σ .nodes)) (each (meetOne N st) xs)
-      (goes-bind (meet-one g st x (r .0) p o) (λ τ p′ w v a.
-      goes-map (meet-each v st xs (alike-grown st w xs (r .1)) p′ (a .ok)) (λ υ p″ w′ v′ b. record {
+      (goes-bind (meet-one g st x (r .0) (d .0) p o) (λ τ p′ w v a.
+      goes-map (meet-each v st xs (alike-grown st w xs (r .1)) (kinds-grown w (λ j. j ≢ INTERSECT) xs (all-map xs (λ y s. s .state) (r .1)) (d .1)) p′ (a .ok)) (λ υ p″ w′ v′ b. record {
         ok = b .ok;
         few = omega (arith, a .few, b .few);
         strings = λ u.
@@ -189,12 +197,13 @@ record Listed (N : ℕ) (σ : Aut) (p : Met) (τ : Aut) (ys : List ℕ) : Type 0
   all : All (λ y. y < states τ) ys
   few : length ys ≤ size p
   meeting : (st : List ℕ) → ((y : ℕ) → y < states τ → kindOf st y ≡ kind τ y) → Meeting st ys
+  parts : All (Part N (τ .states .words) INTERSECT) ys
   strings : HoldsAll N τ ys ≈ Cut N σ p
 
 module _ {N : ℕ} {L : Limits} where
-  add-last : {σ : Aut} → Good N L σ → (p : Met) → MetOk N σ p → 1 ≤ length (sorted (p .others)) → Goes N L (Listed N σ p) σ (onStates (addLast p (sorted (p .others))) σ)
+  add-last : {σ : Aut} → Good N L σ → (p : Met) → MetOk N σ p → (p .some ≡ true → p .relation ≢ Spp.zeroAt N) → 1 ≤ length (sorted (p .others)) → Goes N L (Listed N σ p) σ (onStates (addLast p (sorted (p .others))) σ)
   unfolding addLast
-  add-last {σ} g p o some = go (p .some) refl
+  add-last {σ} g p o nonzero some = go (p .some) refl
     where
       xs : List ℕ
       xs = sorted (p .others)
@@ -202,14 +211,14 @@ module _ {N : ℕ} {L : Limits} where
       states-xs : All (λ y. y < states σ) xs
       states-xs = all-sorted (λ y. y < states σ) (p .others) .0 (o .others)
 
-      no-spp-xs : All (λ y. kind σ y ≡ SPP → ⊥) xs
-      no-spp-xs = all-sorted (λ y. kind σ y ≡ SPP → ⊥) (p .others) .0 (o .no-spp)
+      plain-xs : All (λ y. Plain INTERSECT (kind σ y)) xs
+      plain-xs = all-sorted (λ y. Plain INTERSECT (kind σ y)) (p .others) .0 (o .plain)
 
       holds-xs : (u : Str N) → HoldsAll N σ xs u ↔ HoldsAll N σ (p .others) u
       holds-xs u = back (all-sorted (λ y. Holds N σ y u) (p .others))
 
       no-spp-in : {τ : Aut} → Grown σ τ → (st : List ℕ) → ((y : ℕ) → y < states τ → kindOf st y ≡ kind τ y) → All (λ y. kindOf st y ≡ SPP → ⊥) xs
-      no-spp-in w st f = all-with xs (λ y l n e. n (sym (kind-grown w y l) ∙ sym (f y (state-grown w l)) ∙ e)) states-xs no-spp-xs
+      no-spp-in w st f = all-with xs (λ y l n e. n .0 (sym (kind-grown w y l) ∙ sym (f y (state-grown w l)) ∙ e)) states-xs plain-xs
 
       when-true : p .some ≡ true → (u : Str N) → Rel (Spp.pairs N (σ .nodes) (p .relation)) u ↔ When (p .some) (Rel (Spp.pairs N (σ .nodes) (p .relation))) u
       when-true e u = subst (λ (b : Bool). Rel (Spp.pairs N (σ .nodes) (p .relation)) u ↔ When b (Rel (Spp.pairs N (σ .nodes) (p .relation))) u) (sym e) same
@@ -227,8 +236,10 @@ module _ {N : ℕ} {L : Limits} where
               some = some;
               rising = sorted-rising (p .others);
               no-spp = no-spp-in w st f;
-              spp-last = (f i (s .state) ∙ k, refl);
+              spp-last = (f i (s .state) ∙ k .0, refl);
             };
+            parts = all-append (Part N (τ .states .words) INTERSECT) xs (i ∷ []) (plain-parts N (τ .states .words) INTERSECT xs (kinds-grown w (Plain INTERSECT) xs states-xs plain-xs))
+                (relation-part N (τ .states .words) INTERSECT i (p .relation) (λ e. omega arith) k (nonzero q), tt);
             strings = λ u.
                 all-both v xs (i ∷ []) u so both-same (all-grown g w xs states-xs u so holds-xs u) (both-unit so s .strings u so when-true q u) so both-turn;
           })
@@ -244,6 +255,7 @@ module _ {N : ℕ} {L : Limits} where
           no-spp = no-spp-in (grown-refl σ) st f;
           spp-last = tt;
         };
+        parts = plain-parts N (σ .states .words) INTERSECT xs plain-xs;
         strings = λ u. holds-xs u so back (unit-both (when-false q u));
       })
         where
@@ -256,13 +268,14 @@ module _ {N : ℕ} {L : Limits} where
       branch (p .some && eqb (p .relation) (Spp.zeroAt N)) _ _
       (λ q. let (s, z) = and-true (p .some) (eqb (p .relation) (Spp.zeroAt N)) q in
       goes-map (zero-goes g) (λ τ i w v s′. is-same (λ u. (λ x. absurd x, λ (r, h). none s z u r)) s′))
-      (λ _. branch (eqb (length xs) 0) _ _
+      (λ nz. branch (eqb (length xs) 0) _ _
       (λ q. branch-in putStates σ (p .some) (mk-spp (p .relation)) mk-top (σ .states)
       (λ s. goes-map (mk-spp-goes g (den-mem (o .handle))) (λ τ i w v s′. is-same (λ u. back both-unit so both-same (when s u) (empty (eqb-true (length xs) 0 q) u)) s′))
       (λ s. goes-map (mk-top-goes g) (λ τ i w v s′. is-same (λ u. back both-unit so both-same (when s u) (empty (eqb-true (length xs) 0 q) u)) s′)))
-      (λ n. goes-bind (add-last g p o (some (length xs) (eqb-false (length xs) 0 n))) (λ τ ys w v l.
+      (λ n. goes-bind (add-last g p o (λ s e. and-false (p .some) (eqb (p .relation) (Spp.zeroAt N)) nz s (eq-eqb (p .relation) (Spp.zeroAt N) e)) (some (length xs) (eqb-false (length xs) 0 n))) (λ τ ys w v l.
       goes-map
-      (internL-goes v INTERSECT intersection refl ys (l .all) (omega (arith, l .few)) (λ e. let z : _≡_ {A = ℕ} 3 2 = e in absurd (omega arith)) (λ _. l .meeting))
+      (internL-goes v INTERSECT intersection refl ys (l .all) (omega (arith, l .few)) (λ e. let z : _≡_ {A = ℕ} 3 2 = e in absurd (omega arith)) (λ _. l .meeting)
+      (λ _ _. made-intersect (l .parts)) (λ n. refl))
       (λ υ z w′ v′ s. record {
         state = s .state;
         strings = λ u.
@@ -291,20 +304,20 @@ module _ {N : ℕ} {L : Limits} where
       empty : length xs ≡ 0 → (u : Str N) → Unit {0} ↔ HoldsAll N σ (p .others) u
       empty e u = (λ _. all-sorted (λ y. Holds N σ y u) (p .others) .1 (nothing xs e u), λ _. tt)
 
-  meet-goes : {σ : Aut} → Good N L σ → (xs : List ℕ) → All (λ x. x < states σ) xs → length xs ≤ L .list → Goes N L (Is N (HoldsAll N σ xs)) σ (meet N L xs σ)
+  meet-goes : {σ : Aut} → Good N L σ → (xs : List ℕ) → All (λ x. x < states σ) xs → All (λ x. kind σ x ≢ INTERSECT) xs → length xs ≤ L .list → Goes N L (Is N (HoldsAll N σ xs)) σ (meet N L xs σ)
   unfolding meet
-  meet-goes {σ} g xs a few =
+  meet-goes {σ} g xs a d few =
       let t = den-top (g .nodes) N (omega arith) in
-      goes-bind (meet-each g (σ .states .words) xs (alike-self σ xs a) (met false (Spp.topAt N) []) (record { handle = t .at; others = tt; no-spp = tt; top = λ _. t .means })) (λ τ p w v b.
+      goes-bind (meet-each g (σ .states .words) xs (alike-self σ xs a) d (met false (Spp.topAt N) []) (record { handle = t .at; others = tt; plain = tt; top = λ _. t .means })) (λ τ p w v b.
       goes-map (meet-finish v p (b .ok) (omega (arith, b .few))) (λ υ z w′ v′ s. is-same (λ u. b .strings u so unit-both (tt, tt)) s))
 
   pub mk-intersect-n-base-goes : {σ : Aut} → Good N L σ → (xs : List ℕ) → All (λ x. x < states σ) xs → Goes N L (Is N (HoldsAll N σ xs)) σ (mk-intersect-n-base N L xs σ)
   unfolding mk-intersect-n-base
-  mk-intersect-n-base-goes {σ} g xs a = go (openAll (L .list) (σ .states .words) (σ .members .words) xs []) (open-all g (L .list) xs [] a tt (omega arith))
+  mk-intersect-n-base-goes {σ} g xs a = go (openAll (L .list) (σ .states .words) (σ .members .words) xs []) (open-all g (L .list) xs [] a tt tt (omega arith))
     where
       go : (o : Within (List ℕ)) → Opens g (L .list) xs [] o → Goes N L (Is N (HoldsAll N σ xs)) σ (meetOpened N L o σ)
       go beyond (zs, c, l) = stops-here g (long-list zs c l)
-      go (within ys) (b, l, e) = goes-map (meet-goes g ys b l) (λ τ z w v s. is-same (λ u. e u so unit-both tt) s)
+      go (within ys) (b, d, l, e) = goes-map (meet-goes g ys b d l) (λ τ z w v s. is-same (λ u. e u so unit-both tt) s)
 
   -- ---- distributing over unions
 
@@ -355,7 +368,7 @@ module _ {N : ℕ} {L : Limits} where
         state = (subst (All (λ x. x < states σ)) e a) .0;
         strings = λ u. back both-unit so subst (λ (l : List ℕ). HoldsAll N σ (getD xs 0 0 ∷ []) u ↔ HoldsAll N σ l u) (sym e) same;
       }))
-      (λ _. opening (openAll (L .list) (σ .states .words) (σ .members .words) xs []) (open-all g (L .list) xs [] a tt (omega arith))))
+      (λ _. opening (openAll (L .list) (σ .states .words) (σ .members .words) xs []) (open-all g (L .list) xs [] a tt tt (omega arith))))
     where
       spread : (ys : List ℕ) → All (λ y. y < states σ) ys → (o : Within ℕ) → countAll (L .products) (σ .states .words) ys 1 ≡ o → Goes N L (Is N (HoldsAll N σ ys)) σ (distribute N L ys o σ)
       spread ys b beyond q = stops-here g (many-products ys b (omega (arith, passed g (L .products) ys b 1 q, one-mul (sizes (σ .states .words) ys))))
@@ -369,7 +382,7 @@ module _ {N : ℕ} {L : Limits} where
 
       opening : (o : Within (List ℕ)) → Opens g (L .list) xs [] o → Goes N L (Is N (HoldsAll N σ xs)) σ (intersectOpened N L o σ)
       opening beyond (zs, c, l) = stops-here g (long-list zs c l)
-      opening (within ys) (b, l, e) = goes-map (spread ys b (countAll (L .products) (σ .states .words) ys 1) refl) (λ τ z w v s. is-same (λ u. e u so unit-both tt) s)
+      opening (within ys) (b, d, l, e) = goes-map (spread ys b (countAll (L .products) (σ .states .words) ys 1) refl) (λ τ z w v s. is-same (λ u. e u so unit-both tt) s)
 
   pub mk-intersect-goes : {σ : Aut} → Good N L σ → {x y : ℕ} → x < states σ → y < states σ → Goes N L (Is N (Both (Holds N σ x) (Holds N σ y))) σ (mk-intersect N L x y σ)
   unfolding mk-intersect

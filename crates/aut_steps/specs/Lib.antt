@@ -11,7 +11,9 @@ pub mod ListLaws
 pub mod Facts
 pub mod Scratch
 pub mod Kinds
+pub mod Made
 pub mod Good
+pub mod MadeLaws
 pub mod Goes
 pub mod InternLaws
 pub mod Languages

@@ -5,7 +5,7 @@ use mathlib.Core.Bool.{Bool, true, false, _&&_}
 use Prim.Native.Nat.{ℕ, zero, suc, _≤_, _<_}
 use native.Mathlib.Omega.{arith}
 use lib.Dec.{eqb}
-use borrow.Author.Tests.{eqb-true}
+use borrow.Author.Tests.{eqb-true, eqb-false, eq-eqb}
 use Rattle.common.specs.Packets.{Packet, Relation}
 use Rattle.common.specs.Outcome.{Outcome, refused, given, Step, return, after, if_then_else_}
 use Rattle.netkat.specs.Rules.{In, Join, sequence}
@@ -18,11 +18,13 @@ use Rattle.aut_steps.specs.Constructors.{mk-spp, mk-top, spp-of, relatio
 use Rattle.aut_steps.specs.Kinds.{form}
 use Rattle.aut_steps.specs.Languages.{same, _≈_, ≈-sym, _then_, Rel, rel-same, rel-none, join-same, join-rel, join-assoc, join-one-left, join-one-right, join-none-left, join-none-right, join-whole}
 use Rattle.aut_steps.specs.RelationLaws.{sequence-made}
-use Rattle.aut_steps.specs.Facts.{and-true}
+use Rattle.aut_steps.specs.Facts.{and-true, and-false}
+use Rattle.aut_steps.specs.Made.{IsRelation}
+use Rattle.aut_steps.specs.MadeLaws.{made-sequence}
 use Rattle.aut_steps.specs.Good.{states, kind, first, second, nesting, nesting-grown, state-grown, Two, Good, ok-as}
 use Rattle.aut_steps.specs.Goes.{Goes, came, goes-return, goes-bind, goes-map, choose}
 use Rattle.aut_steps.specs.Meaning.{Holds, Is, is-same, holds-grown, holds-spp, holds-sequence, holds-top}
-use Rattle.aut_steps.specs.StateLaws.{handle, zero-goes, mk-top-goes, spp-of-goes, both-spp, two-goes}
+use Rattle.aut_steps.specs.StateLaws.{handle, zero-goes, mk-top-goes, spp-of-goes, both-spp, not-both, two-goes}
 
 -- what is asked of a call on operands of lower nesting
 abbrev Joins : (N : ℕ) (L : Limits) → (ℕ → ℕ → Step Aut ℕ) → ℕ → Type 0
@@ -42,6 +44,9 @@ module _ {N : ℕ} {L : Limits} where
         let (a, b) = and-true (eqb (kind σ z) SPP) (eqb (first σ z) h) e in
         holds-spp g i (eqb-true (kind σ z) SPP a) then rel-same (λ p q. ap (λ (j : ℕ). Spp.pairs N (σ .nodes) j p q) (eqb-true (first σ z) h b) ∙ f p q)
 
+    not-relation : (z h : ℕ) → is-relation (σ .states .words) z h ≡ false → IsRelation (σ .states .words) z h → ⊥
+    not-relation z h q (a, b) = and-false (eqb (kind σ z) SPP) (eqb (first σ z) h) q (eq-eqb (kind σ z) SPP a) (eq-eqb (first σ z) h b)
+
     zero-pairs : (p q : Packet N) → Spp.pairs N (σ .nodes) (Spp.zeroAt N) p q ≡ false
     zero-pairs = den-zero (g .nodes) N (omega arith) .means
 
@@ -55,15 +60,15 @@ module _ {N : ℕ} {L : Limits} where
         (λ q. let (a, b) = both-spp g x y q in
         goes-map (spp-of-goes g (Spp.sequence N (first σ x) (first σ y)) (sequence-made N (σ .nodes) (g .nodes) (first σ x) (first σ y) (handle g l a) (handle g m b)))
         (λ τ z w v i. is-same (≈-sym (join-same (holds-spp g l a) (holds-spp g m b) then join-rel (Spp.pairs N (σ .nodes) (first σ x)) (Spp.pairs N (σ .nodes) (first σ y)))) i))
-        (λ _. choose (is-relation (σ .states .words) x (Spp.oneAt N))
+        (λ n1. choose (is-relation (σ .states .words) x (Spp.oneAt N))
         (λ q. goes-return y g (record { state = m; strings = ≈-sym (join-same (relation-is x (Spp.oneAt N) l q one-pairs) (λ w. same) then join-one-left (Holds N σ y)) }))
-        (λ _. choose (is-relation (σ .states .words) x (Spp.zeroAt N))
+        (λ n2. choose (is-relation (σ .states .words) x (Spp.zeroAt N))
         (λ q. goes-map (zero-goes g) (λ τ z w v i. is-same (≈-sym (join-same (relation-is x (Spp.zeroAt N) l q zero-pairs then rel-none (λ p q. refl)) (λ w. same) then join-none-left (Holds N σ y))) i))
-        (λ _. choose (is-relation (σ .states .words) y (Spp.oneAt N))
+        (λ n3. choose (is-relation (σ .states .words) y (Spp.oneAt N))
         (λ q. goes-return x g (record { state = l; strings = ≈-sym (join-same (λ w. same) (relation-is y (Spp.oneAt N) m q one-pairs) then join-one-right (Holds N σ x)) }))
-        (λ _. choose (is-relation (σ .states .words) y (Spp.zeroAt N))
+        (λ n4. choose (is-relation (σ .states .words) y (Spp.zeroAt N))
         (λ q. goes-map (zero-goes g) (λ τ z w v i. is-same (≈-sym (join-same (λ w. same) (relation-is y (Spp.zeroAt N) m q zero-pairs then rel-none (λ p q. refl)) then join-none-right (Holds N σ x))) i))
-        (λ _. choose (eqb (kind σ x) SEQUENCE)
+        (λ n5. choose (eqb (kind σ x) SEQUENCE)
         (λ q. let e : kind σ x ≡ SEQUENCE = eqb-true (kind σ x) SEQUENCE q in
         let t : Two σ x = parts e in
         let s : Holds N σ x ≈ Join (Holds N σ (first σ x)) (Holds N σ (second σ x)) = holds-sequence g l e in
@@ -72,10 +77,18 @@ module _ {N : ℕ} {L : Limits} where
         goes-bind (f σ g (second σ x) y l2 m (omega (arith, t .nested))) (λ τ z w v i.
         goes-map (f τ v (first σ x) z (state-grown w l1) (i .state) (omega (arith, t .nested, nesting-grown w (first σ x) l1))) (λ υ r w′ v′ j.
         is-same (join-same (holds-grown g w l1) (i .strings) then ≈-sym (join-assoc (Holds N σ (first σ x)) (Holds N σ (second σ x)) (Holds N σ y)) then join-same (≈-sym s) (λ w. same)) j)))
-        (λ _. choose (eqb (kind σ x) TOP && eqb (kind σ y) TOP)
+        (λ n6. choose (eqb (kind σ x) TOP && eqb (kind σ y) TOP)
         (λ q. let (a, b) = and-true (eqb (kind σ x) TOP) (eqb (kind σ y) TOP) q in
         goes-map (mk-top-goes g) (λ τ z w v i. is-same (≈-sym (join-same (holds-top g l (eqb-true (kind σ x) TOP a)) (holds-top g m (eqb-true (kind σ y) TOP b)) then join-whole)) i))
-        (λ _. two-goes g SEQUENCE sequence refl l m)))))))
+        (λ n7. two-goes g SEQUENCE sequence refl l m (λ xs. made-sequence (record {
+          regrouped = eqb-false (kind σ x) SEQUENCE n6;
+          no-one1 = not-relation x (Spp.oneAt N) n2;
+          no-zero1 = not-relation x (Spp.zeroAt N) n3;
+          no-one2 = not-relation y (Spp.oneAt N) n4;
+          no-zero2 = not-relation y (Spp.zeroAt N) n5;
+          relations = not-both g SPP x y n1;
+          tops = not-both g TOP x y n7;
+        })))))))))
 
     -- ---- two ways to go on do the same, if they do on operands of lower nesting
 

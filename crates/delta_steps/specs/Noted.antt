@@ -11,28 +11,12 @@ use Rattle.common.specs.Runs.{Table}
 use Rattle.spp_steps.specs.Laws.{Wf, Ext, ext-refl, ext-trans}
 use Rattle.aut_steps.specs.Tables.{UNION, INTERSECT, Limits, Aut, putStates, putNodes}
 use Rattle.aut_steps.specs.Kinds.{form, operandsBy}
-use Rattle.aut_steps.specs.ListLaws.{All, all-map, all-with, all-split}
-use Rattle.aut_steps.specs.Good.{states, kind, members, ExtM, Grown, extm-refl, kind-grown, second-grown, nesting-grown, members-grown, Ok, United, Meeting, LastSpp, operands, Good, ok-as, ok-grown, operands-grown}
+use Rattle.aut_steps.specs.ListLaws.{all-map}
+use Rattle.aut_steps.specs.Good.{states, kind, members, ExtM, Grown, extm-refl, kind-grown, second-grown, nesting-grown, members-grown, Ok, United, Meeting, membersBefore, operands, Good, ok-as, ok-grown, operands-grown, meeting-grown}
+use Rattle.aut_steps.specs.MadeLaws.{before-grown, made-kept, packed-kept}
 use Rattle.delta_steps.specs.Epsilon.{epsilonOf, setWord}
 
 -- ---- tables in order, with other words worked out
-
-last-grown : {σ τ : Aut} → Grown σ τ → (xs : List ℕ) → All (λ y. y < states σ) xs → LastSpp (σ .states .words) xs → LastSpp (τ .states .words) xs
-last-grown g [] a m = tt
-last-grown g (x ∷ xs) a m = (kind-grown g x (a .0) ∙ m .0, m .1)
-
-meeting-grown : {σ τ : Aut} → Grown σ τ → (xs : List ℕ) → All (λ y. y < states σ) xs → Meeting (σ .states .words) xs → Meeting (τ .states .words) xs
-meeting-grown {σ} {τ} g xs a m =
-    let parts = all-split (λ y. y < states σ) (m .others) (m .last) (subst (All (λ y. y < states σ)) (m .parts) a) in
-    record {
-      others = m .others;
-      last = m .last;
-      parts = m .parts;
-      some = m .some;
-      rising = m .rising;
-      no-spp = all-with (m .others) (λ y l f e. f (sym (kind-grown g y l) ∙ e)) (parts .0) (m .no-spp);
-      spp-last = last-grown g (m .last) (parts .1) (m .spp-last);
-    }
 
 -- no state and no member is new
 module _ {N : ℕ} {L : Limits} {σ τ : Aut} (g : Good N L σ) (w : Grown σ τ) (v : Wf N (τ .nodes)) (same : states τ ≡ states σ) (list : τ .members ≡ σ .members) where
@@ -62,6 +46,10 @@ module _ {N : ℕ} {L : Limits} {σ τ : Aut} (g : Good N L σ) (w : Grown σ τ
         let o = ok-as g INTERSECT (here l) s in
         subst (Meeting (τ .states .words)) (sym (members-grown w x (here l) (o .inside)))
         (meeting-grown w (members σ x) (all-map (members σ x) (λ u m. omega arith) (o .earlier)) (g .intersects x (here l) s));
+    made = λ x l. made-kept w g x (here l);
+    packed = λ x l. packed-kept w g x (here l);
+    counted =
+        ap (λ (m : Table). m .count) list ∙ g .counted ∙ sym (before-grown w (states σ) (omega arith)) ∙ ap (membersBefore τ) (sym same);
     once = λ x y l m p q.
         g .once x y (here l) (here m) (sym (kind-grown w x (here l)) ∙ p ∙ kind-grown w y (here m)) (sym (operands-same x (here l)) ∙ q ∙ operands-same y (here m));
   }
