@@ -3,7 +3,7 @@
 -- Any depth of its calls from the nesting on does the same, so it is the Rust's function that calls itself.
 use mathlib.Core.Path.{_≡_, refl, _∙_, ap}
 use mathlib.Core.List.{List, [], _∷_, map}
-use Prim.Native.Nat.{ℕ, zero, suc, _-_, _≤_, _<_}
+use Prim.Native.Nat.{ℕ, zero, suc, _+_, _-_, _≤_, _<_}
 use native.Mathlib.Omega.{arith}
 use lib.Dec.{eqb, ltb}
 use lib.ListN.{length, length-append}
@@ -37,32 +37,34 @@ use Rattle.delta_steps.specs.Agree.{Agree, stop, come, agree-same, agree
 use Rattle.delta_steps.specs.Worked.{later-grown, Worked}
 use Rattle.delta_steps.specs.Operands.{Below, below-one, below-two, below-many, last-kind, no-kind}
 use Rattle.delta_steps.specs.DeltaLists.{unionAll-true, intersectFirst-true, sequence-true, star-true, until-true, next-true, dup-true, top-true}
-use Rattle.delta_steps.specs.Stored.{edges-length, Went, went-refl, went-trans, stored-went, keeping-grown, keeping-stored, keeping-worked, keeping-went}
+use Rattle.delta_steps.specs.Stored.{edges-length, Went, went-refl, went-trans, before-refl, before-trans, stored-went, keeping-grown, keeping-stored, keeping-worked, keeping-before, keeping-went}
 use Rattle.delta_steps.specs.DeltaRuns.{Halted, no-transitions, Listed, Deltaed, AskedList, AskedLists, DeltaCalls, halted-from, bind-agree, same-agree, list-step, goes-step, epsilon-step, list-went}
 
 module _ {N : ℕ} {L : Limits} where
   -- ---- calls on operands
 
   module _ {σ : Store} (W : Worked N L σ) {x : ℕ} (l : x < states (σ .aut)) {again other : ℕ → Step Store (List Edge)} (calls : DeltaCalls N L again other (nesting (σ .aut) x)) where
-    ask : {τ : Store} → Went σ τ → Worked N L τ → {y : ℕ} → Below (σ .aut) x y → Agree (Halted N L τ) (AskedList N L σ y τ) (again y τ) (other y τ)
+    ask : {τ : Store} → Went σ τ → Worked N L τ → {y : ℕ} → Below (σ .aut) x y → Agree (Halted N L τ) (AskedList N L σ x y τ) (again y τ) (other y τ)
     ask {τ} w q {y} b =
         agree-map (calls τ q y (state-grown (w .grown) (b .state)) (omega (arith, nesting-grown (w .grown) y (b .state), b .lower))) (λ k h. h)
         (λ υ es a. record {
           went = a .listed .went;
+          before = record { same = λ i m. a .listed .before .same i (omega (arith, b .earlier)) };
           worked = a .listed .worked;
           list = list-same (tables N L) (λ p h hs z. holds-grown (W .good) (w .grown) (b .state) (str p (h ∷ hs) z)) (a .listed .list);
           short = a .listed .short;
           stored = a .stored;
         })
 
-    pub ask-all : (ys : List ℕ) {τ : Store} → Went σ τ → Worked N L τ → All (Below (σ .aut) x) ys → Agree (Halted N L τ) (AskedLists N L σ ys τ) (eachOf again ys τ) (eachOf other ys τ)
+    pub ask-all : (ys : List ℕ) {τ : Store} → Went σ τ → Worked N L τ → All (Below (σ .aut) x) ys → Agree (Halted N L τ) (AskedLists N L σ x ys τ) (eachOf again ys τ) (eachOf other ys τ)
     unfolding eachOf
-    ask-all [] {τ} w q b = come (record { went = went-refl τ; worked = q; are = none; neat = empties; stored = none })
+    ask-all [] {τ} w q b = come (record { went = went-refl τ; before = before-refl x τ; worked = q; are = none; neat = empties; stored = none })
     ask-all (y ∷ ys) {τ} w q b =
         agree-bind (ask w q (b .0)) (λ k h. h) (λ υ es a.
         agree-bind (ask-all ys (went-trans w (a .went)) (a .worked) (b .1)) (λ k h. halted-from (a .went) k h) (λ ω lists c.
         come (record {
           went = went-trans (a .went) (c .went);
+          before = before-trans (a .before) (c .before);
           worked = c .worked;
           are = also (list-went (a .worked) (c .went) (c .worked) (a .list)) (c .are);
           neat = with-list (record { edges = edges-grown (c .went .grown) (list-at L (a .list)); short = a .short }) (c .neat);
@@ -75,10 +77,11 @@ module _ {N : ℕ} {L : Limits} where
         → ((a : Aut) → Good N L a → (ts : List Edge) (A : Language N) → IsList (since N L a) A a ts → Gives (MadeList (since N L a) (C A) a) (op ts a))
         → ((a : Aut) → Good N L a → (ts : List Edge) → EdgesAt N a ts → Goes N L (ListAt N L) a (op ts a))
         → {a : ℕ} → Below (σ .aut) x a
-        → Agree (Halted N L σ) (Listed N L (C (Holds N (σ .aut) a)) σ) ((again a >>= λ ts. onAut (op ts)) σ) ((other a >>= λ ts. onAut (op ts)) σ)
+        → Agree (Halted N L σ) (Listed N L x (C (Holds N (σ .aut) a)) σ) ((again a >>= λ ts. onAut (op ts)) σ) ((other a >>= λ ts. onAut (op ts)) σ)
     one-agree C op made end b =
         bind-agree (ask (went-refl σ) W b) (λ τ ts f. (
           f .went,
+          f .before,
           list-step (f .worked) (made (τ .aut) (f .worked .good) ts _ (list-as L (f .list))) (end (τ .aut) (f .worked .good) ts (list-at L (f .list))),
         ))
 
@@ -86,13 +89,15 @@ module _ {N : ℕ} {L : Limits} where
         → ((a : Aut) → Good N L a → (ts us : List Edge) (A B : Language N) → IsList (since N L a) A a ts → IsList (since N L a) B a us → Gives (MadeList (since N L a) (C A B) a) (op ts us a))
         → ((a : Aut) → Good N L a → (ts us : List Edge) → EdgesAt N a ts → EdgesAt N a us → Goes N L (ListAt N L) a (op ts us a))
         → {a b : ℕ} → Below (σ .aut) x a × Below (σ .aut) x b
-        → Agree (Halted N L σ) (Listed N L (C (Holds N (σ .aut) a) (Holds N (σ .aut) b)) σ) ((again a >>= λ ts. again b >>= λ us. onAut (op ts us)) σ)
+        → Agree (Halted N L σ) (Listed N L x (C (Holds N (σ .aut) a) (Holds N (σ .aut) b)) σ) ((again a >>= λ ts. again b >>= λ us. onAut (op ts us)) σ)
         ((other a >>= λ ts. other b >>= λ us. onAut (op ts us)) σ)
     two-agree C op made end b =
         bind-agree (ask (went-refl σ) W (b .0)) (λ τ ts f. (
           f .went,
+          f .before,
           bind-agree (ask (f .went) (f .worked) (b .1)) (λ υ us h. (
             h .went,
+            h .before,
             let i = list-went (f .worked) (h .went) (h .worked) (f .list) in
                 list-step (h .worked) (made (υ .aut) (h .worked .good) ts us _ _ (list-as L i) (list-as L (h .list))) (end (υ .aut) (h .worked .good) ts us (list-at L i) (list-at L (h .list))),
           )),
@@ -103,26 +108,28 @@ module _ {N : ℕ} {L : Limits} where
     abbrev g : Good N L (σ .aut)
     g = W .good
 
-    union-agree : kind (σ .aut) x ≡ UNION → Agree (Halted N L σ) (Listed N L (Holds N (σ .aut) x) σ)
+    union-agree : kind (σ .aut) x ≡ UNION → Agree (Halted N L σ) (Listed N L x (Holds N (σ .aut) x) σ)
         ((eachOf again (members (σ .aut) x) >>= λ lists. onAut (unionAll N L lists [])) σ) ((eachOf other (members (σ .aut) x) >>= λ lists. onAut (unionAll N L lists [])) σ)
     unfolding form
     union-agree e =
         same-agree (≈-sym (holds-union g l e))
         (bind-agree (ask-all (members (σ .aut) x) (went-refl σ) W (below-many g l UNION e union refl)) (λ τ lists f. (
           f .went,
+          f .before,
           same-agree {A = Either (λ w. ⊥) (HoldsSome N (σ .aut) (members (σ .aut) x))} (λ w. none-sum (λ b. b))
               (list-step (f .worked)
               (unionAll-true (Holds N (σ .aut)) (members (σ .aut) x) (since-refl (f .worked .good)) (list-none (since N L (τ .aut))) (all2-map (λ y es i. list-as L i) (f .are)))
               (unionAll-goes lists (f .worked .good) (f .neat) (list-empty (τ .aut)))),
         )))
 
-    intersect-agree : kind (σ .aut) x ≡ INTERSECT → Agree (Halted N L σ) (Listed N L (Holds N (σ .aut) x) σ)
+    intersect-agree : kind (σ .aut) x ≡ INTERSECT → Agree (Halted N L σ) (Listed N L x (Holds N (σ .aut) x) σ)
         ((eachOf again (members (σ .aut) x) >>= λ lists. onAut (intersectFirst N L lists)) σ) ((eachOf other (members (σ .aut) x) >>= λ lists. onAut (intersectFirst N L lists)) σ)
     unfolding form
     intersect-agree e =
         same-agree (≈-sym (holds-intersect g l e))
         (bind-agree (ask-all (members (σ .aut) x) (went-refl σ) W (below-many g l INTERSECT e intersection refl)) (λ τ lists f. (
           f .went,
+          f .before,
           list-step (f .worked)
               (intersectFirst-true (Holds N (σ .aut)) (members (σ .aut) x) (since-refl (f .worked .good)) some (all2-map (λ y es i. list-as L i) (f .are)))
               (intersectFirst-goes lists (f .worked .good) (f .neat)),
@@ -131,7 +138,7 @@ module _ {N : ℕ} {L : Limits} where
         some : 1 ≤ length (members (σ .aut) x)
         some = let m = g .intersects x l e in omega (arith, ap length (m .parts), length-append (m .others) (m .last), m .some)
 
-    sequence-agree : kind (σ .aut) x ≡ SEQUENCE → Agree (Halted N L σ) (Listed N L (Holds N (σ .aut) x) σ)
+    sequence-agree : kind (σ .aut) x ≡ SEQUENCE → Agree (Halted N L σ) (Listed N L x (Holds N (σ .aut) x) σ)
         ((onAut (epsilon N (first (σ .aut) x)) >>= λ ε. again (first (σ .aut) x) >>= λ ts. again (second (σ .aut) x) >>= λ us. onAut (sequenceList N L (second (σ .aut) x) ε ts us)) σ)
         ((onAut (epsilon N (first (σ .aut) x)) >>= λ ε. other (first (σ .aut) x) >>= λ ts. other (second (σ .aut) x) >>= λ us. onAut (sequenceList N L (second (σ .aut) x) ε ts us)) σ)
     unfolding form
@@ -139,11 +146,14 @@ module _ {N : ℕ} {L : Limits} where
         let (b1, b2) = below-two g l SEQUENCE e sequence refl in
         bind-agree (epsilon-step W (b1 .state)) (λ τ₁ ε c. (
           c .went,
+          record { same = λ i m. c .same i },
           bind-agree (ask (c .went) (c .worked) b1) (λ τ₂ ts f. (
             f .went,
+            f .before,
             let w₂ = went-trans (c .went) (f .went) in
                 bind-agree (ask w₂ (f .worked) b2) (λ τ₃ us h. (
                   h .went,
+                  h .before,
                   let w₃ = went-trans w₂ (h .went) in
                       let d = den-ext (went-trans (f .went) (h .went) .grown .nodes) (c .holds .den) in
                       let k = state-grown (w₃ .grown) (b2 .state) in
@@ -157,7 +167,7 @@ module _ {N : ℕ} {L : Limits} where
           )),
         ))
 
-    star-agree : kind (σ .aut) x ≡ STAR → Agree (Halted N L σ) (Listed N L (Holds N (σ .aut) x) σ)
+    star-agree : kind (σ .aut) x ≡ STAR → Agree (Halted N L σ) (Listed N L x (Holds N (σ .aut) x) σ)
         ((onAut (epsilon N (first (σ .aut) x)) >>= λ ε. onAut (onNodes (Rel.star N ε)) >>= λ ε*. again (first (σ .aut) x) >>= λ ts. onAut (starList N L x ε* ts)) σ)
         ((onAut (epsilon N (first (σ .aut) x)) >>= λ ε. onAut (onNodes (Rel.star N ε)) >>= λ ε*. other (first (σ .aut) x) >>= λ ts. onAut (starList N L x ε* ts)) σ)
     unfolding form
@@ -165,11 +175,14 @@ module _ {N : ℕ} {L : Limits} where
         let b = below-one g l STAR e star refl in
         bind-agree (epsilon-step W (b .state)) (λ τ₁ ε c. (
           c .went,
+          record { same = λ i m. c .same i },
           bind-agree (goes-step (c .worked) (nodes-goes (c .worked .good) (star-makes (c .worked .good .nodes) (c .holds .den)))) (λ τ₂ ε* d. (
             d .went,
+            record { same = λ i m. d .same i },
             let w₂ = went-trans (c .went) (d .went) in
                 bind-agree (ask w₂ (d .worked) b) (λ τ₃ ts f. (
                   f .went,
+                  f .before,
                   let w₃ = went-trans w₂ (f .went) in
                       let h = den-ext (f .went .grown .nodes) (d .holds) in
                       let k = state-grown (w₃ .grown) l in
@@ -181,7 +194,7 @@ module _ {N : ℕ} {L : Limits} where
           )),
         ))
 
-    until-agree : kind (σ .aut) x ≡ UNTIL → Agree (Halted N L σ) (Listed N L (Holds N (σ .aut) x) σ)
+    until-agree : kind (σ .aut) x ≡ UNTIL → Agree (Halted N L σ) (Listed N L x (Holds N (σ .aut) x) σ)
         ((again (first (σ .aut) x) >>= λ ts. again (second (σ .aut) x) >>= λ us. onAut (untilList N L (first (σ .aut) x) (second (σ .aut) x) ts us)) σ)
         ((other (first (σ .aut) x) >>= λ ts. other (second (σ .aut) x) >>= λ us. onAut (untilList N L (first (σ .aut) x) (second (σ .aut) x) ts us)) σ)
     unfolding form
@@ -189,8 +202,10 @@ module _ {N : ℕ} {L : Limits} where
         let (b1, b2) = below-two g l UNTIL e until refl in
         bind-agree (ask (went-refl σ) W b1) (λ τ₁ ts f. (
           f .went,
+          f .before,
           bind-agree (ask (f .went) (f .worked) b2) (λ τ₂ us h. (
             h .went,
+            h .before,
             let w₂ = went-trans (f .went) (h .went) in
                 let s1 = holds-grown g (w₂ .grown) (b1 .state) in
                 let s2 = holds-grown g (w₂ .grown) (b2 .state) in
@@ -204,7 +219,7 @@ module _ {N : ℕ} {L : Limits} where
           )),
         ))
 
-    kind-agree : Agree (Halted N L σ) (Listed N L (Holds N (σ .aut) x) σ) (delta-by-kind N L again x σ) (delta-by-kind N L other x σ)
+    kind-agree : Agree (Halted N L σ) (Listed N L x (Holds N (σ .aut) x) σ) (delta-by-kind N L again x σ) (delta-by-kind N L other x σ)
     unfolding delta-by-kind form
     kind-agree =
         let k : ℕ = kind (σ .aut) x in
@@ -212,6 +227,7 @@ module _ {N : ℕ} {L : Limits} where
         (λ q. let s = holds-spp g l (eqb-true k SPP q) in
         come (record {
           went = went-refl σ;
+          before = before-refl x σ;
           worked = W;
           list = list-same (tables N L) (λ p h hs z. (λ b. absurd b, λ b. absurd (omega (arith, ap length (s (str p (h ∷ hs) z) .0 b .0))))) (list-none (tables N L));
           short = omega arith;
@@ -243,16 +259,17 @@ module _ {N : ℕ} {L : Limits} where
         (λ n12. absurd (last-kind g l (no-kind k n1 n2 n3 n4 n5 n6 n7 n8 n9 n10 n11 n12))))))))))))))
 
     -- the finished list is stored
-    kept-agree : countOf (σ .aut .states .words) x ≡ 0 → (τ : Store) (es : List Edge) → Listed N L (Holds N (σ .aut) x) σ τ es → Agree (Halted N L σ) (Deltaed N L x σ) (keepList x es τ) (keepList x es τ)
+    kept-agree : countOf (σ .aut .states .words) x ≡ 0 → (τ : Store) (es : List Edge) → Listed N L x (Holds N (σ .aut) x) σ τ es → Agree (Halted N L σ) (Deltaed N L x σ) (keepList x es τ) (keepList x es τ)
     unfolding keepList
     kept-agree z τ es f =
         let m : x < states (τ .aut) = state-grown (f .went .grown) l in
         let i = list-same (tables N L) (λ p h hs z. ≈-sym (holds-grown g (f .went .grown) l) (str p (h ∷ hs) z)) (f .list) in
         agree-if (roomT (τ .transitions) (length es))
-        (λ q. let w = keeping-worked (f .worked) m es q i (f .short) in
+        (λ q. let w = keeping-worked (f .worked) m es q (f .before .same x (omega arith) .0 ∙ z) i (f .short) in
         come (record {
           listed = record {
             went = keeping-went (f .worked) m es q (f .went) z;
+            before = keeping-before (f .worked) m es q (f .before);
             worked = w;
             list = list-later (tables N L) (later-grown (f .worked .good) (keeping-grown (f .worked) m es q) (w .good)) (f .list);
             short = f .short;
@@ -271,7 +288,7 @@ module _ {N : ℕ} {L : Limits} where
         agree-if (ltb 0 (countOf (σ .aut .states .words) x))
         (λ q. let c : 0 < countOf (σ .aut .states .words) x = ltb-true 0 (countOf (σ .aut .states .words) x) q in
         come (record {
-          listed = record { went = went-refl σ; worked = W; list = W .lists .held x l .list c; short = short-list c };
+          listed = record { went = went-refl σ; before = before-refl (x + 1) σ; worked = W; list = W .lists .held x l .list c; short = short-list c };
           stored = record { marked = c; reads = refl };
         }))
         (λ z. agree-bind kind-agree (λ k h. h) (kept-agree (omega (arith, ltb-false 0 (countOf (σ .aut .states .words) x) z))))
@@ -315,5 +332,5 @@ module _ {N : ℕ} {L : Limits} where
   delta-calls depth τ W y m k = delta-goes W m
 
   -- what is read of the members afterwards are their lists
-  pub lists-read : {σ τ υ : Store} {ys : List ℕ} {lists : List (List Edge)} → AskedLists N L σ ys τ υ lists → map (listAt υ) ys ≡ lists
+  pub lists-read : {σ τ υ : Store} {x : ℕ} {ys : List ℕ} {lists : List (List Edge)} → AskedLists N L σ x ys τ υ lists → map (listAt υ) ys ≡ lists
   lists-read {υ = υ} a = all2-reads (listAt υ) (all2-map (λ y es s. s .reads) (a .stored))

@@ -190,7 +190,7 @@ module _ {N : ℕ} {L : Limits} {σ : Store} (W : Worked N L σ) {x : ℕ} (l : 
       both : {a b : ℕ} → Below (σ .aut) x a × Below (σ .aut) x b → All (Below (σ .aut) x) (a ∷ b ∷ [])
       both p = (p .0, (p .1, tt))
 
-  asked : {τ : Store} → Went σ τ → Worked N L τ → Agree (Halted N L τ) (AskedLists N L σ (listOperands σ x) τ) (eachOf D (listOperands σ x) τ) (eachOf D (listOperands σ x) τ)
+  asked : {τ : Store} → Went σ τ → Worked N L τ → Agree (Halted N L τ) (AskedLists N L σ x (listOperands σ x) τ) (eachOf D (listOperands σ x) τ) (eachOf D (listOperands σ x) τ)
   asked w q = ask-all W l {again = D} {other = D} (λ τ q y m k. delta-goes q m) (listOperands σ x) w q list-operands-below
 
   -- zs are the operands, K puts the lists together

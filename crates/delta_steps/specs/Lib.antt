@@ -1,5 +1,5 @@
 -- aut.rs's `epsilon` and `delta`. Read in this order: the two steps in the Rust's order (Epsilon, Delta) and runs of them that are
--- computed (Examples, Order); what the operations mean (Labels, Fits); what is worked out, and that it stays true (Noted, Worked, Stored); the law of epsilon (EpsilonLaws), and that a run may read its way down from the tables (EpsilonReads, EpsilonDown); what the lists
+-- computed (Examples, Order); what the operations mean (Labels, Fits); what is worked out, and that it stays true (Noted, Worked, Stored), how many transitions the stored lists have (Sizes); the law of epsilon (EpsilonLaws), and that a run may read its way down from the tables (EpsilonReads, EpsilonDown); what the lists
 -- mean (DeltaLists) and why they are refused (ListGoes); the law of delta (DeltaRuns, DeltaLaws), and the same of its way down (DeltaReads, DeltaDown); both as the plain search's automaton (PlainSearch), and a whole book (Books).
 pub mod Epsilon
 pub mod Delta
@@ -16,6 +16,7 @@ pub mod EpsilonReads
 pub mod EpsilonDown
 pub mod DeltaLists
 pub mod Stored
+pub mod Sizes
 pub mod ListGoes
 pub mod DeltaRuns
 pub mod DeltaLaws

@@ -17,6 +17,7 @@ use Rattle.aut_steps.specs.Good.{states, kind, first, second, nesting, members,
 -- y may be called from x
 pub record Below (σ : Aut) (x y : ℕ) : Type 0 where
   pub state : y < states σ
+  pub earlier : y < x
   pub lower : nesting σ y < nesting σ x
 
 nestL-from : (st : List ℕ) (h : ℕ) (xs : List ℕ) → h ≤ nestL st h xs
@@ -31,17 +32,17 @@ nestL-each st h (x ∷ xs) = (omega (arith, nestL-from st (max h (nest st x)) xs
 
 module _ {N : ℕ} {L : Limits} {σ : Aut} (g : Good N L σ) {x : ℕ} (l : x < states σ) (k : ℕ) (e : kind σ x ≡ k) where
   pub below-one : (c : Rule N → Rule N) → form k ≡ one c → Below σ x (first σ x)
-  below-one c q = let o : One σ x = subst (λ (f : Form N). Ok f σ x) q (ok-as g k l e) in record { state = omega (arith, o .earlier); lower = omega (arith, o .nested) }
+  below-one c q = let o : One σ x = subst (λ (f : Form N). Ok f σ x) q (ok-as g k l e) in record { state = omega (arith, o .earlier); earlier = o .earlier; lower = omega (arith, o .nested) }
 
   pub below-two : (c : Rule N → Rule N → Rule N) → form k ≡ two c → Below σ x (first σ x) × Below σ x (second σ x)
   below-two c q =
       let o : Two σ x = subst (λ (f : Form N). Ok f σ x) q (ok-as g k l e) in
-      (record { state = omega (arith, o .earlier1); lower = omega (arith, o .nested) }, record { state = omega (arith, o .earlier2); lower = omega (arith, o .nested) })
+      (record { state = omega (arith, o .earlier1); earlier = o .earlier1; lower = omega (arith, o .nested) }, record { state = omega (arith, o .earlier2); earlier = o .earlier2; lower = omega (arith, o .nested) })
 
   pub below-many : (c : Rules N → Rule N) → form k ≡ many c → All (Below σ x) (members σ x)
   below-many c q =
       let o : Many σ x = subst (λ (f : Form N). Ok f σ x) q (ok-as g k l e) in
-      all-with (members σ x) (λ y m n. record { state = omega arith; lower = omega (arith, o .nested) }) (o .earlier) (nestL-each (σ .states .words) 0 (members σ x))
+      all-with (members σ x) (λ y m n. record { state = omega arith; earlier = m; lower = omega (arith, o .nested) }) (o .earlier) (nestL-each (σ .states .words) 0 (members σ x))
 
 -- ---- the kind of a state is one of the twelve
 

@@ -91,4 +91,4 @@ module _ {N : ℕ} {L : Limits} where
 
 -- Tables of one field, begun, with no state yet: what the rows of Examples.antt start from.
 pub at-first : Worked 1 limits01 (holding 4 4 4 [] [] [] [])
-at-first = begun (omega arith) in-order refl (omega arith) (omega arith)
+at-first = begun (omega arith) in-order refl refl

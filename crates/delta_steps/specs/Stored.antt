@@ -9,7 +9,7 @@ use native.Mathlib.Omega.{arith}
 use lib.Dec.{eqb, leb}
 use lib.ListN.{length, getD, set, length-set}
 use lib.Seq.{sets, length-sets, getD-set-same, getD-set-other}
-use borrow.Author.Tests.{eqb-true, eqb-false, leb-true}
+use borrow.Author.Tests.{eqb-true, eqb-false, leb-true, leb-false}
 use Rattle.common.specs.Runs.{Table}
 use Rattle.netkat.specs.Strings.{str}
 use Rattle.netkat.specs.ListSteps.{Edge, edge, IsList}
@@ -25,7 +25,7 @@ use Rattle.st_steps.specs.Edges.{edges, flat}
 use Rattle.delta_steps.specs.Delta.{startOf, countOf, Store, store, transitionCap, roomT, append, listAt}
 use Rattle.delta_steps.specs.Fits.{tables, Since}
 use Rattle.delta_steps.specs.Noted.{Noted, noted-grown, written, written-other, written-here, written-count, written-length, written-grown, written-good}
-use Rattle.delta_steps.specs.Worked.{epsilons-grown, later-grown, ExtT, extt-refl, extt-trans, Held, lists-grown, Worked, Stored, SameWords, same-list}
+use Rattle.delta_steps.specs.Worked.{epsilons-grown, later-grown, ExtT, extt-refl, extt-trans, Held, InList, Laid, lists-grown, Worked, Stored, SameWords, same-list}
 
 -- ---- the words of a list
 
@@ -96,25 +96,48 @@ went-trans p q = record {
   transitions = extt-trans (p .transitions) (q .transitions);
 }
 
--- a step that works nothing out, and one that works out epsilons
+-- A step that works nothing out, and one that works out epsilons: no list is stored,
+pub same-since : {N : ℕ} {L : Limits} (σ : Store) {a : Aut} → Since N L (σ .aut) a → (i : ℕ) → SameWords σ (store a (σ .transitions)) i
+unfolding countOf startOf
+same-since σ s i = (s .memos i 6 (omega arith) (omega arith), s .memos i 5 (omega arith) (omega arith))
+
+pub same-noted : (σ : Store) {a : Aut} → Noted (σ .aut) a → (i : ℕ) → SameWords σ (store a (σ .transitions)) i
+unfolding countOf startOf
+same-noted σ n i = (n .words i 6 (omega arith) (λ q. omega arith), n .words i 5 (omega arith) (λ q. omega arith))
+
+-- .. and what was worked out is as it was.
 pub went-since : {N : ℕ} {L : Limits} {σ : Store} {a : Aut} → Since N L (σ .aut) a → Went σ (store a (σ .transitions))
-unfolding epsilonOf countOf startOf
+unfolding epsilonOf
 went-since {σ = σ} s = record {
   grown = s .grown;
   epsilons = λ i l. s .memos i 4 (omega arith) (omega arith);
-  lists = λ i l. (s .memos i 6 (omega arith) (omega arith), s .memos i 5 (omega arith) (omega arith));
+  lists = λ i l. same-since σ s i;
   others = λ i w l m. s .memos i w (omega arith) m;
   transitions = extt-refl (σ .transitions);
 }
 
 pub went-noted : {σ : Store} {a : Aut} → Noted (σ .aut) a → Went σ (store a (σ .transitions))
-unfolding countOf startOf
 went-noted {σ} n = record {
   grown = noted-grown n;
   epsilons = n .kept;
-  lists = λ i l. (n .words i 6 (omega arith) (λ q. omega arith), n .words i 5 (omega arith) (λ q. omega arith));
+  lists = λ i l. same-noted σ n i;
   others = λ i w l m. n .words i w m (λ q. omega arith);
   transitions = extt-refl (σ .transitions);
+}
+
+-- no list of x or of a later state is stored
+pub record Before (x : ℕ) (σ τ : Store) : Type 0 where
+  pub same : (i : ℕ) → x ≤ i → SameWords σ τ i
+
+pub before-refl : (x : ℕ) (σ : Store) → Before x σ σ
+before-refl x σ = record { same = λ i l. (refl, refl) }
+
+pub before-trans : {x : ℕ} {σ τ υ : Store} → Before x σ τ → Before x τ υ → Before x σ υ
+before-trans p q = record {
+  same = λ i l.
+      let (a, b) = p .same i l in
+      let (c, d) = q .same i l in
+      (c ∙ a, d ∙ b);
 }
 
 -- a stored list stays
@@ -181,15 +204,66 @@ module _ {N : ℕ} {L : Limits} {τ : Store} (W : Worked N L τ) {x : ℕ} (l : 
   pub keeping-stored : Stored keeping x es
   keeping-stored = record { marked = omega (arith, count-kept); reads = list-kept }
 
-  pub keeping-worked : IsList (tables N L) (Holds N (τ .aut) x) (τ .aut) es → length es ≤ L .transitions → Worked N L keeping
+  -- x had no list: the new one stands behind all others
+  module _ (z : countOf (τ .aut .states .words) x ≡ 0) where
+    same-states : states a6 ≡ states (τ .aut)
+    same-states = written-count a5 x 6 (length es + 1) ∙ written-count (τ .aut) x 5 n
+
+    old-in : (y t : ℕ) → (y ≡ x → ⊥) → InList keeping y t → InList τ y t
+    old-in y t k m = let (c, s) = other-list y k in (omega (arith, m .0), omega (arith, m .1))
+
+    -- the other lists end where it starts
+    ends : (y : ℕ) → y < states a6 → 0 < countOf (τ .aut .states .words) y → startOf (τ .aut .states .words) y + countOf (τ .aut .states .words) y ≤ n + 1
+    ends y l c = omega (arith, W .lists .held y (omega (arith, same-states)) .inside (countOf (τ .aut .states .words) y - 1) (omega arith))
+
+    behind : {y t : ℕ} → y ≡ x → InList keeping y t → n ≤ t
+    behind e m = omega (arith, m .0, ap (startOf (a6 .states .words)) e, start-kept)
+
+    before : (y t : ℕ) → y < states a6 → (y ≡ x → ⊥) → InList keeping y t → t < n
+    before y t l k m = let (a, b) = old-in y t k m in omega (arith, ends y l (omega arith))
+
+    keeping-laid : Laid keeping
+    unfolding append
+    keeping-laid = record {
+      owned = λ t m. by-test (leb n t)
+          (λ b. record { state = x; known = omega (arith, same-states); has = (omega (arith, start-kept, leb-true n t b), omega (arith, start-kept, count-kept)) })
+          (λ b. let o = W .lists .laid .owned t (leb-false n t b) in
+          let (a, c) = o .has in
+          let (p, q) = other-list (o .state) (λ e. omega (arith, ap (countOf (τ .aut .states .words)) e)) in
+          record { state = o .state; known = omega (arith, o .known, same-states); has = (omega arith, omega arith) });
+      apart = λ y u t k l a b. by-test (eqb y x)
+          (λ p. by-test (eqb u x)
+          (λ q. eqb-true y x p ∙ sym (eqb-true u x q))
+          (λ q. absurd (omega (arith, behind (eqb-true y x p) a, before u t l (eqb-false u x q) b))))
+          (λ p. by-test (eqb u x)
+          (λ q. absurd (omega (arith, behind (eqb-true u x q) b, before y t k (eqb-false y x p) a)))
+          (λ q. W .lists .laid .apart y u t (omega (arith, same-states)) (omega (arith, same-states)) (old-in y t (eqb-false y x p) a) (old-in u t (eqb-false u x q) b)));
+      border = λ y u k l c m. by-test (eqb y x)
+          (λ p. let s = ap (startOf (a6 .states .words)) (eqb-true y x p) in
+          by-test (eqb u x)
+          (λ q. s ∙ sym (ap (startOf (a6 .states .words)) (eqb-true u x q)))
+          (λ q. absurd (omega (arith, start-kept, before u (startOf (a6 .states .words) y) l (eqb-false u x q) m))))
+          (λ p. let (e, f) = other-list y (eqb-false y x p) in
+          by-test (eqb u x)
+          (λ q. omega (arith, start-kept, ap (startOf (a6 .states .words)) (eqb-true u x q), behind (eqb-true u x q) m, ends y k (omega arith)))
+          (λ q. let (g, h) = other-list u (eqb-false u x q) in
+          let (a, b) = old-in u (startOf (a6 .states .words) y) (eqb-false u x q) m in
+          omega (arith, W .lists .laid .border y u (omega (arith, same-states)) (omega (arith, same-states)) (omega arith) (omega arith, omega arith))));
+      blank = λ y l c. by-test (eqb y x)
+          (λ p. absurd (omega (arith, count-kept, ap (countOf (a6 .states .words)) (eqb-true y x p))))
+          (λ p. let (e, f) = other-list y (eqb-false y x p) in f ∙ W .lists .laid .blank y (omega (arith, same-states)) (sym e ∙ c));
+    }
+
+  pub keeping-worked : countOf (τ .aut .states .words) x ≡ 0 → IsList (tables N L) (Holds N (τ .aut) x) (τ .aut) es → length es ≤ L .transitions → Worked N L keeping
   unfolding append epsilonOf
-  keeping-worked i m = record {
+  keeping-worked z i m = record {
     good = keeping-good;
     epsilons = epsilons-grown (W .good) keeping-grown (λ y m. keeping-other y 4 (omega arith) (λ q. absurd (omega arith)) (λ q. absurd (omega arith))) (W .epsilons);
     lists = lists-grown keeping (W .lists) (append-ext es (τ .transitions)) (W .good) keeping-grown keeping-good
         (omega (arith, room-transitions (τ .transitions) (length es) room .0, length-sets (τ .transitions .words) (2 * n) (flat es)))
         (room-transitions (τ .transitions) (length es) room .1)
-        (λ y k. by-test (eqb y x) (λ t. inr (subst (Held N L keeping) (sym (eqb-true y x t)) held)) (λ t. inl (other-list y (eqb-false y x t))));
+        (λ y k. by-test (eqb y x) (λ t. inr (subst (Held N L keeping) (sym (eqb-true y x t)) held)) (λ t. inl (other-list y (eqb-false y x t))))
+        (keeping-laid z);
   }
     where
       held : Held N L keeping x
@@ -199,6 +273,14 @@ module _ {N : ℕ} {L : Limits} {τ : Store} (W : Worked N L τ) {x : ℕ} (l : 
         list = λ c. subst (IsList (tables N L) (Holds N a6 x) a6) (sym list-kept)
             (list-same (tables N L) (λ p h hs z. ≈-sym (holds-grown (W .good) keeping-grown l) (str p (h ∷ hs) z)) (list-later (tables N L) (later-grown (W .good) keeping-grown keeping-good) i));
       }
+
+  pub keeping-before : {σ : Store} → Before x σ τ → Before (x + 1) σ keeping
+  keeping-before b = record {
+    same = λ i m.
+        let (p, q) = other-list i (λ e. omega arith) in
+        let (r, s) = b .same i (omega arith) in
+        (p ∙ r, q ∙ s);
+  }
 
   -- from where nothing of x's list was worked out
   pub keeping-went : {σ : Store} → Went σ τ → countOf (σ .aut .states .words) x ≡ 0 → Went σ keeping

@@ -1,8 +1,8 @@
 -- 01, "Lent tables" and "Strings": what is kept in words 4 to 6 of the states, and in the transitions, is true of the states. Word 4 is an epsilon + 1 (SPP keeps 0), words 5
--- and 6 are the start and count + 1 of a list that is a delta, with ascending targets. It stays so while tables grow.
+-- and 6 are the start and count + 1 of a list that is a delta, with ascending targets; each transition is in one of the stored lists. It stays so while tables grow.
 use mathlib.Core.Path.{_≡_, refl, sym, _∙_, ap, subst}
 use mathlib.Core.List.{List, [], _∷_}
-use mathlib.Core.Logic.{_⊎_, inl, ⊎-elim}
+use mathlib.Core.Logic.{_⊎_, inl, inr, ⊎-elim}
 use Prim.Native.Nat.{ℕ, zero, suc, _+_, _*_, _-_, _≤_, _<_}
 use native.Mathlib.Omega.{arith}
 use lib.Dec.{leb, eqb}
@@ -65,6 +65,19 @@ pub valued-noted : {σ τ : Aut} → Noted σ τ → {x e : ℕ} → x < states 
 valued-noted n {x} l (handle k f) = handle (kind-grown (noted-grown n) x l ∙ k) (first-grown (noted-grown n) x l ∙ f)
 valued-noted n {x} l (memo k m) = memo (λ q. k (sym (kind-grown (noted-grown n) x l) ∙ q)) (n .kept x (omega (arith, m)) ∙ m)
 
+-- what a state has can be read: it is an SPP, or its epsilon is kept
+abbrev pub HasEpsilon : Aut → ℕ → Type 0
+HasEpsilon σ x = (kind σ x ≡ SPP) ⊎ (0 < epsilonOf (σ .states .words) x)
+
+pub valued-has : {σ : Aut} {x e : ℕ} → Valued σ x e → HasEpsilon σ x
+valued-has (handle k f) = inl k
+valued-has (memo n m) = inr (omega (arith, m))
+
+pub has-epsilon-grown : {σ τ : Aut} {x : ℕ} → Grown σ τ → x < states σ → (0 < epsilonOf (σ .states .words) x → epsilonOf (τ .states .words) x ≡ epsilonOf (σ .states .words) x)
+    → HasEpsilon σ x → HasEpsilon τ x
+has-epsilon-grown {x = x} w l same (inl k) = inl (kind-grown w x l ∙ k)
+has-epsilon-grown w l same (inr p) = inr (omega (arith, p, same p))
+
 -- tables that have grown, with words 4 of states in use as they were and of new ones not worked out
 pub epsilons-grown : {N : ℕ} {L : Limits} {σ τ : Aut} → Good N L σ → Grown σ τ
     → ((x : ℕ) → x < states τ → epsilonOf (τ .states .words) x ≡ epsilonOf (σ .states .words) x) → Epsilons N σ → Epsilons N τ
@@ -123,11 +136,31 @@ pub record Held (N : ℕ) (L : Limits) (σ : Store) (x : ℕ) : Type 0 where
   pub short : countOf (σ .aut .states .words) x ≤ L .transitions + 1
   pub list : 0 < countOf (σ .aut .states .words) x → IsList (tables N L) (Holds N (σ .aut) x) (σ .aut) (listAt σ x)
 
+-- transition t is in the stored list of x
+abbrev pub InList : Store → ℕ → ℕ → Type 0
+InList σ x t = (startOf (σ .aut .states .words) x ≤ t) × (t + 1 < startOf (σ .aut .states .words) x + countOf (σ .aut .states .words) x)
+
+-- the state in whose list it is
+pub record Owner (σ : Store) (t : ℕ) : Type 0 where
+  pub state : ℕ
+  pub known : state < states (σ .aut)
+  pub has : InList σ state t
+
+-- Words 5 and 6 of all states: each transition in use is in the stored list of one state. A stored list, also an empty one, starts at a border: not within another. Where none is stored
+-- both words are 0.
+pub record Laid (σ : Store) : Type 0 where
+  pub owned : (t : ℕ) → t < σ .transitions .count → Owner σ t
+  pub apart : (x y t : ℕ) → x < states (σ .aut) → y < states (σ .aut) → InList σ x t → InList σ y t → x ≡ y
+  pub border : (x y : ℕ) → x < states (σ .aut) → y < states (σ .aut) → 0 < countOf (σ .aut .states .words) x → InList σ y (startOf (σ .aut .states .words) x)
+      → startOf (σ .aut .states .words) x ≡ startOf (σ .aut .states .words) y
+  pub blank : (x : ℕ) → x < states (σ .aut) → countOf (σ .aut .states .words) x ≡ 0 → startOf (σ .aut .states .words) x ≡ 0
+
 pub record Lists (N : ℕ) (L : Limits) (σ : Store) : Type 0 where
   pub some : 1 ≤ L .transitions  -- the limit allows a transition
   pub fit : 2 * σ .transitions .count ≤ length (σ .transitions .words)
   pub small : σ .transitions .count ≤ transitionCap
   pub held : (x : ℕ) → x < states (σ .aut) → Held N L σ x
+  pub laid : Laid σ
 
 -- tables in order, and all that is worked out is true
 pub record Worked (N : ℕ) (L : Limits) (σ : Store) : Type 0 where
@@ -143,6 +176,35 @@ pub record Stored (σ : Store) (x : ℕ) (es : List Edge) : Type 0 where
 -- words 5 and 6 of x are as they were
 abbrev pub SameWords : Store → Store → ℕ → Type 0
 SameWords σ τ x = (countOf (τ .aut .states .words) x ≡ countOf (σ .aut .states .words) x) × (startOf (τ .aut .states .words) x ≡ startOf (σ .aut .states .words) x)
+
+-- only a state in use has a list
+pub list-there : {N : ℕ} {L : Limits} {σ : Aut} → Good N L σ → (x : ℕ) → 0 < countOf (σ .states .words) x → x < states σ
+unfolding countOf
+list-there {σ = σ} g x p = by-test (leb (states σ) x)
+    (λ t. absurd (omega (arith, g .fresh (12 * x + 6) (omega (arith, leb-true (states σ) x t)))))
+    (λ t. leb-false (states σ) x t)
+
+-- no list is stored: words 5 and 6 of all states are as they were
+pub laid-same : {N : ℕ} {L : Limits} {σ τ : Store} → Good N L (σ .aut) → ((x : ℕ) → SameWords σ τ x) → states (σ .aut) ≤ states (τ .aut) → τ .transitions .count ≡ σ .transitions .count
+    → Laid σ → Laid τ
+unfolding countOf startOf
+laid-same {σ = σ} {τ} g same more count D = record {
+  owned = λ t l. let o = D .owned t (omega (arith, count)) in
+      record { state = o .state; known = omega (arith, o .known); has = (omega (arith, o .has .0, same (o .state) .1), omega (arith, o .has .1, same (o .state) .0, same (o .state) .1)) };
+  apart = λ x y t k l m n. D .apart x y t (there x (back x t m)) (there y (back y t n)) (back x t m) (back y t n);
+  border = λ x y k l c m.
+      let i = back y (startOf (τ .aut .states .words) x) m in
+      omega (arith, same x .1, same y .1, D .border x y (list-there g x (omega (arith, same x .0))) (there y i) (omega (arith, same x .0)) (omega (arith, i .0, same x .1), omega (arith, i .1, same x .1)));
+  blank = λ x l c. by-test (leb (states (σ .aut)) x)
+      (λ b. same x .1 ∙ g .fresh (12 * x + 5) (omega (arith, leb-true (states (σ .aut)) x b)))
+      (λ b. same x .1 ∙ D .blank x (leb-false (states (σ .aut)) x b) (sym (same x .0) ∙ c));
+}
+  where
+    back : (x t : ℕ) → InList τ x t → InList σ x t
+    back x t m = (omega (arith, m .0, same x .1), omega (arith, m .1, same x .0, same x .1))
+
+    there : (x : ℕ) {t : ℕ} → InList σ x t → x < states (σ .aut)
+    there x m = list-there g x (omega (arith, m .0, m .1))
 
 module _ {N : ℕ} {L : Limits} {σ : Store} (τ : Store) (D : Lists N L σ) (t : ExtT (σ .transitions) (τ .transitions)) where
   pub same-list : (x : ℕ) → x < states (σ .aut) → 0 < countOf (σ .aut .states .words) x → SameWords σ τ x → listAt τ x ≡ listAt σ x
@@ -172,15 +234,21 @@ module _ {N : ℕ} {L : Limits} {σ : Store} (τ : Store) (D : Lists N L σ) (t 
 
     -- each state has its words 5 and 6 as they were, or what they say now holds
     pub lists-grown : 2 * τ .transitions .count ≤ length (τ .transitions .words) → τ .transitions .count ≤ transitionCap
-        → ((x : ℕ) → x < states (τ .aut) → SameWords σ τ x ⊎ Held N L τ x) → Lists N L τ
-    lists-grown f s each = record { some = D .some; fit = f; small = s; held = λ x l. ⊎-elim (λ e. held-same x l e) (λ h. h) (each x l) }
+        → ((x : ℕ) → x < states (τ .aut) → SameWords σ τ x ⊎ Held N L τ x) → Laid τ → Lists N L τ
+    lists-grown f s each m = record { some = D .some; fit = f; small = s; held = λ x l. ⊎-elim (λ e. held-same x l e) (λ h. h) (each x l); laid = m }
 
--- nothing is worked out: tables with no state
-pub begun : {N : ℕ} {L : Limits} {σ : Store} → 1 ≤ L .transitions → Good N L (σ .aut) → states (σ .aut) ≡ 0 → 2 * σ .transitions .count ≤ length (σ .transitions .words) → σ .transitions .count ≤ transitionCap → Worked N L σ
-begun o g z f s = record {
+-- nothing is worked out: tables with no state and no transition
+pub begun : {N : ℕ} {L : Limits} {σ : Store} → 1 ≤ L .transitions → Good N L (σ .aut) → states (σ .aut) ≡ 0 → σ .transitions .count ≡ 0 → Worked N L σ
+begun o g z c = record {
   good = g;
   epsilons = record { none = λ x l k. absurd (omega arith); kept = λ x l e q. absurd (omega arith) };
-  lists = record { some = o; fit = f; small = s; held = λ x l. absurd (omega arith) };
+  lists = record {
+    some = o;
+    fit = omega arith;
+    small = omega arith;
+    held = λ x l. absurd (omega arith);
+    laid = record { owned = λ t l. absurd (omega arith); apart = λ x y t l. absurd (omega arith); border = λ x y l. absurd (omega arith); blank = λ x l. absurd (omega arith) };
+  };
 }
 
 -- a step on the tables of the constructors that leaves words 5 and 6 of all states
@@ -191,8 +259,11 @@ worked-aut {σ} {a} W w v E same = record {
   good = v;
   epsilons = E;
   lists = lists-grown (store a (σ .transitions)) (W .lists) (extt-refl (σ .transitions)) (W .good) w v (W .lists .fit) (W .lists .small)
-      (λ x l. inl (same x 6 (omega arith) (omega arith), same x 5 (omega arith) (omega arith)));
+      (λ x l. inl (words x)) (laid-same (W .good) words (w .states .more) refl (W .lists .laid));
 }
+  where
+    words : (x : ℕ) → SameWords σ (store a (σ .transitions)) x
+    words x = (same x 6 (omega arith) (omega arith), same x 5 (omega arith) (omega arith))
 
 -- .. one that works nothing out, and one that works out epsilons
 pub worked-since : {N : ℕ} {L : Limits} {σ : Store} {a : Aut} → Worked N L σ → Since N L (σ .aut) a → Worked N L (store a (σ .transitions))

@@ -202,6 +202,6 @@ pub begun-ordered : {N : ℕ} {L : Limits} {s r : Table} {h : ℕ} {c : Spp.Cons
     → Ordered N L (tables s (store (aut r (table st 0) (table ms 0)) (table ts 0)))
 begun-ordered {N} sp spp st ms ts some a b z = record {
   sets = given-of (SpStart.begun N sp) a .wf;
-  worked = begun some (good-begun st ms (given-of (SppBegin.begun N spp) b .wf) z) refl (omega arith) (omega arith);
+  worked = begun some (good-begun st ms (given-of (SppBegin.begun N spp) b .wf) z) refl refl;
   lives = record { kept = λ x l. absurd (omega arith); listed = λ x l. absurd (omega arith); onward = λ x l. absurd (omega arith) };
 }
