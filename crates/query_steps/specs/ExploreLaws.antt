@@ -28,11 +28,11 @@ use Rattle.aut_steps.specs.Good.{states, state-grown}
 use Rattle.aut_steps.specs.Meaning.{Holds, rule, rule-grown}
 use Rattle.delta_steps.specs.Delta.{countOf, Store, listAt}
 use Rattle.delta_steps.specs.Fits.{tables as readings}
-use Rattle.delta_steps.specs.Worked.{Means, Worked, Stored, same-list}
+use Rattle.delta_steps.specs.Worked.{Means, HasEpsilon, has-epsilon-grown, Worked, Stored, same-list}
 use Rattle.delta_steps.specs.Stored.{Went}
 use Rattle.query_steps.specs.Tables.{Tables, diagrams, Ordered, both-wf, Gone}
 use Rattle.query_steps.specs.Search.{capacity}
-use Rattle.query_steps.specs.Steps.{gone-refl, gone-trans, no-entry, stopped-here, Ends, halts, comes, Steps, ends-map, ends-bind, ends-call, ends-branch, ends-same, images-step, epsilon-ends, delta-ends}
+use Rattle.query_steps.specs.Steps.{gone-refl, gone-trans, no-entry, stopped-here, Ends, halts, comes, Steps, ends-map, ends-bind, ends-call, ends-branch, ends-same, images-step, epsilon-kept, delta-ends}
 use Rattle.query_steps.specs.Live.{liveAt, Found, found, Visit, enqueue, visit, explore}
 
 -- ---- lists of states
@@ -120,15 +120,17 @@ targets-known {N} {L} {a} i e m = go (i .are) m
 
 -- ---- the walk
 
--- the list of s is stored, and leads to the states of `all`
+-- the list of s is stored, and its epsilon unless it is an SPP; the list leads to the states of `all`
 pub record Linked (b : Store) (all : List ℕ) (s : ℕ) : Type 0 where
   pub known : s < states (b .aut)
+  pub ended : HasEpsilon (b .aut) s
   pub marked : 0 < countOf (b .aut .states .words) s
   pub leads : (e : Edge) → List·Memᴰ e (listAt b s) → List·Memᴰ (e .target) all
 
 linked-went : {N : ℕ} {L : Limits} {b c : Store} {all all′ : List ℕ} {s : ℕ} → Worked N L b → Went b c → ((s : ℕ) → List·Memᴰ s all → List·Memᴰ s all′) → Linked b all s → Linked c all′ s
 linked-went {c = c} {s = s} W w f k = record {
   known = state-grown (w .grown) (k .known);
+  ended = has-epsilon-grown (w .grown) (k .known) (w .epsilons s) (k .ended);
   marked = omega (arith, w .lists s (k .marked) .0, k .marked);
   leads = λ e m. f (e .target) (k .leads e (subst (List·Memᴰ e) (same-list c (W .lists) (w .transitions) s (k .known) (k .marked) (w .lists s (k .marked))) m));
 }
@@ -164,7 +166,7 @@ module _ {N : ℕ} {L : Limits} where
       gone = gone-refl σ;
       ordered = E .ordered;
       has = λ s m. drop s m;
-      links = λ s m. let k = E .links s m in record { known = k .known; marked = k .marked; leads = λ e n. drop (e .target) (k .leads e n) };
+      links = λ s m. let k = E .links s m in record { known = k .known; ended = k .ended; marked = k .marked; leads = λ e n. drop (e .target) (k .leads e n) };
       sets = E .sets;
       some = E .some;
       fits = omega (arith, E .fits, length-append visited []);
@@ -194,7 +196,7 @@ module _ {N : ℕ} {L : Limits} where
           (List·Memᴰ·append-cases (visited ++ s ∷ []) m)
 
       module _ (σ₁ σ₂ σ₃ : Tables) (e h : ℕ) (list : List Edge) (waiting′ : List ℕ)
-          (A : Steps N L (λ τ e. Means N (τ .base .aut .nodes) e (Holds N (σ .base .aut) s)) σ σ₁ e)
+          (A : Steps N L (λ τ e. Means N (τ .base .aut .nodes) e (Holds N (σ .base .aut) s)) σ σ₁ e) (J : HasEpsilon (σ₁ .base .aut) s)
           (B : Steps N L (λ τ h. (τ .base ≡ σ₁ .base) × SpLaws.Den (τ .sets) N h (starts (A .holds .relation))) σ₁ σ₂ h)
           (D : Steps N L (λ τ es. Stored (τ .base) s es × IsList (readings N L) (Holds N (σ₂ .base .aut) s) (τ .base .aut) es) σ₂ σ₃ list)
           (Q : Queued (capacity lent) list (visited ++ s ∷ []) waiting waiting′)
@@ -205,6 +207,7 @@ module _ {N : ℕ} {L : Limits} where
           here : Linked (σ₃ .base) ((visited ++ s ∷ []) ++ waiting′) s
           here = record {
             known = state-grown (g .went .grown) k;
+            ended = let w = gone-trans (B .gone) (D .gone) .went in has-epsilon-grown (w .grown) (state-grown (A .gone .went .grown) k) (w .epsilons s) J;
             marked = D .holds .0 .marked;
             leads = λ e m. Q .all e (subst (List·Memᴰ e) (D .holds .0 .reads) m);
           }
@@ -249,15 +252,17 @@ module _ {N : ℕ} {L : Limits} where
 
       pub visit-ends : Ends N L lent VisitedTo σ (visit N L lent s visited waiting σ)
       visit-ends =
-          ends-call (epsilon-ends (E .ordered) k) (λ σ₁ e A.
-          ends-call (images-step (A .ordered) (λ t h. SpLaws.Den t N h (starts (A .holds .relation))) (bwd-exact N N (omega arith) (diagrams σ₁) e (A .holds .relation) (both-wf (A .ordered)) (A .holds .den))) (λ σ₂ h B.
-          let g₂ = gone-trans (A .gone) (B .gone) in
-          ends-call (delta-ends (B .ordered) (state-grown (g₂ .went .grown) k)) (λ σ₃ list D.
-          ends-bind (enqueue-ends lent (visited ++ s ∷ []) (D .ordered) list waiting (λ t m. state-grown (gone-trans g₂ (D .gone) .went .grown) (all-known t m)) (targets-known (D .holds .1))) (λ σ₄ waiting′ Q. (
-            subst (λ (υ : Tables). Gone σ₃ υ) (sym (Q .0)) (gone-refl σ₃),
-            subst (λ (υ : Tables). Ends N L lent VisitedTo υ (given υ (record { ends = h; waiting = waiting′ }))) (sym (Q .0))
-                (comes (record { gone = gone-trans g₂ (D .gone); next = next σ₁ σ₂ σ₃ e h list waiting′ A B D (Q .1); onward = onward waiting′ (Q .1) })),
-          )))))
+          ends-bind (epsilon-kept (E .ordered) k) (λ σ₁ e (A, J). (
+            A .gone,
+            ends-call (images-step (A .ordered) (λ t h. SpLaws.Den t N h (starts (A .holds .relation))) (bwd-exact N N (omega arith) (diagrams σ₁) e (A .holds .relation) (both-wf (A .ordered)) (A .holds .den))) (λ σ₂ h B.
+                let g₂ = gone-trans (A .gone) (B .gone) in
+                ends-call (delta-ends (B .ordered) (state-grown (g₂ .went .grown) k)) (λ σ₃ list D.
+                ends-bind (enqueue-ends lent (visited ++ s ∷ []) (D .ordered) list waiting (λ t m. state-grown (gone-trans g₂ (D .gone) .went .grown) (all-known t m)) (targets-known (D .holds .1))) (λ σ₄ waiting′ Q. (
+                  subst (λ (υ : Tables). Gone σ₃ υ) (sym (Q .0)) (gone-refl σ₃),
+                  subst (λ (υ : Tables). Ends N L lent VisitedTo υ (given υ (record { ends = h; waiting = waiting′ }))) (sym (Q .0))
+                      (comes (record { gone = gone-trans g₂ (D .gone); next = next σ₁ σ₂ σ₃ e h list waiting′ A J B D (Q .1); onward = onward waiting′ (Q .1) })),
+                )))),
+          ))
 
     -- ---- all visits
 

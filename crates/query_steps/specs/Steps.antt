@@ -23,9 +23,9 @@ use Rattle.delta_steps.specs.Epsilon.{epsilon}
 use Rattle.delta_steps.specs.Delta.{Store, putAut, onAut, delta}
 use Rattle.delta_steps.specs.Fits.{tables as readings, Since}
 use Rattle.delta_steps.specs.Agree.{Agree, stop, come}
-use Rattle.delta_steps.specs.Worked.{Means, ExtT, extt-refl, extt-trans, Worked, Stored, worked-since}
+use Rattle.delta_steps.specs.Worked.{Means, HasEpsilon, ExtT, extt-refl, extt-trans, Worked, Stored, worked-since}
 use Rattle.delta_steps.specs.Stored.{Went, went-refl, went-trans, went-since}
-use Rattle.delta_steps.specs.DeltaRuns.{WhyDelta, listing, Halted, Stepped, Deltaed, goes-step, epsilon-step}
+use Rattle.delta_steps.specs.DeltaRuns.{WhyDelta, listing, Halted, Stepped, Deltaed, goes-step, epsilon-step, epsilon-has}
 use Rattle.delta_steps.specs.DeltaLaws.{delta-goes}
 use Rattle.query_steps.specs.Tables.{Tables, diagrams, putSets, putBase, putRelations, onSets, onBase, makingSets, makingRelations, Ordered, Gone, Later, gone-later, lives-gone}
 use Rattle.query_steps.specs.Search.{capacity}
@@ -146,6 +146,10 @@ module _ {N : ℕ} {L : Limits} {lent : ℕ} {A : Type 0} where
   ends-both (halts s) e = halts s
   ends-both (comes p) (comes q) = comes (p, q)
 
+  pub ends-with : {P Q : Tables → A → Type 0} {σ : Tables} {o : Outcome Tables A} → Ends N L lent P σ o → Gives Q o → Ends N L lent (λ τ a. P τ a × Q τ a) σ o
+  ends-with (halts s) g = halts s
+  ends-with (comes p) (gives q) = comes (p, q)
+
   -- a test
   pub ends-branch : {Q : Tables → A → Type 0} (b : Bool) (m k : Step Tables A) (σ : Tables) → (b ≡ true → Ends N L lent Q σ (m σ)) → (b ≡ false → Ends N L lent Q σ (k σ)) → Ends N L lent Q σ ((if b then m else k) σ)
   ends-branch true m k σ f g = f refl
@@ -243,6 +247,14 @@ module _ {N : ℕ} {L : Limits} {lent : ℕ} {σ : Tables} (o : Ordered N L σ) 
   module _ {s : ℕ} (k : s < states (σ .base .aut)) where
     pub epsilon-ends : Ends N L lent (Steps N L (λ τ e. Means N (τ .base .aut .nodes) e (Holds N (σ .base .aut) s)) σ) σ (onBase (onAut (epsilon N s)) σ)
     epsilon-ends = base-step (epsilon-step (o .worked) k)
+
+    -- .. and the state has it
+    pub epsilon-kept : Ends N L lent (λ τ e. Steps N L (λ τ e. Means N (τ .base .aut .nodes) e (Holds N (σ .base .aut) s)) σ τ e × HasEpsilon (τ .base .aut) s) σ (onBase (onAut (epsilon N s)) σ)
+    epsilon-kept = ends-with epsilon-ends (go (epsilon-has (o .worked) k))
+      where
+        go : {r : Outcome Store ℕ} → Gives (λ b e. HasEpsilon (b .aut) s) r → Gives (λ τ e. HasEpsilon (τ .base .aut) s) (placed putBase σ r)
+        go refusal = refusal
+        go (gives p) = gives p
 
     -- the list is a delta of the state, and is stored
     pub delta-ends : Ends N L lent (Steps N L (λ τ es. Stored (τ .base) s es × IsList (readings N L) (Holds N (σ .base .aut) s) (τ .base .aut) es) σ) σ (onBase (delta N L s) σ)

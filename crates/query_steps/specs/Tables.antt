@@ -29,7 +29,7 @@ use Rattle.aut_steps.specs.Goes.{good-begun}
 use Rattle.aut_steps.specs.Meaning.{Holds, holds-grown}
 use Rattle.delta_steps.specs.Epsilon.{epsilonOf}
 use Rattle.delta_steps.specs.Delta.{countOf, Store, store, listAt}
-use Rattle.delta_steps.specs.Worked.{ExtT, extt-refl, extt-trans, Worked, SameWords, same-list, begun}
+use Rattle.delta_steps.specs.Worked.{HasEpsilon, has-epsilon-grown, ExtT, extt-refl, extt-trans, Worked, SameWords, same-list, begun}
 use Rattle.delta_steps.specs.Stored.{Went}
 
 -- ---- the tables
@@ -94,10 +94,11 @@ is-live-same f i = record {
 pub live-same : {N : ℕ} {t : Table} {l : ℕ} {A B : Language N} → A ≈ B → LiveSet N t l A → LiveSet N t l B
 live-same f m = record { set = m .set; den = m .den; is = is-live-same f (m .is) }
 
--- Word 7 of a state: what it keeps is the state's live set. Then its list is stored, and the live sets of the targets are kept too.
+-- Word 7 of a state: what it keeps is the state's live set. Then its list is stored, and its epsilon unless it is an SPP; and the live sets of the targets are kept too.
 pub record Lives (N : ℕ) (σ : Tables) : Type 0 where
   pub kept : (x : ℕ) → x < states (σ .base .aut) → (l : ℕ) → liveOf (σ .base .aut .states .words) x ≡ l + 1 → LiveSet N (σ .sets) l (Holds N (σ .base .aut) x)
   pub listed : (x : ℕ) → x < states (σ .base .aut) → 0 < liveOf (σ .base .aut .states .words) x → 0 < countOf (σ .base .aut .states .words) x
+  pub ended : (x : ℕ) → x < states (σ .base .aut) → 0 < liveOf (σ .base .aut .states .words) x → HasEpsilon (σ .base .aut) x
   pub onward : (x : ℕ) → x < states (σ .base .aut) → 0 < liveOf (σ .base .aut .states .words) x → (e : Edge) → List·Memᴰ e (listAt (σ .base) x)
       → 0 < liveOf (σ .base .aut .states .words) (e .target)
 
@@ -180,6 +181,8 @@ module _ {σ τ : Tables} (g : Gone σ τ) where
     kept = λ x l v e. let m : x < states (σ .base .aut) = old x (omega (arith, live-word x)) in
         live-same (≈-sym (holds-grown (o .worked .good) (g .went .grown) m)) (live-ext (g .sets) (o .lives .kept x m v (sym (live-word x) ∙ e)));
     listed = λ x l p. let c = had x (omega (arith, live-word x)) in omega (arith, g .went .lists x c .0);
+    ended = λ x l p. let q : 0 < liveOf (σ .base .aut .states .words) x = omega (arith, live-word x) in
+        has-epsilon-grown (g .went .grown) (old x q) (g .went .epsilons x) (o .lives .ended x (old x q) q);
     onward = λ x l p e m.
         let q : 0 < liveOf (σ .base .aut .states .words) x = omega (arith, live-word x) in
         let k = old x q in
@@ -203,5 +206,5 @@ pub begun-ordered : {N : ℕ} {L : Limits} {s r : Table} {h : ℕ} {c : Spp.Cons
 begun-ordered {N} sp spp st ms ts some a b z = record {
   sets = given-of (SpStart.begun N sp) a .wf;
   worked = begun some (good-begun st ms (given-of (SppBegin.begun N spp) b .wf) z) refl refl;
-  lives = record { kept = λ x l. absurd (omega arith); listed = λ x l. absurd (omega arith); onward = λ x l. absurd (omega arith) };
+  lives = record { kept = λ x l. absurd (omega arith); listed = λ x l. absurd (omega arith); ended = λ x l. absurd (omega arith); onward = λ x l. absurd (omega arith) };
 }
