@@ -95,29 +95,6 @@ pub fn plain(text: &[u8], out: &mut dyn FnMut(&str)) -> Result<katch2::machine::
     Ok(machine)
 }
 
-/// A book's constructor lines by the ordered copy: `line state nodes states members` for each (the counts are those after it), then the
-/// words of the three tables. It ends before the first query.
-pub fn lines(text: &[u8], out: &mut dyn FnMut(&str)) -> Result<(), Stop> {
-    use katch2_ordered::machine::{Machine, Step};
-    let mut reader = Reader::new(text)?;
-    let mut machine = Machine::new(reader.fields, reader.budget);
-    let mut number = 0;
-    while let Some(instruction) = reader.next()? {
-        if let Instruction::Empty(_) | Instruction::Live(_) | Instruction::Pruned(_) = instruction { break; }
-        let Step::Made(state) = machine.step(&instruction) else { break };
-        if machine.new_nesting() > NESTING { return Err(Stop::Nesting(reader.line())); }
-        let t = machine.tables();
-        out(&format!("{number} {state} {} {} {}\n", t.spp.len() / 4, t.states.len() / 12, t.members.len()));
-        number += 1;
-    }
-    let t = machine.tables();
-    for (name, list) in [("spp", t.spp), ("states", t.states), ("members", t.members)] {
-        let words: String = list.iter().map(|w| format!(" {w}")).collect();
-        out(&format!("{name}{words}\n"));
-    }
-    Ok(())
-}
-
 /// A book's whole outcome by the ordered copy.
 #[derive(Debug, Clone, PartialEq, Eq)]
 pub struct Outcome {

@@ -1,2 +1,0 @@
--- What a replay keeps: tables and scratch in order.
-pub mod Kept

@@ -1,4 +1,0 @@
--- what the proofs of several functions use
-pub mod Sets
-pub mod Rels
-pub mod Lines
