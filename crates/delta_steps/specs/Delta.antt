@@ -49,6 +49,10 @@ transitionCap = 16777216
 unfoldable pub roomT : Table → ℕ → Bool
 roomT t k = leb (t .count + k) (length (t .words) / 2) && leb (t .count + k) transitionCap
 
+-- where the next list starts
+abbrev pub nextStart : Table → ℕ
+nextStart t = t .count
+
 -- a list behind the transitions in use
 unfoldable pub append : List Edge → Table → Table
 append es t = table (sets (t .words) (2 * t .count) (flat es)) (t .count + length es)
@@ -63,7 +67,7 @@ keepList x es σ =
     let t : Table = σ .transitions in
     let a : Aut = σ .aut in
     if roomT t (length es)
-    then given (store (putStates (setWord x 6 (length es + 1) (setWord x 5 (t .count) (a .states))) a) (append es t)) es
+    then given (store (putStates (setWord x 6 (length es + 1) (setWord x 5 (nextStart t) (a .states))) a) (append es t)) es
     else refused 25
 
 -- ---- delta, for N fields

@@ -22,7 +22,7 @@ use Rattle.aut_steps.specs.Good.{states, Grown, grown-refl, grown-trans, Good}
 use Rattle.aut_steps.specs.Meaning.{Holds, holds-grown}
 use Rattle.delta_steps.specs.Epsilon.{epsilonOf}
 use Rattle.st_steps.specs.Edges.{edges, flat}
-use Rattle.delta_steps.specs.Delta.{startOf, countOf, Store, store, transitionCap, roomT, append, listAt}
+use Rattle.delta_steps.specs.Delta.{startOf, countOf, Store, store, transitionCap, roomT, nextStart, append, listAt}
 use Rattle.delta_steps.specs.Fits.{tables, Since}
 use Rattle.delta_steps.specs.Noted.{Noted, noted-grown, written, written-other, written-here, written-count, written-length, written-grown, written-good}
 use Rattle.delta_steps.specs.Worked.{epsilons-grown, later-grown, ExtT, extt-refl, extt-trans, Held, InList, Laid, lists-grown, Worked, Stored, SameWords, same-list}
@@ -159,8 +159,11 @@ module _ {N : ℕ} {L : Limits} {τ : Store} (W : Worked N L τ) {x : ℕ} (l : 
   abbrev n : ℕ
   n = τ .transitions .count
 
+  abbrev from : ℕ
+  from = nextStart (τ .transitions)
+
   abbrev a5 : Aut
-  a5 = written (τ .aut) x 5 n
+  a5 = written (τ .aut) x 5 from
 
   abbrev a6 : Aut
   a6 = written a5 x 6 (length es + 1)
@@ -170,44 +173,35 @@ module _ {N : ℕ} {L : Limits} {τ : Store} (W : Worked N L τ) {x : ℕ} (l : 
   keeping = store a6 (append es (τ .transitions))
 
   l5 : x < states a5
-  l5 = omega (arith, written-count (τ .aut) x 5 n)
+  l5 = omega (arith, written-count (τ .aut) x 5 from)
 
   pub keeping-grown : Grown (τ .aut) a6
-  keeping-grown = grown-trans (written-grown (τ .aut) x 5 n l (omega arith) (omega arith)) (written-grown a5 x 6 (length es + 1) l5 (omega arith) (omega arith))
+  keeping-grown = grown-trans (written-grown (τ .aut) x 5 from l (omega arith) (omega arith)) (written-grown a5 x 6 (length es + 1) l5 (omega arith) (omega arith))
 
   keeping-good : Good N L a6
-  keeping-good = written-good a5 x 6 (length es + 1) l5 (omega arith) (omega arith) (written-good (τ .aut) x 5 n l (omega arith) (omega arith) (W .good))
+  keeping-good = written-good a5 x 6 (length es + 1) l5 (omega arith) (omega arith) (written-good (τ .aut) x 5 from l (omega arith) (omega arith) (W .good))
 
   -- only words 5 and 6 of x are written
   keeping-other : (i w : ℕ) → w < 12 → ((w ≡ 5) → i ≡ x → ⊥) → ((w ≡ 6) → i ≡ x → ⊥) → getD (a6 .states .words) (12 * i + w) 0 ≡ getD (τ .aut .states .words) (12 * i + w) 0
   keeping-other i w m p q =
-      written-other a5 x 6 (length es + 1) (12 * i + w) (λ e. q (omega arith) (omega arith)) ∙ written-other (τ .aut) x 5 n (12 * i + w) (λ e. p (omega arith) (omega arith))
+      written-other a5 x 6 (length es + 1) (12 * i + w) (λ e. q (omega arith) (omega arith)) ∙ written-other (τ .aut) x 5 from (12 * i + w) (λ e. p (omega arith) (omega arith))
 
   count-kept : countOf (a6 .states .words) x ≡ length es + 1
   unfolding countOf
-  count-kept = written-here a5 x 6 (length es + 1) (omega (arith, written-length (τ .aut) x 5 n, W .good .fits))
+  count-kept = written-here a5 x 6 (length es + 1) (omega (arith, written-length (τ .aut) x 5 from, W .good .fits))
 
-  start-kept : startOf (a6 .states .words) x ≡ n
+  start-kept : startOf (a6 .states .words) x ≡ from
   unfolding startOf
-  start-kept = written-other a5 x 6 (length es + 1) (12 * x + 5) (λ e. omega arith) ∙ written-here (τ .aut) x 5 n (omega (arith, W .good .fits))
-
-  list-kept : listAt keeping x ≡ es
-  unfolding listAt append
-  list-kept =
-      ap₂ (edges (sets (τ .transitions .words) (2 * n) (flat es))) start-kept (ap (λ (j : ℕ). j - 1) count-kept ∙ omega arith)
-      ∙ edges-sets es (τ .transitions .words) n (omega (arith, room-transitions (τ .transitions) (length es) room .0))
+  start-kept = written-other a5 x 6 (length es + 1) (12 * x + 5) (λ e. omega arith) ∙ written-here (τ .aut) x 5 from (omega (arith, W .good .fits))
 
   other-list : (y : ℕ) → (y ≡ x → ⊥) → SameWords τ keeping y
   unfolding countOf startOf
   other-list y k = (keeping-other y 6 (omega arith) (λ q. absurd (omega arith)) (λ q. k), keeping-other y 5 (omega arith) (λ q. k) (λ q. absurd (omega arith)))
 
-  pub keeping-stored : Stored keeping x es
-  keeping-stored = record { marked = omega (arith, count-kept); reads = list-kept }
-
   -- x had no list: the new one stands behind all others
   module _ (z : countOf (τ .aut .states .words) x ≡ 0) where
     same-states : states a6 ≡ states (τ .aut)
-    same-states = written-count a5 x 6 (length es + 1) ∙ written-count (τ .aut) x 5 n
+    same-states = written-count a5 x 6 (length es + 1) ∙ written-count (τ .aut) x 5 from
 
     old-in : (y t : ℕ) → (y ≡ x → ⊥) → InList keeping y t → InList τ y t
     old-in y t k m = let (c, s) = other-list y k in (omega (arith, m .0), omega (arith, m .1))
@@ -253,6 +247,15 @@ module _ {N : ℕ} {L : Limits} {τ : Store} (W : Worked N L τ) {x : ℕ} (l : 
           (λ p. absurd (omega (arith, count-kept, ap (countOf (a6 .states .words)) (eqb-true y x p))))
           (λ p. let (e, f) = other-list y (eqb-false y x p) in f ∙ W .lists .laid .blank y (omega (arith, same-states)) (sym e ∙ c));
     }
+
+  list-kept : listAt keeping x ≡ es
+  unfolding listAt append
+  list-kept =
+      ap₂ (edges (sets (τ .transitions .words) (2 * n) (flat es))) start-kept (ap (λ (j : ℕ). j - 1) count-kept ∙ omega arith)
+      ∙ edges-sets es (τ .transitions .words) n (omega (arith, room-transitions (τ .transitions) (length es) room .0))
+
+  pub keeping-stored : Stored keeping x es
+  keeping-stored = record { marked = omega (arith, count-kept); reads = list-kept }
 
   pub keeping-worked : countOf (τ .aut .states .words) x ≡ 0 → IsList (tables N L) (Holds N (τ .aut) x) (τ .aut) es → length es ≤ L .transitions → Worked N L keeping
   unfolding append epsilonOf
