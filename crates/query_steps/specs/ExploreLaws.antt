@@ -12,7 +12,7 @@ use borrow.Author.Tests.{eqb-true, eqb-false, ltb-true, ltb-false}
 use Rattle.common.specs.Packets.{Packet, Relation, any}
 use Rattle.common.specs.Relations.{starts}
 use Rattle.common.specs.RelationLaws.{starts-of, starts-to}
-use Rattle.common.specs.Outcome.{given, if_then_else_}
+use Rattle.common.specs.Outcome.{given, Gives, if_then_else_}
 use Rattle.common.specs.Runs.{Table}
 use Rattle.netkat.specs.Rules.{Rule, Language}
 use Rattle.netkat.specs.Derivatives as Derivatives
@@ -32,8 +32,8 @@ use Rattle.delta_steps.specs.Worked.{Means, HasEpsilon, has-epsilon-grown, Work
 use Rattle.delta_steps.specs.Stored.{Went}
 use Rattle.query_steps.specs.Tables.{Tables, diagrams, Ordered, both-wf, Gone}
 use Rattle.query_steps.specs.Search.{capacity}
-use Rattle.query_steps.specs.Steps.{gone-refl, gone-trans, no-entry, stopped-here, Ends, halts, comes, Steps, ends-map, ends-bind, ends-call, ends-branch, ends-same, images-step, epsilon-kept, delta-ends}
-use Rattle.query_steps.specs.Live.{liveAt, Found, found, Visit, enqueue, visit, explore}
+use Rattle.query_steps.specs.Steps.{gone-refl, gone-trans, no-entry, stopped-here, Ends, halts, comes, Steps, ends-map, ends-bind, ends-call, ends-with, ends-branch, ends-same, images-step, epsilon-ends, epsilon-kept, delta-ends}
+use Rattle.query_steps.specs.Live.{liveAt, Found, found, Visit, enqueue, asks, visit, explore}
 
 -- ---- lists of states
 
@@ -181,6 +181,9 @@ module _ {N : ℕ} {L : Limits} where
       k : s < states (σ .base .aut)
       k = E .known s (List·Memᴰ·head refl)
 
+      kept : Gives (λ τ e. HasEpsilon (τ .base .aut) s) (asks N s σ)
+      kept = epsilon-kept (E .ordered) k
+
       -- the states go on
       onward : (waiting′ : List ℕ) {list : List Edge} → Queued (capacity lent) list (visited ++ s ∷ []) waiting waiting′ → (t : ℕ) → List·Memᴰ t (visited ++ s ∷ waiting) → List·Memᴰ t ((visited ++ s ∷ []) ++ waiting′)
       onward waiting′ Q t m = ⊎-elim
@@ -252,7 +255,7 @@ module _ {N : ℕ} {L : Limits} where
 
       pub visit-ends : Ends N L lent VisitedTo σ (visit N L lent s visited waiting σ)
       visit-ends =
-          ends-bind (epsilon-kept (E .ordered) k) (λ σ₁ e (A, J). (
+          ends-bind (ends-with (epsilon-ends (E .ordered) k) kept) (λ σ₁ e (A, J). (
             A .gone,
             ends-call (images-step (A .ordered) (λ t h. SpLaws.Den t N h (starts (A .holds .relation))) (bwd-exact N N (omega arith) (diagrams σ₁) e (A .holds .relation) (both-wf (A .ordered)) (A .holds .den))) (λ σ₂ h B.
                 let g₂ = gone-trans (A .gone) (B .gone) in

@@ -82,11 +82,15 @@ keepIn (x ∷ xs) live s = keepIn xs live (setWord x 7 (live x + 1) s)
 abbrev pub keepLives : List ℕ → (ℕ → ℕ) → Tables → Tables
 keepLives xs live σ = putBase (store (putStates (keepIn xs live (σ .base .aut .states)) (σ .base .aut)) (σ .base .transitions)) σ
 
+-- the epsilon of a visited state, which is kept
+abbrev pub asks : ℕ → ℕ → Step Tables ℕ
+asks N s = onBase (onAut (epsilon N s))
+
 module _ (N : ℕ) (L : Limits) (lent : ℕ) where
   -- Per state: epsilon (21), bwd (20), delta, then its targets (24).
   abbrev pub visit : (s : ℕ) → (visited waiting : List ℕ) → Step Tables Visit
   visit s visited waiting = do
-    e ← onBase (onAut (epsilon N s))
+    e ← asks N s
     ends ← makingSets (Images.bwd N e)
     list ← onBase (delta N L s)
     waiting′ ← enqueue (capacity lent) list (visited ++ s ∷ []) waiting

@@ -248,14 +248,6 @@ module _ {N : ℕ} {L : Limits} {lent : ℕ} {σ : Tables} (o : Ordered N L σ) 
     pub epsilon-ends : Ends N L lent (Steps N L (λ τ e. Means N (τ .base .aut .nodes) e (Holds N (σ .base .aut) s)) σ) σ (onBase (onAut (epsilon N s)) σ)
     epsilon-ends = base-step (epsilon-step (o .worked) k)
 
-    -- .. and the state has it
-    pub epsilon-kept : Ends N L lent (λ τ e. Steps N L (λ τ e. Means N (τ .base .aut .nodes) e (Holds N (σ .base .aut) s)) σ τ e × HasEpsilon (τ .base .aut) s) σ (onBase (onAut (epsilon N s)) σ)
-    epsilon-kept = ends-with epsilon-ends (go (epsilon-has (o .worked) k))
-      where
-        go : {r : Outcome Store ℕ} → Gives (λ b e. HasEpsilon (b .aut) s) r → Gives (λ τ e. HasEpsilon (τ .base .aut) s) (placed putBase σ r)
-        go refusal = refusal
-        go (gives p) = gives p
-
     -- the list is a delta of the state, and is stored
     pub delta-ends : Ends N L lent (Steps N L (λ τ es. Stored (τ .base) s es × IsList (readings N L) (Holds N (σ .base .aut) s) (τ .base .aut) es) σ) σ (onBase (delta N L s) σ)
     delta-ends = go (delta-goes (o .worked) k)
@@ -268,3 +260,11 @@ module _ {N : ℕ} {L : Limits} {lent : ℕ} {σ : Tables} (o : Ordered N L σ) 
           ordered = ordered-base o (d .listed .went) (d .listed .worked);
           holds = (d .stored, d .listed .list);
         })
+
+-- an epsilon that was asked for is kept
+pub epsilon-kept : {N : ℕ} {L : Limits} {σ : Tables} → Ordered N L σ → {s : ℕ} → s < states (σ .base .aut) → Gives (λ τ e. HasEpsilon (τ .base .aut) s) (onBase (onAut (epsilon N s)) σ)
+epsilon-kept {σ = σ} o {s} k = go (epsilon-has (o .worked) k)
+  where
+    go : {r : Outcome Store ℕ} → Gives (λ b e. HasEpsilon (b .aut) s) r → Gives (λ τ e. HasEpsilon (τ .base .aut) s) (placed putBase σ r)
+    go refusal = refusal
+    go (gives p) = gives p
