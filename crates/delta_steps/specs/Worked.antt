@@ -146,12 +146,11 @@ pub record Owner (σ : Store) (t : ℕ) : Type 0 where
   pub known : state < states (σ .aut)
   pub has : InList σ state t
 
--- Words 5 and 6 of all states: each transition in use is in the stored list of one state. A stored list, also an empty one, starts at a border: not within another. Where none is stored
--- both words are 0.
+-- Words 5 and 6 of all states: each transition in use is in the stored list of one state. An empty list starts at a border: not within another. Where no list is stored both words are 0.
 pub record Laid (σ : Store) : Type 0 where
   pub owned : (t : ℕ) → t < σ .transitions .count → Owner σ t
   pub apart : (x y t : ℕ) → x < states (σ .aut) → y < states (σ .aut) → InList σ x t → InList σ y t → x ≡ y
-  pub border : (x y : ℕ) → x < states (σ .aut) → y < states (σ .aut) → 0 < countOf (σ .aut .states .words) x → InList σ y (startOf (σ .aut .states .words) x)
+  pub border : (x y : ℕ) → x < states (σ .aut) → y < states (σ .aut) → countOf (σ .aut .states .words) x ≡ 1 → InList σ y (startOf (σ .aut .states .words) x)
       → startOf (σ .aut .states .words) x ≡ startOf (σ .aut .states .words) y
   pub blank : (x : ℕ) → x < states (σ .aut) → countOf (σ .aut .states .words) x ≡ 0 → startOf (σ .aut .states .words) x ≡ 0
 
