@@ -1,6 +1,6 @@
 -- 01, "Lent tables": a finished list is stored after those already there, so the transitions in use are those of the stored lists: their number is the sum of the lists' lengths.
 use mathlib.Core.Path.{_≡_, refl, sym, _∙_, ap, ap₂}
-use mathlib.Core.Bool.{Bool, true, false}
+use mathlib.Core.Bool.{Bool}
 use mathlib.Core.List.{List}
 use Prim.Native.Nat.{ℕ, zero, suc, _+_, _-_, _≤_, _<_, min}
 use native.Mathlib.Omega.{arith}
@@ -11,7 +11,7 @@ use Rattle.spp_steps.specs.Laws.{by-test}
 use Rattle.aut_steps.specs.Tables.{Limits}
 use Rattle.aut_steps.specs.Good.{states}
 use Rattle.delta_steps.specs.Delta.{startOf, countOf, Store}
-use Rattle.delta_steps.specs.Worked.{InList, Owner, Lists}
+use Rattle.delta_steps.specs.Worked.{Lists}
 
 -- ---- sums
 

@@ -203,13 +203,15 @@ module _ {N : ℕ} {L : Limits} {τ : Store} (W : Worked N L τ) {x : ℕ} (l : 
     same-states : states a6 ≡ states (τ .aut)
     same-states = written-count a5 x 6 (length es + 1) ∙ written-count (τ .aut) x 5 from
 
+    -- what is in another list was in it before
     old-in : (y t : ℕ) → (y ≡ x → ⊥) → InList keeping y t → InList τ y t
     old-in y t k m = let (c, s) = other-list y k in (omega (arith, m .0), omega (arith, m .1))
 
-    -- the other lists end where it starts
+    -- the other lists end before it
     ends : (y : ℕ) → y < states a6 → 0 < countOf (τ .aut .states .words) y → startOf (τ .aut .states .words) y + countOf (τ .aut .states .words) y ≤ n + 1
     ends y l c = omega (arith, W .lists .held y (omega (arith, same-states)) .inside (countOf (τ .aut .states .words) y - 1) (omega arith))
 
+    -- so a transition of x is behind those that were in use, and one of another list is not
     behind : {y t : ℕ} → y ≡ x → InList keeping y t → n ≤ t
     behind e m = omega (arith, m .0, ap (startOf (a6 .states .words)) e, start-kept)
 

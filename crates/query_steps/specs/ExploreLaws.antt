@@ -123,14 +123,14 @@ targets-known {N} {L} {a} i e m = go (i .are) m
 -- the list of s is stored, and its epsilon unless it is an SPP; the list leads to the states of `all`
 pub record Linked (b : Store) (all : List ℕ) (s : ℕ) : Type 0 where
   pub known : s < states (b .aut)
-  pub ended : HasEpsilon (b .aut) s
+  pub has-epsilon : HasEpsilon (b .aut) s
   pub marked : 0 < countOf (b .aut .states .words) s
   pub leads : (e : Edge) → List·Memᴰ e (listAt b s) → List·Memᴰ (e .target) all
 
 linked-went : {N : ℕ} {L : Limits} {b c : Store} {all all′ : List ℕ} {s : ℕ} → Worked N L b → Went b c → ((s : ℕ) → List·Memᴰ s all → List·Memᴰ s all′) → Linked b all s → Linked c all′ s
 linked-went {c = c} {s = s} W w f k = record {
   known = state-grown (w .grown) (k .known);
-  ended = has-epsilon-grown (w .grown) (k .known) (w .epsilons s) (k .ended);
+  has-epsilon = has-epsilon-grown (w .grown) (k .known) (w .epsilons s) (k .has-epsilon);
   marked = omega (arith, w .lists s (k .marked) .0, k .marked);
   leads = λ e m. f (e .target) (k .leads e (subst (List·Memᴰ e) (same-list c (W .lists) (w .transitions) s (k .known) (k .marked) (w .lists s (k .marked))) m));
 }
@@ -166,7 +166,7 @@ module _ {N : ℕ} {L : Limits} where
       gone = gone-refl σ;
       ordered = E .ordered;
       has = λ s m. drop s m;
-      links = λ s m. let k = E .links s m in record { known = k .known; ended = k .ended; marked = k .marked; leads = λ e n. drop (e .target) (k .leads e n) };
+      links = λ s m. let k = E .links s m in record { known = k .known; has-epsilon = k .has-epsilon; marked = k .marked; leads = λ e n. drop (e .target) (k .leads e n) };
       sets = E .sets;
       some = E .some;
       fits = omega (arith, E .fits, length-append visited []);
@@ -210,7 +210,7 @@ module _ {N : ℕ} {L : Limits} where
           here : Linked (σ₃ .base) ((visited ++ s ∷ []) ++ waiting′) s
           here = record {
             known = state-grown (g .went .grown) k;
-            ended = let w = gone-trans (B .gone) (D .gone) .went in has-epsilon-grown (w .grown) (state-grown (A .gone .went .grown) k) (w .epsilons s) J;
+            has-epsilon = let w = gone-trans (B .gone) (D .gone) .went in has-epsilon-grown (w .grown) (state-grown (A .gone .went .grown) k) (w .epsilons s) J;
             marked = D .holds .0 .marked;
             leads = λ e m. Q .all e (subst (List·Memᴰ e) (D .holds .0 .reads) m);
           }

@@ -113,7 +113,7 @@ module _ {N : ℕ} {L : Limits} where
               (λ p. o .lives .kept x m v (sym (p .1) ∙ e))
               (W .each x));
           listed = λ x l p. omega (arith, list-words x .0, marked x (old-state x l) p (W .each x));
-          ended = λ x l p. has-epsilon-grown (W .grown) (old-state x l) (λ q. epsilon-word x) (epsiloned x (old-state x l) p (W .each x));
+          has-epsilon = λ x l p. has-epsilon-grown (W .grown) (old-state x l) (λ q. epsilon-word x) (epsiloned x (old-state x l) p (W .each x));
           onward = λ x l p e m. let k = old-state x l in
               let c = marked x k p (W .each x) in
               target x k p e (subst (List·Memᴰ e) (list-read x k c) m) (W .each x);
@@ -128,8 +128,8 @@ module _ {N : ℕ} {L : Limits} where
           marked x l p (inr (n, q)) = o .lives .listed x l (omega (arith, q))
 
           epsiloned : (x : ℕ) → x < states (υ .base .aut) → 0 < liveOf (ω .base .aut .states .words) x → Each x → HasEpsilon (υ .base .aut) x
-          epsiloned x l p (inl (m, q)) = links x m .ended
-          epsiloned x l p (inr (n, q)) = o .lives .ended x l (omega (arith, q))
+          epsiloned x l p (inl (m, q)) = links x m .has-epsilon
+          epsiloned x l p (inr (n, q)) = o .lives .has-epsilon x l (omega (arith, q))
 
           has-live : (y : ℕ) → 0 < liveOf (υ .base .aut .states .words) y → Each y → 0 < liveOf (ω .base .aut .states .words) y
           has-live y p (inl (m, q)) = omega (arith, q)

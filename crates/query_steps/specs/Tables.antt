@@ -98,7 +98,7 @@ live-same f m = record { set = m .set; den = m .den; is = is-live-same f (m .is)
 pub record Lives (N : ℕ) (σ : Tables) : Type 0 where
   pub kept : (x : ℕ) → x < states (σ .base .aut) → (l : ℕ) → liveOf (σ .base .aut .states .words) x ≡ l + 1 → LiveSet N (σ .sets) l (Holds N (σ .base .aut) x)
   pub listed : (x : ℕ) → x < states (σ .base .aut) → 0 < liveOf (σ .base .aut .states .words) x → 0 < countOf (σ .base .aut .states .words) x
-  pub ended : (x : ℕ) → x < states (σ .base .aut) → 0 < liveOf (σ .base .aut .states .words) x → HasEpsilon (σ .base .aut) x
+  pub has-epsilon : (x : ℕ) → x < states (σ .base .aut) → 0 < liveOf (σ .base .aut .states .words) x → HasEpsilon (σ .base .aut) x
   pub onward : (x : ℕ) → x < states (σ .base .aut) → 0 < liveOf (σ .base .aut .states .words) x → (e : Edge) → List·Memᴰ e (listAt (σ .base) x)
       → 0 < liveOf (σ .base .aut .states .words) (e .target)
 
@@ -181,8 +181,8 @@ module _ {σ τ : Tables} (g : Gone σ τ) where
     kept = λ x l v e. let m : x < states (σ .base .aut) = old x (omega (arith, live-word x)) in
         live-same (≈-sym (holds-grown (o .worked .good) (g .went .grown) m)) (live-ext (g .sets) (o .lives .kept x m v (sym (live-word x) ∙ e)));
     listed = λ x l p. let c = had x (omega (arith, live-word x)) in omega (arith, g .went .lists x c .0);
-    ended = λ x l p. let q : 0 < liveOf (σ .base .aut .states .words) x = omega (arith, live-word x) in
-        has-epsilon-grown (g .went .grown) (old x q) (g .went .epsilons x) (o .lives .ended x (old x q) q);
+    has-epsilon = λ x l p. let q : 0 < liveOf (σ .base .aut .states .words) x = omega (arith, live-word x) in
+        has-epsilon-grown (g .went .grown) (old x q) (g .went .epsilons x) (o .lives .has-epsilon x (old x q) q);
     onward = λ x l p e m.
         let q : 0 < liveOf (σ .base .aut .states .words) x = omega (arith, live-word x) in
         let k = old x q in
@@ -206,5 +206,5 @@ pub begun-ordered : {N : ℕ} {L : Limits} {s r : Table} {h : ℕ} {c : Spp.Cons
 begun-ordered {N} sp spp st ms ts some a b z = record {
   sets = given-of (SpStart.begun N sp) a .wf;
   worked = begun some (good-begun st ms (given-of (SppBegin.begun N spp) b .wf) z) refl refl;
-  lives = record { kept = λ x l. absurd (omega arith); listed = λ x l. absurd (omega arith); ended = λ x l. absurd (omega arith); onward = λ x l. absurd (omega arith) };
+  lives = record { kept = λ x l. absurd (omega arith); listed = λ x l. absurd (omega arith); has-epsilon = λ x l. absurd (omega arith); onward = λ x l. absurd (omega arith) };
 }
