@@ -9,7 +9,7 @@ use Rattle.common.specs.Runs.{Table, table}
 use Rattle.cache.specs.Cache.{Sound, Notes}
 use Rattle.sp_steps.specs.Op as steps
 use Rattle.sp_steps.specs.Model.{child, Exit, out, on, ordered, most, size}
-use Rattle.sp_steps.specs.Laws.{Wf, At}
+use Rattle.sp_steps.specs.Laws.{WfAny, Rising, At}
 use Rattle.sp_steps.specs.Reuse.{SpValid, SpNoted}
 use Rattle.sp.specs.declared.Made.{Made}
 use Rattle.sp.specs.declared.Made.the-variants.{Node, Full}
@@ -33,10 +33,11 @@ exitOf o (On x y) = on o (x .0) (y .0)
 abbrev pub Ordered : ℕ → ℕ → Quick → Type 0
 Ordered a b r = (o : steps.Op) → ordered o a b ≡ exitOf o r
 
--- the nodes fit
+-- the nodes fit, and none has itself or a later one as a child
 pub record MkReady (t : List ℕ) (n : ℕ) : Type 0 where
   pub fits : 2 * n ≤ length t
   pub small : n ≤ most
+  pub rising : Rising t n
 
 -- h has children
 pub record Inner (t : List ℕ) (h : ℕ) : Type 0 where
@@ -47,10 +48,10 @@ pub record Kids (t : List ℕ) (h x0 x1 : ℕ) : Type 0 where
   pub left : x0 ≡ child t false h
   pub right : x1 ≡ child t true h
 
--- a well-formed store for d fields and two sets of depth d
+-- a well-formed store for d fields or more and two sets of depth d
 pub record Ready (σ : Table) (d a b : ℕ) : Type 0 where
   pub deep : d ≤ 31
-  pub wf : Wf d σ
+  pub wf : WfAny d σ
   pub at-a : At σ d a
   pub at-b : At σ d b
 
@@ -70,7 +71,7 @@ pub record Answer (c : Step Table ℕ) (t m : List ℕ) (n : ℕ) (r : Made) (t�
 
 pub record SizeAsked (t m : List ℕ) (n d a : ℕ) : Type 0 where
   pub deep : d ≤ 31
-  pub wf : Wf d (table t n)
+  pub wf : WfAny d (table t n)
   pub at-a : At (table t n) d a
   pub sound : Sound (SpValid (table t n)) m
 
