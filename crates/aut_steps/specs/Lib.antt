@@ -25,4 +25,5 @@ pub mod UnionLaws
 pub mod Products
 pub mod IntersectLaws
 pub mod SequenceLaws
+pub mod SequenceDepth
 pub mod Instance

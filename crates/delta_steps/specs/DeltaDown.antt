@@ -33,7 +33,7 @@ use Rattle.delta_steps.specs.Noted.{Noted, noted-refl, written, written-
 use Rattle.delta_steps.specs.Worked.{Worked, Valued, handle, memo, valued-reads, Stored}
 use Rattle.delta_steps.specs.Operands.{Below, below-one, below-two}
 use Rattle.delta_steps.specs.EpsilonReads.{workAll}
-use Rattle.delta_steps.specs.EpsilonDown.{First, this, later, first-of, opens, opens-fewer, Known, known-of, epsilon-known, known-means}
+use Rattle.delta_steps.specs.EpsilonDown.{First, this, later, first-of, first-open, opens, opens-fewer, Known, known-of, epsilon-known, known-means}
 use Rattle.delta_steps.specs.Stored.{Went, went-refl, went-trans, went-noted}
 use Rattle.delta_steps.specs.DeltaRuns.{Halted, Deltaed}
 use Rattle.delta_steps.specs.DeltaLaws.{delta-goes}
@@ -426,6 +426,7 @@ module _ (N : ℕ) (L : Limits) where
     went : Went σ υ
     worked : Worked N L υ
     again : All (Again υ) xs
+    counts : (i : ℕ) → countOf (υ .aut .states .words) i ≡ countOf (σ .aut .states .words) i
 
 module _ {N : ℕ} {L : Limits} where
   -- the way from x, and the one after the list at its end is stored: the states above are the same, as far as the first went
@@ -450,7 +451,7 @@ module _ {N : ℕ} {L : Limits} where
 
   all-entered : {y x : ℕ} (xs : List ℕ) {σ : Store} → Worked N L σ → x < states (σ .aut) → ListWay σ y xs x → {υ : Store} → enters N xs σ ≡ given υ tt → AllEntered N L σ υ xs
   unfolding workAll
-  all-entered [] {σ} W l v {υ} e = subst (λ (υ : Store). AllEntered N L σ υ []) (given-first e) (record { went = went-refl σ; worked = W; again = tt })
+  all-entered [] {σ} W l v {υ} e = subst (λ (υ : Store). AllEntered N L σ υ []) (given-first e) (record { went = went-refl σ; worked = W; again = tt; counts = λ i. refl })
   all-entered {y} (x ∷ xs) {σ} W l (down {z = z} n f v) {υ} e = go (λ τ B m w q. all-entered xs B m w q) (enter N x σ) refl e
     where
       go : ((τ : Store) → Worked N L τ → z < states (τ .aut) → ListWay τ y xs z → enters N xs τ ≡ given υ tt → AllEntered N L τ υ xs) → (o : Outcome Store Unit) → enter N x σ ≡ o → after o (λ u. enters N xs) ≡ given υ tt → AllEntered N L σ υ (x ∷ xs)
@@ -459,7 +460,26 @@ module _ {N : ℕ} {L : Limits} where
           let E : Entered N L σ x τ = enter-gives W l p in
           let m = first-of (Below (σ .aut) x) f (list-operands-below W l) .state in
           let r : AllEntered N L τ υ xs = ih τ (E .worked) (state-grown (enter-went E .grown) m) (way-same W (enter-went E) (enter-count E) m v) q in
-          record { went = went-trans (enter-went E) (r .went); worked = r .worked; again = (λ ω w B. E .again ω (went-trans (r .went) w) B, r .again) }
+          record { went = went-trans (enter-went E) (r .went); worked = r .worked; again = (λ ω w B. E .again ω (went-trans (r .went) w) B, r .again); counts = λ i. r .counts i ∙ enter-count E i }
+
+-- the end of a way
+pub list-way-end : {σ : Store} {y x : ℕ} {xs : List ℕ} → ListWay σ y xs x → HasNot σ y × All (Has σ) (listOperands σ y)
+list-way-end (bottom n h) = (n, h)
+list-way-end (down n f v) = list-way-end v
+
+-- A way from a state whose operands all have lists ends there.
+pub list-way-stays : {σ : Store} {y r : ℕ} {zs : List ℕ} → All (Has σ) (listOperands σ y) → ListWay σ r zs y → r ≡ y
+list-way-stays h (bottom n k) = refl
+list-way-stays {σ} h (down n f v) = absurd (omega (arith, first-open f, first-of (Has σ) f h))
+
+-- Who is called on the end of a way, when the states above it are entered, calls no further.
+pub delta-calls-last : {N : ℕ} {L : Limits} {σ : Store} → Worked N L σ → {y x : ℕ} {xs : List ℕ} → x < states (σ .aut) → ListWay σ y xs x → {υ : Store} → enters N xs σ ≡ given υ tt
+    → {r : ℕ} {zs : List ℕ} → ListWay υ r zs y → r ≡ y
+delta-calls-last {N} {L} {σ} W {y} {xs = xs} l v {υ} e w =
+    let a : AllEntered N L σ υ xs = all-entered xs W l v e in
+    list-way-stays
+    (subst (All (Has υ)) (sym (same-list-operands W (a .went) (list-way-state W l v .0))) (has-same W (a .went) (a .counts) (listOperands σ y) (list-way-end v .1)))
+    w
 
 -- a way whose first i states are entered
 skip-entered : (N i : ℕ) (xs : List ℕ) (σ : Store) → All (λ x. enter N x σ ≡ given σ tt) (take i xs) → enters N xs σ ≡ enters N (drop i xs) σ
@@ -483,8 +503,4 @@ pub has-more : {N : ℕ} {L : Limits} {σ : Store} → Worked N L σ → {y x : 
     → (n : ℕ) → y < n → opens (countOf (τ .aut .states .words)) n < opens (countOf (σ .aut .states .words)) n
 has-more {σ = σ} W {y} {xs = xs} l v {τ} e n m =
     let r = way-gave xs W l v e in
-    opens-fewer (countOf (σ .aut .states .words)) (countOf (τ .aut .states .words)) (λ i h. r .went .lists i h .0) y n m (way-ends v) (r .stored .marked)
-  where
-    way-ends : {x : ℕ} {xs : List ℕ} → ListWay σ y xs x → HasNot σ y
-    way-ends (bottom n h) = n
-    way-ends (down n f v) = way-ends v
+    opens-fewer (countOf (σ .aut .states .words)) (countOf (τ .aut .states .words)) (λ i h. r .went .lists i h .0) y n m (list-way-end v .0) (r .stored .marked)
