@@ -274,11 +274,9 @@ fn push_list(
         Put::At(i, n) => State::Is(
             i,
             Counts {
-                sp: c.sp,
-                spp: c.spp,
                 states: n,
                 members: m + k,
-                transitions: c.transitions,
+                ..c
             },
         ),
     }
@@ -336,9 +334,9 @@ pub fn mk_until(states: &mut [u32], count: usize, limits: Limits, x: u32, y: u32
     intern2(states, count, limits, kind::UNTIL, x, y)
 }
 
-pub fn mk_complement(states: &mut [u32], count: usize, fields: u32, limits: Limits, x: u32) -> Put
-    requires { ⌜ Ready1 (now states) count x × (fields ≤ 31) ⌝ }
-    ensures { λ r. ⌜ C.mk-complement fields (limitsOf limits) x (table (now (states .entry)) count) ≡ seenPut r (now (states .exit)) ⌝ }
+pub fn mk_complement(states: &mut [u32], count: usize, config: Config, x: u32) -> Put
+    requires { ⌜ Ready1 (now states) count x × (config .fields ≤ 31) ⌝ }
+    ensures { λ r. ⌜ C.mk-complement (config .fields) (limitsOf (config .limits)) x (table (now (states .entry)) count) ≡ seenPut r (now (states .exit)) ⌝ }
 {
     let i = x as usize;
     let kind = states[12 * i];
@@ -346,8 +344,8 @@ pub fn mk_complement(states: &mut [u32], count: usize, fields: u32, limits: Limi
         return Put::At(states[12 * i + 1], count);
     }
     if kind == kind::TOP {
-        let zero = spp::zero_at_depth(fields);
+        let zero = spp::zero_at_depth(config.fields);
         return mk_spp(states, count, zero);
     }
-    intern1(states, count, limits, kind::COMPLEMENT, x)
+    intern1(states, count, config.limits, kind::COMPLEMENT, x)
 }

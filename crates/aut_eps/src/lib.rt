@@ -379,13 +379,7 @@ pub fn epsilon(
         if y == x {
             return finish(nodes, states, members, scratch, n, fields, x);
         }
-        let d = Counts {
-            sp: c.sp,
-            spp: n,
-            states: c.states,
-            members: c.members,
-            transitions: c.transitions,
-        };
+        let d = Counts { spp: n, ..c };
         let Made::Node(_, n1) = epsilon(nodes, states, members, scratch, d, fields, y) else {
             return Made::Full;
         };

@@ -1,6 +1,6 @@
 // mk_intersect_n and mk_intersect of aut.rs: products of a list with Union members are made one by one, never stored.
+use aut::Config;
 use aut::Counts;
-use aut::Limits;
 use aut::State;
 use aut_lists::Counted;
 use aut_lists::Listed;
@@ -28,13 +28,12 @@ fn base(
     members: &mut [u32],
     scratch: &mut [u32],
     c: Counts,
-    limits: Limits,
-    fields: u32,
+    config: Config,
     k: usize,
     i: usize,
 ) -> State
-    requires { ⌜ BaseReady fields limits (autOf (now nodes) (now states) (now members) c) (now scratch) k i ⌝ }
-    ensures { λ r. ⌜ Does fields 192 384 (C.base fields (limitsOf limits) (words (now (scratch .entry)) 64 k) i (autOf (now (nodes .entry)) (now (states .entry)) (now (members .entry)) c)) r c (now (nodes .exit)) (now (states .exit)) (now (members .exit)) (now (scratch .entry)) (now (scratch .exit)) ⌝ }
+    requires { ⌜ BaseReady (config .fields) (config .limits) (autOf (now nodes) (now states) (now members) c) (now scratch) k i ⌝ }
+    ensures { λ r. ⌜ Does (config .fields) 192 384 (C.base (config .fields) (limitsOf (config .limits)) (words (now (scratch .entry)) 64 k) i (autOf (now (nodes .entry)) (now (states .entry)) (now (members .entry)) c)) r c (now (nodes .exit)) (now (states .exit)) (now (members .exit)) (now (scratch .entry)) (now (scratch .exit)) ⌝ }
 {
     aut_lists::product(
         states,
@@ -51,8 +50,7 @@ fn base(
         members,
         scratch,
         c,
-        limits,
-        fields,
+        config,
         aut_lists::PRODUCT,
         k,
     )
@@ -65,18 +63,17 @@ fn bases(
     members: &mut [u32],
     scratch: &mut [u32],
     c: Counts,
-    limits: Limits,
-    fields: u32,
+    config: Config,
     k: usize,
     n: usize,
 ) -> Based
-    requires { ⌜ BasesReady fields limits (autOf (now nodes) (now states) (now members) c) (now scratch) k n ⌝ }
-    ensures { λ r. ⌜ Bases fields n limits (autOf (now (nodes .entry)) (now (states .entry)) (now (members .entry)) c) (C.bases fields (limitsOf limits) (words (now (scratch .entry)) 64 k) 0 n [] (autOf (now (nodes .entry)) (now (states .entry)) (now (members .entry)) c)) r c (now (nodes .exit)) (now (states .exit)) (now (members .exit)) (now (scratch .entry)) (now (scratch .exit)) ⌝ }
+    requires { ⌜ BasesReady (config .fields) (config .limits) (autOf (now nodes) (now states) (now members) c) (now scratch) k n ⌝ }
+    ensures { λ r. ⌜ Bases (config .fields) n (config .limits) (autOf (now (nodes .entry)) (now (states .entry)) (now (members .entry)) c) (C.bases (config .fields) (limitsOf (config .limits)) (words (now (scratch .entry)) 64 k) 0 n [] (autOf (now (nodes .entry)) (now (states .entry)) (now (members .entry)) c)) r c (now (nodes .exit)) (now (states .exit)) (now (members .exit)) (now (scratch .entry)) (now (scratch .exit)) ⌝ }
 {
     let mut d = c;
     let mut i = 0;
     while i < n {
-        let made = base(nodes, states, members, scratch, d, limits, fields, k, i);
+        let made = base(nodes, states, members, scratch, d, config, k, i);
         match made {
             State::Refused(e) => {
                 return Based::Refused(e);
@@ -98,23 +95,22 @@ fn distribute(
     members: &mut [u32],
     scratch: &mut [u32],
     c: Counts,
-    limits: Limits,
-    fields: u32,
+    config: Config,
     k: usize,
 ) -> State
-    requires { ⌜ Ready fields limits (autOf (now nodes) (now states) (now members) c) (now scratch) × ListAt (now scratch) (c .states) 64 k 128 ⌝ }
-    ensures { λ r. ⌜ Does fields 128 448 (C.intersectOpened fields (limitsOf limits) (C.within (words (now (scratch .entry)) 64 k)) (autOf (now (nodes .entry)) (now (states .entry)) (now (members .entry)) c)) r c (now (nodes .exit)) (now (states .exit)) (now (members .exit)) (now (scratch .entry)) (now (scratch .exit)) ⌝ }
+    requires { ⌜ Ready (config .fields) (config .limits) (autOf (now nodes) (now states) (now members) c) (now scratch) × ListAt (now scratch) (c .states) 64 k 128 ⌝ }
+    ensures { λ r. ⌜ Does (config .fields) 128 448 (C.intersectOpened (config .fields) (limitsOf (config .limits)) (C.within (words (now (scratch .entry)) 64 k)) (autOf (now (nodes .entry)) (now (states .entry)) (now (members .entry)) c)) r c (now (nodes .exit)) (now (states .exit)) (now (members .exit)) (now (scratch .entry)) (now (scratch .exit)) ⌝ }
 {
     let Counted::Products(n) = aut_lists::count_all(
         states,
         scratch,
-        limits.products,
+        config.limits.products,
         aut_lists::OPENED,
         k,
     ) else {
         return State::Refused(7);
     };
-    let based = bases(nodes, states, members, scratch, c, limits, fields, k, n);
+    let based = bases(nodes, states, members, scratch, c, config, k, n);
     match based {
         Based::Refused(e) => State::Refused(e),
         Based::Done(d) => aut_union::mk_union_n(
@@ -123,8 +119,7 @@ fn distribute(
             members,
             scratch,
             d,
-            limits,
-            fields,
+            config,
             aut_lists::RESULTS,
             n,
         ),
@@ -138,15 +133,14 @@ pub fn mk_intersect_n(
     members: &mut [u32],
     scratch: &mut [u32],
     c: Counts,
-    limits: Limits,
-    fields: u32,
+    config: Config,
     from: usize,
     k: usize,
 ) -> State
-    requires { ⌜ Ready fields limits (autOf (now nodes) (now states) (now members) c) (now scratch) × ListAt (now scratch) (c .states) from k 64 ⌝ }
-    ensures { λ r. ⌜ Does fields 64 512 (C.mk-intersect-n fields (limitsOf limits) (words (now (scratch .entry)) from k) (autOf (now (nodes .entry)) (now (states .entry)) (now (members .entry)) c)) r c (now (nodes .exit)) (now (states .exit)) (now (members .exit)) (now (scratch .entry)) (now (scratch .exit)) ⌝ }
+    requires { ⌜ Ready (config .fields) (config .limits) (autOf (now nodes) (now states) (now members) c) (now scratch) × ListAt (now scratch) (c .states) from k 64 ⌝ }
+    ensures { λ r. ⌜ Does (config .fields) 64 512 (C.mk-intersect-n (config .fields) (limitsOf (config .limits)) (words (now (scratch .entry)) from k) (autOf (now (nodes .entry)) (now (states .entry)) (now (members .entry)) c)) r c (now (nodes .exit)) (now (states .exit)) (now (members .exit)) (now (scratch .entry)) (now (scratch .exit)) ⌝ }
 {
-    if k > limits.list {
+    if k > config.limits.list {
         return State::Refused(6);
     }
     if k == 1 {
@@ -156,14 +150,14 @@ pub fn mk_intersect_n(
         states,
         members,
         scratch,
-        limits.list,
+        config.limits.list,
         from,
         k,
         aut_lists::OPENED,
     ) else {
         return State::Refused(6);
     };
-    distribute(nodes, states, members, scratch, c, limits, fields, m)
+    distribute(nodes, states, members, scratch, c, config, m)
 }
 
 pub fn mk_intersect(
@@ -172,19 +166,27 @@ pub fn mk_intersect(
     members: &mut [u32],
     scratch: &mut [u32],
     c: Counts,
-    limits: Limits,
-    fields: u32,
+    config: Config,
     x: u32,
     y: u32,
 ) -> State
-    requires { ⌜ Ready fields limits (autOf (now nodes) (now states) (now members) c) (now scratch) × PairAt (c .states) x y ⌝ }
-    ensures { λ r. ⌜ Does fields 0 576 (C.mk-intersect fields (limitsOf limits) x y (autOf (now (nodes .entry)) (now (states .entry)) (now (members .entry)) c)) r c (now (nodes .exit)) (now (states .exit)) (now (members .exit)) (now (scratch .entry)) (now (scratch .exit)) ⌝ }
+    requires { ⌜ Ready (config .fields) (config .limits) (autOf (now nodes) (now states) (now members) c) (now scratch) × PairAt (c .states) x y ⌝ }
+    ensures { λ r. ⌜ Does (config .fields) 0 576 (C.mk-intersect (config .fields) (limitsOf (config .limits)) x y (autOf (now (nodes .entry)) (now (states .entry)) (now (members .entry)) c)) r c (now (nodes .exit)) (now (states .exit)) (now (members .exit)) (now (scratch .entry)) (now (scratch .exit)) ⌝ }
 {
     if x == y {
         return State::Is(x, c);
     }
     if aut_rel::both_relations(states, x, y) {
-        return aut_rel::spp_of(nodes, states, scratch, c, fields, Op::Intersect, x, y);
+        return aut_rel::spp_of(
+            nodes,
+            states,
+            scratch,
+            c,
+            config.fields,
+            Op::Intersect,
+            x,
+            y,
+        );
     }
     scratch[aut_lists::GIVEN] = x;
     scratch[aut_lists::GIVEN + 1] = y;
@@ -194,8 +196,7 @@ pub fn mk_intersect(
         members,
         scratch,
         c,
-        limits,
-        fields,
+        config,
         aut_lists::GIVEN,
         2,
     )

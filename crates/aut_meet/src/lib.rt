@@ -1,4 +1,5 @@
 // mk_intersect_n_base of aut.rs. A list is k words of scratch (the map of scratch is aut_lists').
+use aut::Config;
 use aut::Counts;
 use aut::Limits;
 use aut::Put;
@@ -179,13 +180,7 @@ fn meet_list(
     match added {
         aut_union::Added::Refused(e) => State::Refused(e),
         aut_union::Added::List(m, n) => {
-            let d = Counts {
-                sp: c.sp,
-                spp: c.spp,
-                states: n,
-                members: c.members,
-                transitions: c.transitions,
-            };
+            let d = Counts { states: n, ..c };
             aut::intern_list(
                 states,
                 members,
@@ -206,24 +201,23 @@ fn meet_finish(
     members: &mut [u32],
     scratch: &mut [u32],
     c: Counts,
-    limits: Limits,
-    fields: u32,
+    config: Config,
     some: bool,
     h: SPP,
     k: usize,
 ) -> State
-    requires { ⌜ FinishReady fields limits (now states) (now members) (now scratch) c some (h .0) k ⌝ }
-    ensures { λ r. ⌜ ((others : List ℕ) → Finishes (C.meetFinish fields (limitsOf limits) (met some (h .0) others) (words (now (scratch .entry)) 448 k)) r c (now (states .entry)) (now (members .entry)) (now (scratch .entry)) (now (states .exit)) (now (members .exit)) (now (scratch .exit)) k) ⌝ }
+    requires { ⌜ FinishReady (config .fields) (config .limits) (now states) (now members) (now scratch) c some (h .0) k ⌝ }
+    ensures { λ r. ⌜ ((others : List ℕ) → Finishes (C.meetFinish (config .fields) (limitsOf (config .limits)) (met some (h .0) others) (words (now (scratch .entry)) 448 k)) r c (now (states .entry)) (now (members .entry)) (now (scratch .entry)) (now (states .exit)) (now (members .exit)) (now (scratch .exit)) k) ⌝ }
 {
-    if nothing(fields, some, h) {
-        let zero = spp::zero_at_depth(fields);
+    if nothing(config.fields, some, h) {
+        let zero = spp::zero_at_depth(config.fields);
         let put = aut::mk_spp(states, c.states, zero);
         return aut_rel::placed(put, c);
     }
     if k == 0 {
         return alone(states, c, some, h);
     }
-    meet_list(states, members, scratch, c, limits, some, h, k)
+    meet_list(states, members, scratch, c, config.limits, some, h, k)
 }
 
 // the intersection of the k states at BASE, none of which is an Intersect
@@ -233,19 +227,18 @@ fn meet(
     members: &mut [u32],
     scratch: &mut [u32],
     c: Counts,
-    limits: Limits,
-    fields: u32,
+    config: Config,
     k: usize,
 ) -> State
-    requires { ⌜ Ready fields limits (autOf (now nodes) (now states) (now members) c) (now scratch) × ListAt (now scratch) (c .states) 256 k 320 × (k ≤ 64) ⌝ }
-    ensures { λ r. ⌜ Does fields 320 256 (C.meet fields (limitsOf limits) (words (now (scratch .entry)) 256 k) (autOf (now (nodes .entry)) (now (states .entry)) (now (members .entry)) c)) r c (now (nodes .exit)) (now (states .exit)) (now (members .exit)) (now (scratch .entry)) (now (scratch .exit)) ⌝ }
+    requires { ⌜ Ready (config .fields) (config .limits) (autOf (now nodes) (now states) (now members) c) (now scratch) × ListAt (now scratch) (c .states) 256 k 320 × (k ≤ 64) ⌝ }
+    ensures { λ r. ⌜ Does (config .fields) 320 256 (C.meet (config .fields) (limitsOf (config .limits)) (words (now (scratch .entry)) 256 k) (autOf (now (nodes .entry)) (now (states .entry)) (now (members .entry)) c)) r c (now (nodes .exit)) (now (states .exit)) (now (members .exit)) (now (scratch .entry)) (now (scratch .exit)) ⌝ }
 {
     let Met::Rest(some, h, n, m) = meet_each(
         nodes,
         states,
         scratch,
         c.spp,
-        fields,
+        config.fields,
         aut_lists::BASE,
         k,
         aut_lists::OTHERS,
@@ -253,14 +246,8 @@ fn meet(
         return State::Refused(21);
     };
     let r = aut_lists::sorted(scratch, aut_lists::OTHERS, m, aut_lists::SORTED);
-    let d = Counts {
-        sp: c.sp,
-        spp: n,
-        states: c.states,
-        members: c.members,
-        transitions: c.transitions,
-    };
-    meet_finish(states, members, scratch, d, limits, fields, some, h, r)
+    let d = Counts { spp: n, ..c };
+    meet_finish(states, members, scratch, d, config, some, h, r)
 }
 
 // the intersection of the k states at from, Unions not opened
@@ -270,24 +257,23 @@ pub fn mk_intersect_n_base(
     members: &mut [u32],
     scratch: &mut [u32],
     c: Counts,
-    limits: Limits,
-    fields: u32,
+    config: Config,
     from: usize,
     k: usize,
 ) -> State
-    requires { ⌜ Ready fields limits (autOf (now nodes) (now states) (now members) c) (now scratch) × ListAt (now scratch) (c .states) from k 256 ⌝ }
-    ensures { λ r. ⌜ Does fields 256 320 (C.mk-intersect-n-base fields (limitsOf limits) (words (now (scratch .entry)) from k) (autOf (now (nodes .entry)) (now (states .entry)) (now (members .entry)) c)) r c (now (nodes .exit)) (now (states .exit)) (now (members .exit)) (now (scratch .entry)) (now (scratch .exit)) ⌝ }
+    requires { ⌜ Ready (config .fields) (config .limits) (autOf (now nodes) (now states) (now members) c) (now scratch) × ListAt (now scratch) (c .states) from k 256 ⌝ }
+    ensures { λ r. ⌜ Does (config .fields) 256 320 (C.mk-intersect-n-base (config .fields) (limitsOf (config .limits)) (words (now (scratch .entry)) from k) (autOf (now (nodes .entry)) (now (states .entry)) (now (members .entry)) c)) r c (now (nodes .exit)) (now (states .exit)) (now (members .exit)) (now (scratch .entry)) (now (scratch .exit)) ⌝ }
 {
     let Listed::List(m) = aut_lists::open(
         states,
         members,
         scratch,
-        limits.list,
+        config.limits.list,
         from,
         k,
         aut_lists::BASE,
     ) else {
         return State::Refused(6);
     };
-    meet(nodes, states, members, scratch, c, limits, fields, m)
+    meet(nodes, states, members, scratch, c, config, m)
 }

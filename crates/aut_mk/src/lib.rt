@@ -1,4 +1,5 @@
 // mk_xor, mk_difference, mk_star and mk_sequence of aut.rs. They write no members and no lists: scratch lends its cache.
+use aut::Config;
 use aut::Counts;
 use aut::Limits;
 use aut::State;
@@ -82,24 +83,23 @@ pub fn mk_xor(
     states: &mut [u32],
     scratch: &mut [u32],
     c: Counts,
-    limits: Limits,
-    fields: u32,
+    config: Config,
     x: u32,
     y: u32,
 ) -> State
-    requires { ⌜ Asks fields limits (now nodes) (now states) (now scratch) c (x ∷ y ∷ []) ⌝ }
-    ensures { λ r. ⌜ Makes fields (C.mk-xor fields (limitsOf limits) x y) r c (now (nodes .entry)) (now (states .entry)) (now (scratch .entry)) (now (nodes .exit)) (now (states .exit)) (now (scratch .exit)) ⌝ }
+    requires { ⌜ Asks (config .fields) (config .limits) (now nodes) (now states) (now scratch) c (x ∷ y ∷ []) ⌝ }
+    ensures { λ r. ⌜ Makes (config .fields) (C.mk-xor (config .fields) (limitsOf (config .limits)) x y) r c (now (nodes .entry)) (now (states .entry)) (now (scratch .entry)) (now (nodes .exit)) (now (states .exit)) (now (scratch .exit)) ⌝ }
 {
     if x == y {
-        return spp_zero(states, c, fields);
+        return spp_zero(states, c, config.fields);
     }
     if aut_rel::both_relations(states, x, y) {
-        return aut_rel::spp_of(nodes, states, scratch, c, fields, Op::Xor, x, y);
+        return aut_rel::spp_of(nodes, states, scratch, c, config.fields, Op::Xor, x, y);
     }
     if x < y {
-        return intern_two(states, c, limits, aut::kind::XOR, x, y);
+        return intern_two(states, c, config.limits, aut::kind::XOR, x, y);
     }
-    intern_two(states, c, limits, aut::kind::XOR, y, x)
+    intern_two(states, c, config.limits, aut::kind::XOR, y, x)
 }
 
 pub fn mk_difference(
@@ -107,21 +107,29 @@ pub fn mk_difference(
     states: &mut [u32],
     scratch: &mut [u32],
     c: Counts,
-    limits: Limits,
-    fields: u32,
+    config: Config,
     x: u32,
     y: u32,
 ) -> State
-    requires { ⌜ Asks fields limits (now nodes) (now states) (now scratch) c (x ∷ y ∷ []) ⌝ }
-    ensures { λ r. ⌜ Makes fields (C.mk-difference fields (limitsOf limits) x y) r c (now (nodes .entry)) (now (states .entry)) (now (scratch .entry)) (now (nodes .exit)) (now (states .exit)) (now (scratch .exit)) ⌝ }
+    requires { ⌜ Asks (config .fields) (config .limits) (now nodes) (now states) (now scratch) c (x ∷ y ∷ []) ⌝ }
+    ensures { λ r. ⌜ Makes (config .fields) (C.mk-difference (config .fields) (limitsOf (config .limits)) x y) r c (now (nodes .entry)) (now (states .entry)) (now (scratch .entry)) (now (nodes .exit)) (now (states .exit)) (now (scratch .exit)) ⌝ }
 {
     if x == y {
-        return spp_zero(states, c, fields);
+        return spp_zero(states, c, config.fields);
     }
     if aut_rel::both_relations(states, x, y) {
-        return aut_rel::spp_of(nodes, states, scratch, c, fields, Op::Difference, x, y);
+        return aut_rel::spp_of(
+            nodes,
+            states,
+            scratch,
+            c,
+            config.fields,
+            Op::Difference,
+            x,
+            y,
+        );
     }
-    intern_two(states, c, limits, aut::kind::DIFFERENCE, x, y)
+    intern_two(states, c, config.limits, aut::kind::DIFFERENCE, x, y)
 }
 
 // ---- star
@@ -167,16 +175,7 @@ fn spp_by(
         return State::Refused(21);
     };
     let put = aut::mk_spp(states, c.states, h);
-    aut_rel::placed(
-        put,
-        Counts {
-            sp: c.sp,
-            spp: n,
-            states: c.states,
-            members: c.members,
-            transitions: c.transitions,
-        },
-    )
+    aut_rel::placed(put, Counts { spp: n, ..c })
 }
 
 pub fn mk_star(
@@ -184,12 +183,11 @@ pub fn mk_star(
     states: &mut [u32],
     scratch: &mut [u32],
     c: Counts,
-    limits: Limits,
-    fields: u32,
+    config: Config,
     x: u32,
 ) -> State
-    requires { ⌜ Asks fields limits (now nodes) (now states) (now scratch) c (x ∷ []) ⌝ }
-    ensures { λ r. ⌜ Makes fields (C.mk-star fields (limitsOf limits) x) r c (now (nodes .entry)) (now (states .entry)) (now (scratch .entry)) (now (nodes .exit)) (now (states .exit)) (now (scratch .exit)) ⌝ }
+    requires { ⌜ Asks (config .fields) (config .limits) (now nodes) (now states) (now scratch) c (x ∷ []) ⌝ }
+    ensures { λ r. ⌜ Makes (config .fields) (C.mk-star (config .fields) (limitsOf (config .limits)) x) r c (now (nodes .entry)) (now (states .entry)) (now (scratch .entry)) (now (nodes .exit)) (now (states .exit)) (now (scratch .exit)) ⌝ }
 {
     let i = x as usize;
     let kind = states[12 * i];
@@ -197,12 +195,12 @@ pub fn mk_star(
         return State::Is(x, c);
     }
     if kind == aut::kind::SPP {
-        return spp_by(nodes, states, scratch, c, fields, Task::Star, x, x);
+        return spp_by(nodes, states, scratch, c, config.fields, Task::Star, x, x);
     }
     if kind == aut::kind::TOP {
         return top(states, c);
     }
-    intern_one(states, c, limits, aut::kind::STAR, x)
+    intern_one(states, c, config.limits, aut::kind::STAR, x)
 }
 
 // ---- sequence
@@ -261,22 +259,30 @@ fn joined(
     states: &mut [u32],
     scratch: &mut [u32],
     c: Counts,
-    limits: Limits,
-    fields: u32,
+    config: Config,
     way: Known,
     x: u32,
     y: u32,
 ) -> State
-    requires { ⌜ Asks fields limits (now nodes) (now states) (now scratch) c (x ∷ y ∷ []) × Because (now states) x y way ⌝ }
-    ensures { λ r. ⌜ Makes fields (knownOf fields (limitsOf limits) way x y) r c (now (nodes .entry)) (now (states .entry)) (now (scratch .entry)) (now (nodes .exit)) (now (states .exit)) (now (scratch .exit)) ⌝ }
+    requires { ⌜ Asks (config .fields) (config .limits) (now nodes) (now states) (now scratch) c (x ∷ y ∷ []) × Because (now states) x y way ⌝ }
+    ensures { λ r. ⌜ Makes (config .fields) (knownOf (config .fields) (limitsOf (config .limits)) way x y) r c (now (nodes .entry)) (now (states .entry)) (now (scratch .entry)) (now (nodes .exit)) (now (states .exit)) (now (scratch .exit)) ⌝ }
 {
     match way {
-        Known::Relations => spp_by(nodes, states, scratch, c, fields, Task::Sequence, x, y),
+        Known::Relations => spp_by(
+            nodes,
+            states,
+            scratch,
+            c,
+            config.fields,
+            Task::Sequence,
+            x,
+            y,
+        ),
         Known::First => State::Is(x, c),
         Known::Second => State::Is(y, c),
-        Known::Zero => spp_zero(states, c, fields),
+        Known::Zero => spp_zero(states, c, config.fields),
         Known::Top => top(states, c),
-        Known::New => intern_two(states, c, limits, aut::kind::SEQUENCE, x, y),
+        Known::New => intern_two(states, c, config.limits, aut::kind::SEQUENCE, x, y),
     }
 }
 
@@ -339,24 +345,23 @@ pub fn mk_sequence(
     states: &mut [u32],
     scratch: &mut [u32],
     c: Counts,
-    limits: Limits,
-    fields: u32,
+    config: Config,
     x: u32,
     y: u32,
 ) -> State
-    requires { ⌜ Asks fields limits (now nodes) (now states) (now scratch) c (x ∷ y ∷ []) ⌝ }
-    ensures { λ r. ⌜ Sequences fields (limitsOf limits) x y r c (now (nodes .entry)) (now (states .entry)) (now (scratch .entry)) (now (nodes .exit)) (now (states .exit)) (now (scratch .exit)) ⌝ }
+    requires { ⌜ Asks (config .fields) (config .limits) (now nodes) (now states) (now scratch) c (x ∷ y ∷ []) ⌝ }
+    ensures { λ r. ⌜ Sequences (config .fields) (limitsOf (config .limits)) x y r c (now (nodes .entry)) (now (states .entry)) (now (scratch .entry)) (now (nodes .exit)) (now (states .exit)) (now (scratch .exit)) ⌝ }
 {
-    let way = plan(states, fields, x, y);
+    let way = plan(states, config.fields, x, y);
     if let Way::Step(k) = way {
-        return joined(nodes, states, scratch, c, limits, fields, k, x, y);
+        return joined(nodes, states, scratch, c, config, k, x, y);
     }
     let mut u = chain_end(states, x);
     let mut e = u;
     let mut z = y;
     let mut d = c;
     loop {
-        let r = mk_sequence(nodes, states, scratch, d, limits, fields, e, z);
+        let r = mk_sequence(nodes, states, scratch, d, config, e, z);
         let State::Is(z1, d1) = r else {
             return r;
         };

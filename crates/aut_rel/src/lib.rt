@@ -37,16 +37,7 @@ pub fn placed(put: Put, c: Counts) -> State
 {
     match put {
         Put::Refused(e) => State::Refused(e),
-        Put::At(i, n) => State::Is(
-            i,
-            Counts {
-                sp: c.sp,
-                spp: c.spp,
-                states: n,
-                members: c.members,
-                transitions: c.transitions,
-            },
-        ),
+        Put::At(i, n) => State::Is(i, Counts { states: n, ..c }),
     }
 }
 
@@ -87,14 +78,5 @@ pub fn spp_of(
         return State::Refused(21);
     };
     let put = aut::mk_spp(states, c.states, h);
-    placed(
-        put,
-        Counts {
-            sp: c.sp,
-            spp: n,
-            states: c.states,
-            members: c.members,
-            transitions: c.transitions,
-        },
-    )
+    placed(put, Counts { spp: n, ..c })
 }

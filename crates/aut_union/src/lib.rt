@@ -1,6 +1,6 @@
 // mk_union_n and mk_union of aut.rs. A list is k words of scratch (the map of scratch is aut_lists').
+use aut::Config;
 use aut::Counts;
-use aut::Limits;
 use aut::Put;
 use aut::State;
 use aut_lists::Opened;
@@ -124,23 +124,31 @@ fn finish(
     members: &mut [u32],
     scratch: &[u32],
     c: Counts,
-    limits: Limits,
-    fields: u32,
+    config: Config,
     at: usize,
     k: usize,
 ) -> State
-    requires { ⌜ ListReady (now states) (now members) (now scratch) c UNION at k × (fields ≤ 31) ⌝ }
-    ensures { λ r. ⌜ Interned (C.finish fields (limitsOf limits) (words (now (scratch .entry)) at k) (exprs (table (now (states .entry)) (c .states)) (table (now (members .entry)) (c .members)))) r c (now (states .exit)) (now (members .exit)) ⌝ }
+    requires { ⌜ ListReady (now states) (now members) (now scratch) c UNION at k × (config .fields ≤ 31) ⌝ }
+    ensures { λ r. ⌜ Interned (C.finish (config .fields) (limitsOf (config .limits)) (words (now (scratch .entry)) at k) (exprs (table (now (states .entry)) (c .states)) (table (now (members .entry)) (c .members)))) r c (now (states .exit)) (now (members .exit)) ⌝ }
 {
     if k == 1 {
         return State::Is(scratch[at], c);
     }
     if k == 0 {
-        let zero = spp::zero_at_depth(fields);
+        let zero = spp::zero_at_depth(config.fields);
         let put = aut::mk_spp(states, c.states, zero);
         return aut_rel::placed(put, c);
     }
-    aut::intern_list(states, members, scratch, c, limits, aut::kind::UNION, at, k)
+    aut::intern_list(
+        states,
+        members,
+        scratch,
+        c,
+        config.limits,
+        aut::kind::UNION,
+        at,
+        k,
+    )
 }
 
 // the union of the k states at BASE, none of which is a Union or Top
@@ -150,47 +158,43 @@ fn unite(
     members: &mut [u32],
     scratch: &mut [u32],
     c: Counts,
-    limits: Limits,
-    fields: u32,
+    config: Config,
     k: usize,
 ) -> State
-    requires { ⌜ Ready fields limits (autOf (now nodes) (now states) (now members) c) (now scratch) × ListAt (now scratch) (c .states) 256 k 320 × (k ≤ 64) ⌝ }
-    ensures { λ r. ⌜ Does fields 320 256 (C.unite fields (limitsOf limits) (words (now (scratch .entry)) 256 k) (autOf (now (nodes .entry)) (now (states .entry)) (now (members .entry)) c)) r c (now (nodes .exit)) (now (states .exit)) (now (members .exit)) (now (scratch .entry)) (now (scratch .exit)) ⌝ }
+    requires { ⌜ Ready (config .fields) (config .limits) (autOf (now nodes) (now states) (now members) c) (now scratch) × ListAt (now scratch) (c .states) 256 k 320 × (k ≤ 64) ⌝ }
+    ensures { λ r. ⌜ Does (config .fields) 320 256 (C.unite (config .fields) (limitsOf (config .limits)) (words (now (scratch .entry)) 256 k) (autOf (now (nodes .entry)) (now (states .entry)) (now (members .entry)) c)) r c (now (nodes .exit)) (now (states .exit)) (now (members .exit)) (now (scratch .entry)) (now (scratch .exit)) ⌝ }
 {
     let Gathered::Rest(h, n, m) = unite_each(
         nodes,
         states,
         scratch,
         c.spp,
-        fields,
+        config.fields,
         aut_lists::BASE,
         k,
         aut_lists::OTHERS,
     ) else {
         return State::Refused(21);
     };
-    let added = add_relation(states, scratch, c.states, fields, h, aut_lists::OTHERS, m);
+    let added = add_relation(
+        states,
+        scratch,
+        c.states,
+        config.fields,
+        h,
+        aut_lists::OTHERS,
+        m,
+    );
     match added {
         Added::Refused(e) => State::Refused(e),
         Added::List(l, n2) => {
             let r = aut_lists::sorted(scratch, aut_lists::OTHERS, l, aut_lists::SORTED);
             let d = Counts {
-                sp: c.sp,
                 spp: n,
                 states: n2,
-                members: c.members,
-                transitions: c.transitions,
+                ..c
             };
-            finish(
-                states,
-                members,
-                scratch,
-                d,
-                limits,
-                fields,
-                aut_lists::SORTED,
-                r,
-            )
+            finish(states, members, scratch, d, config, aut_lists::SORTED, r)
         }
     }
 }
@@ -202,15 +206,14 @@ pub fn mk_union_n(
     members: &mut [u32],
     scratch: &mut [u32],
     c: Counts,
-    limits: Limits,
-    fields: u32,
+    config: Config,
     from: usize,
     k: usize,
 ) -> State
-    requires { ⌜ Ready fields limits (autOf (now nodes) (now states) (now members) c) (now scratch) × ListAt (now scratch) (c .states) from k 256 ⌝ }
-    ensures { λ r. ⌜ Does fields 256 320 (C.mk-union-n fields (limitsOf limits) (words (now (scratch .entry)) from k) (autOf (now (nodes .entry)) (now (states .entry)) (now (members .entry)) c)) r c (now (nodes .exit)) (now (states .exit)) (now (members .exit)) (now (scratch .entry)) (now (scratch .exit)) ⌝ }
+    requires { ⌜ Ready (config .fields) (config .limits) (autOf (now nodes) (now states) (now members) c) (now scratch) × ListAt (now scratch) (c .states) from k 256 ⌝ }
+    ensures { λ r. ⌜ Does (config .fields) 256 320 (C.mk-union-n (config .fields) (limitsOf (config .limits)) (words (now (scratch .entry)) from k) (autOf (now (nodes .entry)) (now (states .entry)) (now (members .entry)) c)) r c (now (nodes .exit)) (now (states .exit)) (now (members .exit)) (now (scratch .entry)) (now (scratch .exit)) ⌝ }
 {
-    if k > limits.list {
+    if k > config.limits.list {
         return State::Refused(6);
     }
     if k == 1 {
@@ -220,7 +223,7 @@ pub fn mk_union_n(
         states,
         members,
         scratch,
-        limits.list,
+        config.limits.list,
         from,
         k,
         aut_lists::BASE,
@@ -231,7 +234,7 @@ pub fn mk_union_n(
             let put = aut::mk_top(states, c.states);
             aut_rel::placed(put, c)
         }
-        Opened::List(m) => unite(nodes, states, members, scratch, c, limits, fields, m),
+        Opened::List(m) => unite(nodes, states, members, scratch, c, config, m),
     }
 }
 
@@ -241,19 +244,18 @@ pub fn mk_union(
     members: &mut [u32],
     scratch: &mut [u32],
     c: Counts,
-    limits: Limits,
-    fields: u32,
+    config: Config,
     x: u32,
     y: u32,
 ) -> State
-    requires { ⌜ Ready fields limits (autOf (now nodes) (now states) (now members) c) (now scratch) × PairAt (c .states) x y ⌝ }
-    ensures { λ r. ⌜ Does fields 192 384 (C.mk-union fields (limitsOf limits) x y (autOf (now (nodes .entry)) (now (states .entry)) (now (members .entry)) c)) r c (now (nodes .exit)) (now (states .exit)) (now (members .exit)) (now (scratch .entry)) (now (scratch .exit)) ⌝ }
+    requires { ⌜ Ready (config .fields) (config .limits) (autOf (now nodes) (now states) (now members) c) (now scratch) × PairAt (c .states) x y ⌝ }
+    ensures { λ r. ⌜ Does (config .fields) 192 384 (C.mk-union (config .fields) (limitsOf (config .limits)) x y (autOf (now (nodes .entry)) (now (states .entry)) (now (members .entry)) c)) r c (now (nodes .exit)) (now (states .exit)) (now (members .exit)) (now (scratch .entry)) (now (scratch .exit)) ⌝ }
 {
     if x == y {
         return State::Is(x, c);
     }
     if aut_rel::both_relations(states, x, y) {
-        return aut_rel::spp_of(nodes, states, scratch, c, fields, Op::Union, x, y);
+        return aut_rel::spp_of(nodes, states, scratch, c, config.fields, Op::Union, x, y);
     }
     scratch[aut_lists::PRODUCT] = x;
     scratch[aut_lists::PRODUCT + 1] = y;
@@ -263,8 +265,7 @@ pub fn mk_union(
         members,
         scratch,
         c,
-        limits,
-        fields,
+        config,
         aut_lists::PRODUCT,
         2,
     )

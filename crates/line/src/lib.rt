@@ -1,6 +1,6 @@
 // A constructor line of a book: the constructor of its word, on the states of the lines that it names.
+use aut::Config;
 use aut::Counts;
-use aut::Limits;
 use aut::State;
 use spp::Made;
 use spp::SPP;
@@ -113,16 +113,7 @@ fn make_bit(
         return State::Refused(21);
     };
     let put = aut::mk_spp(states, c.states, h);
-    aut_rel::placed(
-        put,
-        Counts {
-            sp: c.sp,
-            spp: n,
-            states: c.states,
-            members: c.members,
-            transitions: c.transitions,
-        },
-    )
+    aut_rel::placed(put, Counts { spp: n, ..c })
 }
 
 fn make_single(
@@ -130,20 +121,19 @@ fn make_single(
     states: &mut [u32],
     scratch: &mut [u32],
     c: Counts,
-    limits: Limits,
-    fields: u32,
+    config: Config,
     word: Single,
     x: u32,
 ) -> State
-    requires { ⌜ Asks fields limits (now nodes) (now states) (now scratch) c (x ∷ []) ⌝ }
-    ensures { λ r. ⌜ Makes fields (M.singleOf fields (limitsOf limits) (singleOf word) x) r c (now (nodes .entry)) (now (states .entry)) (now (scratch .entry)) (now (nodes .exit)) (now (states .exit)) (now (scratch .exit)) ⌝ }
+    requires { ⌜ Asks (config .fields) (config .limits) (now nodes) (now states) (now scratch) c (x ∷ []) ⌝ }
+    ensures { λ r. ⌜ Makes (config .fields) (M.singleOf (config .fields) (limitsOf (config .limits)) (singleOf word) x) r c (now (nodes .entry)) (now (states .entry)) (now (scratch .entry)) (now (nodes .exit)) (now (states .exit)) (now (scratch .exit)) ⌝ }
 {
     match word {
         Single::Not => {
-            let put = aut::mk_complement(states, c.states, fields, limits, x);
+            let put = aut::mk_complement(states, c.states, config, x);
             aut_rel::placed(put, c)
         }
-        Single::Star => aut_mk::mk_star(nodes, states, scratch, c, limits, fields, x),
+        Single::Star => aut_mk::mk_star(nodes, states, scratch, c, config, x),
     }
 }
 
@@ -153,33 +143,22 @@ fn make_pair(
     members: &mut [u32],
     scratch: &mut [u32],
     c: Counts,
-    limits: Limits,
-    fields: u32,
+    config: Config,
     word: Pair,
     x: u32,
     y: u32,
 ) -> State
-    requires { ⌜ Ready fields limits (autOf (now nodes) (now states) (now members) c) (now scratch) × PairAt (c .states) x y ⌝ }
-    ensures { λ r. ⌜ Does fields 0 LISTS (M.pairOf fields (limitsOf limits) (pairOf word) x y (autOf (now (nodes .entry)) (now (states .entry)) (now (members .entry)) c)) r c (now (nodes .exit)) (now (states .exit)) (now (members .exit)) (now (scratch .entry)) (now (scratch .exit)) ⌝ }
+    requires { ⌜ Ready (config .fields) (config .limits) (autOf (now nodes) (now states) (now members) c) (now scratch) × PairAt (c .states) x y ⌝ }
+    ensures { λ r. ⌜ Does (config .fields) 0 LISTS (M.pairOf (config .fields) (limitsOf (config .limits)) (pairOf word) x y (autOf (now (nodes .entry)) (now (states .entry)) (now (members .entry)) c)) r c (now (nodes .exit)) (now (states .exit)) (now (members .exit)) (now (scratch .entry)) (now (scratch .exit)) ⌝ }
 {
     match word {
-        Pair::Or => aut_union::mk_union(nodes, states, members, scratch, c, limits, fields, x, y),
-        Pair::And => aut_inter::mk_intersect(
-            nodes,
-            states,
-            members,
-            scratch,
-            c,
-            limits,
-            fields,
-            x,
-            y,
-        ),
-        Pair::Xor => aut_mk::mk_xor(nodes, states, scratch, c, limits, fields, x, y),
-        Pair::Minus => aut_mk::mk_difference(nodes, states, scratch, c, limits, fields, x, y),
-        Pair::Seq => aut_mk::mk_sequence(nodes, states, scratch, c, limits, fields, x, y),
+        Pair::Or => aut_union::mk_union(nodes, states, members, scratch, c, config, x, y),
+        Pair::And => aut_inter::mk_intersect(nodes, states, members, scratch, c, config, x, y),
+        Pair::Xor => aut_mk::mk_xor(nodes, states, scratch, c, config, x, y),
+        Pair::Minus => aut_mk::mk_difference(nodes, states, scratch, c, config, x, y),
+        Pair::Seq => aut_mk::mk_sequence(nodes, states, scratch, c, config, x, y),
         Pair::Until => {
-            let put = aut::mk_until(states, c.states, limits, x, y);
+            let put = aut::mk_until(states, c.states, config.limits, x, y);
             aut_rel::placed(put, c)
         }
     }
@@ -191,13 +170,12 @@ fn make_listed(
     members: &mut [u32],
     scratch: &mut [u32],
     c: Counts,
-    limits: Limits,
-    fields: u32,
+    config: Config,
     word: Listed,
     k: usize,
 ) -> State
-    requires { ⌜ Ready fields limits (autOf (now nodes) (now states) (now members) c) (now scratch) × ListAt (now scratch) (c .states) 0 k 64 ⌝ }
-    ensures { λ r. ⌜ Does fields 0 LISTS (M.listedOf fields (limitsOf limits) (listedOf word) (words (now (scratch .entry)) 0 k) (autOf (now (nodes .entry)) (now (states .entry)) (now (members .entry)) c)) r c (now (nodes .exit)) (now (states .exit)) (now (members .exit)) (now (scratch .entry)) (now (scratch .exit)) ⌝ }
+    requires { ⌜ Ready (config .fields) (config .limits) (autOf (now nodes) (now states) (now members) c) (now scratch) × ListAt (now scratch) (c .states) 0 k 64 ⌝ }
+    ensures { λ r. ⌜ Does (config .fields) 0 LISTS (M.listedOf (config .fields) (limitsOf (config .limits)) (listedOf word) (words (now (scratch .entry)) 0 k) (autOf (now (nodes .entry)) (now (states .entry)) (now (members .entry)) c)) r c (now (nodes .exit)) (now (states .exit)) (now (members .exit)) (now (scratch .entry)) (now (scratch .exit)) ⌝ }
 {
     match word {
         Listed::Union => aut_union::mk_union_n(
@@ -206,8 +184,7 @@ fn make_listed(
             members,
             scratch,
             c,
-            limits,
-            fields,
+            config,
             aut_lists::GIVEN,
             k,
         ),
@@ -217,8 +194,7 @@ fn make_listed(
             members,
             scratch,
             c,
-            limits,
-            fields,
+            config,
             aut_lists::GIVEN,
             k,
         ),
@@ -232,39 +208,17 @@ pub fn make(
     members: &mut [u32],
     scratch: &mut [u32],
     c: Counts,
-    limits: Limits,
-    fields: u32,
+    config: Config,
     line: Line,
 ) -> State
-    requires { ⌜ Ready fields limits (autOf (now nodes) (now states) (now members) c) (now scratch) × LineReady fields (c .states) (now scratch) line ⌝ }
-    ensures { λ r. ⌜ LineMade fields limits (lineOf (now (scratch .entry)) line) r c (now (nodes .entry)) (now (states .entry)) (now (members .entry)) (now (scratch .entry)) (now (nodes .exit)) (now (states .exit)) (now (members .exit)) (now (scratch .exit)) ⌝ }
+    requires { ⌜ Ready (config .fields) (config .limits) (autOf (now nodes) (now states) (now members) c) (now scratch) × LineReady (config .fields) (c .states) (now scratch) line ⌝ }
+    ensures { λ r. ⌜ LineMade (config .fields) (config .limits) (lineOf (now (scratch .entry)) line) r c (now (nodes .entry)) (now (states .entry)) (now (members .entry)) (now (scratch .entry)) (now (nodes .exit)) (now (states .exit)) (now (members .exit)) (now (scratch .exit)) ⌝ }
 {
     match line {
-        Line::Constant(word) => make_constant(states, c, fields, word),
-        Line::Bit(word, f, v) => make_bit(nodes, states, c, fields, word, f, v),
-        Line::Single(word, x) => make_single(nodes, states, scratch, c, limits, fields, word, x),
-        Line::Pair(word, x, y) => make_pair(
-            nodes,
-            states,
-            members,
-            scratch,
-            c,
-            limits,
-            fields,
-            word,
-            x,
-            y,
-        ),
-        Line::Listed(word, k) => make_listed(
-            nodes,
-            states,
-            members,
-            scratch,
-            c,
-            limits,
-            fields,
-            word,
-            k,
-        ),
+        Line::Constant(word) => make_constant(states, c, config.fields, word),
+        Line::Bit(word, f, v) => make_bit(nodes, states, c, config.fields, word, f, v),
+        Line::Single(word, x) => make_single(nodes, states, scratch, c, config, word, x),
+        Line::Pair(word, x, y) => make_pair(nodes, states, members, scratch, c, config, word, x, y),
+        Line::Listed(word, k) => make_listed(nodes, states, members, scratch, c, config, word, k),
     }
 }

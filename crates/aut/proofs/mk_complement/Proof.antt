@@ -22,25 +22,25 @@ slice-read-kind : tie.Need-slice-read-kind
 slice-read-kind c = search needs
 
 -- src/lib.rt:337:31
-mul-t14 : tie.Need-mul-t14
-mul-t14 c = search needs
+mul-t13 : tie.Need-mul-t13
+mul-t13 c = search needs
 
 -- src/lib.rt:337:31
-add-t15 : tie.Need-add-t15
-add-t15 c = search needs
+add-t14 : tie.Need-add-t14
+add-t14 c = search needs
 
 -- src/lib.rt:337:24
-mul-t16 : tie.Need-mul-t16
-mul-t16 c = search needs
+mul-t15 : tie.Need-mul-t15
+mul-t15 c = search needs
 
 -- src/lib.rt:337:24
-slice-read-t18 : tie.Need-slice-read-t18
-slice-read-t18 c = search needs
+slice-read-t17 : tie.Need-slice-read-t17
+slice-read-t17 c = search needs
 
 -- src/lib.rt:337:9
 returns : tie.Need-returns
 returns c =
-    let g = c .before .before .before .before .args in intern.undone (g .fields) (limitsOf (g .limits)) (g .x) (g .states .now) (g .count) (c .before .if1 .taken)
+    let g = c .before .before .before .before .args in intern.undone (g .config .fields) (limitsOf (g .config .limits)) (g .x) (g .states .now) (g .count) (c .before .if1 .taken)
 
 -- src/lib.rt:340:13
 zero-at-depth-requires : tie.Need-zero-at-depth-requires
@@ -57,7 +57,7 @@ same-length c = search needs
 -- src/lib.rt:341:9
 returns-2 : tie.Need-returns-2
 returns-2 c =
-    let g = c .before .before .before .before .before .before .before .before .before .args in intern.of-top (g .fields) (limitsOf (g .limits)) (g .x) (g .states .now) (g .count) (c .before .before .before .before .before .before .if1 .left) (c .before .before .before .before .before .if2 .taken) _ (c .before .before .before .before .zero-at-depth .ensures (g .fields)) (c .before .before .mk-spp .ensures)
+    let g = c .before .before .before .before .before .before .before .before .before .args in intern.of-top (g .config .fields) (limitsOf (g .config .limits)) (g .x) (g .states .now) (g .count) (c .before .before .before .before .before .before .if1 .left) (c .before .before .before .before .before .if2 .taken) _ (c .before .before .before .before .zero-at-depth .ensures (g .config .fields)) (c .before .before .mk-spp .ensures)
 
 -- src/lib.rt:343:5
 intern1-requires : tie.Need-intern1-requires
@@ -70,7 +70,7 @@ same-length-2 c = search needs
 -- src/lib.rt:330:1
 returns-3 : tie.Need-returns-3
 returns-3 c =
-    let g = c .before .before .before .before .before .before .before .before .args in intern.of-other (g .fields) (limitsOf (g .limits)) (g .x) (g .states .now) (g .count) (c .before .before .before .before .before .if1 .left) (c .before .before .before .before .if2 .left) (c .before .before .intern1 .ensures)
+    let g = c .before .before .before .before .before .before .before .before .args in intern.of-other (g .config .fields) (limitsOf (g .config .limits)) (g .x) (g .states .now) (g .count) (c .before .before .before .before .before .if1 .left) (c .before .before .before .before .if2 .left) (c .before .before .intern1 .ensures)
 
 pub mk-complement-spec : {M : Type 1} → statement M
 mk-complement-spec =
@@ -79,10 +79,10 @@ mk-complement-spec =
     mul-kind
     mul-kind-2
     slice-read-kind
-    mul-t14
-    add-t15
-    mul-t16
-    slice-read-t18
+    mul-t13
+    add-t14
+    mul-t15
+    slice-read-t17
     returns
     zero-at-depth-requires
     mk-spp-requires

@@ -11,22 +11,22 @@ use Rattle.aut_inter.proofs.bases.Lts as lts
 use Rattle.aut_inter.proofs.base.Reads as base-reads
 
 abbrev Inv-loop : tie.InvT-loop
-Inv-loop nodes₀ states₀ members₀ scratch₀ limits fields k n d₀ i₀ nodes states members scratch d i =
-    turns.Turn fields limits nodes₀ states₀ members₀ scratch₀ d₀ k n nodes states members scratch d i × (length nodes ≡ length nodes₀) × (length states ≡ length states₀) × (length members ≡ length members₀)
+Inv-loop nodes₀ states₀ members₀ scratch₀ config k n d₀ i₀ nodes states members scratch d i =
+    turns.Turn (config .fields) (config .limits) nodes₀ states₀ members₀ scratch₀ d₀ k n nodes states members scratch d i × (length nodes ≡ length nodes₀) × (length states ≡ length states₀) × (length members ≡ length members₀)
 
 abbrev μ-loop : tie.MeasureT-loop
-μ-loop nodes₀ states₀ members₀ scratch₀ limits fields k n d₀ i₀ nodes states members scratch d i =
+μ-loop nodes₀ states₀ members₀ scratch₀ config k n d₀ i₀ nodes states members scratch d i =
     n - i
 
 -- src/lib.rt:40:5
 loop-holds : tie.Need-loop-holds Inv-loop μ-loop
 loop-holds c =
-    let g = c .before .before .before .before .args in (turns.begin (g .fields) (g .limits) (g .nodes .now) (g .states .now) (g .members .now) (g .scratch .now) (g .c) (g .k) (g .n) (c .before .before .before .before .pre), refl, refl, refl)
+    let g = c .before .before .before .before .args in (turns.begin (g .config .fields) (g .config .limits) (g .nodes .now) (g .states .now) (g .members .now) (g .scratch .now) (g .c) (g .k) (g .n) (c .before .before .before .before .pre), refl, refl, refl)
 
 -- src/lib.rt:41:13
 base-requires : tie.Need-base-requires Inv-loop μ-loop
 base-requires c κs =
-    let g = c .before .before .before .before .before .before .before .before .before .before .args in turns.base-asked (g .fields) (g .limits) (g .nodes .now) (g .states .now) (g .members .now) (g .scratch .now) (g .c) (g .k) (g .n) (c .before .before .before .before .before .before .before .before .before .before .pre) (c .before .before .before .before .before .loop .nodes) (c .before .before .before .before .before .loop .states) (c .before .before .before .before .before .loop .members) (c .before .before .before .before .before .loop .scratch) (c .before .before .before .before .before .loop .d) (c .before .before .before .before .before .loop .i) (c .before .before .before .before .before .loop .inv .0) (c .before .before .before .before .loop-test .taken)
+    let g = c .before .before .before .before .before .before .before .before .before .before .args in turns.base-asked (g .config .fields) (g .config .limits) (g .nodes .now) (g .states .now) (g .members .now) (g .scratch .now) (g .c) (g .k) (g .n) (c .before .before .before .before .before .before .before .before .before .before .pre) (c .before .before .before .before .before .loop .nodes) (c .before .before .before .before .before .loop .states) (c .before .before .before .before .before .loop .members) (c .before .before .before .before .before .loop .scratch) (c .before .before .before .before .before .loop .d) (c .before .before .before .before .before .loop .i) (c .before .before .before .before .before .loop .inv .0) (c .before .before .before .before .loop-test .taken)
 
 -- src/lib.rt:43:28
 enum-known-made : tie.Need-enum-known-made Inv-loop μ-loop
@@ -56,7 +56,7 @@ same-length-4 c =
 -- src/lib.rt:44:17
 returns : tie.Need-returns Inv-loop μ-loop
 returns c =
-    let g = c .before .before .before .before .before .before .before .before .before .before .before .before .before .before .before .before .before .before .before .before .before .before .args in turns.stuck (g .fields) (g .limits) (g .nodes .now) (g .states .now) (g .members .now) (g .scratch .now) (g .c) (g .k) (g .n) (c .before .before .before .before .before .before .before .before .before .before .before .before .before .before .before .before .before .before .before .before .before .before .pre) (c .before .before .before .before .before .before .before .before .before .before .before .before .before .before .before .before .before .loop .nodes) (c .before .before .before .before .before .before .before .before .before .before .before .before .before .before .before .before .before .loop .states) (c .before .before .before .before .before .before .before .before .before .before .before .before .before .before .before .before .before .loop .members) (c .before .before .before .before .before .before .before .before .before .before .before .before .before .before .before .before .before .loop .scratch) (c .before .before .before .before .before .before .before .before .before .before .before .before .before .before .before .before .before .loop .d) (c .before .before .before .before .before .before .before .before .before .before .before .before .before .before .before .before .before .loop .i) (c .before .before .before .before .before .before .before .before .before .before .before .before .before .before .before .before .before .loop .inv .0) (c .before .before .before .before .before .before .before .before .before .before .before .before .before .before .before .before .loop-test .taken) (c .before .before .before .before .before .before .before .before .before .before .before .base .result) (c .before .before .before .before .before .before .before .before .before .before .before .base .last .0) (c .before .before .before .before .before .before .before .before .before .before .before .base .last .1 .0) (c .before .before .before .before .before .before .before .before .before .before .before .base .last .1 .1 .0) (c .before .before .before .before .before .before .before .before .before .before .before .base .last .1 .1 .1 .0) (c .before .before .before .before .before .before .before .before .before .before .before .base .ensures) (c .before .before .before .before .before .before .before .before .before .before .before .base .kept .1 .1 .1 .0) _ (c .before .made .given .1)
+    let g = c .before .before .before .before .before .before .before .before .before .before .before .before .before .before .before .before .before .before .before .before .before .before .args in turns.stuck (g .config .fields) (g .config .limits) (g .nodes .now) (g .states .now) (g .members .now) (g .scratch .now) (g .c) (g .k) (g .n) (c .before .before .before .before .before .before .before .before .before .before .before .before .before .before .before .before .before .before .before .before .before .before .pre) (c .before .before .before .before .before .before .before .before .before .before .before .before .before .before .before .before .before .loop .nodes) (c .before .before .before .before .before .before .before .before .before .before .before .before .before .before .before .before .before .loop .states) (c .before .before .before .before .before .before .before .before .before .before .before .before .before .before .before .before .before .loop .members) (c .before .before .before .before .before .before .before .before .before .before .before .before .before .before .before .before .before .loop .scratch) (c .before .before .before .before .before .before .before .before .before .before .before .before .before .before .before .before .before .loop .d) (c .before .before .before .before .before .before .before .before .before .before .before .before .before .before .before .before .before .loop .i) (c .before .before .before .before .before .before .before .before .before .before .before .before .before .before .before .before .before .loop .inv .0) (c .before .before .before .before .before .before .before .before .before .before .before .before .before .before .before .before .loop-test .taken) (c .before .before .before .before .before .before .before .before .before .before .before .base .result) (c .before .before .before .before .before .before .before .before .before .before .before .base .last .0) (c .before .before .before .before .before .before .before .before .before .before .before .base .last .1 .0) (c .before .before .before .before .before .before .before .before .before .before .before .base .last .1 .1 .0) (c .before .before .before .before .before .before .before .before .before .before .before .base .last .1 .1 .1 .0) (c .before .before .before .before .before .before .before .before .before .before .before .base .ensures) (c .before .before .before .before .before .before .before .before .before .before .before .base .kept .1 .1 .1 .0) _ (c .before .made .given .1)
 
 -- src/lib.rt:46:23
 enum-known-made-2 : tie.Need-enum-known-made-2 Inv-loop μ-loop
@@ -92,7 +92,7 @@ loop-less c =
 loop-again : tie.Need-loop-again Inv-loop μ-loop
 loop-again c =
     let g = c .before .before .before .before .before .before .before .before .before .before .before .before .before .before .before .before .before .before .before .before .before .before .args in (
-      turns.again (g .fields) (g .limits) (g .nodes .now) (g .states .now) (g .members .now) (g .scratch .now) (g .c) (g .k) (g .n) (c .before .before .before .before .before .before .before .before .before .before .before .before .before .before .before .before .before .before .before .before .before .before .pre) (c .before .before .before .before .before .before .before .before .before .before .before .before .before .before .before .before .before .loop .nodes) (c .before .before .before .before .before .before .before .before .before .before .before .before .before .before .before .before .before .loop .states) (c .before .before .before .before .before .before .before .before .before .before .before .before .before .before .before .before .before .loop .members) (c .before .before .before .before .before .before .before .before .before .before .before .before .before .before .before .before .before .loop .scratch) (c .before .before .before .before .before .before .before .before .before .before .before .before .before .before .before .before .before .loop .d) (c .before .before .before .before .before .before .before .before .before .before .before .before .before .before .before .before .before .loop .i) (c .before .before .before .before .before .before .before .before .before .before .before .before .before .before .before .before .before .loop .inv .0) (c .before .before .before .before .before .before .before .before .before .before .before .before .before .before .before .before .loop-test .taken) (c .before .before .before .before .before .before .before .before .before .before .before .base .result) (c .before .before .before .before .before .before .before .before .before .before .before .base .last .0) (c .before .before .before .before .before .before .before .before .before .before .before .base .last .1 .0) (c .before .before .before .before .before .before .before .before .before .before .before .base .last .1 .1 .0) (c .before .before .before .before .before .before .before .before .before .before .before .base .last .1 .1 .1 .0) (c .before .before .before .before .before .before .before .before .before .before .before .base .ensures) (c .before .before .before .before .before .before .before .before .before .before .before .base .kept .1 .1 .1 .0) _ _ (c .before .made2 .given .1),
+      turns.again (g .config .fields) (g .config .limits) (g .nodes .now) (g .states .now) (g .members .now) (g .scratch .now) (g .c) (g .k) (g .n) (c .before .before .before .before .before .before .before .before .before .before .before .before .before .before .before .before .before .before .before .before .before .before .pre) (c .before .before .before .before .before .before .before .before .before .before .before .before .before .before .before .before .before .loop .nodes) (c .before .before .before .before .before .before .before .before .before .before .before .before .before .before .before .before .before .loop .states) (c .before .before .before .before .before .before .before .before .before .before .before .before .before .before .before .before .before .loop .members) (c .before .before .before .before .before .before .before .before .before .before .before .before .before .before .before .before .before .loop .scratch) (c .before .before .before .before .before .before .before .before .before .before .before .before .before .before .before .before .before .loop .d) (c .before .before .before .before .before .before .before .before .before .before .before .before .before .before .before .before .before .loop .i) (c .before .before .before .before .before .before .before .before .before .before .before .before .before .before .before .before .before .loop .inv .0) (c .before .before .before .before .before .before .before .before .before .before .before .before .before .before .before .before .loop-test .taken) (c .before .before .before .before .before .before .before .before .before .before .before .base .result) (c .before .before .before .before .before .before .before .before .before .before .before .base .last .0) (c .before .before .before .before .before .before .before .before .before .before .before .base .last .1 .0) (c .before .before .before .before .before .before .before .before .before .before .before .base .last .1 .1 .0) (c .before .before .before .before .before .before .before .before .before .before .before .base .last .1 .1 .1 .0) (c .before .before .before .before .before .before .before .before .before .before .before .base .ensures) (c .before .before .before .before .before .before .before .before .before .before .before .base .kept .1 .1 .1 .0) _ _ (c .before .made2 .given .1),
       c .before .before .before .before .before .before .before .before .before .before .before .base .kept .0 ∙ c .before .before .before .before .before .before .before .before .before .before .before .before .before .before .before .before .before .loop .inv .1,
       c .before .before .before .before .before .before .before .before .before .before .before .base .kept .1 .0 ∙ c .before .before .before .before .before .before .before .before .before .before .before .before .before .before .before .before .before .loop .inv .2,
       c .before .before .before .before .before .before .before .before .before .before .before .base .kept .1 .1 .0 ∙ c .before .before .before .before .before .before .before .before .before .before .before .before .before .before .before .before .before .loop .inv .3,
@@ -121,7 +121,7 @@ same-length-8 c =
 -- src/lib.rt:34:1
 returns-2 : tie.Need-returns-2 Inv-loop μ-loop
 returns-2 c =
-    let g = c .before .before .before .before .before .before .args in turns.end (g .fields) (g .limits) (g .nodes .now) (g .states .now) (g .members .now) (g .scratch .now) (g .c) (g .k) (g .n) (c .before .before .before .before .before .before .pre) (c .before .loop .nodes) (c .before .loop .states) (c .before .loop .members) (c .before .loop .scratch) (c .before .loop .d) (c .before .loop .i) (c .before .loop .inv .0) (c .loop-test .left)
+    let g = c .before .before .before .before .before .before .args in turns.end (g .config .fields) (g .config .limits) (g .nodes .now) (g .states .now) (g .members .now) (g .scratch .now) (g .c) (g .k) (g .n) (c .before .before .before .before .before .before .pre) (c .before .loop .nodes) (c .before .loop .states) (c .before .loop .members) (c .before .loop .scratch) (c .before .loop .d) (c .before .loop .i) (c .before .loop .inv .0) (c .loop-test .left)
 
 pub bases-spec : {M : Type 1} → statement M
 bases-spec =

@@ -39,7 +39,7 @@ same-length c = search needs
 returns : tie.Need-returns
 returns c =
     λ others. let g = c .before .before .before .before .before .before .before .before .before .before .before .args in record {
-      is = λ t. gather.at-zero (g .fields) (limitsOf (g .limits)) (g .states .now) (g .members .now) (g .scratch .now) (g .c) (g .some) (g .h .0) (g .k) (c .before .before .before .before .before .before .before .nothing .ensures ∙ c .before .before .before .before .before .before .if1 .taken) (c .before .before .before .before .before .zero-at-depth .ensures (g .fields)) (c .before .before .before .mk-spp .ensures) others t ∙ c .placed .ensures .is t (g .states .now) (c .before .before .before .mk-spp .last .0) (g .members .now);
+      is = λ t. gather.at-zero (g .config .fields) (limitsOf (g .config .limits)) (g .states .now) (g .members .now) (g .scratch .now) (g .c) (g .some) (g .h .0) (g .k) (c .before .before .before .before .before .before .before .nothing .ensures ∙ c .before .before .before .before .before .before .if1 .taken) (c .before .before .before .before .before .zero-at-depth .ensures (g .config .fields)) (c .before .before .before .mk-spp .ensures) others t ∙ c .placed .ensures .is t (g .states .now) (c .before .before .before .mk-spp .last .0) (g .members .now);
       beside = c .placed .ensures .beside;
       nodes = c .placed .ensures .nodes;
       kept = kept-refl (448 + g .k) 1 (g .scratch .now);
@@ -57,7 +57,7 @@ same-length-2 c = search needs
 returns-2 : tie.Need-returns-2
 returns-2 c =
     λ others. let g = c .before .before .before .before .before .before .before .before .before .before .args in record {
-      is = λ t. gather.at-none (g .fields) (limitsOf (g .limits)) (g .states .now) (g .members .now) (g .scratch .now) (g .c) (g .some) (g .h .0) (g .k) (c .before .before .before .before .before .before .nothing .ensures ∙ c .before .before .before .before .before .if1 .left) (c .before .before .before .before .if2 .taken) others t ∙ c .before .before .alone .ensures .is t (g .members .now);
+      is = λ t. gather.at-none (g .config .fields) (limitsOf (g .config .limits)) (g .states .now) (g .members .now) (g .scratch .now) (g .c) (g .some) (g .h .0) (g .k) (c .before .before .before .before .before .before .nothing .ensures ∙ c .before .before .before .before .before .if1 .left) (c .before .before .before .before .if2 .taken) others t ∙ c .before .before .alone .ensures .is t (g .members .now);
       beside = c .before .before .alone .ensures .beside;
       nodes = c .before .before .alone .ensures .nodes;
       kept = kept-refl (448 + g .k) 1 (g .scratch .now);
@@ -82,7 +82,7 @@ same-length-5 c = search needs
 -- src/lib.rt:140:1
 returns-3 : tie.Need-returns-3
 returns-3 c =
-    let g = c .before .before .before .before .before .before .before .before .before .before .before .before .before .before .before .before .args in gather.at-list (g .fields) (limitsOf (g .limits)) (g .states .now) (g .members .now) (g .scratch .now) (g .c) (g .some) (g .h .0) (g .k) (c .before .before .before .before .before .before .before .before .before .before .before .before .nothing .ensures ∙ c .before .before .before .before .before .before .before .before .before .before .before .if1 .left) (c .before .before .before .before .before .before .before .before .before .before .if2 .left) (c .before .before .before .before .before .before .meet-list .ensures)
+    let g = c .before .before .before .before .before .before .before .before .before .before .before .before .before .before .before .before .args in gather.at-list (g .config .fields) (limitsOf (g .config .limits)) (g .states .now) (g .members .now) (g .scratch .now) (g .c) (g .some) (g .h .0) (g .k) (c .before .before .before .before .before .before .before .before .before .before .before .before .nothing .ensures ∙ c .before .before .before .before .before .before .before .before .before .before .before .if1 .left) (c .before .before .before .before .before .before .before .before .before .before .if2 .left) (c .before .before .before .before .before .before .meet-list .ensures)
 
 pub meet-finish-spec : {M : Type 1} → statement M
 meet-finish-spec =

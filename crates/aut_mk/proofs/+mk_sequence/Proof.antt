@@ -23,7 +23,7 @@ use Rattle.aut_mk.proofs.+mk_sequence.Tie.{close}
 
 abbrev μ-mk-sequence : Measures 3 mk-sequence-kinds.ps ℕ
 μ-mk-sequence κs a =
-    nest (a .1 .0 .now) (a .1 .1 .1 .1 .1 .1 .0)
+    nest (a .1 .0 .now) (a .1 .1 .1 .1 .1 .0)
 
 abbrev mk-sequence-at : ℕ → In 3 mk-sequence-kinds.ps
 mk-sequence-at t =
@@ -38,11 +38,11 @@ abbrev claims : ℕ → mk-sequence-lts.Claims
 claims t = (plan-reads.Asked, plan-reads.Learnt, joined-reads.Asked, joined-reads.Learnt, chain-end-reads.Asked, chain-end-reads.Learnt, mk-sequence-below t, mk-sequence-rd.Post, link-to-reads.Asked, link-to-reads.Learnt, first-operand-reads.Asked, first-operand-reads.Learnt)
 
 abbrev mk-sequence-Inv-loop : mk-sequence-lts.InvT-loop
-mk-sequence-Inv-loop nodes₀ states₀ scratch₀ limits fields x y u₀ e₀ z₀ d₀ nodes states scratch u e z d =
-    Turn fields limits d₀ x y nodes₀ states₀ scratch₀ nodes states scratch u e z d
+mk-sequence-Inv-loop nodes₀ states₀ scratch₀ config x y u₀ e₀ z₀ d₀ nodes states scratch u e z d =
+    Turn (config .fields) (config .limits) d₀ x y nodes₀ states₀ scratch₀ nodes states scratch u e z d
 
 abbrev mk-sequence-μ-loop : mk-sequence-lts.MeasureT-loop
-mk-sequence-μ-loop nodes₀ states₀ scratch₀ limits fields x y u₀ e₀ z₀ d₀ nodes states scratch u e z d =
+mk-sequence-μ-loop nodes₀ states₀ scratch₀ config x y u₀ e₀ z₀ d₀ nodes states scratch u e z d =
     nest states₀ x - nest states₀ u
 
 mk-sequence-plan-requires : (t : ℕ) → mk-sequence-lts.Need-plan-requires (claims t) (mk-sequence-at t) mk-sequence-rd.Post mk-sequence-Inv-loop mk-sequence-μ-loop
@@ -55,7 +55,7 @@ mk-sequence-enum-known-way t c =
 
 mk-sequence-joined-requires : (t : ℕ) → mk-sequence-lts.Need-joined-requires (claims t) (mk-sequence-at t) mk-sequence-rd.Post mk-sequence-Inv-loop mk-sequence-μ-loop
 mk-sequence-joined-requires t c κs =
-    let g = c .before .before .before .before .before .before .before .before .before .before .before .args in (c .before .before .before .before .before .before .before .before .before .before .before .pre .1, subst (Since (g .fields) (g .states .now) (g .x) (g .y)) (c .before .before .before .before .way .given .1) (c .before .before .before .before .before .before .plan .ensures .since))
+    let g = c .before .before .before .before .before .before .before .before .before .before .before .args in (c .before .before .before .before .before .before .before .before .before .before .before .pre .1, subst (Since (g .config .fields) (g .states .now) (g .x) (g .y)) (c .before .before .before .before .way .given .1) (c .before .before .before .before .before .before .plan .ensures .since))
 
 mk-sequence-same-length : (t : ℕ) → mk-sequence-lts.Need-same-length (claims t) (mk-sequence-at t) mk-sequence-rd.Post mk-sequence-Inv-loop mk-sequence-μ-loop
 mk-sequence-same-length t c =

@@ -55,15 +55,15 @@ same-length-3 c =
 
 returns : tie.Need-returns
 returns c =
-    let g = c .before .before .before .before .before .before .before .before .before .before .before .before .before .before .before .args in join.as-known (g .fields) (limitsOf (g .limits)) (g .x) (g .y) (c .before .before .before .before .before .before .before .before .before .before .enum-told .given .1) (join.related (λ mem. refl) (c .before .before .before .before .before .before .spp-by .ensures))
+    let g = c .before .before .before .before .before .before .before .before .before .before .before .before .before .before .before .args in join.as-known (g .config .fields) (limitsOf (g .config .limits)) (g .x) (g .y) (c .before .before .before .before .before .before .before .before .before .before .enum-told .given .1) (join.related (λ mem. refl) (c .before .before .before .before .before .before .spp-by .ensures))
 
 returns-2 : tie.Need-returns-2
 returns-2 c =
-    let g = c .before .before .before .before .before .args in join.as-known (g .fields) (limitsOf (g .limits)) (g .x) (g .y) (c .enum-told2 .given .1) (join.stays (g .x) (λ mem. refl))
+    let g = c .before .before .before .before .before .args in join.as-known (g .config .fields) (limitsOf (g .config .limits)) (g .x) (g .y) (c .enum-told2 .given .1) (join.stays (g .x) (λ mem. refl))
 
 returns-3 : tie.Need-returns-3
 returns-3 c =
-    let g = c .before .before .before .before .before .args in join.as-known (g .fields) (limitsOf (g .limits)) (g .x) (g .y) (c .enum-told3 .given .1) (join.stays (g .y) (λ mem. refl))
+    let g = c .before .before .before .before .before .args in join.as-known (g .config .fields) (limitsOf (g .config .limits)) (g .x) (g .y) (c .enum-told3 .given .1) (join.stays (g .y) (λ mem. refl))
 
 same-length-4 : tie.Need-same-length-4
 same-length-4 c =
@@ -71,7 +71,7 @@ same-length-4 c =
 
 returns-4 : tie.Need-returns-4
 returns-4 c =
-    let g = c .before .before .before .before .before .before .before .before .before .args in join.as-known (g .fields) (limitsOf (g .limits)) (g .x) (g .y) (c .before .before .before .before .enum-told4 .given .1) (join.entered (λ mem. refl) (c .before .before .spp-zero .ensures))
+    let g = c .before .before .before .before .before .before .before .before .before .args in join.as-known (g .config .fields) (limitsOf (g .config .limits)) (g .x) (g .y) (c .before .before .before .before .enum-told4 .given .1) (join.entered (λ mem. refl) (c .before .before .spp-zero .ensures))
 
 same-length-5 : tie.Need-same-length-5
 same-length-5 c =
@@ -79,7 +79,7 @@ same-length-5 c =
 
 returns-5 : tie.Need-returns-5
 returns-5 c =
-    let g = c .before .before .before .before .before .before .before .before .before .args in join.as-known (g .fields) (limitsOf (g .limits)) (g .x) (g .y) (c .before .before .before .before .enum-told5 .given .1) (join.entered (λ mem. refl) (c .before .before .top .ensures))
+    let g = c .before .before .before .before .before .before .before .before .before .args in join.as-known (g .config .fields) (limitsOf (g .config .limits)) (g .x) (g .y) (c .before .before .before .before .enum-told5 .given .1) (join.entered (λ mem. refl) (c .before .before .top .ensures))
 
 same-length-6 : tie.Need-same-length-6
 same-length-6 c =
@@ -87,7 +87,7 @@ same-length-6 c =
 
 returns-6 : tie.Need-returns-6
 returns-6 c =
-    let g = c .before .before .before .before .before .before .before .before .before .args in join.as-known (g .fields) (limitsOf (g .limits)) (g .x) (g .y) (c .before .before .before .before .enum-told6 .given .1) (join.entered (λ mem. refl) (c .before .before .intern-two .ensures))
+    let g = c .before .before .before .before .before .before .before .before .before .args in join.as-known (g .config .fields) (limitsOf (g .config .limits)) (g .x) (g .y) (c .before .before .before .before .enum-told6 .given .1) (join.entered (λ mem. refl) (c .before .before .intern-two .ensures))
 
 pub joined-spec : {M : Type 1} → statement M
 joined-spec =

@@ -17,7 +17,7 @@ slice-read-kind c = search needs
 returns : tie.Need-returns
 returns c =
     let g = c .before .before .before .before .before .args in
-    join.stays (g .x) (λ mem. join.star-star (g .fields) (limitsOf (g .limits)) (g .x) (autOf (g .nodes .now) (g .states .now) mem (g .c)) (c .if1 .taken))
+    join.stays (g .x) (λ mem. join.star-star (g .config .fields) (limitsOf (g .config .limits)) (g .x) (autOf (g .nodes .now) (g .states .now) mem (g .c)) (c .if1 .taken))
 
 spp-by-requires : tie.Need-spp-by-requires
 spp-by-requires c κs =
@@ -38,7 +38,7 @@ same-length-3 c =
 returns-2 : tie.Need-returns-2
 returns-2 c =
     let g = c .before .before .before .before .before .before .before .before .before .before .before .before .before .before .before .before .args in
-    join.related (λ mem. join.star-relation (g .fields) (limitsOf (g .limits)) (g .x) (autOf (g .nodes .now) (g .states .now) mem (g .c)) (c .before .before .before .before .before .before .before .before .before .before .before .if1 .left) (c .before .before .before .before .before .before .before .before .before .before .if2 .taken)) (c .before .before .before .before .before .before .spp-by .ensures)
+    join.related (λ mem. join.star-relation (g .config .fields) (limitsOf (g .config .limits)) (g .x) (autOf (g .nodes .now) (g .states .now) mem (g .c)) (c .before .before .before .before .before .before .before .before .before .before .before .if1 .left) (c .before .before .before .before .before .before .before .before .before .before .if2 .taken)) (c .before .before .before .before .before .before .spp-by .ensures)
 
 top-requires : tie.Need-top-requires
 top-requires c κs =
@@ -51,7 +51,7 @@ same-length-4 c =
 returns-3 : tie.Need-returns-3
 returns-3 c =
     let g = c .before .before .before .before .before .before .before .before .before .before .before .args in
-    join.entered (λ mem. join.star-top (g .fields) (limitsOf (g .limits)) (g .x) (autOf (g .nodes .now) (g .states .now) mem (g .c)) (c .before .before .before .before .before .before .if1 .left) (c .before .before .before .before .before .if2 .left) (c .before .before .before .before .if3 .taken)) (c .before .before .top .ensures)
+    join.entered (λ mem. join.star-top (g .config .fields) (limitsOf (g .config .limits)) (g .x) (autOf (g .nodes .now) (g .states .now) mem (g .c)) (c .before .before .before .before .before .before .if1 .left) (c .before .before .before .before .before .if2 .left) (c .before .before .before .before .if3 .taken)) (c .before .before .top .ensures)
 
 intern-one-requires : tie.Need-intern-one-requires
 intern-one-requires c κs =
@@ -64,7 +64,7 @@ same-length-5 c =
 returns-4 : tie.Need-returns-4
 returns-4 c =
     let g = c .before .before .before .before .before .before .before .before .before .before .before .args in
-    join.entered (λ mem. join.star-new (g .fields) (limitsOf (g .limits)) (g .x) (autOf (g .nodes .now) (g .states .now) mem (g .c)) (c .before .before .before .before .before .before .if1 .left) (c .before .before .before .before .before .if2 .left) (c .before .before .before .before .if3 .left)) (c .before .before .intern-one .ensures)
+    join.entered (λ mem. join.star-new (g .config .fields) (limitsOf (g .config .limits)) (g .x) (autOf (g .nodes .now) (g .states .now) mem (g .c)) (c .before .before .before .before .before .before .if1 .left) (c .before .before .before .before .before .if2 .left) (c .before .before .before .before .if3 .left)) (c .before .before .intern-one .ensures)
 
 pub mk-star-spec : {M : Type 1} → statement M
 mk-star-spec =

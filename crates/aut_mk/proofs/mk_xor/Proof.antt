@@ -16,7 +16,7 @@ same-length c =
 returns : tie.Need-returns
 returns c =
     let g = c .before .before .before .before .before .before .before .before .args in
-    join.entered (λ mem. join.xor-same (g .fields) (limitsOf (g .limits)) (g .x) (g .y) (autOf (g .nodes .now) (g .states .now) mem (g .c)) (c .before .before .before .before .if1 .taken)) (c .before .before .spp-zero .ensures)
+    join.entered (λ mem. join.xor-same (g .config .fields) (limitsOf (g .config .limits)) (g .x) (g .y) (autOf (g .nodes .now) (g .states .now) mem (g .c)) (c .before .before .before .before .if1 .taken)) (c .before .before .spp-zero .ensures)
 
 both-relations-requires : tie.Need-both-relations-requires
 both-relations-requires c κs =
@@ -41,7 +41,7 @@ same-length-4 c =
 returns-2 : tie.Need-returns-2
 returns-2 c =
     let g = c .before .before .before .before .before .before .before .before .before .before .before .before .before .before .before .before .before .args in
-    join.related (λ mem. join.xor-relations (g .fields) (limitsOf (g .limits)) (g .x) (g .y) (autOf (g .nodes .now) (g .states .now) mem (g .c)) (c .before .before .before .before .before .before .before .before .before .before .before .before .before .if1 .left) (c .before .before .before .before .before .before .before .before .before .before .before .both-relations .ensures ∙ c .before .before .before .before .before .before .before .before .before .before .if2 .taken)) (c .before .before .before .before .before .before .spp-of .ensures)
+    join.related (λ mem. join.xor-relations (g .config .fields) (limitsOf (g .config .limits)) (g .x) (g .y) (autOf (g .nodes .now) (g .states .now) mem (g .c)) (c .before .before .before .before .before .before .before .before .before .before .before .before .before .if1 .left) (c .before .before .before .before .before .before .before .before .before .before .before .both-relations .ensures ∙ c .before .before .before .before .before .before .before .before .before .before .if2 .taken)) (c .before .before .before .before .before .before .spp-of .ensures)
 
 intern-two-requires : tie.Need-intern-two-requires
 intern-two-requires c κs =
@@ -54,7 +54,7 @@ same-length-5 c =
 returns-3 : tie.Need-returns-3
 returns-3 c =
     let g = c .before .before .before .before .before .before .before .before .before .before .before .before .args in
-    join.entered (λ mem. join.xor-less (g .fields) (limitsOf (g .limits)) (g .x) (g .y) (autOf (g .nodes .now) (g .states .now) mem (g .c)) (c .before .before .before .before .before .before .before .before .if1 .left) (c .before .before .before .before .before .before .both-relations .ensures ∙ c .before .before .before .before .before .if2 .left) (c .before .before .before .before .if3 .taken)) (c .before .before .intern-two .ensures)
+    join.entered (λ mem. join.xor-less (g .config .fields) (limitsOf (g .config .limits)) (g .x) (g .y) (autOf (g .nodes .now) (g .states .now) mem (g .c)) (c .before .before .before .before .before .before .before .before .if1 .left) (c .before .before .before .before .before .before .both-relations .ensures ∙ c .before .before .before .before .before .if2 .left) (c .before .before .before .before .if3 .taken)) (c .before .before .intern-two .ensures)
 
 intern-two-requires-2 : tie.Need-intern-two-requires-2
 intern-two-requires-2 c κs =
@@ -67,7 +67,7 @@ same-length-6 c =
 returns-4 : tie.Need-returns-4
 returns-4 c =
     let g = c .before .before .before .before .before .before .before .before .before .before .before .before .args in
-    join.entered (λ mem. join.xor-turned (g .fields) (limitsOf (g .limits)) (g .x) (g .y) (autOf (g .nodes .now) (g .states .now) mem (g .c)) (c .before .before .before .before .before .before .before .before .if1 .left) (c .before .before .before .before .before .before .both-relations .ensures ∙ c .before .before .before .before .before .if2 .left) (c .before .before .before .before .if3 .left)) (c .before .before .intern-two2 .ensures)
+    join.entered (λ mem. join.xor-turned (g .config .fields) (limitsOf (g .config .limits)) (g .x) (g .y) (autOf (g .nodes .now) (g .states .now) mem (g .c)) (c .before .before .before .before .before .before .before .before .if1 .left) (c .before .before .before .before .before .before .both-relations .ensures ∙ c .before .before .before .before .before .if2 .left) (c .before .before .before .before .if3 .left)) (c .before .before .intern-two2 .ensures)
 
 pub mk-xor-spec : {M : Type 1} → statement M
 mk-xor-spec =

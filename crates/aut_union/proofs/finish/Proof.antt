@@ -12,17 +12,17 @@ use Rattle.aut_rel.proofs.placed.Reads as placed-reads
 use Rattle.spp.proofs.zero_at_depth.Reads as zero-at-depth-reads
 
 -- src/lib.rt:99:26
-mul-t12 : tie.Need-mul-t12
-mul-t12 c = search needs
+mul-t11 : tie.Need-mul-t11
+mul-t11 c = search needs
 
 -- src/lib.rt:99:26
-shared-slice-read-t14 : tie.Need-shared-slice-read-t14
-shared-slice-read-t14 c = search needs
+shared-slice-read-t13 : tie.Need-shared-slice-read-t13
+shared-slice-read-t13 c = search needs
 
 -- src/lib.rt:99:9
 returns : tie.Need-returns
 returns c =
-    let g = c .before .before .before .before .before .args in record { is = gather.one-state (g .fields) (limitsOf (g .limits)) (g .states .now) (g .members .now) (g .scratch .now) (g .c) (g .at) (g .k) (c .before .if1 .taken); beside = (refl, refl, refl) }
+    let g = c .before .before .before .before .before .args in record { is = gather.one-state (g .config .fields) (limitsOf (g .config .limits)) (g .states .now) (g .members .now) (g .scratch .now) (g .c) (g .at) (g .k) (c .before .if1 .taken); beside = (refl, refl, refl) }
 
 -- src/lib.rt:102:13
 zero-at-depth-requires : tie.Need-zero-at-depth-requires
@@ -44,7 +44,7 @@ same-length c = search needs
 returns-2 : tie.Need-returns-2
 returns-2 c =
     let g = c .before .before .before .before .before .before .before .before .before .before .before .args in record {
-      is = gather.no-state (g .fields) (limitsOf (g .limits)) (g .states .now) (g .members .now) (g .scratch .now) (g .c) (g .at) (g .k) (c .before .before .before .before .before .before .if2 .taken) (c .before .before .before .before .before .zero-at-depth .ensures (g .fields)) (c .before .before .before .mk-spp .ensures) ∙ c .placed .ensures .exprs (g .states .now) (c .before .before .before .mk-spp .last .0) (g .members .now);
+      is = gather.no-state (g .config .fields) (limitsOf (g .config .limits)) (g .states .now) (g .members .now) (g .scratch .now) (g .c) (g .at) (g .k) (c .before .before .before .before .before .before .if2 .taken) (c .before .before .before .before .before .zero-at-depth .ensures (g .config .fields)) (c .before .before .before .mk-spp .ensures) ∙ c .placed .ensures .exprs (g .states .now) (c .before .before .before .mk-spp .last .0) (g .members .now);
       beside = gather.beside-of (c .placed .result) (g .c) (c .placed .ensures .beside) (c .placed .ensures .nodes);
     }
 
@@ -64,7 +64,7 @@ same-length-3 c = search needs
 returns-3 : tie.Need-returns-3
 returns-3 c =
     let g = c .before .before .before .before .before .before .before .before .before .before .before .before .args in record {
-      is = gather.more-states (g .fields) (limitsOf (g .limits)) (g .states .now) (g .members .now) (g .scratch .now) (g .c) (g .at) (g .k) (c .before .before .before .before .before .before .before .before .if1 .left) (c .before .before .before .before .before .before .before .if2 .left) (c .before .before .before .before .intern-list .ensures .is);
+      is = gather.more-states (g .config .fields) (limitsOf (g .config .limits)) (g .states .now) (g .members .now) (g .scratch .now) (g .c) (g .at) (g .k) (c .before .before .before .before .before .before .before .before .if1 .left) (c .before .before .before .before .before .before .before .if2 .left) (c .before .before .before .before .intern-list .ensures .is);
       beside = c .before .before .before .before .intern-list .ensures .beside;
     }
 
@@ -72,8 +72,8 @@ pub finish-spec : {M : Type 1} → statement M
 finish-spec =
     tie.close
     (tie.spec
-    mul-t12
-    shared-slice-read-t14
+    mul-t11
+    shared-slice-read-t13
     returns
     zero-at-depth-requires
     mk-spp-requires

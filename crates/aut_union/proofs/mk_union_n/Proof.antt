@@ -15,25 +15,25 @@ use Rattle.aut_union.proofs.unite.Reads as unite-reads
 -- src/lib.rt:134:9
 returns : tie.Need-returns
 returns c =
-    let g = c .before .before .before .before .before .before .args in chain.not-done 6 (chain.too-many (g .fields) (g .limits) (g .nodes .now) (g .states .now) (g .members .now) (g .scratch .now) (g .c) (g .from) (g .k) (c .before .before .before .before .before .before .pre .0) (c .before .before .before .before .before .before .pre .1) (c .if1 .taken))
+    let g = c .before .before .before .before .before .before .args in chain.not-done 6 (chain.too-many (g .config .fields) (g .config .limits) (g .nodes .now) (g .states .now) (g .members .now) (g .scratch .now) (g .c) (g .from) (g .k) (c .before .before .before .before .before .before .pre .0) (c .before .before .before .before .before .before .pre .1) (c .if1 .taken))
 
 -- src/lib.rt:137:26
-mul-t14 : tie.Need-mul-t14
-mul-t14 c = search needs
+mul-t13 : tie.Need-mul-t13
+mul-t13 c = search needs
 
 -- src/lib.rt:137:26
-slice-read-t16 : tie.Need-slice-read-t16
-slice-read-t16 c = search needs
+slice-read-t15 : tie.Need-slice-read-t15
+slice-read-t15 c = search needs
 
 -- src/lib.rt:137:9
 returns-2 : tie.Need-returns-2
 returns-2 c =
-    let g = c .before .before .before .before .before .before .before .before .args in chain.itself (g .fields) 256 320 _ (g .nodes .now) (g .states .now) (g .members .now) (g .scratch .now) (g .c) _ (chain.single (g .fields) (g .limits) (g .nodes .now) (g .states .now) (g .members .now) (g .scratch .now) (g .c) (g .from) (g .k) (c .before .before .before .before .before .before .before .before .pre .0) (c .before .before .before .before .before .before .before .before .pre .1) (c .before .before .if1 .left) (c .before .if2 .taken))
+    let g = c .before .before .before .before .before .before .before .before .args in chain.itself (g .config .fields) 256 320 _ (g .nodes .now) (g .states .now) (g .members .now) (g .scratch .now) (g .c) _ (chain.single (g .config .fields) (g .config .limits) (g .nodes .now) (g .states .now) (g .members .now) (g .scratch .now) (g .c) (g .from) (g .k) (c .before .before .before .before .before .before .before .before .pre .0) (c .before .before .before .before .before .before .before .before .pre .1) (c .before .before .if1 .left) (c .before .if2 .taken))
 
 -- src/lib.rt:139:9
 open-union-requires : tie.Need-open-union-requires
 open-union-requires c κs =
-    let g = c .before .before .before .before .before .before .before .before .before .before .args in chain.open-ready (g .fields) (g .limits) (g .nodes .now) (g .states .now) (g .members .now) (g .scratch .now) (g .c) (g .from) (g .k) (c .before .before .before .before .before .before .before .before .before .before .pre .0) (c .before .before .before .before .before .before .before .before .before .before .pre .1) (c .before .before .before .before .if1 .left)
+    let g = c .before .before .before .before .before .before .before .before .before .before .args in chain.open-ready (g .config .fields) (g .config .limits) (g .nodes .now) (g .states .now) (g .members .now) (g .scratch .now) (g .c) (g .from) (g .k) (c .before .before .before .before .before .before .before .before .before .before .pre .0) (c .before .before .before .before .before .before .before .before .before .before .pre .1) (c .before .before .before .before .if1 .left)
 
 -- src/lib.rt:141:25
 enum-told : tie.Need-enum-told
@@ -58,7 +58,7 @@ enum-known-opened c = search needs
 -- src/lib.rt:146:28
 unite-requires : tie.Need-unite-requires
 unite-requires c κs =
-    let g = c .before .before .before .before .before .before .before .before .before .before .before .before .before .before .before .before .before .before .before .before .args in chain.unite-ready (g .fields) (g .limits) (g .nodes .now) (g .states .now) (g .members .now) (g .scratch .now) (g .c) (g .from) (g .k) (c .before .before .before .before .before .before .before .before .before .before .before .before .before .before .before .before .before .before .before .before .pre .0) (c .before .before .before .before .before .before .before .before .before .before .before .before .before .before .before .before .before .before .before .before .pre .1) (c .before .before .before .before .before .before .before .before .before .before .before .before .before .before .if1 .left) (c .before .before .before .before .before .before .before .before .before .before .before .before .before .if2 .left) (c .before .before .before .before .before .before .before .before .before .open-union .result) (c .before .before .before .before .before .before .before .before .before .open-union .last .1 .1 .0) (c .before .before .before .before .before .before .before .before .before .open-union .ensures) (c .before .before .before .before .before .before .before .before .before .open-union .kept .1 .1 .0) _ (c .before .before .before .before .before .opened .given .1)
+    let g = c .before .before .before .before .before .before .before .before .before .before .before .before .before .before .before .before .before .before .before .before .args in chain.unite-ready (g .config .fields) (g .config .limits) (g .nodes .now) (g .states .now) (g .members .now) (g .scratch .now) (g .c) (g .from) (g .k) (c .before .before .before .before .before .before .before .before .before .before .before .before .before .before .before .before .before .before .before .before .pre .0) (c .before .before .before .before .before .before .before .before .before .before .before .before .before .before .before .before .before .before .before .before .pre .1) (c .before .before .before .before .before .before .before .before .before .before .before .before .before .before .if1 .left) (c .before .before .before .before .before .before .before .before .before .before .before .before .before .if2 .left) (c .before .before .before .before .before .before .before .before .before .open-union .result) (c .before .before .before .before .before .before .before .before .before .open-union .last .1 .1 .0) (c .before .before .before .before .before .before .before .before .before .open-union .ensures) (c .before .before .before .before .before .before .before .before .before .open-union .kept .1 .1 .0) _ (c .before .before .before .before .before .opened .given .1)
 
 -- src/lib.rt:129:1
 same-length : tie.Need-same-length
@@ -75,7 +75,7 @@ same-length-3 c = search needs
 -- src/lib.rt:129:1
 returns-3 : tie.Need-returns-3
 returns-3 c =
-    let g = c .before .before .before .before .before .before .before .before .before .before .before .before .before .before .before .args in chain.not-done 6 (chain.too-long (g .fields) (g .limits) (g .nodes .now) (g .states .now) (g .members .now) (g .scratch .now) (g .c) (g .from) (g .k) (c .before .before .before .before .before .before .before .before .before .before .before .before .before .before .before .pre .0) (c .before .before .before .before .before .before .before .before .before .before .before .before .before .before .before .pre .1) (c .before .before .before .before .before .before .before .before .before .if1 .left) (c .before .before .before .before .before .before .before .before .if2 .left) (c .before .before .before .before .open-union .result) (c .before .before .before .before .open-union .last .1 .1 .0) (c .before .before .before .before .open-union .ensures) (c .before .before .before .before .open-union .kept .1 .1 .0) (c .enum-told .given .1))
+    let g = c .before .before .before .before .before .before .before .before .before .before .before .before .before .before .before .args in chain.not-done 6 (chain.too-long (g .config .fields) (g .config .limits) (g .nodes .now) (g .states .now) (g .members .now) (g .scratch .now) (g .c) (g .from) (g .k) (c .before .before .before .before .before .before .before .before .before .before .before .before .before .before .before .pre .0) (c .before .before .before .before .before .before .before .before .before .before .before .before .before .before .before .pre .1) (c .before .before .before .before .before .before .before .before .before .if1 .left) (c .before .before .before .before .before .before .before .before .if2 .left) (c .before .before .before .before .open-union .result) (c .before .before .before .before .open-union .last .1 .1 .0) (c .before .before .before .before .open-union .ensures) (c .before .before .before .before .open-union .kept .1 .1 .0) (c .enum-told .given .1))
 
 -- src/lib.rt:129:1
 same-length-4 : tie.Need-same-length-4
@@ -93,9 +93,9 @@ same-length-6 c = search needs
 returns-4 : tie.Need-returns-4
 returns-4 c =
     let g = c .before .before .before .before .before .before .before .before .before .before .before .before .before .before .before .before .before .before .before .before .args in record {
-      is = chain.meets-top (g .fields) (g .limits) (g .nodes .now) (g .states .now) (g .members .now) (g .scratch .now) (g .c) (g .from) (g .k) (c .before .before .before .before .before .before .before .before .before .before .before .before .before .before .before .before .before .before .before .before .pre .0) (c .before .before .before .before .before .before .before .before .before .before .before .before .before .before .before .before .before .before .before .before .pre .1) (c .before .before .before .before .before .before .before .before .before .before .before .before .before .before .if1 .left) (c .before .before .before .before .before .before .before .before .before .before .before .before .before .if2 .left) (c .before .before .before .before .before .before .before .before .before .open-union .result) (c .before .before .before .before .before .before .before .before .before .open-union .last .1 .1 .0) (c .before .before .before .before .before .before .before .before .before .open-union .ensures) (c .before .before .before .before .before .before .before .before .before .open-union .kept .1 .1 .0) (c .before .before .before .before .before .enum-told2 .given .1) (c .before .before .before .mk-top .ensures) ∙ c .placed .ensures .is (g .nodes .now) (g .states .now) (c .before .before .before .mk-top .last .0) (g .members .now);
+      is = chain.meets-top (g .config .fields) (g .config .limits) (g .nodes .now) (g .states .now) (g .members .now) (g .scratch .now) (g .c) (g .from) (g .k) (c .before .before .before .before .before .before .before .before .before .before .before .before .before .before .before .before .before .before .before .before .pre .0) (c .before .before .before .before .before .before .before .before .before .before .before .before .before .before .before .before .before .before .before .before .pre .1) (c .before .before .before .before .before .before .before .before .before .before .before .before .before .before .if1 .left) (c .before .before .before .before .before .before .before .before .before .before .before .before .before .if2 .left) (c .before .before .before .before .before .before .before .before .before .open-union .result) (c .before .before .before .before .before .before .before .before .before .open-union .last .1 .1 .0) (c .before .before .before .before .before .before .before .before .before .open-union .ensures) (c .before .before .before .before .before .before .before .before .before .open-union .kept .1 .1 .0) (c .before .before .before .before .before .enum-told2 .given .1) (c .before .before .before .mk-top .ensures) ∙ c .placed .ensures .is (g .nodes .now) (g .states .now) (c .before .before .before .mk-top .last .0) (g .members .now);
       beside = c .placed .ensures .beside;
-      left = join.same-left (g .fields) 256 320 (c .placed .result) (g .c) (g .nodes .now) (g .scratch .now) (c .before .before .before .before .before .before .before .before .before .open-union .last .1 .1 .0) (c .placed .ensures .nodes) (chain.top-left (g .fields) (g .limits) (g .nodes .now) (g .states .now) (g .members .now) (g .scratch .now) (g .c) (g .from) (g .k) (c .before .before .before .before .before .before .before .before .before .before .before .before .before .before .before .before .before .before .before .before .pre .0) (c .before .before .before .before .before .before .before .before .before .before .before .before .before .before .before .before .before .before .before .before .pre .1) (c .before .before .before .before .before .before .before .before .before .before .before .before .before .before .if1 .left) (c .before .before .before .before .before .before .before .before .before .before .before .before .before .if2 .left) (c .before .before .before .before .before .before .before .before .before .open-union .result) (c .before .before .before .before .before .before .before .before .before .open-union .last .1 .1 .0) (c .before .before .before .before .before .before .before .before .before .open-union .ensures) (c .before .before .before .before .before .before .before .before .before .open-union .kept .1 .1 .0));
+      left = join.same-left (g .config .fields) 256 320 (c .placed .result) (g .c) (g .nodes .now) (g .scratch .now) (c .before .before .before .before .before .before .before .before .before .open-union .last .1 .1 .0) (c .placed .ensures .nodes) (chain.top-left (g .config .fields) (g .config .limits) (g .nodes .now) (g .states .now) (g .members .now) (g .scratch .now) (g .c) (g .from) (g .k) (c .before .before .before .before .before .before .before .before .before .before .before .before .before .before .before .before .before .before .before .before .pre .0) (c .before .before .before .before .before .before .before .before .before .before .before .before .before .before .before .before .before .before .before .before .pre .1) (c .before .before .before .before .before .before .before .before .before .before .before .before .before .before .if1 .left) (c .before .before .before .before .before .before .before .before .before .before .before .before .before .if2 .left) (c .before .before .before .before .before .before .before .before .before .open-union .result) (c .before .before .before .before .before .before .before .before .before .open-union .last .1 .1 .0) (c .before .before .before .before .before .before .before .before .before .open-union .ensures) (c .before .before .before .before .before .before .before .before .before .open-union .kept .1 .1 .0));
     }
 
 -- src/lib.rt:129:1
@@ -117,15 +117,15 @@ same-length-10 c = search needs
 -- src/lib.rt:129:1
 returns-5 : tie.Need-returns-5
 returns-5 c =
-    let g = c .before .before .before .before .before .before .before .before .before .before .before .before .before .before .before .before .before .before .before .before .before .before .before .before .before .before .before .before .before .args in chain.united (g .fields) (g .limits) (g .nodes .now) (g .states .now) (g .members .now) (g .scratch .now) (g .c) (g .from) (g .k) (c .before .before .before .before .before .before .before .before .before .before .before .before .before .before .before .before .before .before .before .before .before .before .before .before .before .before .before .before .before .pre .0) (c .before .before .before .before .before .before .before .before .before .before .before .before .before .before .before .before .before .before .before .before .before .before .before .before .before .before .before .before .before .pre .1) (c .before .before .before .before .before .before .before .before .before .before .before .before .before .before .before .before .before .before .before .before .before .before .before .if1 .left) (c .before .before .before .before .before .before .before .before .before .before .before .before .before .before .before .before .before .before .before .before .before .before .if2 .left) (c .before .before .before .before .before .before .before .before .before .before .before .before .before .before .before .before .before .before .open-union .result) (c .before .before .before .before .before .before .before .before .before .before .before .before .before .before .before .before .before .before .open-union .last .1 .1 .0) (c .before .before .before .before .before .before .before .before .before .before .before .before .before .before .before .before .before .before .open-union .ensures) (c .before .before .before .before .before .before .before .before .before .before .before .before .before .before .before .before .before .before .open-union .kept .1 .1 .0) _ (c .before .before .before .before .before .before .before .before .before .before .before .before .before .before .opened .given .1) (c .before .before .before .before .before .before .before .before .unite .result) (c .before .before .before .before .before .before .before .before .unite .last .0) (c .before .before .before .before .before .before .before .before .unite .last .1 .0) (c .before .before .before .before .before .before .before .before .unite .last .1 .1 .0) (c .before .before .before .before .before .before .before .before .unite .last .1 .1 .1 .0) (c .before .before .before .before .before .before .before .before .unite .ensures)
+    let g = c .before .before .before .before .before .before .before .before .before .before .before .before .before .before .before .before .before .before .before .before .before .before .before .before .before .before .before .before .before .args in chain.united (g .config .fields) (g .config .limits) (g .nodes .now) (g .states .now) (g .members .now) (g .scratch .now) (g .c) (g .from) (g .k) (c .before .before .before .before .before .before .before .before .before .before .before .before .before .before .before .before .before .before .before .before .before .before .before .before .before .before .before .before .before .pre .0) (c .before .before .before .before .before .before .before .before .before .before .before .before .before .before .before .before .before .before .before .before .before .before .before .before .before .before .before .before .before .pre .1) (c .before .before .before .before .before .before .before .before .before .before .before .before .before .before .before .before .before .before .before .before .before .before .before .if1 .left) (c .before .before .before .before .before .before .before .before .before .before .before .before .before .before .before .before .before .before .before .before .before .before .if2 .left) (c .before .before .before .before .before .before .before .before .before .before .before .before .before .before .before .before .before .before .open-union .result) (c .before .before .before .before .before .before .before .before .before .before .before .before .before .before .before .before .before .before .open-union .last .1 .1 .0) (c .before .before .before .before .before .before .before .before .before .before .before .before .before .before .before .before .before .before .open-union .ensures) (c .before .before .before .before .before .before .before .before .before .before .before .before .before .before .before .before .before .before .open-union .kept .1 .1 .0) _ (c .before .before .before .before .before .before .before .before .before .before .before .before .before .before .opened .given .1) (c .before .before .before .before .before .before .before .before .unite .result) (c .before .before .before .before .before .before .before .before .unite .last .0) (c .before .before .before .before .before .before .before .before .unite .last .1 .0) (c .before .before .before .before .before .before .before .before .unite .last .1 .1 .0) (c .before .before .before .before .before .before .before .before .unite .last .1 .1 .1 .0) (c .before .before .before .before .before .before .before .before .unite .ensures)
 
 pub mk-union-n-spec : {M : Type 1} → statement M
 mk-union-n-spec =
     tie.close
     (tie.spec
     returns
-    mul-t14
-    slice-read-t16
+    mul-t13
+    slice-read-t15
     returns-2
     open-union-requires
     enum-told

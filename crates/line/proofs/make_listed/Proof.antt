@@ -45,7 +45,7 @@ same-length-4 c = search needs
 -- src/lib.rt:180:1
 returns : tie.Need-returns
 returns c =
-    let g = c .before .before .before .before .before .before .before .before .before .before .before .before .before .before .before .before .before .before .before .args in join.listed-is (g .limits) (autOf (g .nodes .now) (g .states .now) (g .members .now) (g .c)) (words (g .scratch .now) 0 (g .k)) (c .before .before .before .before .before .before .before .before .before .before .before .before .before .enum-told .given .1) (join.wide (omega arith) (c .before .before .before .before .before .before .before .before .mk-union-n .ensures))
+    let g = c .before .before .before .before .before .before .before .before .before .before .before .before .before .before .before .before .before .before .before .args in join.listed-is (g .config .limits) (autOf (g .nodes .now) (g .states .now) (g .members .now) (g .c)) (words (g .scratch .now) 0 (g .k)) (c .before .before .before .before .before .before .before .before .before .before .before .before .before .enum-told .given .1) (join.wide (omega arith) (c .before .before .before .before .before .before .before .before .mk-union-n .ensures))
 
 -- src/lib.rt:180:1
 same-length-5 : tie.Need-same-length-5
@@ -66,7 +66,7 @@ same-length-8 c = search needs
 -- src/lib.rt:180:1
 returns-2 : tie.Need-returns-2
 returns-2 c =
-    let g = c .before .before .before .before .before .before .before .before .before .before .before .before .before .before .before .before .before .before .before .args in join.listed-is (g .limits) (autOf (g .nodes .now) (g .states .now) (g .members .now) (g .c)) (words (g .scratch .now) 0 (g .k)) (c .before .before .before .before .before .before .before .before .before .before .before .before .before .enum-told2 .given .1) (join.wide (omega arith) (c .before .before .before .before .before .before .before .before .mk-intersect-n .ensures))
+    let g = c .before .before .before .before .before .before .before .before .before .before .before .before .before .before .before .before .before .before .before .args in join.listed-is (g .config .limits) (autOf (g .nodes .now) (g .states .now) (g .members .now) (g .c)) (words (g .scratch .now) 0 (g .k)) (c .before .before .before .before .before .before .before .before .before .before .before .before .before .enum-told2 .given .1) (join.wide (omega arith) (c .before .before .before .before .before .before .before .before .mk-intersect-n .ensures))
 
 pub make-listed-spec : {M : Type 1} → statement M
 make-listed-spec =

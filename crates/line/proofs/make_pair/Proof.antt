@@ -88,7 +88,7 @@ same-length-4 c = search needs
 -- src/lib.rt:150:1
 returns : tie.Need-returns
 returns c =
-    let g = c .before .before .before .before .before .before .before .before .before .before .before .before .before .before .before .before .before .before .before .args in join.pair-is (g .limits) (autOf (g .nodes .now) (g .states .now) (g .members .now) (g .c)) (g .x) (g .y) (c .before .before .before .before .before .before .before .before .before .before .before .before .before .enum-told .given .1) (join.wide (omega arith) (c .before .before .before .before .before .before .before .before .mk-union .ensures))
+    let g = c .before .before .before .before .before .before .before .before .before .before .before .before .before .before .before .before .before .before .before .args in join.pair-is (g .config .limits) (autOf (g .nodes .now) (g .states .now) (g .members .now) (g .c)) (g .x) (g .y) (c .before .before .before .before .before .before .before .before .before .before .before .before .before .enum-told .given .1) (join.wide (omega arith) (c .before .before .before .before .before .before .before .before .mk-union .ensures))
 
 -- src/lib.rt:150:1
 same-length-5 : tie.Need-same-length-5
@@ -109,7 +109,7 @@ same-length-8 c = search needs
 -- src/lib.rt:150:1
 returns-2 : tie.Need-returns-2
 returns-2 c =
-    let g = c .before .before .before .before .before .before .before .before .before .before .before .before .before .before .before .before .before .before .before .args in join.pair-is (g .limits) (autOf (g .nodes .now) (g .states .now) (g .members .now) (g .c)) (g .x) (g .y) (c .before .before .before .before .before .before .before .before .before .before .before .before .before .enum-told2 .given .1) (join.wide (omega arith) (c .before .before .before .before .before .before .before .before .mk-intersect .ensures))
+    let g = c .before .before .before .before .before .before .before .before .before .before .before .before .before .before .before .before .before .before .before .args in join.pair-is (g .config .limits) (autOf (g .nodes .now) (g .states .now) (g .members .now) (g .c)) (g .x) (g .y) (c .before .before .before .before .before .before .before .before .before .before .before .before .before .enum-told2 .given .1) (join.wide (omega arith) (c .before .before .before .before .before .before .before .before .mk-intersect .ensures))
 
 -- src/lib.rt:150:1
 same-length-9 : tie.Need-same-length-9
@@ -126,7 +126,7 @@ same-length-11 c = search needs
 -- src/lib.rt:150:1
 returns-3 : tie.Need-returns-3
 returns-3 c =
-    let g = c .before .before .before .before .before .before .before .before .before .before .before .before .before .before .before .before .args in join.pair-is (g .limits) (autOf (g .nodes .now) (g .states .now) (g .members .now) (g .c)) (g .x) (g .y) (c .before .before .before .before .before .before .before .before .before .before .enum-told3 .given .1) (join.of-makes (g .members .now) (c .before .before .before .before .before .before .mk-xor .ensures))
+    let g = c .before .before .before .before .before .before .before .before .before .before .before .before .before .before .before .before .args in join.pair-is (g .config .limits) (autOf (g .nodes .now) (g .states .now) (g .members .now) (g .c)) (g .x) (g .y) (c .before .before .before .before .before .before .before .before .before .before .enum-told3 .given .1) (join.of-makes (g .members .now) (c .before .before .before .before .before .before .mk-xor .ensures))
 
 -- src/lib.rt:150:1
 same-length-12 : tie.Need-same-length-12
@@ -143,7 +143,7 @@ same-length-14 c = search needs
 -- src/lib.rt:150:1
 returns-4 : tie.Need-returns-4
 returns-4 c =
-    let g = c .before .before .before .before .before .before .before .before .before .before .before .before .before .before .before .before .args in join.pair-is (g .limits) (autOf (g .nodes .now) (g .states .now) (g .members .now) (g .c)) (g .x) (g .y) (c .before .before .before .before .before .before .before .before .before .before .enum-told4 .given .1) (join.of-makes (g .members .now) (c .before .before .before .before .before .before .mk-difference .ensures))
+    let g = c .before .before .before .before .before .before .before .before .before .before .before .before .before .before .before .before .args in join.pair-is (g .config .limits) (autOf (g .nodes .now) (g .states .now) (g .members .now) (g .c)) (g .x) (g .y) (c .before .before .before .before .before .before .before .before .before .before .enum-told4 .given .1) (join.of-makes (g .members .now) (c .before .before .before .before .before .before .mk-difference .ensures))
 
 -- src/lib.rt:150:1
 same-length-15 : tie.Need-same-length-15
@@ -160,7 +160,7 @@ same-length-17 c = search needs
 -- src/lib.rt:150:1
 returns-5 : tie.Need-returns-5
 returns-5 c =
-    let g = c .before .before .before .before .before .before .before .before .before .before .before .before .before .before .before .before .args in join.pair-is (g .limits) (autOf (g .nodes .now) (g .states .now) (g .members .now) (g .c)) (g .x) (g .y) (c .before .before .before .before .before .before .before .before .before .before .enum-told5 .given .1) (join.of-makes (g .members .now) (c .before .before .before .before .before .before .mk-sequence .ensures .made))
+    let g = c .before .before .before .before .before .before .before .before .before .before .before .before .before .before .before .before .args in join.pair-is (g .config .limits) (autOf (g .nodes .now) (g .states .now) (g .members .now) (g .c)) (g .x) (g .y) (c .before .before .before .before .before .before .before .before .before .before .enum-told5 .given .1) (join.of-makes (g .members .now) (c .before .before .before .before .before .before .mk-sequence .ensures .made))
 
 -- src/lib.rt:150:1
 same-length-18 : tie.Need-same-length-18
@@ -169,7 +169,7 @@ same-length-18 c = search needs
 -- src/lib.rt:150:1
 returns-6 : tie.Need-returns-6
 returns-6 c =
-    let g = c .before .before .before .before .before .before .before .before .before .before .before .args in join.pair-is (g .limits) (autOf (g .nodes .now) (g .states .now) (g .members .now) (g .c)) (g .x) (g .y) (c .before .before .before .before .before .enum-told6 .given .1) (join.of-enters (g .nodes .now) (g .members .now) (g .scratch .now) (mk.enters {o = C.mk-until (limitsOf (g .limits)) (g .x) (g .y)} (c .before .before .before .mk-until .result) (c .placed .result) (c .before .before .before .mk-until .ensures) (c .placed .ensures)))
+    let g = c .before .before .before .before .before .before .before .before .before .before .before .args in join.pair-is (g .config .limits) (autOf (g .nodes .now) (g .states .now) (g .members .now) (g .c)) (g .x) (g .y) (c .before .before .before .before .before .enum-told6 .given .1) (join.of-enters (g .nodes .now) (g .members .now) (g .scratch .now) (mk.enters {o = C.mk-until (limitsOf (g .config .limits)) (g .x) (g .y)} (c .before .before .before .mk-until .result) (c .placed .result) (c .before .before .before .mk-until .ensures) (c .placed .ensures)))
 
 pub make-pair-spec : {M : Type 1} → statement M
 make-pair-spec =

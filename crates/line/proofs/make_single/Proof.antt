@@ -39,7 +39,7 @@ same-length c = search needs
 -- src/lib.rt:128:1
 returns : tie.Need-returns
 returns c =
-    join.single-is (c .before .before .before .before .before .before .before .before .before .before .args .limits) (c .before .before .before .before .before .before .before .before .before .before .args .x) (c .before .before .before .before .before .enum-told .given .1) (mk.entered (λ mem. refl) (mk.enters {o = C.mk-complement (c .before .before .before .before .before .before .before .before .before .before .args .fields) (limitsOf (c .before .before .before .before .before .before .before .before .before .before .args .limits)) (c .before .before .before .before .before .before .before .before .before .before .args .x)} (c .before .before .before .mk-complement .result) (c .placed .result) (c .before .before .before .mk-complement .ensures) (c .placed .ensures)))
+    join.single-is (c .before .before .before .before .before .before .before .before .before .before .args .config .limits) (c .before .before .before .before .before .before .before .before .before .before .args .x) (c .before .before .before .before .before .enum-told .given .1) (mk.entered (λ mem. refl) (mk.enters {o = C.mk-complement (c .before .before .before .before .before .before .before .before .before .before .args .config .fields) (limitsOf (c .before .before .before .before .before .before .before .before .before .before .args .config .limits)) (c .before .before .before .before .before .before .before .before .before .before .args .x)} (c .before .before .before .mk-complement .result) (c .placed .result) (c .before .before .before .mk-complement .ensures) (c .placed .ensures)))
 
 -- src/lib.rt:128:1
 same-length-2 : tie.Need-same-length-2
@@ -56,7 +56,7 @@ same-length-4 c = search needs
 -- src/lib.rt:128:1
 returns-2 : tie.Need-returns-2
 returns-2 c =
-    join.single-is (c .before .before .before .before .before .before .before .before .before .before .before .before .before .before .before .args .limits) (c .before .before .before .before .before .before .before .before .before .before .before .before .before .before .before .args .x) (c .before .before .before .before .before .before .before .before .before .before .enum-told2 .given .1) (c .before .before .before .before .before .before .mk-star .ensures)
+    join.single-is (c .before .before .before .before .before .before .before .before .before .before .before .before .before .before .before .args .config .limits) (c .before .before .before .before .before .before .before .before .before .before .before .before .before .before .before .args .x) (c .before .before .before .before .before .before .before .before .before .before .enum-told2 .given .1) (c .before .before .before .before .before .before .mk-star .ensures)
 
 pub make-single-spec : {M : Type 1} → statement M
 make-single-spec =
