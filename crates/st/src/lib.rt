@@ -4,8 +4,8 @@
 //     RESULT    the list in hand
 //     TAKEN     the list that it was, while an insertion makes the new one
 //     FIRST, SECOND   lists that an insertion leaves
+use aut::Config;
 use aut::Counts;
-use aut::Limits;
 use aut::Put;
 use aut::State;
 use spp::Made;
@@ -51,33 +51,27 @@ fn place_in(
     nodes: &mut [u32],
     scratch: &mut [u32],
     c: Counts,
-    limits: Limits,
-    fields: u32,
+    config: Config,
     s: u32,
     l: SPP,
     m: usize,
 ) -> Listed
-    requires { ⌜ PlaceInReady fields limits (now nodes) (now scratch) c m (edge s (l .0)) ⌝ }
-    ensures { λ r. ⌜ ((st : List ℕ) → MakesList fields 576 128 (M.placeIn fields (limitsOf limits) s (l .0) (edges (now (scratch .entry)) Seen.RESULT m)) r c (now (nodes .entry)) st (now (scratch .entry)) (now (nodes .exit)) st (now (scratch .exit))) ⌝ }
+    requires { ⌜ PlaceInReady (config .fields) (config .limits) (now nodes) (now scratch) c m (edge s (l .0)) ⌝ }
+    ensures { λ r. ⌜ ((st : List ℕ) → MakesList (config .fields) 576 128 (M.placeIn (config .fields) (limitsOf (config .limits)) s (l .0) (edges (now (scratch .entry)) Seen.RESULT m)) r c (now (nodes .entry)) st (now (scratch .entry)) (now (nodes .exit)) st (now (scratch .exit))) ⌝ }
 {
     let i = st_edges::seek_target(scratch, s, RESULT, m);
     if i < m {
         let j = 2 * (RESULT + i) + 1;
         let g = SPP(scratch[j]);
-        let Made::Node(u, n) = aut_rel::apply(nodes, scratch, c.spp, fields, Op::Union, g, l) else {
+        let Made::Node(u, n) = aut_rel::apply(nodes, scratch, c.spp, config.fields, Op::Union, g, l)
+        else {
             return Listed::Refused(21);
         };
         scratch[j] = u.0;
-        let d = Counts {
-            sp: c.sp,
-            spp: n,
-            states: c.states,
-            members: c.members,
-            transitions: c.transitions,
-        };
+        let d = Counts { spp: n, ..c };
         return Listed::List(d, m);
     }
-    if m < limits.transitions {
+    if m < config.limits.transitions {
         st_edges::enter(scratch, RESULT, m, s, l.0);
         return Listed::List(c, m + 1);
     }
@@ -90,16 +84,15 @@ fn st_insert_helper(
     states: &mut [u32],
     scratch: &mut [u32],
     c: Counts,
-    limits: Limits,
-    fields: u32,
+    config: Config,
     s: u32,
     l: SPP,
     m: usize,
 ) -> Listed
-    requires { ⌜ PlaceReady fields limits (now nodes) (now states) (now scratch) c m (edge s (l .0)) ⌝ }
-    ensures { λ r. ⌜ MakesList fields 576 128 (St.place (ops fields (limitsOf limits)) s (l .0) (edges (now (scratch .entry)) Seen.RESULT m)) r c (now (nodes .entry)) (now (states .entry)) (now (scratch .entry)) (now (nodes .exit)) (now (states .exit)) (now (scratch .exit)) ⌝ }
+    requires { ⌜ PlaceReady (config .fields) (config .limits) (now nodes) (now states) (now scratch) c m (edge s (l .0)) ⌝ }
+    ensures { λ r. ⌜ MakesList (config .fields) 576 128 (St.place (ops (config .fields) (limitsOf (config .limits))) s (l .0) (edges (now (scratch .entry)) Seen.RESULT m)) r c (now (nodes .entry)) (now (states .entry)) (now (scratch .entry)) (now (nodes .exit)) (now (states .exit)) (now (scratch .exit)) ⌝ }
 {
-    let zero = spp::zero_at_depth(fields);
+    let zero = spp::zero_at_depth(config.fields);
     if l.0 == zero.0 {
         return Listed::List(c, m);
     }
@@ -107,17 +100,11 @@ fn st_insert_helper(
     match put {
         Put::Refused(e) => Listed::Refused(e),
         Put::At(z, n) => {
-            let d = Counts {
-                sp: c.sp,
-                spp: c.spp,
-                states: n,
-                members: c.members,
-                transitions: c.transitions,
-            };
+            let d = Counts { states: n, ..c };
             if s == z {
                 return Listed::List(d, m);
             }
-            place_in(nodes, scratch, d, limits, fields, s, l, m)
+            place_in(nodes, scratch, d, config, s, l, m)
         }
     }
 }
@@ -129,50 +116,33 @@ fn meet_in(
     members: &mut [u32],
     scratch: &mut [u32],
     c: Counts,
-    limits: Limits,
-    fields: u32,
+    config: Config,
     s: u32,
     l: SPP,
     target2: u32,
     label2: SPP,
     m: usize,
 ) -> Met
-    requires { ⌜ MeetReady fields limits (autOf (now nodes) (now states) (now members) c) (now scratch) m (edge s (l .0)) (edge target2 (label2 .0)) ⌝ }
-    ensures { λ r. ⌜ DoesPart fields 192 512 (M.meetIn fields (limitsOf limits) s (l .0) (edge target2 (label2 .0)) (edges (now (scratch .entry)) Seen.RESULT m)) (autOf (now (nodes .entry)) (now (states .entry)) (now (members .entry)) c) r c (now (nodes .exit)) (now (states .exit)) (now (members .exit)) (now (scratch .entry)) (now (scratch .exit)) ⌝ }
+    requires { ⌜ MeetReady (config .fields) (config .limits) (autOf (now nodes) (now states) (now members) c) (now scratch) m (edge s (l .0)) (edge target2 (label2 .0)) ⌝ }
+    ensures { λ r. ⌜ DoesPart (config .fields) 192 512 (M.meetIn (config .fields) (limitsOf (config .limits)) s (l .0) (edge target2 (label2 .0)) (edges (now (scratch .entry)) Seen.RESULT m)) (autOf (now (nodes .entry)) (now (states .entry)) (now (members .entry)) c) r c (now (nodes .exit)) (now (states .exit)) (now (members .exit)) (now (scratch .entry)) (now (scratch .exit)) ⌝ }
 {
     let Made::Node(meet, n) = aut_rel::apply(
         nodes,
         scratch,
         c.spp,
-        fields,
+        config.fields,
         Op::Intersect,
         l,
         label2,
     ) else {
         return Met::Refused(21);
     };
-    let c1 = Counts {
-        sp: c.sp,
-        spp: n,
-        states: c.states,
-        members: c.members,
-        transitions: c.transitions,
-    };
-    let both = aut_union::mk_union(
-        nodes,
-        states,
-        members,
-        scratch,
-        c1,
-        limits,
-        fields,
-        s,
-        target2,
-    );
+    let c1 = Counts { spp: n, ..c };
+    let both = aut_union::mk_union(nodes, states, members, scratch, c1, config, s, target2);
     match both {
         State::Refused(e) => Met::Refused(e),
         State::Is(x, c2) => {
-            let listed = st_insert_helper(nodes, states, scratch, c2, limits, fields, x, meet, m);
+            let listed = st_insert_helper(nodes, states, scratch, c2, config, x, meet, m);
             match listed {
                 Listed::Refused(e) => Met::Refused(e),
                 Listed::List(c3, m3) => Met::Next(c3, meet, m3),
@@ -187,50 +157,40 @@ fn rest_in(
     states: &mut [u32],
     scratch: &mut [u32],
     c: Counts,
-    limits: Limits,
-    fields: u32,
+    config: Config,
     total: SPP,
     meet: SPP,
     target2: u32,
     label2: SPP,
     m: usize,
 ) -> Met
-    requires { ⌜ RestReady fields limits (now nodes) (now states) (now scratch) c m (total .0) (meet .0) (edge target2 (label2 .0)) ⌝ }
-    ensures { λ r. ⌜ MakesPart fields 576 128 (M.restIn fields (limitsOf limits) (total .0) (meet .0) (edge target2 (label2 .0)) (edges (now (scratch .entry)) Seen.RESULT m)) r c (now (nodes .entry)) (now (states .entry)) (now (scratch .entry)) (now (nodes .exit)) (now (states .exit)) (now (scratch .exit)) ⌝ }
+    requires { ⌜ RestReady (config .fields) (config .limits) (now nodes) (now states) (now scratch) c m (total .0) (meet .0) (edge target2 (label2 .0)) ⌝ }
+    ensures { λ r. ⌜ MakesPart (config .fields) 576 128 (M.restIn (config .fields) (limitsOf (config .limits)) (total .0) (meet .0) (edge target2 (label2 .0)) (edges (now (scratch .entry)) Seen.RESULT m)) r c (now (nodes .entry)) (now (states .entry)) (now (scratch .entry)) (now (nodes .exit)) (now (states .exit)) (now (scratch .exit)) ⌝ }
 {
-    let Made::Node(sum, n1) = aut_rel::apply(nodes, scratch, c.spp, fields, Op::Union, total, meet)
-    else {
+    let Made::Node(sum, n1) = aut_rel::apply(
+        nodes,
+        scratch,
+        c.spp,
+        config.fields,
+        Op::Union,
+        total,
+        meet,
+    ) else {
         return Met::Refused(21);
     };
     let Made::Node(others, n2) = aut_rel::apply(
         nodes,
         scratch,
         n1,
-        fields,
+        config.fields,
         Op::Difference,
         label2,
         meet,
     ) else {
         return Met::Refused(21);
     };
-    let c2 = Counts {
-        sp: c.sp,
-        spp: n2,
-        states: c.states,
-        members: c.members,
-        transitions: c.transitions,
-    };
-    let listed = st_insert_helper(
-        nodes,
-        states,
-        scratch,
-        c2,
-        limits,
-        fields,
-        target2,
-        others,
-        m,
-    );
+    let c2 = Counts { spp: n2, ..c };
+    let listed = st_insert_helper(nodes, states, scratch, c2, config, target2, others, m);
     match listed {
         Listed::Refused(e) => Met::Refused(e),
         Listed::List(c3, m3) => Met::Next(c3, sum, m3),
@@ -244,8 +204,7 @@ fn split_one(
     members: &mut [u32],
     scratch: &mut [u32],
     c: Counts,
-    limits: Limits,
-    fields: u32,
+    config: Config,
     s: u32,
     l: SPP,
     total: SPP,
@@ -253,8 +212,8 @@ fn split_one(
     label2: SPP,
     m: usize,
 ) -> Met
-    requires { ⌜ MeetReady fields limits (autOf (now nodes) (now states) (now members) c) (now scratch) m (edge s (l .0)) (edge target2 (label2 .0)) × Label fields (autOf (now nodes) (now states) (now members) c) (total .0) ⌝ }
-    ensures { λ r. ⌜ DoesPart fields 192 512 (M.splitOne fields (limitsOf limits) s (l .0) (edge target2 (label2 .0)) (part (total .0) (edges (now (scratch .entry)) Seen.RESULT m))) (autOf (now (nodes .entry)) (now (states .entry)) (now (members .entry)) c) r c (now (nodes .exit)) (now (states .exit)) (now (members .exit)) (now (scratch .entry)) (now (scratch .exit)) ⌝ }
+    requires { ⌜ MeetReady (config .fields) (config .limits) (autOf (now nodes) (now states) (now members) c) (now scratch) m (edge s (l .0)) (edge target2 (label2 .0)) × Label (config .fields) (autOf (now nodes) (now states) (now members) c) (total .0) ⌝ }
+    ensures { λ r. ⌜ DoesPart (config .fields) 192 512 (M.splitOne (config .fields) (limitsOf (config .limits)) s (l .0) (edge target2 (label2 .0)) (part (total .0) (edges (now (scratch .entry)) Seen.RESULT m))) (autOf (now (nodes .entry)) (now (states .entry)) (now (members .entry)) c) r c (now (nodes .exit)) (now (states .exit)) (now (members .exit)) (now (scratch .entry)) (now (scratch .exit)) ⌝ }
 {
     let met = meet_in(
         nodes,
@@ -262,8 +221,7 @@ fn split_one(
         members,
         scratch,
         c,
-        limits,
-        fields,
+        config,
         s,
         l,
         target2,
@@ -277,8 +235,7 @@ fn split_one(
             states,
             scratch,
             c1,
-            limits,
-            fields,
+            config,
             total,
             meet,
             target2,
@@ -295,16 +252,15 @@ fn walk(
     members: &mut [u32],
     scratch: &mut [u32],
     c: Counts,
-    limits: Limits,
-    fields: u32,
+    config: Config,
     s: u32,
     l: SPP,
     m: usize,
 ) -> Met
-    requires { ⌜ WalkReady fields limits (autOf (now nodes) (now states) (now members) c) (now scratch) m (edge s (l .0)) ⌝ }
-    ensures { λ r. ⌜ DoesPart fields 192 512 (M.walk fields (limitsOf limits) s (l .0) (edges (now (scratch .entry)) Seen.TAKEN m) (part (zeroAt fields) [])) (autOf (now (nodes .entry)) (now (states .entry)) (now (members .entry)) c) r c (now (nodes .exit)) (now (states .exit)) (now (members .exit)) (now (scratch .entry)) (now (scratch .exit)) ⌝ }
+    requires { ⌜ WalkReady (config .fields) (config .limits) (autOf (now nodes) (now states) (now members) c) (now scratch) m (edge s (l .0)) ⌝ }
+    ensures { λ r. ⌜ DoesPart (config .fields) 192 512 (M.walk (config .fields) (limitsOf (config .limits)) s (l .0) (edges (now (scratch .entry)) Seen.TAKEN m) (part (zeroAt (config .fields)) [])) (autOf (now (nodes .entry)) (now (states .entry)) (now (members .entry)) c) r c (now (nodes .exit)) (now (states .exit)) (now (members .exit)) (now (scratch .entry)) (now (scratch .exit)) ⌝ }
 {
-    let mut total = spp::zero_at_depth(fields);
+    let mut total = spp::zero_at_depth(config.fields);
     let mut d = c;
     let mut k = 0;
     let mut i = 0;
@@ -318,8 +274,7 @@ fn walk(
             members,
             scratch,
             d,
-            limits,
-            fields,
+            config,
             s,
             l,
             total,
@@ -349,17 +304,16 @@ pub fn st_insert(
     members: &mut [u32],
     scratch: &mut [u32],
     c: Counts,
-    limits: Limits,
-    fields: u32,
+    config: Config,
     s: u32,
     l: SPP,
     m: usize,
 ) -> Listed
-    requires { ⌜ ListReady fields limits (autOf (now nodes) (now states) (now members) c) (now scratch) m × EdgeAt fields (autOf (now nodes) (now states) (now members) c) (edge s (l .0)) ⌝ }
-    ensures { λ r. ⌜ DoesList fields limits 0 832 (St.insert (ops fields (limitsOf limits)) s (l .0) (edges (now (scratch .entry)) Seen.RESULT m)) (autOf (now (nodes .entry)) (now (states .entry)) (now (members .entry)) c) r c (now (nodes .exit)) (now (states .exit)) (now (members .exit)) (now (scratch .entry)) (now (scratch .exit)) ⌝ }
+    requires { ⌜ ListReady (config .fields) (config .limits) (autOf (now nodes) (now states) (now members) c) (now scratch) m × EdgeAt (config .fields) (autOf (now nodes) (now states) (now members) c) (edge s (l .0)) ⌝ }
+    ensures { λ r. ⌜ DoesList (config .fields) (config .limits) 0 832 (St.insert (ops (config .fields) (limitsOf (config .limits))) s (l .0) (edges (now (scratch .entry)) Seen.RESULT m)) (autOf (now (nodes .entry)) (now (states .entry)) (now (members .entry)) c) r c (now (nodes .exit)) (now (states .exit)) (now (members .exit)) (now (scratch .entry)) (now (scratch .exit)) ⌝ }
 {
     st_edges::copy(scratch, RESULT, m, TAKEN);
-    let met = walk(nodes, states, members, scratch, c, limits, fields, s, l, m);
+    let met = walk(nodes, states, members, scratch, c, config, s, l, m);
     match met {
         Met::Refused(e) => Listed::Refused(e),
         Met::Next(c1, total, k) => {
@@ -367,21 +321,15 @@ pub fn st_insert(
                 nodes,
                 scratch,
                 c1.spp,
-                fields,
+                config.fields,
                 Op::Difference,
                 l,
                 total,
             ) else {
                 return Listed::Refused(21);
             };
-            let c2 = Counts {
-                sp: c1.sp,
-                spp: n,
-                states: c1.states,
-                members: c1.members,
-                transitions: c1.transitions,
-            };
-            st_insert_helper(nodes, states, scratch, c2, limits, fields, s, rest, k)
+            let c2 = Counts { spp: n, ..c1 };
+            st_insert_helper(nodes, states, scratch, c2, config, s, rest, k)
         }
     }
 }

@@ -44,15 +44,15 @@ pub record MakeReady (N : ℕ) (l : Limits) (σ : Aut) (s : List ℕ) (each : M.
   pub operands : EachAt N σ each
   pub edge : EdgeAt N σ t
 
-pub record EachReady (N : ℕ) (l : Limits) (σ : Aut) (tr s : List ℕ) (each : M.Each) (x : Source) (k m : ℕ) : Type 0 where
+pub record EachReady (N : ℕ) (l : Limits) (σ : Aut) (tr s : List ℕ) (each : M.Each) (x : Source) (m : ℕ) : Type 0 where
   pub list : ListReady N l σ s m
   pub operands : EachAt N σ each
-  pub walked : Walked N σ tr s x k
+  pub walked : Walked N σ tr s x
 
-pub record PairsReady (N : ℕ) (l : Limits) (σ : Aut) (tr s : List ℕ) (x : Source) (k : ℕ) (y : Source) (j m : ℕ) : Type 0 where
+pub record PairsReady (N : ℕ) (l : Limits) (σ : Aut) (tr s : List ℕ) (x y : Source) (m : ℕ) : Type 0 where
   pub list : ListReady N l σ s m
-  pub first : Walked N σ tr s x k
-  pub second : Walked N σ tr s y j
+  pub first : Walked N σ tr s x
+  pub second : Walked N σ tr s y
 
 -- ---- a target made, a label made
 

@@ -1,6 +1,6 @@
 // Loops over transition lists of aut.rs: something is made of each transition, and inserted into the list at RESULT.
+use aut::Config;
 use aut::Counts;
-use aut::Limits;
 use aut::State;
 use spp::Made;
 use spp::Op;
@@ -60,13 +60,7 @@ fn to_label(made: Made, c: Counts, target: u32) -> Edged
         return Edged::Refused(21);
     };
     Edged::Edge(
-        Counts {
-            sp: c.sp,
-            spp: n,
-            states: c.states,
-            members: c.members,
-            transitions: c.transitions,
-        },
+        Counts { spp: n, ..c },
         Transition {
             target: target,
             label: h,
@@ -81,30 +75,27 @@ fn meet_of(
     members: &mut [u32],
     scratch: &mut [u32],
     c: Counts,
-    limits: Limits,
-    fields: u32,
+    config: Config,
     s: u32,
     l: SPP,
     t: Transition,
 ) -> Edged
-    requires { ⌜ MakeReady fields limits (autOf (now nodes) (now states) (now members) c) (now scratch) (M.meet (edge s (l .0))) (edgeOf t) ⌝ }
-    ensures { λ r. ⌜ DoesEdge fields limits 0 576 (M.made fields (limitsOf limits) (M.meet (edge s (l .0))) (edgeOf t)) (autOf (now (nodes .entry)) (now (states .entry)) (now (members .entry)) c) r c (now (nodes .exit)) (now (states .exit)) (now (members .exit)) (now (scratch .entry)) (now (scratch .exit)) ⌝ }
+    requires { ⌜ MakeReady (config .fields) (config .limits) (autOf (now nodes) (now states) (now members) c) (now scratch) (M.meet (edge s (l .0))) (edgeOf t) ⌝ }
+    ensures { λ r. ⌜ DoesEdge (config .fields) (config .limits) 0 576 (M.made (config .fields) (limitsOf (config .limits)) (M.meet (edge s (l .0))) (edgeOf t)) (autOf (now (nodes .entry)) (now (states .entry)) (now (members .entry)) c) r c (now (nodes .exit)) (now (states .exit)) (now (members .exit)) (now (scratch .entry)) (now (scratch .exit)) ⌝ }
 {
-    let state = aut_inter::mk_intersect(
-        nodes,
-        states,
-        members,
-        scratch,
-        c,
-        limits,
-        fields,
-        s,
-        t.target,
-    );
+    let state = aut_inter::mk_intersect(nodes, states, members, scratch, c, config, s, t.target);
     match state {
         State::Refused(e) => Edged::Refused(e),
         State::Is(met, d) => to_label(
-            aut_rel::apply(nodes, scratch, d.spp, fields, Op::Intersect, l, t.label),
+            aut_rel::apply(
+                nodes,
+                scratch,
+                d.spp,
+                config.fields,
+                Op::Intersect,
+                l,
+                t.label,
+            ),
             d,
             met,
         ),
@@ -117,18 +108,17 @@ fn make_edge(
     members: &mut [u32],
     scratch: &mut [u32],
     c: Counts,
-    limits: Limits,
-    fields: u32,
+    config: Config,
     each: Each,
     t: Transition,
 ) -> Edged
-    requires { ⌜ MakeReady fields limits (autOf (now nodes) (now states) (now members) c) (now scratch) (eachOf each) (edgeOf t) ⌝ }
-    ensures { λ r. ⌜ DoesEdge fields limits 0 576 (M.made fields (limitsOf limits) (eachOf each) (edgeOf t)) (autOf (now (nodes .entry)) (now (states .entry)) (now (members .entry)) c) r c (now (nodes .exit)) (now (states .exit)) (now (members .exit)) (now (scratch .entry)) (now (scratch .exit)) ⌝ }
+    requires { ⌜ MakeReady (config .fields) (config .limits) (autOf (now nodes) (now states) (now members) c) (now scratch) (eachOf each) (edgeOf t) ⌝ }
+    ensures { λ r. ⌜ DoesEdge (config .fields) (config .limits) 0 576 (M.made (config .fields) (limitsOf (config .limits)) (eachOf each) (edgeOf t)) (autOf (now (nodes .entry)) (now (states .entry)) (now (members .entry)) c) r c (now (nodes .exit)) (now (states .exit)) (now (members .exit)) (now (scratch .entry)) (now (scratch .exit)) ⌝ }
 {
     match each {
         Each::Same => Edged::Edge(c, t),
         Each::Sequence(x) => to_state(
-            aut_mk::mk_sequence(nodes, states, scratch, c, limits, fields, t.target, x),
+            aut_mk::mk_sequence(nodes, states, scratch, c, config, t.target, x),
             t.label,
         ),
         Each::After(l) => to_label(
@@ -136,7 +126,7 @@ fn make_edge(
                 nodes,
                 scratch,
                 c.spp,
-                fields,
+                config.fields,
                 aut_mk::Task::Sequence,
                 l,
                 t.label,
@@ -145,29 +135,27 @@ fn make_edge(
             t.target,
         ),
         Each::Intersect(x) => to_state(
-            aut_inter::mk_intersect(
-                nodes,
-                states,
-                members,
-                scratch,
-                c,
-                limits,
-                fields,
-                t.target,
-                x,
-            ),
+            aut_inter::mk_intersect(nodes, states, members, scratch, c, config, t.target, x),
             t.label,
         ),
         Each::Complement => {
-            let put = aut::mk_complement(states, c.states, fields, limits, t.target);
+            let put = aut::mk_complement(states, c.states, config, t.target);
             to_state(aut_rel::placed(put, c), t.label)
         }
         Each::Rest(l) => to_label(
-            aut_rel::apply(nodes, scratch, c.spp, fields, Op::Difference, t.label, l),
+            aut_rel::apply(
+                nodes,
+                scratch,
+                c.spp,
+                config.fields,
+                Op::Difference,
+                t.label,
+                l,
+            ),
             c,
             t.target,
         ),
-        Each::Meet(s, l) => meet_of(nodes, states, members, scratch, c, limits, fields, s, l, t),
+        Each::Meet(s, l) => meet_of(nodes, states, members, scratch, c, config, s, l, t),
     }
 }
 
@@ -178,16 +166,15 @@ fn insert_made(
     members: &mut [u32],
     scratch: &mut [u32],
     c: Counts,
-    limits: Limits,
-    fields: u32,
+    config: Config,
     each: Each,
     t: Transition,
     m: usize,
 ) -> Listed
-    requires { ⌜ ListReady fields limits (autOf (now nodes) (now states) (now members) c) (now scratch) m × MakeReady fields limits (autOf (now nodes) (now states) (now members) c) (now scratch) (eachOf each) (edgeOf t) ⌝ }
-    ensures { λ r. ⌜ DoesList fields limits 0 832 (M.insertMade fields (limitsOf limits) (eachOf each) (edgeOf t) (edges (now (scratch .entry)) RESULT m)) (autOf (now (nodes .entry)) (now (states .entry)) (now (members .entry)) c) r c (now (nodes .exit)) (now (states .exit)) (now (members .exit)) (now (scratch .entry)) (now (scratch .exit)) ⌝ }
+    requires { ⌜ ListReady (config .fields) (config .limits) (autOf (now nodes) (now states) (now members) c) (now scratch) m × MakeReady (config .fields) (config .limits) (autOf (now nodes) (now states) (now members) c) (now scratch) (eachOf each) (edgeOf t) ⌝ }
+    ensures { λ r. ⌜ DoesList (config .fields) (config .limits) 0 832 (M.insertMade (config .fields) (limitsOf (config .limits)) (eachOf each) (edgeOf t) (edges (now (scratch .entry)) RESULT m)) (autOf (now (nodes .entry)) (now (states .entry)) (now (members .entry)) c) r c (now (nodes .exit)) (now (states .exit)) (now (members .exit)) (now (scratch .entry)) (now (scratch .exit)) ⌝ }
 {
-    let edged = make_edge(nodes, states, members, scratch, c, limits, fields, each, t);
+    let edged = make_edge(nodes, states, members, scratch, c, config, each, t);
     match edged {
         Edged::Refused(e) => Listed::Refused(e),
         Edged::Edge(d, new) => st::st_insert(
@@ -196,8 +183,7 @@ fn insert_made(
             members,
             scratch,
             d,
-            limits,
-            fields,
+            config,
             new.target,
             new.label,
             m,
@@ -205,7 +191,7 @@ fn insert_made(
     }
 }
 
-// for each of the k transitions of the source, into the m at RESULT
+// for each transition of the source, into the m at RESULT
 pub fn insert_each(
     nodes: &mut [u32],
     states: &mut [u32],
@@ -213,33 +199,20 @@ pub fn insert_each(
     transitions: &[u32],
     scratch: &mut [u32],
     c: Counts,
-    limits: Limits,
-    fields: u32,
+    config: Config,
     each: Each,
     source: Source,
-    k: usize,
     m: usize,
 ) -> Listed
-    requires { ⌜ EachReady fields limits (autOf (now nodes) (now states) (now members) c) (now transitions) (now scratch) (eachOf each) source k m ⌝ }
-    ensures { λ r. ⌜ DoesList fields limits 0 832 (St.insertEach (ops fields (limitsOf limits)) (M.made fields (limitsOf limits) (eachOf each)) (sourceOf source (now (transitions .entry)) (now (scratch .entry)) k) (edges (now (scratch .entry)) RESULT m)) (autOf (now (nodes .entry)) (now (states .entry)) (now (members .entry)) c) r c (now (nodes .exit)) (now (states .exit)) (now (members .exit)) (now (scratch .entry)) (now (scratch .exit)) ⌝ }
+    requires { ⌜ EachReady (config .fields) (config .limits) (autOf (now nodes) (now states) (now members) c) (now transitions) (now scratch) (eachOf each) source m ⌝ }
+    ensures { λ r. ⌜ DoesList (config .fields) (config .limits) 0 832 (St.insertEach (ops (config .fields) (limitsOf (config .limits))) (M.made (config .fields) (limitsOf (config .limits)) (eachOf each)) (sourceOf source (now (transitions .entry)) (now (scratch .entry))) (edges (now (scratch .entry)) RESULT m)) (autOf (now (nodes .entry)) (now (states .entry)) (now (members .entry)) c) r c (now (nodes .exit)) (now (states .exit)) (now (members .exit)) (now (scratch .entry)) (now (scratch .exit)) ⌝ }
 {
     let mut d = c;
     let mut n = m;
     let mut i = 0;
-    while i < k {
+    while i < source.length {
         let t = st_source::read(transitions, scratch, source, i);
-        let listed = insert_made(
-            nodes,
-            states,
-            members,
-            scratch,
-            d,
-            limits,
-            fields,
-            each,
-            t,
-            n,
-        );
+        let listed = insert_made(nodes, states, members, scratch, d, config, each, t, n);
         match listed {
             Listed::Refused(e) => {
                 return Listed::Refused(e);
@@ -262,21 +235,18 @@ pub fn insert_pairs(
     transitions: &[u32],
     scratch: &mut [u32],
     c: Counts,
-    limits: Limits,
-    fields: u32,
+    config: Config,
     first: Source,
-    k: usize,
     second: Source,
-    j: usize,
     m: usize,
 ) -> Listed
-    requires { ⌜ PairsReady fields limits (autOf (now nodes) (now states) (now members) c) (now transitions) (now scratch) first k second j m ⌝ }
-    ensures { λ r. ⌜ DoesList fields limits 0 832 (St.insertPairs (ops fields (limitsOf limits)) (St.meetOf (ops fields (limitsOf limits))) (sourceOf first (now (transitions .entry)) (now (scratch .entry)) k) (sourceOf second (now (transitions .entry)) (now (scratch .entry)) j) (edges (now (scratch .entry)) RESULT m)) (autOf (now (nodes .entry)) (now (states .entry)) (now (members .entry)) c) r c (now (nodes .exit)) (now (states .exit)) (now (members .exit)) (now (scratch .entry)) (now (scratch .exit)) ⌝ }
+    requires { ⌜ PairsReady (config .fields) (config .limits) (autOf (now nodes) (now states) (now members) c) (now transitions) (now scratch) first second m ⌝ }
+    ensures { λ r. ⌜ DoesList (config .fields) (config .limits) 0 832 (St.insertPairs (ops (config .fields) (limitsOf (config .limits))) (St.meetOf (ops (config .fields) (limitsOf (config .limits)))) (sourceOf first (now (transitions .entry)) (now (scratch .entry))) (sourceOf second (now (transitions .entry)) (now (scratch .entry))) (edges (now (scratch .entry)) RESULT m)) (autOf (now (nodes .entry)) (now (states .entry)) (now (members .entry)) c) r c (now (nodes .exit)) (now (states .exit)) (now (members .exit)) (now (scratch .entry)) (now (scratch .exit)) ⌝ }
 {
     let mut d = c;
     let mut n = m;
     let mut i = 0;
-    while i < k {
+    while i < first.length {
         let t = st_source::read(transitions, scratch, first, i);
         let l = t.label;
         let listed = insert_each(
@@ -286,11 +256,9 @@ pub fn insert_pairs(
             transitions,
             scratch,
             d,
-            limits,
-            fields,
+            config,
             Each::Meet(t.target, l),
             second,
-            j,
             n,
         );
         match listed {

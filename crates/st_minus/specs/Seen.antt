@@ -29,16 +29,16 @@ pub record OneReady (N : ℕ) (l : Limits) (σ : Aut) (s : List ℕ) (t u : Edge
   pub second : EdgeAt N σ u
   pub sum : Label N σ h
 
-pub record RowReady (N : ℕ) (l : Limits) (σ : Aut) (tr s : List ℕ) (t : Edge) (y : Source) (j h m : ℕ) : Type 0 where
+pub record RowReady (N : ℕ) (l : Limits) (σ : Aut) (tr s : List ℕ) (t : Edge) (y : Source) (h m : ℕ) : Type 0 where
   pub list : ListReady N l σ s m
   pub first : EdgeAt N σ t
-  pub second : Walked N σ tr s y j
+  pub second : Walked N σ tr s y
   pub sum : Label N σ h
 
-pub record RowsReady (N : ℕ) (l : Limits) (σ : Aut) (tr s : List ℕ) (x : Source) (k : ℕ) (y : Source) (j h m : ℕ) : Type 0 where
+pub record RowsReady (N : ℕ) (l : Limits) (σ : Aut) (tr s : List ℕ) (x y : Source) (h m : ℕ) : Type 0 where
   pub list : ListReady N l σ s m
-  pub first : Walked N σ tr s x k
-  pub second : Walked N σ tr s y j
+  pub first : Walked N σ tr s x
+  pub second : Walked N σ tr s y
   pub sum : Label N σ h
 
 -- ---- an answer that is a sum of labels and a list

@@ -1,6 +1,6 @@
 // st_difference of aut.rs: where the labels of two lists meet, the difference of the targets; and the union of these labels.
+use aut::Config;
 use aut::Counts;
-use aut::Limits;
 use aut::State;
 use spp::Made;
 use spp::Op;
@@ -29,26 +29,16 @@ fn subtract_one(
     members: &mut [u32],
     scratch: &mut [u32],
     c: Counts,
-    limits: Limits,
-    fields: u32,
+    config: Config,
     t: Transition,
     u: Transition,
     sum: SPP,
     m: usize,
 ) -> Summed
-    requires { ⌜ OneReady fields limits (autOf (now nodes) (now states) (now members) c) (now scratch) (edgeOf t) (edgeOf u) (sum .0) m ⌝ }
-    ensures { λ r. ⌜ DoesSum fields limits 0 832 (M.subtractOne fields (limitsOf limits) (edgeOf t) (edgeOf u) (sumOf fields limits (now (scratch .entry)) (sum .0) m)) (autOf (now (nodes .entry)) (now (states .entry)) (now (members .entry)) c) r c (now (nodes .exit)) (now (states .exit)) (now (members .exit)) (now (scratch .entry)) (now (scratch .exit)) ⌝ }
+    requires { ⌜ OneReady (config .fields) (config .limits) (autOf (now nodes) (now states) (now members) c) (now scratch) (edgeOf t) (edgeOf u) (sum .0) m ⌝ }
+    ensures { λ r. ⌜ DoesSum (config .fields) (config .limits) 0 832 (M.subtractOne (config .fields) (limitsOf (config .limits)) (edgeOf t) (edgeOf u) (sumOf (config .fields) (config .limits) (now (scratch .entry)) (sum .0) m)) (autOf (now (nodes .entry)) (now (states .entry)) (now (members .entry)) c) r c (now (nodes .exit)) (now (states .exit)) (now (members .exit)) (now (scratch .entry)) (now (scratch .exit)) ⌝ }
 {
-    let state = aut_mk::mk_difference(
-        nodes,
-        states,
-        scratch,
-        c,
-        limits,
-        fields,
-        t.target,
-        u.target,
-    );
+    let state = aut_mk::mk_difference(nodes, states, scratch, c, config, t.target, u.target);
     match state {
         State::Refused(e) => Summed::Refused(e),
         State::Is(x, c1) => {
@@ -56,36 +46,26 @@ fn subtract_one(
                 nodes,
                 scratch,
                 c1.spp,
-                fields,
+                config.fields,
                 Op::Intersect,
                 t.label,
                 u.label,
             ) else {
                 return Summed::Refused(21);
             };
-            let Made::Node(h, n3) = aut_rel::apply(nodes, scratch, n2, fields, Op::Union, sum, meet)
-            else {
+            let Made::Node(h, n3) = aut_rel::apply(
+                nodes,
+                scratch,
+                n2,
+                config.fields,
+                Op::Union,
+                sum,
+                meet,
+            ) else {
                 return Summed::Refused(21);
             };
-            let c3 = Counts {
-                sp: c1.sp,
-                spp: n3,
-                states: c1.states,
-                members: c1.members,
-                transitions: c1.transitions,
-            };
-            let listed = st::st_insert(
-                nodes,
-                states,
-                members,
-                scratch,
-                c3,
-                limits,
-                fields,
-                x,
-                meet,
-                m,
-            );
+            let c3 = Counts { spp: n3, ..c1 };
+            let listed = st::st_insert(nodes, states, members, scratch, c3, config, x, meet, m);
             match listed {
                 Listed::Refused(e) => Summed::Refused(e),
                 Listed::List(d, n) => Summed::Next(d, h, n),
@@ -101,36 +81,22 @@ fn subtract_row(
     transitions: &[u32],
     scratch: &mut [u32],
     c: Counts,
-    limits: Limits,
-    fields: u32,
+    config: Config,
     t: Transition,
     second: Source,
-    j: usize,
     sum: SPP,
     m: usize,
 ) -> Summed
-    requires { ⌜ RowReady fields limits (autOf (now nodes) (now states) (now members) c) (now transitions) (now scratch) (edgeOf t) second j (sum .0) m ⌝ }
-    ensures { λ r. ⌜ DoesSum fields limits 0 832 (St.subtractRow (ops fields (limitsOf limits)) (edgeOf t) (sourceOf second (now (transitions .entry)) (now (scratch .entry)) j) (sumOf fields limits (now (scratch .entry)) (sum .0) m)) (autOf (now (nodes .entry)) (now (states .entry)) (now (members .entry)) c) r c (now (nodes .exit)) (now (states .exit)) (now (members .exit)) (now (scratch .entry)) (now (scratch .exit)) ⌝ }
+    requires { ⌜ RowReady (config .fields) (config .limits) (autOf (now nodes) (now states) (now members) c) (now transitions) (now scratch) (edgeOf t) second (sum .0) m ⌝ }
+    ensures { λ r. ⌜ DoesSum (config .fields) (config .limits) 0 832 (St.subtractRow (ops (config .fields) (limitsOf (config .limits))) (edgeOf t) (sourceOf second (now (transitions .entry)) (now (scratch .entry))) (sumOf (config .fields) (config .limits) (now (scratch .entry)) (sum .0) m)) (autOf (now (nodes .entry)) (now (states .entry)) (now (members .entry)) c) r c (now (nodes .exit)) (now (states .exit)) (now (members .exit)) (now (scratch .entry)) (now (scratch .exit)) ⌝ }
 {
     let mut d = c;
     let mut h = sum;
     let mut n = m;
     let mut i = 0;
-    while i < j {
+    while i < second.length {
         let u = st_source::read(transitions, scratch, second, i);
-        let summed = subtract_one(
-            nodes,
-            states,
-            members,
-            scratch,
-            d,
-            limits,
-            fields,
-            t,
-            u,
-            h,
-            n,
-        );
+        let summed = subtract_one(nodes, states, members, scratch, d, config, t, u, h, n);
         match summed {
             Summed::Refused(e) => {
                 return Summed::Refused(e);
@@ -153,23 +119,20 @@ pub fn subtract_rows(
     transitions: &[u32],
     scratch: &mut [u32],
     c: Counts,
-    limits: Limits,
-    fields: u32,
+    config: Config,
     first: Source,
-    k: usize,
     second: Source,
-    j: usize,
     sum: SPP,
     m: usize,
 ) -> Summed
-    requires { ⌜ RowsReady fields limits (autOf (now nodes) (now states) (now members) c) (now transitions) (now scratch) first k second j (sum .0) m ⌝ }
-    ensures { λ r. ⌜ DoesSum fields limits 0 832 (St.subtractRows (ops fields (limitsOf limits)) (sourceOf first (now (transitions .entry)) (now (scratch .entry)) k) (sourceOf second (now (transitions .entry)) (now (scratch .entry)) j) (sumOf fields limits (now (scratch .entry)) (sum .0) m)) (autOf (now (nodes .entry)) (now (states .entry)) (now (members .entry)) c) r c (now (nodes .exit)) (now (states .exit)) (now (members .exit)) (now (scratch .entry)) (now (scratch .exit)) ⌝ }
+    requires { ⌜ RowsReady (config .fields) (config .limits) (autOf (now nodes) (now states) (now members) c) (now transitions) (now scratch) first second (sum .0) m ⌝ }
+    ensures { λ r. ⌜ DoesSum (config .fields) (config .limits) 0 832 (St.subtractRows (ops (config .fields) (limitsOf (config .limits))) (sourceOf first (now (transitions .entry)) (now (scratch .entry))) (sourceOf second (now (transitions .entry)) (now (scratch .entry))) (sumOf (config .fields) (config .limits) (now (scratch .entry)) (sum .0) m)) (autOf (now (nodes .entry)) (now (states .entry)) (now (members .entry)) c) r c (now (nodes .exit)) (now (states .exit)) (now (members .exit)) (now (scratch .entry)) (now (scratch .exit)) ⌝ }
 {
     let mut d = c;
     let mut h = sum;
     let mut n = m;
     let mut i = 0;
-    while i < k {
+    while i < first.length {
         let t = st_source::read(transitions, scratch, first, i);
         let summed = subtract_row(
             nodes,
@@ -178,11 +141,9 @@ pub fn subtract_rows(
             transitions,
             scratch,
             d,
-            limits,
-            fields,
+            config,
             t,
             second,
-            j,
             h,
             n,
         );

@@ -22,7 +22,7 @@ use Rattle.st.specs.declared.Listed.the-variants as listed
 use Rattle.st.specs.Seen.{RESULT, DoesList}
 use Rattle.st.proofs.Join.{edges-behind, list-few}
 use Rattle.st_edges.specs.Seen.{Wrote, CopyReady}
-use Rattle.st_source.specs.declared.Source.the-variants as source
+use Rattle.st_source.specs.Seen.{scratched}
 use Rattle.st_ops.specs.Seen.{TwoReady}
 use Rattle.aut_stage.specs.Stage.{Stage, Inside, begin, next, stuck, wrote, instead, finish}
 use Rattle.aut_stage.specs.OnAut.{autLayer}
@@ -101,7 +101,7 @@ module _ {N : ℕ} {l : Limits} {σ : Aut} {tr s : List ℕ} {whole left right :
                   (wrote (autLayer N l) 0 1088 stage-3 (record { from = omega arith; to = omega (arith, few-2) }) (omega (arith, few-2)) (C2 .kept) len4)
                   (ap₂ (λ (xs ys : List Edge). join xs ys τ2) (sym left-is) (sym (C2 .is)))
 
-              pub join-ready : TwoReady N l τ2 tr s4 (source.Scratch FIRST) n (source.Scratch SECOND) m
+              pub join-ready : TwoReady N l τ2 tr s4 (scratched FIRST n) (scratched SECOND m)
               join-ready = record {
                 first = record {
                   ready = stage-4 .ready;

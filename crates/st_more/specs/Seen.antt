@@ -3,9 +3,9 @@ use mathlib.Core.List.{List}
 use Prim.Native.Nat.{ℕ}
 use Rattle.aut_steps.specs.Tables.{Aut}
 use Rattle.aut.specs.declared.Limits.{Limits}
-use Rattle.st_source.specs.declared.Source.the-variants as source
+use Rattle.st_source.specs.Seen.{stored}
 use Rattle.st_ops.specs.Seen.{TwoReady}
 
 -- two stored lists
 abbrev pub StoredReady : ℕ → Limits → Aut → List ℕ → List ℕ → ℕ → ℕ → ℕ → ℕ → Type 0
-StoredReady N l σ tr s a k b j = TwoReady N l σ tr s (source.Stored a) k (source.Stored b) j
+StoredReady N l σ tr s a k b j = TwoReady N l σ tr s (stored a k) (stored b j)

@@ -1,7 +1,8 @@
 // st_xor of aut.rs, of stored lists. The result stands at RESULT; the two differences wait at FIRST and SECOND.
+use aut::Config;
 use aut::Counts;
-use aut::Limits;
 use st::Listed;
+use st_source::Place;
 use st_source::Source;
 ghost use Rattle.netkat.specs.ListSteps as St;
 ghost use Rattle.st_steps.specs.Operations.{ops};
@@ -18,15 +19,14 @@ pub fn st_xor(
     transitions: &[u32],
     scratch: &mut [u32],
     c: Counts,
-    limits: Limits,
-    fields: u32,
+    config: Config,
     first: usize,
     k: usize,
     second: usize,
     j: usize,
 ) -> Listed
-    requires { ⌜ StoredReady fields limits (autOf (now nodes) (now states) (now members) c) (now transitions) (now scratch) first k second j ⌝ }
-    ensures { λ r. ⌜ GivesList fields limits 0 1088 (St.st-xor (ops fields (limitsOf limits)) (edges (now (transitions .entry)) first k) (edges (now (transitions .entry)) second j)) (autOf (now (nodes .entry)) (now (states .entry)) (now (members .entry)) c) c r (autOf (now (nodes .exit)) (now (states .exit)) (now (members .exit))) (now (scratch .entry)) (now (scratch .exit)) ⌝ }
+    requires { ⌜ StoredReady (config .fields) (config .limits) (autOf (now nodes) (now states) (now members) c) (now transitions) (now scratch) first k second j ⌝ }
+    ensures { λ r. ⌜ GivesList (config .fields) (config .limits) 0 1088 (St.st-xor (ops (config .fields) (limitsOf (config .limits))) (edges (now (transitions .entry)) first k) (edges (now (transitions .entry)) second j)) (autOf (now (nodes .entry)) (now (states .entry)) (now (members .entry)) c) c r (autOf (now (nodes .exit)) (now (states .exit)) (now (members .exit))) (now (scratch .entry)) (now (scratch .exit)) ⌝ }
 {
     let one = st_ops::st_difference(
         nodes,
@@ -35,12 +35,15 @@ pub fn st_xor(
         transitions,
         scratch,
         c,
-        limits,
-        fields,
-        Source::Stored(first),
-        k,
-        Source::Stored(second),
-        j,
+        config,
+        Source {
+            place: Place::Stored(first),
+            length: k,
+        },
+        Source {
+            place: Place::Stored(second),
+            length: j,
+        },
     );
     match one {
         Listed::Refused(e) => Listed::Refused(e),
@@ -53,12 +56,15 @@ pub fn st_xor(
                 transitions,
                 scratch,
                 d,
-                limits,
-                fields,
-                Source::Stored(second),
-                j,
-                Source::Stored(first),
-                k,
+                config,
+                Source {
+                    place: Place::Stored(second),
+                    length: j,
+                },
+                Source {
+                    place: Place::Stored(first),
+                    length: k,
+                },
             );
             match other {
                 Listed::Refused(e) => Listed::Refused(e),
@@ -71,12 +77,15 @@ pub fn st_xor(
                         transitions,
                         scratch,
                         f,
-                        limits,
-                        fields,
-                        Source::Scratch(st::FIRST),
-                        n,
-                        Source::Scratch(st::SECOND),
-                        m,
+                        config,
+                        Source {
+                            place: Place::Scratch(st::FIRST),
+                            length: n,
+                        },
+                        Source {
+                            place: Place::Scratch(st::SECOND),
+                            length: m,
+                        },
                     )
                 }
             }

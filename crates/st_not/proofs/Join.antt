@@ -51,9 +51,9 @@ none-at s = refl
 no-list : Inside 0 832 0 0
 no-list = record { from = omega arith; to = omega arith }
 
-module _ {N : ℕ} {l : Limits} {σ : Aut} {tr s : List ℕ} {x : Source} {k : ℕ} (W : OneReady N l σ tr s x k) where
+module _ {N : ℕ} {l : Limits} {σ : Aut} {tr s : List ℕ} {x : Source} (W : OneReady N l σ tr s x) where
   abbrev ts : List Edge
-  ts = sourceOf x tr s k
+  ts = sourceOf x tr s
 
   abbrev whole : Step Aut (List Edge)
   whole = St.st-complement (ops N (limitsOf l)) ts
@@ -74,7 +74,7 @@ module _ {N : ℕ} {l : Limits} {σ : Aut} {tr s : List ℕ} {x : Source} {k : �
   unfolding St.st-complement
   stage-0 c = begin (autLayer N l) 0 832 (W .ready) (ap (λ (es : List Edge). after (St.insertEach (ops N (limitsOf l)) (St.complementOf (ops N (limitsOf l))) ts es σ) cover-then) (sym (none-at s)))
 
-  pub targets-ready : EachReady N l σ tr s M.complement x k 0
+  pub targets-ready : EachReady N l σ tr s M.complement x 0
   targets-ready = record { list = list-none (W .ready) (W .limit); operands = tt; walked = W .walked }
 
   module _ {c : Counts} {r1 : Listed} {t1 st1 mem1 s1 : List ℕ} (D : DoesList N l 0 832 targets σ r1 c t1 st1 mem1 s s1) where
@@ -88,20 +88,20 @@ module _ {N : ℕ} {l : Limits} {σ : Aut} {tr s : List ℕ} {x : Source} {k : �
       stage-1 : Stage (autLayer N l) 0 832 (whole σ) (after (onNodes (uncovered N ts) τ1) (top-then (edges s1 RESULT n))) σ τ1 c d s s1
       stage-1 = instead (autLayer N l) 0 832 (next (autLayer N l) 0 832 (list-given D q1) (all-of 0 832) cover-then (stage-0 c)) (uncovered-is N (limitsOf l) ts (top-then (edges s1 RESULT n)) τ1)
 
-      ts-is : sourceOf x tr s1 k ≡ ts
-      ts-is = source-kept (stage-1 .frame) tr x k (W .walked .within)
+      ts-is : sourceOf x tr s1 ≡ ts
+      ts-is = source-kept (stage-1 .frame) tr x (W .walked .within)
 
-      pub cover-ready : CoverReady N (table t1 (d .spp)) tr s1 x k
+      pub cover-ready : CoverReady N (table t1 (d .spp)) tr s1 x
       cover-ready = record {
         backed = backed-of (stage-1 .ready);
         within = W .walked .within;
-        labels = λ i lt. entry-at tr s1 k x (walked-later (stage-1 .frame) tr (W .walked) (stage-1 .ext .grown) .edges) i lt .relation;
+        labels = λ i lt. entry-at tr s1 x (walked-later (stage-1 .frame) tr (W .walked) (stage-1 .ext .grown) .edges) i lt .relation;
       }
 
-      module _ (r2 : Made) {t2 s2 : List ℕ} (E : Post (nodesLayer N) 0 0 (Handle N) (uncovered N (sourceOf x tr s1 k) (table t1 (d .spp))) (table t1 (d .spp)) (d .spp) (madeOf r2) (table t2) s1 s2) where
+      module _ (r2 : Made) {t2 s2 : List ℕ} (E : Post (nodesLayer N) 0 0 (Handle N) (uncovered N (sourceOf x tr s1) (table t1 (d .spp))) (table t1 (d .spp)) (d .spp) (madeOf r2) (table t2) s1 s2) where
         E-as : (z : Made) → r2 ≡ z → Post (nodesLayer N) 0 0 (Handle N) (uncovered N ts (table t1 (d .spp))) (table t1 (d .spp)) (d .spp) (madeOf z) (table t2) s1 s2
         E-as z q = subst (λ (es : List Edge). Post (nodesLayer N) 0 0 (Handle N) (uncovered N es (table t1 (d .spp))) (table t1 (d .spp)) (d .spp) (madeOf z) (table t2) s1 s2) ts-is
-            (subst (λ (r : Made). Post (nodesLayer N) 0 0 (Handle N) (uncovered N (sourceOf x tr s1 k) (table t1 (d .spp))) (table t1 (d .spp)) (d .spp) (madeOf r) (table t2) s1 s2) q E)
+            (subst (λ (r : Made). Post (nodesLayer N) 0 0 (Handle N) (uncovered N (sourceOf x tr s1) (table t1 (d .spp))) (table t1 (d .spp)) (d .spp) (madeOf r) (table t2) s1 s2) q E)
 
         pub stuck-2 : r2 ≡ Full → GivesList N l 0 832 whole σ c (listed.Refused 21) (autOf t2 st1 mem1) s s2
         stuck-2 q = stuck (autLayer N l) 0 832 (nodes-refused t1 st1 mem1 d (uncovered N ts) (E-as Full q .is)) (top-then (edges s1 RESULT n)) stage-1

@@ -29,67 +29,67 @@ use Rattle.st_not.specs.Seen.{CoverReady}
 -- ---- cover_all
 
 -- i labels are united, in h
-abbrev pub Covered : ℕ → Source → List ℕ → ℕ → Table → ℕ → List ℕ → ℕ → Table → ℕ → List ℕ → ℕ → ℕ → Type 0
-Covered N x tr k t₀ c₀ s₀ h₀ t c s h i = Turned (nodesLayer N) 0 0 (coverNodes N) (onFrom x tr s₀ k) k (Handle N) (coverNodes N (sourceOf x tr s₀ k) h₀ t₀) t₀ t c₀ c s₀ s h i
+abbrev pub Covered : ℕ → Source → List ℕ → Table → ℕ → List ℕ → ℕ → Table → ℕ → List ℕ → ℕ → ℕ → Type 0
+Covered N x tr t₀ c₀ s₀ h₀ t c s h i = Turned (nodesLayer N) 0 0 (coverNodes N) (onFrom x tr s₀) (x .length) (Handle N) (coverNodes N (sourceOf x tr s₀) h₀ t₀) t₀ t c₀ c s₀ s h i
 
 folds : (N : ℕ) → Folds (λ (e : Edge) h. Rel.union N h (e .label)) (coverNodes N)
 unfolding coverNodes
 folds N = record { none = λ h t. refl; some = λ e es h t. refl }
 
-module _ {N : ℕ} {t₀ : Table} {tr s₀ : List ℕ} {x : Source} {k : ℕ} (R : CoverReady N t₀ tr s₀ x k) {h₀ : ℕ} (zero-is : Rel.zeroAt N ≡ h₀) (c₀ : ℕ) where
-  pub cover-begin : Covered N x tr k t₀ c₀ s₀ h₀ t₀ c₀ s₀ h₀ 0
+module _ {N : ℕ} {t₀ : Table} {tr s₀ : List ℕ} {x : Source} (R : CoverReady N t₀ tr s₀ x) {h₀ : ℕ} (zero-is : Rel.zeroAt N ≡ h₀) (c₀ : ℕ) where
+  pub cover-begin : Covered N x tr t₀ c₀ s₀ h₀ t₀ c₀ s₀ h₀ 0
   cover-begin = record {
     most = omega arith;
-    stage = begin (nodesLayer N) 0 0 (R .backed) (ap (λ (es : List Edge). coverNodes N es h₀ t₀) (from-all tr s₀ k x));
+    stage = begin (nodesLayer N) 0 0 (R .backed) (ap (λ (es : List Edge). coverNodes N es h₀ t₀) (from-all tr s₀ x));
     holds = subst (Handle N t₀) zero-is (den-zero (R .backed .wf) N (omega arith) .at);
   }
 
-  module _ {t : Table} {c : ℕ} {s : List ℕ} {h i : ℕ} (v : Covered N x tr k t₀ c₀ s₀ h₀ t c s h i) where
-    module _ (lt : i < k) where
+  module _ {t : Table} {c : ℕ} {s : List ℕ} {h i : ℕ} (v : Covered N x tr t₀ c₀ s₀ h₀ t c s h i) where
+    module _ (lt : i < x .length) where
       pub cover-read : EntryIn tr s x i
-      cover-read = entry-in tr s k x (R .within) (v .stage .ready .room) i lt
+      cover-read = entry-in tr s x (R .within) (v .stage .ready .room) i lt
 
       module _ {u : Transition} (read : edgeOf u ≡ entryOf x tr s i) where
         same : edgeOf u ≡ entryOf x tr s₀ i
-        same = read ∙ entry-kept (left-any 0 832 (v .stage .frame) (omega arith)) tr x k i (R .within) lt
+        same = read ∙ entry-kept (left-any 0 832 (v .stage .frame) (omega arith)) tr x i (R .within) lt
 
         at-label : At t N (u .label .0)
         at-label = subst (λ (e : Edge). At t N (e .label)) (sym same) (at-ext (v .stage .ext) N (entryOf x tr s₀ i .label) (R .labels i lt))
 
-        on-next : onFrom x tr s₀ k i ≡ edgeOf u ∷ onFrom x tr s₀ k (i + 1)
-        on-next = from-next tr s₀ k x i lt ∙ ap (λ (e : Edge). e ∷ onFrom x tr s₀ k (i + 1)) (sym same)
+        on-next : onFrom x tr s₀ i ≡ edgeOf u ∷ onFrom x tr s₀ (i + 1)
+        on-next = from-next tr s₀ x i lt ∙ ap (λ (e : Edge). e ∷ onFrom x tr s₀ (i + 1)) (sym same)
 
         pub cover-ready : RelateReady N t s h (u .label .0)
         cover-ready = record { backed = v .stage .ready; at-a = v .holds; at-b = at-label }
 
         module _ {r : Made} {t1 s1 : List ℕ} (A : Relates N (Rel.union N h (u .label .0)) t r t1 s s1) where
-          pub cover-stuck : r ≡ Full → Post (nodesLayer N) 0 0 (Handle N) (coverNodes N (sourceOf x tr s₀ k) (Rel.zeroAt N) t₀) t₀ c₀ (refusal 21) (table t1) s₀ s1
-          cover-stuck q = subst (λ (z : ℕ). Post (nodesLayer N) 0 0 (Handle N) (coverNodes N (sourceOf x tr s₀ k) z t₀) t₀ c₀ (refusal 21) (table t1) s₀ s1) (sym zero-is)
-              (stuck (nodesLayer N) 0 0 (node-refused A q) (coverNodes N (onFrom x tr s₀ k (i + 1))) (turn (nodesLayer N) 0 0 (folds N) v on-next))
+          pub cover-stuck : r ≡ Full → Post (nodesLayer N) 0 0 (Handle N) (coverNodes N (sourceOf x tr s₀) (Rel.zeroAt N) t₀) t₀ c₀ (refusal 21) (table t1) s₀ s1
+          cover-stuck q = subst (λ (z : ℕ). Post (nodesLayer N) 0 0 (Handle N) (coverNodes N (sourceOf x tr s₀) z t₀) t₀ c₀ (refusal 21) (table t1) s₀ s1) (sym zero-is)
+              (stuck (nodesLayer N) 0 0 (node-refused A q) (coverNodes N (onFrom x tr s₀ (i + 1))) (turn (nodesLayer N) 0 0 (folds N) v on-next))
 
-          pub cover-again : {g : SPP} {m : ℕ} → r ≡ Node g m → length s1 ≡ length s → Covered N x tr k t₀ c₀ s₀ h₀ (table t1 m) m s1 (g .0) (i + 1)
+          pub cover-again : {g : SPP} {m : ℕ} → r ≡ Node g m → length s1 ≡ length s → Covered N x tr t₀ c₀ s₀ h₀ (table t1 m) m s1 (g .0) (i + 1)
           cover-again q len = again (nodesLayer N) 0 0 (folds N) v (omega arith) on-next
               (node-given A 0 0 c q (v .stage .ready) (Laws.union-made N t (v .stage .ready .wf) h (u .label .0) (v .holds) at-label) len (omega arith)) (all-of 0 0)
 
-  pub cover-end : {t s : List ℕ} {c h i : ℕ} → Covered N x tr k t₀ c₀ s₀ h₀ (table t c) c s h i → k ≤ i → Post (nodesLayer N) 0 0 (Handle N) (coverNodes N (sourceOf x tr s₀ k) (Rel.zeroAt N) t₀) t₀ c₀ (gave c h) (table t) s₀ s
-  cover-end {t} {s} {c} {h} {i} v le = subst (λ (z : ℕ). Post (nodesLayer N) 0 0 (Handle N) (coverNodes N (sourceOf x tr s₀ k) z t₀) t₀ c₀ (gave c h) (table t) s₀ s) (sym zero-is)
-      (done (nodesLayer N) 0 0 (table t) (over (nodesLayer N) 0 0 (folds N) v (from-done tr s₀ k x i le)) (v .holds))
+  pub cover-end : {t s : List ℕ} {c h i : ℕ} → Covered N x tr t₀ c₀ s₀ h₀ (table t c) c s h i → x .length ≤ i → Post (nodesLayer N) 0 0 (Handle N) (coverNodes N (sourceOf x tr s₀) (Rel.zeroAt N) t₀) t₀ c₀ (gave c h) (table t) s₀ s
+  cover-end {t} {s} {c} {h} {i} v le = subst (λ (z : ℕ). Post (nodesLayer N) 0 0 (Handle N) (coverNodes N (sourceOf x tr s₀) z t₀) t₀ c₀ (gave c h) (table t) s₀ s) (sym zero-is)
+      (done (nodesLayer N) 0 0 (table t) (over (nodesLayer N) 0 0 (folds N) v (from-done tr s₀ x i le)) (v .holds))
 
 -- ---- rest_of
 
-module _ {N : ℕ} {t₀ : Table} {tr s₀ : List ℕ} {x : Source} {k : ℕ} (R : CoverReady N t₀ tr s₀ x k) {c₀ : ℕ} (r1 : Made) {t1 s1 : List ℕ}
-    (D : Post (nodesLayer N) 0 0 (Handle N) (coverNodes N (sourceOf x tr s₀ k) (Rel.zeroAt N) t₀) t₀ c₀ (madeOf r1) (table t1) s₀ s1) where
-  whole-0 : Stage (nodesLayer N) 0 0 (uncovered N (sourceOf x tr s₀ k) t₀) (after (coverNodes N (sourceOf x tr s₀ k) (Rel.zeroAt N) t₀) (λ h. Spp.complement N N h)) t₀ t₀ c₀ c₀ s₀ s₀
+module _ {N : ℕ} {t₀ : Table} {tr s₀ : List ℕ} {x : Source} (R : CoverReady N t₀ tr s₀ x) {c₀ : ℕ} (r1 : Made) {t1 s1 : List ℕ}
+    (D : Post (nodesLayer N) 0 0 (Handle N) (coverNodes N (sourceOf x tr s₀) (Rel.zeroAt N) t₀) t₀ c₀ (madeOf r1) (table t1) s₀ s1) where
+  whole-0 : Stage (nodesLayer N) 0 0 (uncovered N (sourceOf x tr s₀) t₀) (after (coverNodes N (sourceOf x tr s₀) (Rel.zeroAt N) t₀) (λ h. Spp.complement N N h)) t₀ t₀ c₀ c₀ s₀ s₀
   whole-0 = begin (nodesLayer N) 0 0 (R .backed) refl
 
-  pub rest-stuck : r1 ≡ Full → Post (nodesLayer N) 0 0 (Handle N) (uncovered N (sourceOf x tr s₀ k) t₀) t₀ c₀ (refusal 21) (table t1) s₀ s1
-  rest-stuck q = stuck (nodesLayer N) 0 0 (subst (λ (r : Made). Post (nodesLayer N) 0 0 (Handle N) (coverNodes N (sourceOf x tr s₀ k) (Rel.zeroAt N) t₀) t₀ c₀ (madeOf r) (table t1) s₀ s1) q D .is) (λ h. Spp.complement N N h) whole-0
+  pub rest-stuck : r1 ≡ Full → Post (nodesLayer N) 0 0 (Handle N) (uncovered N (sourceOf x tr s₀) t₀) t₀ c₀ (refusal 21) (table t1) s₀ s1
+  rest-stuck q = stuck (nodesLayer N) 0 0 (subst (λ (r : Made). Post (nodesLayer N) 0 0 (Handle N) (coverNodes N (sourceOf x tr s₀) (Rel.zeroAt N) t₀) t₀ c₀ (madeOf r) (table t1) s₀ s1) q D .is) (λ h. Spp.complement N N h) whole-0
 
   module _ {h : SPP} {m : ℕ} (q : r1 ≡ Node h m) where
-    D′ : Post (nodesLayer N) 0 0 (Handle N) (coverNodes N (sourceOf x tr s₀ k) (Rel.zeroAt N) t₀) t₀ c₀ (gave m (h .0)) (table t1) s₀ s1
-    D′ = subst (λ (r : Made). Post (nodesLayer N) 0 0 (Handle N) (coverNodes N (sourceOf x tr s₀ k) (Rel.zeroAt N) t₀) t₀ c₀ (madeOf r) (table t1) s₀ s1) q D
+    D′ : Post (nodesLayer N) 0 0 (Handle N) (coverNodes N (sourceOf x tr s₀) (Rel.zeroAt N) t₀) t₀ c₀ (gave m (h .0)) (table t1) s₀ s1
+    D′ = subst (λ (r : Made). Post (nodesLayer N) 0 0 (Handle N) (coverNodes N (sourceOf x tr s₀) (Rel.zeroAt N) t₀) t₀ c₀ (madeOf r) (table t1) s₀ s1) q D
 
-    whole-1 : Stage (nodesLayer N) 0 0 (uncovered N (sourceOf x tr s₀ k) t₀) (Spp.complement N N (h .0) (table t1 m)) t₀ (table t1 m) c₀ m s₀ s1
+    whole-1 : Stage (nodesLayer N) 0 0 (uncovered N (sourceOf x tr s₀) t₀) (Spp.complement N N (h .0) (table t1 m)) t₀ (table t1 m) c₀ m s₀ s1
     whole-1 = next (nodesLayer N) 0 0 D′ (all-of 0 0) (λ h. Spp.complement N N h) whole-0
 
     pub rest-ready : RelateReady N (table t1 m) s1 (h .0) (h .0)
@@ -102,5 +102,5 @@ module _ {N : ℕ} {t₀ : Table} {tr s₀ : List ℕ} {x : Source} {k : ℕ} (R
     not-made : Laws.Makes N (pointwise Spp.not (Rel.pairs N (table t1 m) (h .0)) (Rel.pairs N (table t1 m) (h .0))) (table t1 m) (Spp.apply N Spp.not N (h .0) (h .0) (table t1 m))
     not-made = Laws.made N (apply-exact N Spp.not N (omega arith) (table t1 m) (h .0) (h .0) (Rel.pairs N (table t1 m) (h .0)) (Rel.pairs N (table t1 m) (h .0)) (whole-1 .ready .wf) (den-mem (D′ .then .holds)) (den-mem (D′ .then .holds)))
 
-    pub rest-done : {r : Made} {t2 s2 : List ℕ} → Relates N (Spp.apply N Spp.not N (h .0) (h .0)) (table t1 m) r t2 s1 s2 → length s2 ≡ length s1 → Post (nodesLayer N) 0 0 (Handle N) (uncovered N (sourceOf x tr s₀ k) t₀) t₀ c₀ (madeOf r) (table t2) s₀ s2
+    pub rest-done : {r : Made} {t2 s2 : List ℕ} → Relates N (Spp.apply N Spp.not N (h .0) (h .0)) (table t1 m) r t2 s1 s2 → length s2 ≡ length s1 → Post (nodesLayer N) 0 0 (Handle N) (uncovered N (sourceOf x tr s₀) t₀) t₀ c₀ (madeOf r) (table t2) s₀ s2
     rest-done {r} A len = finish (nodesLayer N) 0 0 (instead (nodesLayer N) 0 0 whole-1 complement-is) (madeOf r) (node-post 0 0 m r A (whole-1 .ready) not-made len (omega arith)) (all-of 0 0)

@@ -11,13 +11,13 @@ use Rattle.st_source.specs.declared.Source.{Source}
 use Rattle.st_source.specs.Seen.{entryOf, Within, Walked}
 
 -- the labels of a list are relations
-pub record CoverReady (N : ℕ) (t : Table) (tr s : List ℕ) (x : Source) (k : ℕ) : Type 0 where
+pub record CoverReady (N : ℕ) (t : Table) (tr s : List ℕ) (x : Source) : Type 0 where
   pub backed : Backed N t s
-  pub within : Within tr x k
-  pub labels : (i : ℕ) → i < k → At t N (entryOf x tr s i .label)
+  pub within : Within tr x
+  pub labels : (i : ℕ) → i < x .length → At t N (entryOf x tr s i .label)
 
 -- a list
-pub record OneReady (N : ℕ) (l : Limits) (σ : Aut) (tr s : List ℕ) (x : Source) (k : ℕ) : Type 0 where
+pub record OneReady (N : ℕ) (l : Limits) (σ : Aut) (tr s : List ℕ) (x : Source) : Type 0 where
   pub ready : Ready N l σ s
   pub limit : l .transitions ≤ 64
-  pub walked : Walked N σ tr s x k
+  pub walked : Walked N σ tr s x

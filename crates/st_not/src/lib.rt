@@ -1,6 +1,6 @@
 // st_complement of aut.rs. The result stands at RESULT.
+use aut::Config;
 use aut::Counts;
-use aut::Limits;
 use aut::State;
 use spp::Made;
 use spp::Op;
@@ -28,15 +28,14 @@ fn cover_all(
     count: usize,
     fields: u32,
     source: Source,
-    k: usize,
 ) -> Made
-    requires { ⌜ CoverReady fields (table (now nodes) count) (now transitions) (now scratch) source k ⌝ }
-    ensures { λ r. ⌜ Post (nodesLayer fields) 0 0 (Handle fields) (coverNodes fields (sourceOf source (now (transitions .entry)) (now (scratch .entry)) k) (zeroAt fields) (table (now (nodes .entry)) count)) (table (now (nodes .entry)) count) count (madeOf r) (table (now (nodes .exit))) (now (scratch .entry)) (now (scratch .exit)) ⌝ }
+    requires { ⌜ CoverReady fields (table (now nodes) count) (now transitions) (now scratch) source ⌝ }
+    ensures { λ r. ⌜ Post (nodesLayer fields) 0 0 (Handle fields) (coverNodes fields (sourceOf source (now (transitions .entry)) (now (scratch .entry))) (zeroAt fields) (table (now (nodes .entry)) count)) (table (now (nodes .entry)) count) count (madeOf r) (table (now (nodes .exit))) (now (scratch .entry)) (now (scratch .exit)) ⌝ }
 {
     let mut sum = spp::zero_at_depth(fields);
     let mut n = count;
     let mut i = 0;
-    while i < k {
+    while i < source.length {
         let t = st_source::read(transitions, scratch, source, i);
         let Made::Node(h, n1) = aut_rel::apply(nodes, scratch, n, fields, Op::Union, sum, t.label)
         else {
@@ -57,12 +56,11 @@ fn rest_of(
     count: usize,
     fields: u32,
     source: Source,
-    k: usize,
 ) -> Made
-    requires { ⌜ CoverReady fields (table (now nodes) count) (now transitions) (now scratch) source k ⌝ }
-    ensures { λ r. ⌜ Post (nodesLayer fields) 0 0 (Handle fields) (uncovered fields (sourceOf source (now (transitions .entry)) (now (scratch .entry)) k) (table (now (nodes .entry)) count)) (table (now (nodes .entry)) count) count (madeOf r) (table (now (nodes .exit))) (now (scratch .entry)) (now (scratch .exit)) ⌝ }
+    requires { ⌜ CoverReady fields (table (now nodes) count) (now transitions) (now scratch) source ⌝ }
+    ensures { λ r. ⌜ Post (nodesLayer fields) 0 0 (Handle fields) (uncovered fields (sourceOf source (now (transitions .entry)) (now (scratch .entry))) (table (now (nodes .entry)) count)) (table (now (nodes .entry)) count) count (madeOf r) (table (now (nodes .exit))) (now (scratch .entry)) (now (scratch .exit)) ⌝ }
 {
-    let Made::Node(h, n) = cover_all(nodes, transitions, scratch, count, fields, source, k) else {
+    let Made::Node(h, n) = cover_all(nodes, transitions, scratch, count, fields, source) else {
         return Made::Full;
     };
     aut_rel::apply(nodes, scratch, n, fields, Op::Not, h, h)
@@ -75,13 +73,11 @@ pub fn st_complement(
     transitions: &[u32],
     scratch: &mut [u32],
     c: Counts,
-    limits: Limits,
-    fields: u32,
+    config: Config,
     source: Source,
-    k: usize,
 ) -> Listed
-    requires { ⌜ OneReady fields limits (autOf (now nodes) (now states) (now members) c) (now transitions) (now scratch) source k ⌝ }
-    ensures { λ r. ⌜ GivesList fields limits 0 832 (St.st-complement (ops fields (limitsOf limits)) (sourceOf source (now (transitions .entry)) (now (scratch .entry)) k)) (autOf (now (nodes .entry)) (now (states .entry)) (now (members .entry)) c) c r (autOf (now (nodes .exit)) (now (states .exit)) (now (members .exit))) (now (scratch .entry)) (now (scratch .exit)) ⌝ }
+    requires { ⌜ OneReady (config .fields) (config .limits) (autOf (now nodes) (now states) (now members) c) (now transitions) (now scratch) source ⌝ }
+    ensures { λ r. ⌜ GivesList (config .fields) (config .limits) 0 832 (St.st-complement (ops (config .fields) (limitsOf (config .limits))) (sourceOf source (now (transitions .entry)) (now (scratch .entry)))) (autOf (now (nodes .entry)) (now (states .entry)) (now (members .entry)) c) c r (autOf (now (nodes .exit)) (now (states .exit)) (now (members .exit))) (now (scratch .entry)) (now (scratch .exit)) ⌝ }
 {
     let listed = st_each::insert_each(
         nodes,
@@ -90,11 +86,9 @@ pub fn st_complement(
         transitions,
         scratch,
         c,
-        limits,
-        fields,
+        config,
         Each::Complement,
         source,
-        k,
         0,
     );
     match listed {
@@ -105,23 +99,13 @@ pub fn st_complement(
                 transitions,
                 scratch,
                 d.spp,
-                fields,
+                config.fields,
                 source,
-                k,
             ) else {
                 return Listed::Refused(21);
             };
             let put = aut::mk_top(states, d.states);
-            let state = aut_rel::placed(
-                put,
-                Counts {
-                    sp: d.sp,
-                    spp: n1,
-                    states: d.states,
-                    members: d.members,
-                    transitions: d.transitions,
-                },
-            );
+            let state = aut_rel::placed(put, Counts { spp: n1, ..d });
             match state {
                 State::Refused(e) => Listed::Refused(e),
                 State::Is(top, f) => st::st_insert(
@@ -130,8 +114,7 @@ pub fn st_complement(
                     members,
                     scratch,
                     f,
-                    limits,
-                    fields,
+                    config,
                     top,
                     rest,
                     n,

@@ -8,12 +8,12 @@ use Rattle.st_source.specs.declared.Source.{Source}
 use Rattle.st_source.specs.Seen.{Walked}
 
 -- a list
-pub record OneReady (N : ℕ) (l : Limits) (σ : Aut) (tr s : List ℕ) (x : Source) (k : ℕ) : Type 0 where
+pub record OneReady (N : ℕ) (l : Limits) (σ : Aut) (tr s : List ℕ) (x : Source) : Type 0 where
   pub ready : Ready N l σ s
   pub limit : l .transitions ≤ 64
-  pub walked : Walked N σ tr s x k
+  pub walked : Walked N σ tr s x
 
 -- two lists
-pub record TwoReady (N : ℕ) (l : Limits) (σ : Aut) (tr s : List ℕ) (x : Source) (k : ℕ) (y : Source) (j : ℕ) : Type 0 where
-  pub first : OneReady N l σ tr s x k
-  pub second : Walked N σ tr s y j
+pub record TwoReady (N : ℕ) (l : Limits) (σ : Aut) (tr s : List ℕ) (x y : Source) : Type 0 where
+  pub first : OneReady N l σ tr s x
+  pub second : Walked N σ tr s y

@@ -1,6 +1,6 @@
 // st_union, st_intersect and st_difference of aut.rs. The result stands at RESULT.
+use aut::Config;
 use aut::Counts;
-use aut::Limits;
 use st::Listed;
 use st_each::Each;
 use st_minus::Summed;
@@ -20,15 +20,12 @@ pub fn st_union(
     transitions: &[u32],
     scratch: &mut [u32],
     c: Counts,
-    limits: Limits,
-    fields: u32,
+    config: Config,
     first: Source,
-    k: usize,
     second: Source,
-    j: usize,
 ) -> Listed
-    requires { ⌜ TwoReady fields limits (autOf (now nodes) (now states) (now members) c) (now transitions) (now scratch) first k second j ⌝ }
-    ensures { λ r. ⌜ DoesList fields limits 0 832 (St.st-union (ops fields (limitsOf limits)) (sourceOf first (now (transitions .entry)) (now (scratch .entry)) k) (sourceOf second (now (transitions .entry)) (now (scratch .entry)) j)) (autOf (now (nodes .entry)) (now (states .entry)) (now (members .entry)) c) r c (now (nodes .exit)) (now (states .exit)) (now (members .exit)) (now (scratch .entry)) (now (scratch .exit)) ⌝ }
+    requires { ⌜ TwoReady (config .fields) (config .limits) (autOf (now nodes) (now states) (now members) c) (now transitions) (now scratch) first second ⌝ }
+    ensures { λ r. ⌜ DoesList (config .fields) (config .limits) 0 832 (St.st-union (ops (config .fields) (limitsOf (config .limits))) (sourceOf first (now (transitions .entry)) (now (scratch .entry))) (sourceOf second (now (transitions .entry)) (now (scratch .entry)))) (autOf (now (nodes .entry)) (now (states .entry)) (now (members .entry)) c) r c (now (nodes .exit)) (now (states .exit)) (now (members .exit)) (now (scratch .entry)) (now (scratch .exit)) ⌝ }
 {
     let listed = st_each::insert_each(
         nodes,
@@ -37,11 +34,9 @@ pub fn st_union(
         transitions,
         scratch,
         c,
-        limits,
-        fields,
+        config,
         Each::Same,
         first,
-        k,
         0,
     );
     match listed {
@@ -53,11 +48,9 @@ pub fn st_union(
             transitions,
             scratch,
             d,
-            limits,
-            fields,
+            config,
             Each::Same,
             second,
-            j,
             n,
         ),
     }
@@ -70,15 +63,12 @@ pub fn st_intersect(
     transitions: &[u32],
     scratch: &mut [u32],
     c: Counts,
-    limits: Limits,
-    fields: u32,
+    config: Config,
     first: Source,
-    k: usize,
     second: Source,
-    j: usize,
 ) -> Listed
-    requires { ⌜ TwoReady fields limits (autOf (now nodes) (now states) (now members) c) (now transitions) (now scratch) first k second j ⌝ }
-    ensures { λ r. ⌜ DoesList fields limits 0 832 (St.st-intersect (ops fields (limitsOf limits)) (sourceOf first (now (transitions .entry)) (now (scratch .entry)) k) (sourceOf second (now (transitions .entry)) (now (scratch .entry)) j)) (autOf (now (nodes .entry)) (now (states .entry)) (now (members .entry)) c) r c (now (nodes .exit)) (now (states .exit)) (now (members .exit)) (now (scratch .entry)) (now (scratch .exit)) ⌝ }
+    requires { ⌜ TwoReady (config .fields) (config .limits) (autOf (now nodes) (now states) (now members) c) (now transitions) (now scratch) first second ⌝ }
+    ensures { λ r. ⌜ DoesList (config .fields) (config .limits) 0 832 (St.st-intersect (ops (config .fields) (limitsOf (config .limits))) (sourceOf first (now (transitions .entry)) (now (scratch .entry))) (sourceOf second (now (transitions .entry)) (now (scratch .entry)))) (autOf (now (nodes .entry)) (now (states .entry)) (now (members .entry)) c) r c (now (nodes .exit)) (now (states .exit)) (now (members .exit)) (now (scratch .entry)) (now (scratch .exit)) ⌝ }
 {
     st_each::insert_pairs(
         nodes,
@@ -87,12 +77,9 @@ pub fn st_intersect(
         transitions,
         scratch,
         c,
-        limits,
-        fields,
+        config,
         first,
-        k,
         second,
-        j,
         0,
     )
 }
@@ -104,17 +91,14 @@ pub fn st_difference(
     transitions: &[u32],
     scratch: &mut [u32],
     c: Counts,
-    limits: Limits,
-    fields: u32,
+    config: Config,
     first: Source,
-    k: usize,
     second: Source,
-    j: usize,
 ) -> Listed
-    requires { ⌜ TwoReady fields limits (autOf (now nodes) (now states) (now members) c) (now transitions) (now scratch) first k second j ⌝ }
-    ensures { λ r. ⌜ DoesList fields limits 0 832 (St.st-difference (ops fields (limitsOf limits)) (sourceOf first (now (transitions .entry)) (now (scratch .entry)) k) (sourceOf second (now (transitions .entry)) (now (scratch .entry)) j)) (autOf (now (nodes .entry)) (now (states .entry)) (now (members .entry)) c) r c (now (nodes .exit)) (now (states .exit)) (now (members .exit)) (now (scratch .entry)) (now (scratch .exit)) ⌝ }
+    requires { ⌜ TwoReady (config .fields) (config .limits) (autOf (now nodes) (now states) (now members) c) (now transitions) (now scratch) first second ⌝ }
+    ensures { λ r. ⌜ DoesList (config .fields) (config .limits) 0 832 (St.st-difference (ops (config .fields) (limitsOf (config .limits))) (sourceOf first (now (transitions .entry)) (now (scratch .entry))) (sourceOf second (now (transitions .entry)) (now (scratch .entry)))) (autOf (now (nodes .entry)) (now (states .entry)) (now (members .entry)) c) r c (now (nodes .exit)) (now (states .exit)) (now (members .exit)) (now (scratch .entry)) (now (scratch .exit)) ⌝ }
 {
-    let zero = spp::zero_at_depth(fields);
+    let zero = spp::zero_at_depth(config.fields);
     let summed = st_minus::subtract_rows(
         nodes,
         states,
@@ -122,12 +106,9 @@ pub fn st_difference(
         transitions,
         scratch,
         c,
-        limits,
-        fields,
+        config,
         first,
-        k,
         second,
-        j,
         zero,
         0,
     );
@@ -140,11 +121,9 @@ pub fn st_difference(
             transitions,
             scratch,
             d,
-            limits,
-            fields,
+            config,
             Each::Rest(sum),
             first,
-            k,
             n,
         ),
     }

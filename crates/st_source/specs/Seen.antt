@@ -5,33 +5,55 @@ use lib.ListN.{length, getD}
 use Rattle.netkat.specs.ListSteps.{Edge, edge}
 use Rattle.aut_steps.specs.Tables.{Aut}
 use Rattle.st_steps.specs.Edges.{edges, EdgesAt}
+use Rattle.st_source.specs.declared.Place.{Place}
+use Rattle.st_source.specs.declared.Place.the-variants as place
 use Rattle.st_source.specs.declared.Source.{Source}
-use Rattle.st_source.specs.declared.Source.the-variants as source
 use Rattle.st_source.specs.declared.Transition.{Transition}
 
 abbrev pub edgeOf : Transition → Edge
 edgeOf t = edge (t .target) (t .label .0)
 
--- ---- the lists that are walked
+-- ---- places
 
--- the k transitions of a source; its transition i
-abbrev pub sourceOf : Source → List ℕ → List ℕ → ℕ → List Edge
-sourceOf (source.Stored a) tr s k = edges tr a k
-sourceOf (source.Scratch a) tr s k = edges s a k
+abbrev pub edgesAt : Place → List ℕ → List ℕ → ℕ → List Edge
+edgesAt (place.Stored a) tr s k = edges tr a k
+edgesAt (place.Scratch a) tr s k = edges s a k
 
-abbrev pub entryOf : Source → List ℕ → List ℕ → ℕ → Edge
-entryOf (source.Stored a) tr s i = edge (getD tr (2 * (a + i)) 0) (getD tr (2 * (a + i) + 1) 0)
-entryOf (source.Scratch a) tr s i = edge (getD s (2 * (a + i)) 0) (getD s (2 * (a + i) + 1) 0)
+abbrev pub entryAt : Place → List ℕ → List ℕ → ℕ → Edge
+entryAt (place.Stored a) tr s i = edge (getD tr (2 * (a + i)) 0) (getD tr (2 * (a + i) + 1) 0)
+entryAt (place.Scratch a) tr s i = edge (getD s (2 * (a + i)) 0) (getD s (2 * (a + i) + 1) 0)
 
-abbrev pub EntryIn : List ℕ → List ℕ → Source → ℕ → Type 0
-EntryIn tr s (source.Stored a) i = 2 * (a + i) + 1 < length tr
-EntryIn tr s (source.Scratch a) i = 2 * (a + i) + 1 < length s
+abbrev pub InAt : List ℕ → List ℕ → Place → ℕ → Type 0
+InAt tr s (place.Stored a) i = 2 * (a + i) + 1 < length tr
+InAt tr s (place.Scratch a) i = 2 * (a + i) + 1 < length s
 
 -- stored, or from record 416 (FIRST) on, where no insertion writes
-abbrev pub Within : List ℕ → Source → ℕ → Type 0
-Within tr (source.Stored a) k = 2 * (a + k) ≤ length tr
-Within tr (source.Scratch a) k = (416 ≤ a) × (a + k ≤ 544)
+abbrev pub WithinAt : List ℕ → Place → ℕ → Type 0
+WithinAt tr (place.Stored a) k = 2 * (a + k) ≤ length tr
+WithinAt tr (place.Scratch a) k = (416 ≤ a) × (a + k ≤ 544)
 
-pub record Walked (N : ℕ) (σ : Aut) (tr s : List ℕ) (x : Source) (k : ℕ) : Type 0 where
-  pub within : Within tr x k
-  pub edges : EdgesAt N σ (sourceOf x tr s k)
+-- ---- the lists that are walked
+
+-- a stored one, one in scratch
+abbrev pub stored : ℕ → ℕ → Source
+stored a k = record { place = place.Stored a; length = k }
+
+abbrev pub scratched : ℕ → ℕ → Source
+scratched a k = record { place = place.Scratch a; length = k }
+
+-- its transitions; its transition i
+abbrev pub sourceOf : Source → List ℕ → List ℕ → List Edge
+sourceOf x tr s = edgesAt (x .place) tr s (x .length)
+
+abbrev pub entryOf : Source → List ℕ → List ℕ → ℕ → Edge
+entryOf x tr s i = entryAt (x .place) tr s i
+
+abbrev pub EntryIn : List ℕ → List ℕ → Source → ℕ → Type 0
+EntryIn tr s x i = InAt tr s (x .place) i
+
+abbrev pub Within : List ℕ → Source → Type 0
+Within tr x = WithinAt tr (x .place) (x .length)
+
+pub record Walked (N : ℕ) (σ : Aut) (tr s : List ℕ) (x : Source) : Type 0 where
+  pub within : Within tr x
+  pub edges : EdgesAt N σ (sourceOf x tr s)

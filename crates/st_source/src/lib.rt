@@ -7,9 +7,15 @@ ghost use Rattle.netkat.specs.ListSteps.{edge};
 ghost use Rattle.st_source.specs.Seen.{edgeOf, entryOf, EntryIn};
 
 // a list's first record: among the stored transitions, or in scratch, from record FIRST of st on
-pub enum Source {
+pub enum Place {
     Stored(usize),
     Scratch(usize),
+}
+
+// a list that is walked
+pub struct Source {
+    pub place: Place,
+    pub length: usize,
 }
 
 pub struct Transition {
@@ -32,8 +38,9 @@ pub fn read(transitions: &[u32], scratch: &[u32], source: Source, i: usize) -> T
     requires { ⌜ EntryIn (now transitions) (now scratch) source i ⌝ }
     ensures { λ r. ⌜ edgeOf r ≡ entryOf source (now (transitions .entry)) (now (scratch .entry)) i ⌝ }
 {
-    match source {
-        Source::Stored(a) => entry(transitions, a + i),
-        Source::Scratch(a) => entry(scratch, a + i),
+    let place = source.place;
+    match place {
+        Place::Stored(a) => entry(transitions, a + i),
+        Place::Scratch(a) => entry(scratch, a + i),
     }
 }

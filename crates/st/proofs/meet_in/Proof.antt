@@ -32,12 +32,12 @@ same-length-2 c = search needs
 -- src/lib.rt:145:9
 returns : tie.Need-returns
 returns c =
-    let g = c .before .before .before .before .before .before .before .before .before .before .before .before .before .args in halves.full-1 (g .fields) (g .limits) (g .nodes .now) (g .states .now) (g .members .now) (g .scratch .now) (g .c) (g .s) (g .l .0) (g .target2) (g .label2 .0) (g .m) (c .before .before .before .before .before .before .before .before .before .before .before .before .before .pre) (c .before .before .before .before .before .before .apply .result) (c .before .before .before .before .before .before .apply .last .0) (c .before .before .before .before .before .before .apply .last .1 .0) (c .before .before .before .before .before .before .apply .ensures) (c .enum-told .given .1)
+    let g = c .before .before .before .before .before .before .before .before .before .before .before .before .before .args in halves.full-1 (g .config .fields) (g .config .limits) (g .nodes .now) (g .states .now) (g .members .now) (g .scratch .now) (g .c) (g .s) (g .l .0) (g .target2) (g .label2 .0) (g .m) (c .before .before .before .before .before .before .before .before .before .before .before .before .before .pre) (c .before .before .before .before .before .before .apply .result) (c .before .before .before .before .before .before .apply .last .0) (c .before .before .before .before .before .before .apply .last .1 .0) (c .before .before .before .before .before .before .apply .ensures) (c .enum-told .given .1)
 
 -- src/lib.rt:154:9
 mk-union-requires : tie.Need-mk-union-requires
 mk-union-requires c κs =
-    let g = c .before .before .before .before .before .before .before .before .before .before .before .before .before .before .before .before .before .before .args in halves.union-ready (g .fields) (g .limits) (g .nodes .now) (g .states .now) (g .members .now) (g .scratch .now) (g .c) (g .s) (g .l .0) (g .target2) (g .label2 .0) (g .m) (c .before .before .before .before .before .before .before .before .before .before .before .before .before .before .before .before .before .before .pre) (c .before .before .before .before .before .before .before .before .before .before .before .apply .result) (c .before .before .before .before .before .before .before .before .before .before .before .apply .last .0) (c .before .before .before .before .before .before .before .before .before .before .before .apply .last .1 .0) (c .before .before .before .before .before .before .before .before .before .before .before .apply .ensures) _ _ (c .before .before .before .before .before .meet .given .1) (c .before .before .before .before .before .before .before .before .before .before .before .apply .kept .1 .0)
+    let g = c .before .before .before .before .before .before .before .before .before .before .before .before .before .before .before .before .before .before .args in halves.union-ready (g .config .fields) (g .config .limits) (g .nodes .now) (g .states .now) (g .members .now) (g .scratch .now) (g .c) (g .s) (g .l .0) (g .target2) (g .label2 .0) (g .m) (c .before .before .before .before .before .before .before .before .before .before .before .before .before .before .before .before .before .before .pre) (c .before .before .before .before .before .before .before .before .before .before .before .apply .result) (c .before .before .before .before .before .before .before .before .before .before .before .apply .last .0) (c .before .before .before .before .before .before .before .before .before .before .before .apply .last .1 .0) (c .before .before .before .before .before .before .before .before .before .before .before .apply .ensures) _ _ (c .before .before .before .before .before .meet .given .1) (c .before .before .before .before .before .before .before .before .before .before .before .apply .kept .1 .0)
 
 -- src/lib.rt:166:24
 enum-known-both : tie.Need-enum-known-both
@@ -50,7 +50,7 @@ enum-known-both-2 c = search needs
 -- src/lib.rt:168:17
 st-insert-helper-requires : tie.Need-st-insert-helper-requires
 st-insert-helper-requires c κs =
-    let g = c .before .before .before .before .before .before .before .before .before .before .before .before .before .before .before .before .before .before .before .before .before .before .before .before .before .before .before .before .before .before .before .before .before .args in halves.place-ready (g .fields) (g .limits) (g .nodes .now) (g .states .now) (g .members .now) (g .scratch .now) (g .c) (g .s) (g .l .0) (g .target2) (g .label2 .0) (g .m) (c .before .before .before .before .before .before .before .before .before .before .before .before .before .before .before .before .before .before .before .before .before .before .before .before .before .before .before .before .before .before .before .before .before .pre) (c .before .before .before .before .before .before .before .before .before .before .before .before .before .before .before .before .before .before .before .before .before .before .before .before .before .before .apply .result) (c .before .before .before .before .before .before .before .before .before .before .before .before .before .before .before .before .before .before .before .before .before .before .before .before .before .before .apply .last .0) (c .before .before .before .before .before .before .before .before .before .before .before .before .before .before .before .before .before .before .before .before .before .before .before .before .before .before .apply .last .1 .0) (c .before .before .before .before .before .before .before .before .before .before .before .before .before .before .before .before .before .before .before .before .before .before .before .before .before .before .apply .ensures) _ _ (c .before .before .before .before .before .before .before .before .before .before .before .before .before .before .before .before .before .before .before .before .meet .given .1) (c .before .before .before .before .before .before .before .before .before .before .before .before .before .before .before .before .before .before .before .before .before .before .before .before .before .before .apply .kept .1 .0) (c .before .before .before .before .before .before .before .before .before .before .before .before .before .before .mk-union .result) (c .before .before .before .before .before .before .before .before .before .before .before .before .before .before .mk-union .last .0) (c .before .before .before .before .before .before .before .before .before .before .before .before .before .before .mk-union .last .1 .0) (c .before .before .before .before .before .before .before .before .before .before .before .before .before .before .mk-union .last .1 .1 .0) (c .before .before .before .before .before .before .before .before .before .before .before .before .before .before .mk-union .last .1 .1 .1 .0) (c .before .before .before .before .before .before .before .before .before .before .before .before .before .before .mk-union .ensures) (c .before .before .before .before .before .before .before .before .before .before .before .before .before .before .mk-union .kept .1 .1 .1 .0) _ _ (c .before .before .before .before .both2 .given .1)
+    let g = c .before .before .before .before .before .before .before .before .before .before .before .before .before .before .before .before .before .before .before .before .before .before .before .before .before .before .before .before .before .before .before .before .before .args in halves.place-ready (g .config .fields) (g .config .limits) (g .nodes .now) (g .states .now) (g .members .now) (g .scratch .now) (g .c) (g .s) (g .l .0) (g .target2) (g .label2 .0) (g .m) (c .before .before .before .before .before .before .before .before .before .before .before .before .before .before .before .before .before .before .before .before .before .before .before .before .before .before .before .before .before .before .before .before .before .pre) (c .before .before .before .before .before .before .before .before .before .before .before .before .before .before .before .before .before .before .before .before .before .before .before .before .before .before .apply .result) (c .before .before .before .before .before .before .before .before .before .before .before .before .before .before .before .before .before .before .before .before .before .before .before .before .before .before .apply .last .0) (c .before .before .before .before .before .before .before .before .before .before .before .before .before .before .before .before .before .before .before .before .before .before .before .before .before .before .apply .last .1 .0) (c .before .before .before .before .before .before .before .before .before .before .before .before .before .before .before .before .before .before .before .before .before .before .before .before .before .before .apply .ensures) _ _ (c .before .before .before .before .before .before .before .before .before .before .before .before .before .before .before .before .before .before .before .before .meet .given .1) (c .before .before .before .before .before .before .before .before .before .before .before .before .before .before .before .before .before .before .before .before .before .before .before .before .before .before .apply .kept .1 .0) (c .before .before .before .before .before .before .before .before .before .before .before .before .before .before .mk-union .result) (c .before .before .before .before .before .before .before .before .before .before .before .before .before .before .mk-union .last .0) (c .before .before .before .before .before .before .before .before .before .before .before .before .before .before .mk-union .last .1 .0) (c .before .before .before .before .before .before .before .before .before .before .before .before .before .before .mk-union .last .1 .1 .0) (c .before .before .before .before .before .before .before .before .before .before .before .before .before .before .mk-union .last .1 .1 .1 .0) (c .before .before .before .before .before .before .before .before .before .before .before .before .before .before .mk-union .ensures) (c .before .before .before .before .before .before .before .before .before .before .before .before .before .before .mk-union .kept .1 .1 .1 .0) _ _ (c .before .before .before .before .both2 .given .1)
 
 -- src/lib.rt:170:33
 enum-known-listed : tie.Need-enum-known-listed
@@ -79,7 +79,7 @@ same-length-6 c = search needs
 -- src/lib.rt:126:1
 returns-2 : tie.Need-returns-2
 returns-2 c =
-    let g = c .before .before .before .before .before .before .before .before .before .before .before .before .before .before .before .before .before .before .before .before .before .before .before .before .before .before .before .before .before .before .args in halves.not-2 (g .fields) (g .limits) (g .nodes .now) (g .states .now) (g .members .now) (g .scratch .now) (g .c) (g .s) (g .l .0) (g .target2) (g .label2 .0) (g .m) (c .before .before .before .before .before .before .before .before .before .before .before .before .before .before .before .before .before .before .before .before .before .before .before .before .before .before .before .before .before .before .pre) (c .before .before .before .before .before .before .before .before .before .before .before .before .before .before .before .before .before .before .before .before .before .before .before .apply .result) (c .before .before .before .before .before .before .before .before .before .before .before .before .before .before .before .before .before .before .before .before .before .before .before .apply .last .0) (c .before .before .before .before .before .before .before .before .before .before .before .before .before .before .before .before .before .before .before .before .before .before .before .apply .last .1 .0) (c .before .before .before .before .before .before .before .before .before .before .before .before .before .before .before .before .before .before .before .before .before .before .before .apply .ensures) _ _ (c .before .before .before .before .before .before .before .before .before .before .before .before .before .before .before .before .before .meet .given .1) (c .before .before .before .before .before .before .before .before .before .before .before .before .before .before .before .before .before .before .before .before .before .before .before .apply .kept .1 .0) (c .before .before .before .before .before .before .before .before .before .before .before .mk-union .result) (c .before .before .before .before .before .before .before .before .before .before .before .mk-union .last .0) (c .before .before .before .before .before .before .before .before .before .before .before .mk-union .last .1 .0) (c .before .before .before .before .before .before .before .before .before .before .before .mk-union .last .1 .1 .0) (c .before .before .before .before .before .before .before .before .before .before .before .mk-union .last .1 .1 .1 .0) (c .before .before .before .before .before .before .before .before .before .before .before .mk-union .ensures) (c .before .before .before .before .before .before .before .before .before .before .before .mk-union .kept .1 .1 .1 .0) _ (c .before .both .given .1)
+    let g = c .before .before .before .before .before .before .before .before .before .before .before .before .before .before .before .before .before .before .before .before .before .before .before .before .before .before .before .before .before .before .args in halves.not-2 (g .config .fields) (g .config .limits) (g .nodes .now) (g .states .now) (g .members .now) (g .scratch .now) (g .c) (g .s) (g .l .0) (g .target2) (g .label2 .0) (g .m) (c .before .before .before .before .before .before .before .before .before .before .before .before .before .before .before .before .before .before .before .before .before .before .before .before .before .before .before .before .before .before .pre) (c .before .before .before .before .before .before .before .before .before .before .before .before .before .before .before .before .before .before .before .before .before .before .before .apply .result) (c .before .before .before .before .before .before .before .before .before .before .before .before .before .before .before .before .before .before .before .before .before .before .before .apply .last .0) (c .before .before .before .before .before .before .before .before .before .before .before .before .before .before .before .before .before .before .before .before .before .before .before .apply .last .1 .0) (c .before .before .before .before .before .before .before .before .before .before .before .before .before .before .before .before .before .before .before .before .before .before .before .apply .ensures) _ _ (c .before .before .before .before .before .before .before .before .before .before .before .before .before .before .before .before .before .meet .given .1) (c .before .before .before .before .before .before .before .before .before .before .before .before .before .before .before .before .before .before .before .before .before .before .before .apply .kept .1 .0) (c .before .before .before .before .before .before .before .before .before .before .before .mk-union .result) (c .before .before .before .before .before .before .before .before .before .before .before .mk-union .last .0) (c .before .before .before .before .before .before .before .before .before .before .before .mk-union .last .1 .0) (c .before .before .before .before .before .before .before .before .before .before .before .mk-union .last .1 .1 .0) (c .before .before .before .before .before .before .before .before .before .before .before .mk-union .last .1 .1 .1 .0) (c .before .before .before .before .before .before .before .before .before .before .before .mk-union .ensures) (c .before .before .before .before .before .before .before .before .before .before .before .mk-union .kept .1 .1 .1 .0) _ (c .before .both .given .1)
 
 -- src/lib.rt:126:1
 same-length-7 : tie.Need-same-length-7
@@ -102,7 +102,7 @@ same-length-10 c =
 -- src/lib.rt:126:1
 returns-3 : tie.Need-returns-3
 returns-3 c =
-    let g = c .before .before .before .before .before .before .before .before .before .before .before .before .before .before .before .before .before .before .before .before .before .before .before .before .before .before .before .before .before .before .before .before .before .before .before .before .before .before .before .before .before .before .before .args in halves.not-3 (g .fields) (g .limits) (g .nodes .now) (g .states .now) (g .members .now) (g .scratch .now) (g .c) (g .s) (g .l .0) (g .target2) (g .label2 .0) (g .m) (c .before .before .before .before .before .before .before .before .before .before .before .before .before .before .before .before .before .before .before .before .before .before .before .before .before .before .before .before .before .before .before .before .before .before .before .before .before .before .before .before .before .before .before .pre) (c .before .before .before .before .before .before .before .before .before .before .before .before .before .before .before .before .before .before .before .before .before .before .before .before .before .before .before .before .before .before .before .before .before .before .before .before .apply .result) (c .before .before .before .before .before .before .before .before .before .before .before .before .before .before .before .before .before .before .before .before .before .before .before .before .before .before .before .before .before .before .before .before .before .before .before .before .apply .last .0) (c .before .before .before .before .before .before .before .before .before .before .before .before .before .before .before .before .before .before .before .before .before .before .before .before .before .before .before .before .before .before .before .before .before .before .before .before .apply .last .1 .0) (c .before .before .before .before .before .before .before .before .before .before .before .before .before .before .before .before .before .before .before .before .before .before .before .before .before .before .before .before .before .before .before .before .before .before .before .before .apply .ensures) _ _ (c .before .before .before .before .before .before .before .before .before .before .before .before .before .before .before .before .before .before .before .before .before .before .before .before .before .before .before .before .before .before .meet .given .1) (c .before .before .before .before .before .before .before .before .before .before .before .before .before .before .before .before .before .before .before .before .before .before .before .before .before .before .before .before .before .before .before .before .before .before .before .before .apply .kept .1 .0) (c .before .before .before .before .before .before .before .before .before .before .before .before .before .before .before .before .before .before .before .before .before .before .before .before .mk-union .result) (c .before .before .before .before .before .before .before .before .before .before .before .before .before .before .before .before .before .before .before .before .before .before .before .before .mk-union .last .0) (c .before .before .before .before .before .before .before .before .before .before .before .before .before .before .before .before .before .before .before .before .before .before .before .before .mk-union .last .1 .0) (c .before .before .before .before .before .before .before .before .before .before .before .before .before .before .before .before .before .before .before .before .before .before .before .before .mk-union .last .1 .1 .0) (c .before .before .before .before .before .before .before .before .before .before .before .before .before .before .before .before .before .before .before .before .before .before .before .before .mk-union .last .1 .1 .1 .0) (c .before .before .before .before .before .before .before .before .before .before .before .before .before .before .before .before .before .before .before .before .before .before .before .before .mk-union .ensures) (c .before .before .before .before .before .before .before .before .before .before .before .before .before .before .before .before .before .before .before .before .before .before .before .before .mk-union .kept .1 .1 .1 .0) _ _ (c .before .before .before .before .before .before .before .before .before .before .before .before .before .before .both2 .given .1) (c .before .before .before .before .before .before .before .before .before .st-insert-helper .result) (c .before .before .before .before .before .before .before .before .before .st-insert-helper .last .0) (c .before .before .before .before .before .before .before .before .before .st-insert-helper .last .1 .0) (c .before .before .before .before .before .before .before .before .before .st-insert-helper .last .1 .1 .0) (c .before .before .before .before .before .before .before .before .before .st-insert-helper .ensures) _ (c .before .listed .given .1)
+    let g = c .before .before .before .before .before .before .before .before .before .before .before .before .before .before .before .before .before .before .before .before .before .before .before .before .before .before .before .before .before .before .before .before .before .before .before .before .before .before .before .before .before .before .before .args in halves.not-3 (g .config .fields) (g .config .limits) (g .nodes .now) (g .states .now) (g .members .now) (g .scratch .now) (g .c) (g .s) (g .l .0) (g .target2) (g .label2 .0) (g .m) (c .before .before .before .before .before .before .before .before .before .before .before .before .before .before .before .before .before .before .before .before .before .before .before .before .before .before .before .before .before .before .before .before .before .before .before .before .before .before .before .before .before .before .before .pre) (c .before .before .before .before .before .before .before .before .before .before .before .before .before .before .before .before .before .before .before .before .before .before .before .before .before .before .before .before .before .before .before .before .before .before .before .before .apply .result) (c .before .before .before .before .before .before .before .before .before .before .before .before .before .before .before .before .before .before .before .before .before .before .before .before .before .before .before .before .before .before .before .before .before .before .before .before .apply .last .0) (c .before .before .before .before .before .before .before .before .before .before .before .before .before .before .before .before .before .before .before .before .before .before .before .before .before .before .before .before .before .before .before .before .before .before .before .before .apply .last .1 .0) (c .before .before .before .before .before .before .before .before .before .before .before .before .before .before .before .before .before .before .before .before .before .before .before .before .before .before .before .before .before .before .before .before .before .before .before .before .apply .ensures) _ _ (c .before .before .before .before .before .before .before .before .before .before .before .before .before .before .before .before .before .before .before .before .before .before .before .before .before .before .before .before .before .before .meet .given .1) (c .before .before .before .before .before .before .before .before .before .before .before .before .before .before .before .before .before .before .before .before .before .before .before .before .before .before .before .before .before .before .before .before .before .before .before .before .apply .kept .1 .0) (c .before .before .before .before .before .before .before .before .before .before .before .before .before .before .before .before .before .before .before .before .before .before .before .before .mk-union .result) (c .before .before .before .before .before .before .before .before .before .before .before .before .before .before .before .before .before .before .before .before .before .before .before .before .mk-union .last .0) (c .before .before .before .before .before .before .before .before .before .before .before .before .before .before .before .before .before .before .before .before .before .before .before .before .mk-union .last .1 .0) (c .before .before .before .before .before .before .before .before .before .before .before .before .before .before .before .before .before .before .before .before .before .before .before .before .mk-union .last .1 .1 .0) (c .before .before .before .before .before .before .before .before .before .before .before .before .before .before .before .before .before .before .before .before .before .before .before .before .mk-union .last .1 .1 .1 .0) (c .before .before .before .before .before .before .before .before .before .before .before .before .before .before .before .before .before .before .before .before .before .before .before .before .mk-union .ensures) (c .before .before .before .before .before .before .before .before .before .before .before .before .before .before .before .before .before .before .before .before .before .before .before .before .mk-union .kept .1 .1 .1 .0) _ _ (c .before .before .before .before .before .before .before .before .before .before .before .before .before .before .both2 .given .1) (c .before .before .before .before .before .before .before .before .before .st-insert-helper .result) (c .before .before .before .before .before .before .before .before .before .st-insert-helper .last .0) (c .before .before .before .before .before .before .before .before .before .st-insert-helper .last .1 .0) (c .before .before .before .before .before .before .before .before .before .st-insert-helper .last .1 .1 .0) (c .before .before .before .before .before .before .before .before .before .st-insert-helper .ensures) _ (c .before .listed .given .1)
 
 -- src/lib.rt:126:1
 same-length-11 : tie.Need-same-length-11
@@ -125,7 +125,7 @@ same-length-14 c =
 -- src/lib.rt:126:1
 returns-4 : tie.Need-returns-4
 returns-4 c =
-    let g = c .before .before .before .before .before .before .before .before .before .before .before .before .before .before .before .before .before .before .before .before .before .before .before .before .before .before .before .before .before .before .before .before .before .before .before .before .before .before .before .before .before .before .before .args in halves.met-in (g .fields) (g .limits) (g .nodes .now) (g .states .now) (g .members .now) (g .scratch .now) (g .c) (g .s) (g .l .0) (g .target2) (g .label2 .0) (g .m) (c .before .before .before .before .before .before .before .before .before .before .before .before .before .before .before .before .before .before .before .before .before .before .before .before .before .before .before .before .before .before .before .before .before .before .before .before .before .before .before .before .before .before .before .pre) (c .before .before .before .before .before .before .before .before .before .before .before .before .before .before .before .before .before .before .before .before .before .before .before .before .before .before .before .before .before .before .before .before .before .before .before .before .apply .result) (c .before .before .before .before .before .before .before .before .before .before .before .before .before .before .before .before .before .before .before .before .before .before .before .before .before .before .before .before .before .before .before .before .before .before .before .before .apply .last .0) (c .before .before .before .before .before .before .before .before .before .before .before .before .before .before .before .before .before .before .before .before .before .before .before .before .before .before .before .before .before .before .before .before .before .before .before .before .apply .last .1 .0) (c .before .before .before .before .before .before .before .before .before .before .before .before .before .before .before .before .before .before .before .before .before .before .before .before .before .before .before .before .before .before .before .before .before .before .before .before .apply .ensures) _ _ (c .before .before .before .before .before .before .before .before .before .before .before .before .before .before .before .before .before .before .before .before .before .before .before .before .before .before .before .before .before .before .meet .given .1) (c .before .before .before .before .before .before .before .before .before .before .before .before .before .before .before .before .before .before .before .before .before .before .before .before .before .before .before .before .before .before .before .before .before .before .before .before .apply .kept .1 .0) (c .before .before .before .before .before .before .before .before .before .before .before .before .before .before .before .before .before .before .before .before .before .before .before .before .mk-union .result) (c .before .before .before .before .before .before .before .before .before .before .before .before .before .before .before .before .before .before .before .before .before .before .before .before .mk-union .last .0) (c .before .before .before .before .before .before .before .before .before .before .before .before .before .before .before .before .before .before .before .before .before .before .before .before .mk-union .last .1 .0) (c .before .before .before .before .before .before .before .before .before .before .before .before .before .before .before .before .before .before .before .before .before .before .before .before .mk-union .last .1 .1 .0) (c .before .before .before .before .before .before .before .before .before .before .before .before .before .before .before .before .before .before .before .before .before .before .before .before .mk-union .last .1 .1 .1 .0) (c .before .before .before .before .before .before .before .before .before .before .before .before .before .before .before .before .before .before .before .before .before .before .before .before .mk-union .ensures) (c .before .before .before .before .before .before .before .before .before .before .before .before .before .before .before .before .before .before .before .before .before .before .before .before .mk-union .kept .1 .1 .1 .0) _ _ (c .before .before .before .before .before .before .before .before .before .before .before .before .before .before .both2 .given .1) (c .before .before .before .before .before .before .before .before .before .st-insert-helper .result) (c .before .before .before .before .before .before .before .before .before .st-insert-helper .last .0) (c .before .before .before .before .before .before .before .before .before .st-insert-helper .last .1 .0) (c .before .before .before .before .before .before .before .before .before .st-insert-helper .last .1 .1 .0) (c .before .before .before .before .before .before .before .before .before .st-insert-helper .ensures) _ _ (c .before .listed2 .given .1)
+    let g = c .before .before .before .before .before .before .before .before .before .before .before .before .before .before .before .before .before .before .before .before .before .before .before .before .before .before .before .before .before .before .before .before .before .before .before .before .before .before .before .before .before .before .before .args in halves.met-in (g .config .fields) (g .config .limits) (g .nodes .now) (g .states .now) (g .members .now) (g .scratch .now) (g .c) (g .s) (g .l .0) (g .target2) (g .label2 .0) (g .m) (c .before .before .before .before .before .before .before .before .before .before .before .before .before .before .before .before .before .before .before .before .before .before .before .before .before .before .before .before .before .before .before .before .before .before .before .before .before .before .before .before .before .before .before .pre) (c .before .before .before .before .before .before .before .before .before .before .before .before .before .before .before .before .before .before .before .before .before .before .before .before .before .before .before .before .before .before .before .before .before .before .before .before .apply .result) (c .before .before .before .before .before .before .before .before .before .before .before .before .before .before .before .before .before .before .before .before .before .before .before .before .before .before .before .before .before .before .before .before .before .before .before .before .apply .last .0) (c .before .before .before .before .before .before .before .before .before .before .before .before .before .before .before .before .before .before .before .before .before .before .before .before .before .before .before .before .before .before .before .before .before .before .before .before .apply .last .1 .0) (c .before .before .before .before .before .before .before .before .before .before .before .before .before .before .before .before .before .before .before .before .before .before .before .before .before .before .before .before .before .before .before .before .before .before .before .before .apply .ensures) _ _ (c .before .before .before .before .before .before .before .before .before .before .before .before .before .before .before .before .before .before .before .before .before .before .before .before .before .before .before .before .before .before .meet .given .1) (c .before .before .before .before .before .before .before .before .before .before .before .before .before .before .before .before .before .before .before .before .before .before .before .before .before .before .before .before .before .before .before .before .before .before .before .before .apply .kept .1 .0) (c .before .before .before .before .before .before .before .before .before .before .before .before .before .before .before .before .before .before .before .before .before .before .before .before .mk-union .result) (c .before .before .before .before .before .before .before .before .before .before .before .before .before .before .before .before .before .before .before .before .before .before .before .before .mk-union .last .0) (c .before .before .before .before .before .before .before .before .before .before .before .before .before .before .before .before .before .before .before .before .before .before .before .before .mk-union .last .1 .0) (c .before .before .before .before .before .before .before .before .before .before .before .before .before .before .before .before .before .before .before .before .before .before .before .before .mk-union .last .1 .1 .0) (c .before .before .before .before .before .before .before .before .before .before .before .before .before .before .before .before .before .before .before .before .before .before .before .before .mk-union .last .1 .1 .1 .0) (c .before .before .before .before .before .before .before .before .before .before .before .before .before .before .before .before .before .before .before .before .before .before .before .before .mk-union .ensures) (c .before .before .before .before .before .before .before .before .before .before .before .before .before .before .before .before .before .before .before .before .before .before .before .before .mk-union .kept .1 .1 .1 .0) _ _ (c .before .before .before .before .before .before .before .before .before .before .before .before .before .before .both2 .given .1) (c .before .before .before .before .before .before .before .before .before .st-insert-helper .result) (c .before .before .before .before .before .before .before .before .before .st-insert-helper .last .0) (c .before .before .before .before .before .before .before .before .before .st-insert-helper .last .1 .0) (c .before .before .before .before .before .before .before .before .before .st-insert-helper .last .1 .1 .0) (c .before .before .before .before .before .before .before .before .before .st-insert-helper .ensures) _ _ (c .before .listed2 .given .1)
 
 pub meet-in-spec : {M : Type 1} → statement M
 meet-in-spec =

@@ -12,37 +12,37 @@ use Rattle.st_edges.proofs.seek_target.Reads as seek-target-reads
 -- src/lib.rt:63:9
 seek-target-requires : tie.Need-seek-target-requires
 seek-target-requires c κs =
-    let g = c .before .before .before .args in omega (arith, placing.few (g .fields) (g .limits) (g .nodes .now) (g .scratch .now) (g .c) (g .m) (g .s) (g .l .0) (c .before .before .before .pre), placing.room (g .fields) (g .limits) (g .nodes .now) (g .scratch .now) (g .c) (g .m) (g .s) (g .l .0) (c .before .before .before .pre))
+    let g = c .before .before .before .args in omega (arith, placing.few (g .config .fields) (g .config .limits) (g .nodes .now) (g .scratch .now) (g .c) (g .m) (g .s) (g .l .0) (c .before .before .before .pre), placing.room (g .config .fields) (g .config .limits) (g .nodes .now) (g .scratch .now) (g .c) (g .m) (g .s) (g .l .0) (c .before .before .before .pre))
 
 -- src/lib.rt:65:22
 add-j : tie.Need-add-j
 add-j c =
-    let g = c .before .before .before .before .before .args in omega (arith, placing.few (g .fields) (g .limits) (g .nodes .now) (g .scratch .now) (g .c) (g .m) (g .s) (g .l .0) (c .before .before .before .before .before .pre), c .if1 .taken)
+    let g = c .before .before .before .before .before .args in omega (arith, placing.few (g .config .fields) (g .config .limits) (g .nodes .now) (g .scratch .now) (g .c) (g .m) (g .s) (g .l .0) (c .before .before .before .before .before .pre), c .if1 .taken)
 
 -- src/lib.rt:65:17
 mul-j : tie.Need-mul-j
 mul-j c =
-    let g = c .before .before .before .before .before .args in omega (arith, placing.few (g .fields) (g .limits) (g .nodes .now) (g .scratch .now) (g .c) (g .m) (g .s) (g .l .0) (c .before .before .before .before .before .pre), placing.room (g .fields) (g .limits) (g .nodes .now) (g .scratch .now) (g .c) (g .m) (g .s) (g .l .0) (c .before .before .before .before .before .pre), c .if1 .taken)
+    let g = c .before .before .before .before .before .args in omega (arith, placing.few (g .config .fields) (g .config .limits) (g .nodes .now) (g .scratch .now) (g .c) (g .m) (g .s) (g .l .0) (c .before .before .before .before .before .pre), placing.room (g .config .fields) (g .config .limits) (g .nodes .now) (g .scratch .now) (g .c) (g .m) (g .s) (g .l .0) (c .before .before .before .before .before .pre), c .if1 .taken)
 
 -- src/lib.rt:65:17
 add-j-2 : tie.Need-add-j-2
 add-j-2 c =
-    let g = c .before .before .before .before .before .args in omega (arith, placing.few (g .fields) (g .limits) (g .nodes .now) (g .scratch .now) (g .c) (g .m) (g .s) (g .l .0) (c .before .before .before .before .before .pre), c .if1 .taken)
+    let g = c .before .before .before .before .before .args in omega (arith, placing.few (g .config .fields) (g .config .limits) (g .nodes .now) (g .scratch .now) (g .c) (g .m) (g .s) (g .l .0) (c .before .before .before .before .before .pre), c .if1 .taken)
 
 -- src/lib.rt:66:21
-mul-t18 : tie.Need-mul-t18
-mul-t18 c =
-    let g = c .before .before .before .before .before .args in omega (arith, placing.few (g .fields) (g .limits) (g .nodes .now) (g .scratch .now) (g .c) (g .m) (g .s) (g .l .0) (c .before .before .before .before .before .pre), placing.room (g .fields) (g .limits) (g .nodes .now) (g .scratch .now) (g .c) (g .m) (g .s) (g .l .0) (c .before .before .before .before .before .pre), c .if1 .taken)
+mul-t17 : tie.Need-mul-t17
+mul-t17 c =
+    let g = c .before .before .before .before .before .args in omega (arith, placing.few (g .config .fields) (g .config .limits) (g .nodes .now) (g .scratch .now) (g .c) (g .m) (g .s) (g .l .0) (c .before .before .before .before .before .pre), placing.room (g .config .fields) (g .config .limits) (g .nodes .now) (g .scratch .now) (g .c) (g .m) (g .s) (g .l .0) (c .before .before .before .before .before .pre), c .if1 .taken)
 
 -- src/lib.rt:66:21
-slice-read-t21 : tie.Need-slice-read-t21
-slice-read-t21 c =
-    let g = c .before .before .before .before .before .before .args in omega (arith, placing.few (g .fields) (g .limits) (g .nodes .now) (g .scratch .now) (g .c) (g .m) (g .s) (g .l .0) (c .before .before .before .before .before .before .pre), placing.room (g .fields) (g .limits) (g .nodes .now) (g .scratch .now) (g .c) (g .m) (g .s) (g .l .0) (c .before .before .before .before .before .before .pre), c .before .if1 .taken)
+slice-read-t20 : tie.Need-slice-read-t20
+slice-read-t20 c =
+    let g = c .before .before .before .before .before .before .args in omega (arith, placing.few (g .config .fields) (g .config .limits) (g .nodes .now) (g .scratch .now) (g .c) (g .m) (g .s) (g .l .0) (c .before .before .before .before .before .before .pre), placing.room (g .config .fields) (g .config .limits) (g .nodes .now) (g .scratch .now) (g .c) (g .m) (g .s) (g .l .0) (c .before .before .before .before .before .before .pre), c .before .if1 .taken)
 
 -- src/lib.rt:67:32
 apply-requires : tie.Need-apply-requires
 apply-requires c κs =
-    let g = c .before .before .before .before .before .before .before .before .args in placing.relate-ready (g .fields) (g .limits) (g .nodes .now) (g .scratch .now) (g .c) (g .m) (g .s) (g .l .0) (c .before .before .before .before .before .before .before .before .pre) (c .before .before .before .before .seek-target .result) (c .before .before .before .before .seek-target .ensures) (c .before .before .before .if1 .taken)
+    let g = c .before .before .before .before .before .before .before .before .args in placing.relate-ready (g .config .fields) (g .config .limits) (g .nodes .now) (g .scratch .now) (g .c) (g .m) (g .s) (g .l .0) (c .before .before .before .before .before .before .before .before .pre) (c .before .before .before .before .seek-target .result) (c .before .before .before .before .seek-target .ensures) (c .before .before .before .if1 .taken)
 
 -- src/lib.rt:67:24
 enum-known-u : tie.Need-enum-known-u
@@ -63,17 +63,17 @@ same-length-2 c = search needs
 -- src/lib.rt:68:13
 returns : tie.Need-returns
 returns c =
-    let g = c .before .before .before .before .before .before .before .before .before .before .before .before .before .before .before .args in placing.full (g .fields) (g .limits) (g .nodes .now) (g .scratch .now) (g .c) (g .m) (g .s) (g .l .0) (c .before .before .before .before .before .before .before .before .before .before .before .before .before .before .before .pre) (c .before .before .before .before .before .before .before .before .before .before .before .seek-target .result) (c .before .before .before .before .before .before .before .before .before .before .before .seek-target .ensures) (c .before .before .before .before .before .before .before .before .before .before .if1 .taken) (c .before .before .before .before .before .before .apply .result) (c .before .before .before .before .before .before .apply .last .0) (c .before .before .before .before .before .before .apply .last .1 .0) (c .before .before .before .before .before .before .apply .ensures) (c .enum-told .given .1)
+    let g = c .before .before .before .before .before .before .before .before .before .before .before .before .before .before .before .args in placing.full (g .config .fields) (g .config .limits) (g .nodes .now) (g .scratch .now) (g .c) (g .m) (g .s) (g .l .0) (c .before .before .before .before .before .before .before .before .before .before .before .before .before .before .before .pre) (c .before .before .before .before .before .before .before .before .before .before .before .seek-target .result) (c .before .before .before .before .before .before .before .before .before .before .before .seek-target .ensures) (c .before .before .before .before .before .before .before .before .before .before .if1 .taken) (c .before .before .before .before .before .before .apply .result) (c .before .before .before .before .before .before .apply .last .0) (c .before .before .before .before .before .before .apply .last .1 .0) (c .before .before .before .before .before .before .apply .ensures) (c .enum-told .given .1)
 
 -- src/lib.rt:70:9
 mul-scratch : tie.Need-mul-scratch
 mul-scratch c =
-    let g = c .before .before .before .before .before .before .before .before .before .before .before .before .before .before .before .before .args in omega (arith, placing.few (g .fields) (g .limits) (g .nodes .now) (g .scratch .now) (g .c) (g .m) (g .s) (g .l .0) (c .before .before .before .before .before .before .before .before .before .before .before .before .before .before .before .before .pre), placing.room (g .fields) (g .limits) (g .nodes .now) (g .scratch .now) (g .c) (g .m) (g .s) (g .l .0) (c .before .before .before .before .before .before .before .before .before .before .before .before .before .before .before .before .pre), c .before .before .before .before .before .before .before .before .before .before .before .if1 .taken)
+    let g = c .before .before .before .before .before .before .before .before .before .before .before .before .before .before .before .before .args in omega (arith, placing.few (g .config .fields) (g .config .limits) (g .nodes .now) (g .scratch .now) (g .c) (g .m) (g .s) (g .l .0) (c .before .before .before .before .before .before .before .before .before .before .before .before .before .before .before .before .pre), placing.room (g .config .fields) (g .config .limits) (g .nodes .now) (g .scratch .now) (g .c) (g .m) (g .s) (g .l .0) (c .before .before .before .before .before .before .before .before .before .before .before .before .before .before .before .before .pre), c .before .before .before .before .before .before .before .before .before .before .before .if1 .taken)
 
 -- src/lib.rt:70:9
 slice-write-scratch : tie.Need-slice-write-scratch
 slice-write-scratch c =
-    let g = c .before .before .before .before .before .before .before .before .before .before .before .before .before .before .before .before .args in omega (arith, placing.few (g .fields) (g .limits) (g .nodes .now) (g .scratch .now) (g .c) (g .m) (g .s) (g .l .0) (c .before .before .before .before .before .before .before .before .before .before .before .before .before .before .before .before .pre), placing.room (g .fields) (g .limits) (g .nodes .now) (g .scratch .now) (g .c) (g .m) (g .s) (g .l .0) (c .before .before .before .before .before .before .before .before .before .before .before .before .before .before .before .before .pre), c .before .before .before .before .before .before .before .before .before .before .before .if1 .taken)
+    let g = c .before .before .before .before .before .before .before .before .before .before .before .before .before .before .before .before .args in omega (arith, placing.few (g .config .fields) (g .config .limits) (g .nodes .now) (g .scratch .now) (g .c) (g .m) (g .s) (g .l .0) (c .before .before .before .before .before .before .before .before .before .before .before .before .before .before .before .before .pre), placing.room (g .config .fields) (g .config .limits) (g .nodes .now) (g .scratch .now) (g .c) (g .m) (g .s) (g .l .0) (c .before .before .before .before .before .before .before .before .before .before .before .before .before .before .before .before .pre), c .before .before .before .before .before .before .before .before .before .before .before .if1 .taken)
 
 -- src/lib.rt:78:9
 same-length-3 : tie.Need-same-length-3
@@ -86,15 +86,15 @@ same-length-4 c = search needs
 -- src/lib.rt:78:9
 returns-2 : tie.Need-returns-2
 returns-2 c =
-    let g = c .before .before .before .before .before .before .before .before .before .before .before .before .before .before .before .before .args in placing.relabels (g .fields) (g .limits) (g .nodes .now) (g .scratch .now) (g .c) (g .m) (g .s) (g .l .0) (c .before .before .before .before .before .before .before .before .before .before .before .before .before .before .before .before .pre) (c .before .before .before .before .before .before .before .before .before .before .before .before .seek-target .result) (c .before .before .before .before .before .before .before .before .before .before .before .before .seek-target .ensures) (c .before .before .before .before .before .before .before .before .before .before .before .if1 .taken) (c .before .before .before .before .before .before .before .apply .result) (c .before .before .before .before .before .before .before .apply .last .0) (c .before .before .before .before .before .before .before .apply .last .1 .0) (c .before .before .before .before .before .before .before .apply .ensures) _ _ (c .before .u .given .1) (c .before .before .before .before .before .before .before .apply .kept .1 .0)
+    let g = c .before .before .before .before .before .before .before .before .before .before .before .before .before .before .before .before .args in placing.relabels (g .config .fields) (g .config .limits) (g .nodes .now) (g .scratch .now) (g .c) (g .m) (g .s) (g .l .0) (c .before .before .before .before .before .before .before .before .before .before .before .before .before .before .before .before .pre) (c .before .before .before .before .before .before .before .before .before .before .before .before .seek-target .result) (c .before .before .before .before .before .before .before .before .before .before .before .before .seek-target .ensures) (c .before .before .before .before .before .before .before .before .before .before .before .if1 .taken) (c .before .before .before .before .before .before .before .apply .result) (c .before .before .before .before .before .before .before .apply .last .0) (c .before .before .before .before .before .before .before .apply .last .1 .0) (c .before .before .before .before .before .before .before .apply .ensures) _ _ (c .before .u .given .1) (c .before .before .before .before .before .before .before .apply .kept .1 .0)
 
 -- src/lib.rt:81:9
 enter-requires : tie.Need-enter-requires
 enter-requires c κs = search needs
 
 -- src/lib.rt:82:32
-add-t32 : tie.Need-add-t32
-add-t32 c = search needs
+add-t35 : tie.Need-add-t35
+add-t35 c = search needs
 
 -- src/lib.rt:82:9
 same-length-5 : tie.Need-same-length-5
@@ -103,7 +103,7 @@ same-length-5 c = search needs
 -- src/lib.rt:82:9
 returns-3 : tie.Need-returns-3
 returns-3 c =
-    let g = c .before .before .before .before .before .before .before .before .before .before .before .args in placing.enters (g .fields) (g .limits) (g .nodes .now) (g .scratch .now) (g .c) (g .m) (g .s) (g .l .0) (c .before .before .before .before .before .before .before .before .before .before .before .pre) (c .before .before .before .before .before .before .before .seek-target .result) (c .before .before .before .before .before .before .before .seek-target .ensures) (c .before .before .before .before .before .before .if1 .left) (c .before .before .before .before .if2 .taken) (c .before .before .enter .last .0) (c .before .before .enter .ensures) (c .before .before .enter .kept .0)
+    let g = c .before .before .before .before .before .before .before .before .before .before .before .args in placing.enters (g .config .fields) (g .config .limits) (g .nodes .now) (g .scratch .now) (g .c) (g .m) (g .s) (g .l .0) (c .before .before .before .before .before .before .before .before .before .before .before .pre) (c .before .before .before .before .before .before .before .seek-target .result) (c .before .before .before .before .before .before .before .seek-target .ensures) (c .before .before .before .before .before .before .if1 .left) (c .before .before .before .before .if2 .taken) (c .before .before .enter .last .0) (c .before .before .enter .ensures) (c .before .before .enter .kept .0)
 
 -- src/lib.rt:50:1
 same-length-6 : tie.Need-same-length-6
@@ -112,7 +112,7 @@ same-length-6 c = search needs
 -- src/lib.rt:50:1
 returns-4 : tie.Need-returns-4
 returns-4 c =
-    let g = c .before .before .before .before .before .before .before .args in placing.too-long (g .fields) (g .limits) (g .nodes .now) (g .scratch .now) (g .c) (g .m) (g .s) (g .l .0) (c .before .before .before .before .before .before .before .pre) (c .before .before .before .seek-target .result) (c .before .before .before .seek-target .ensures) (c .before .before .if1 .left) (c .if2 .left)
+    let g = c .before .before .before .before .before .before .before .args in placing.too-long (g .config .fields) (g .config .limits) (g .nodes .now) (g .scratch .now) (g .c) (g .m) (g .s) (g .l .0) (c .before .before .before .before .before .before .before .pre) (c .before .before .before .seek-target .result) (c .before .before .before .seek-target .ensures) (c .before .before .if1 .left) (c .if2 .left)
 
 pub place-in-spec : {M : Type 1} → statement M
 place-in-spec =
@@ -122,8 +122,8 @@ place-in-spec =
     add-j
     mul-j
     add-j-2
-    mul-t18
-    slice-read-t21
+    mul-t17
+    slice-read-t20
     apply-requires
     enum-known-u
     enum-told
@@ -136,7 +136,7 @@ place-in-spec =
     same-length-4
     returns-2
     enter-requires
-    add-t32
+    add-t35
     same-length-5
     returns-3
     same-length-6

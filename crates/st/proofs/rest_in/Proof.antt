@@ -31,12 +31,12 @@ same-length-2 c = search needs
 -- src/lib.rt:196:9
 returns : tie.Need-returns
 returns c =
-    let g = c .before .before .before .before .before .before .before .before .before .before .before .before .args in halves.no-sum (g .fields) (g .limits) (g .nodes .now) (g .states .now) (g .scratch .now) (g .c) (g .total .0) (g .meet .0) (g .target2) (g .label2 .0) (g .m) (c .before .before .before .before .before .before .before .before .before .before .before .before .pre) (c .before .before .before .before .before .before .apply .result) (c .before .before .before .before .before .before .apply .last .0) (c .before .before .before .before .before .before .apply .last .1 .0) (c .before .before .before .before .before .before .apply .ensures) (c .enum-told .given .1)
+    let g = c .before .before .before .before .before .before .before .before .before .before .before .before .args in halves.no-sum (g .config .fields) (g .config .limits) (g .nodes .now) (g .states .now) (g .scratch .now) (g .c) (g .total .0) (g .meet .0) (g .target2) (g .label2 .0) (g .m) (c .before .before .before .before .before .before .before .before .before .before .before .before .pre) (c .before .before .before .before .before .before .apply .result) (c .before .before .before .before .before .before .apply .last .0) (c .before .before .before .before .before .before .apply .last .1 .0) (c .before .before .before .before .before .before .apply .ensures) (c .enum-told .given .1)
 
 -- src/lib.rt:198:34
 apply-requires-2 : tie.Need-apply-requires-2
 apply-requires-2 c κs =
-    let g = c .before .before .before .before .before .before .before .before .before .before .before .before .before .before .before .args in halves.difference-ready (g .fields) (g .limits) (g .nodes .now) (g .states .now) (g .scratch .now) (g .c) (g .total .0) (g .meet .0) (g .target2) (g .label2 .0) (g .m) (c .before .before .before .before .before .before .before .before .before .before .before .before .before .before .before .pre) (c .before .before .before .before .before .before .before .before .before .apply .result) (c .before .before .before .before .before .before .before .before .before .apply .last .0) (c .before .before .before .before .before .before .before .before .before .apply .last .1 .0) (c .before .before .before .before .before .before .before .before .before .apply .ensures) _ _ (c .before .before .before .sum .given .1) (c .before .before .before .before .before .before .before .before .before .apply .kept .1 .0)
+    let g = c .before .before .before .before .before .before .before .before .before .before .before .before .before .before .before .args in halves.difference-ready (g .config .fields) (g .config .limits) (g .nodes .now) (g .states .now) (g .scratch .now) (g .c) (g .total .0) (g .meet .0) (g .target2) (g .label2 .0) (g .m) (c .before .before .before .before .before .before .before .before .before .before .before .before .before .before .before .pre) (c .before .before .before .before .before .before .before .before .before .apply .result) (c .before .before .before .before .before .before .before .before .before .apply .last .0) (c .before .before .before .before .before .before .before .before .before .apply .last .1 .0) (c .before .before .before .before .before .before .before .before .before .apply .ensures) _ _ (c .before .before .before .sum .given .1) (c .before .before .before .before .before .before .before .before .before .apply .kept .1 .0)
 
 -- src/lib.rt:198:20
 enum-known-others : tie.Need-enum-known-others
@@ -57,12 +57,12 @@ same-length-4 c = search needs
 -- src/lib.rt:207:9
 returns-2 : tie.Need-returns-2
 returns-2 c =
-    let g = c .before .before .before .before .before .before .before .before .before .before .before .before .before .before .before .before .before .before .before .before .before .before .args in halves.no-rest (g .fields) (g .limits) (g .nodes .now) (g .states .now) (g .scratch .now) (g .c) (g .total .0) (g .meet .0) (g .target2) (g .label2 .0) (g .m) (c .before .before .before .before .before .before .before .before .before .before .before .before .before .before .before .before .before .before .before .before .before .before .pre) (c .before .before .before .before .before .before .before .before .before .before .before .before .before .before .before .before .apply .result) (c .before .before .before .before .before .before .before .before .before .before .before .before .before .before .before .before .apply .last .0) (c .before .before .before .before .before .before .before .before .before .before .before .before .before .before .before .before .apply .last .1 .0) (c .before .before .before .before .before .before .before .before .before .before .before .before .before .before .before .before .apply .ensures) _ _ (c .before .before .before .before .before .before .before .before .before .before .sum .given .1) (c .before .before .before .before .before .before .before .before .before .before .before .before .before .before .before .before .apply .kept .1 .0) (c .before .before .before .before .before .before .apply2 .result) (c .before .before .before .before .before .before .apply2 .last .0) (c .before .before .before .before .before .before .apply2 .last .1 .0) (c .before .before .before .before .before .before .apply2 .ensures) (c .enum-told2 .given .1)
+    let g = c .before .before .before .before .before .before .before .before .before .before .before .before .before .before .before .before .before .before .before .before .before .before .args in halves.no-rest (g .config .fields) (g .config .limits) (g .nodes .now) (g .states .now) (g .scratch .now) (g .c) (g .total .0) (g .meet .0) (g .target2) (g .label2 .0) (g .m) (c .before .before .before .before .before .before .before .before .before .before .before .before .before .before .before .before .before .before .before .before .before .before .pre) (c .before .before .before .before .before .before .before .before .before .before .before .before .before .before .before .before .apply .result) (c .before .before .before .before .before .before .before .before .before .before .before .before .before .before .before .before .apply .last .0) (c .before .before .before .before .before .before .before .before .before .before .before .before .before .before .before .before .apply .last .1 .0) (c .before .before .before .before .before .before .before .before .before .before .before .before .before .before .before .before .apply .ensures) _ _ (c .before .before .before .before .before .before .before .before .before .before .sum .given .1) (c .before .before .before .before .before .before .before .before .before .before .before .before .before .before .before .before .apply .kept .1 .0) (c .before .before .before .before .before .before .apply2 .result) (c .before .before .before .before .before .before .apply2 .last .0) (c .before .before .before .before .before .before .apply2 .last .1 .0) (c .before .before .before .before .before .before .apply2 .ensures) (c .enum-told2 .given .1)
 
 -- src/lib.rt:216:9
 st-insert-helper-requires : tie.Need-st-insert-helper-requires
 st-insert-helper-requires c κs =
-    let g = c .before .before .before .before .before .before .before .before .before .before .before .before .before .before .before .before .before .before .before .before .before .before .before .before .before .before .args in halves.rest-place-ready (g .fields) (g .limits) (g .nodes .now) (g .states .now) (g .scratch .now) (g .c) (g .total .0) (g .meet .0) (g .target2) (g .label2 .0) (g .m) (c .before .before .before .before .before .before .before .before .before .before .before .before .before .before .before .before .before .before .before .before .before .before .before .before .before .before .pre) (c .before .before .before .before .before .before .before .before .before .before .before .before .before .before .before .before .before .before .before .before .apply .result) (c .before .before .before .before .before .before .before .before .before .before .before .before .before .before .before .before .before .before .before .before .apply .last .0) (c .before .before .before .before .before .before .before .before .before .before .before .before .before .before .before .before .before .before .before .before .apply .last .1 .0) (c .before .before .before .before .before .before .before .before .before .before .before .before .before .before .before .before .before .before .before .before .apply .ensures) _ _ (c .before .before .before .before .before .before .before .before .before .before .before .before .before .before .sum .given .1) (c .before .before .before .before .before .before .before .before .before .before .before .before .before .before .before .before .before .before .before .before .apply .kept .1 .0) (c .before .before .before .before .before .before .before .before .before .before .apply2 .result) (c .before .before .before .before .before .before .before .before .before .before .apply2 .last .0) (c .before .before .before .before .before .before .before .before .before .before .apply2 .last .1 .0) (c .before .before .before .before .before .before .before .before .before .before .apply2 .ensures) _ _ (c .before .before .before .before .others .given .1) (c .before .before .before .before .before .before .before .before .before .before .apply2 .kept .1 .0)
+    let g = c .before .before .before .before .before .before .before .before .before .before .before .before .before .before .before .before .before .before .before .before .before .before .before .before .before .before .args in halves.rest-place-ready (g .config .fields) (g .config .limits) (g .nodes .now) (g .states .now) (g .scratch .now) (g .c) (g .total .0) (g .meet .0) (g .target2) (g .label2 .0) (g .m) (c .before .before .before .before .before .before .before .before .before .before .before .before .before .before .before .before .before .before .before .before .before .before .before .before .before .before .pre) (c .before .before .before .before .before .before .before .before .before .before .before .before .before .before .before .before .before .before .before .before .apply .result) (c .before .before .before .before .before .before .before .before .before .before .before .before .before .before .before .before .before .before .before .before .apply .last .0) (c .before .before .before .before .before .before .before .before .before .before .before .before .before .before .before .before .before .before .before .before .apply .last .1 .0) (c .before .before .before .before .before .before .before .before .before .before .before .before .before .before .before .before .before .before .before .before .apply .ensures) _ _ (c .before .before .before .before .before .before .before .before .before .before .before .before .before .before .sum .given .1) (c .before .before .before .before .before .before .before .before .before .before .before .before .before .before .before .before .before .before .before .before .apply .kept .1 .0) (c .before .before .before .before .before .before .before .before .before .before .apply2 .result) (c .before .before .before .before .before .before .before .before .before .before .apply2 .last .0) (c .before .before .before .before .before .before .before .before .before .before .apply2 .last .1 .0) (c .before .before .before .before .before .before .before .before .before .before .apply2 .ensures) _ _ (c .before .before .before .before .others .given .1) (c .before .before .before .before .before .before .before .before .before .before .apply2 .kept .1 .0)
 
 -- src/lib.rt:218:25
 enum-known-listed : tie.Need-enum-known-listed
@@ -88,7 +88,7 @@ same-length-7 c = search needs
 -- src/lib.rt:178:1
 returns-3 : tie.Need-returns-3
 returns-3 c =
-    let g = c .before .before .before .before .before .before .before .before .before .before .before .before .before .before .before .before .before .before .before .before .before .before .before .before .before .before .before .before .before .before .before .before .before .before .before .before .args in halves.not-placed (g .fields) (g .limits) (g .nodes .now) (g .states .now) (g .scratch .now) (g .c) (g .total .0) (g .meet .0) (g .target2) (g .label2 .0) (g .m) (c .before .before .before .before .before .before .before .before .before .before .before .before .before .before .before .before .before .before .before .before .before .before .before .before .before .before .before .before .before .before .before .before .before .before .before .before .pre) (c .before .before .before .before .before .before .before .before .before .before .before .before .before .before .before .before .before .before .before .before .before .before .before .before .before .before .before .before .before .before .apply .result) (c .before .before .before .before .before .before .before .before .before .before .before .before .before .before .before .before .before .before .before .before .before .before .before .before .before .before .before .before .before .before .apply .last .0) (c .before .before .before .before .before .before .before .before .before .before .before .before .before .before .before .before .before .before .before .before .before .before .before .before .before .before .before .before .before .before .apply .last .1 .0) (c .before .before .before .before .before .before .before .before .before .before .before .before .before .before .before .before .before .before .before .before .before .before .before .before .before .before .before .before .before .before .apply .ensures) _ _ (c .before .before .before .before .before .before .before .before .before .before .before .before .before .before .before .before .before .before .before .before .before .before .before .before .sum .given .1) (c .before .before .before .before .before .before .before .before .before .before .before .before .before .before .before .before .before .before .before .before .before .before .before .before .before .before .before .before .before .before .apply .kept .1 .0) (c .before .before .before .before .before .before .before .before .before .before .before .before .before .before .before .before .before .before .before .before .apply2 .result) (c .before .before .before .before .before .before .before .before .before .before .before .before .before .before .before .before .before .before .before .before .apply2 .last .0) (c .before .before .before .before .before .before .before .before .before .before .before .before .before .before .before .before .before .before .before .before .apply2 .last .1 .0) (c .before .before .before .before .before .before .before .before .before .before .before .before .before .before .before .before .before .before .before .before .apply2 .ensures) _ _ (c .before .before .before .before .before .before .before .before .before .before .before .before .before .before .others .given .1) (c .before .before .before .before .before .before .before .before .before .before .before .before .before .before .before .before .before .before .before .before .apply2 .kept .1 .0) (c .before .before .before .before .before .before .before .before .before .st-insert-helper .result) (c .before .before .before .before .before .before .before .before .before .st-insert-helper .last .0) (c .before .before .before .before .before .before .before .before .before .st-insert-helper .last .1 .0) (c .before .before .before .before .before .before .before .before .before .st-insert-helper .last .1 .1 .0) (c .before .before .before .before .before .before .before .before .before .st-insert-helper .ensures) _ (c .before .listed .given .1)
+    let g = c .before .before .before .before .before .before .before .before .before .before .before .before .before .before .before .before .before .before .before .before .before .before .before .before .before .before .before .before .before .before .before .before .before .before .before .before .args in halves.not-placed (g .config .fields) (g .config .limits) (g .nodes .now) (g .states .now) (g .scratch .now) (g .c) (g .total .0) (g .meet .0) (g .target2) (g .label2 .0) (g .m) (c .before .before .before .before .before .before .before .before .before .before .before .before .before .before .before .before .before .before .before .before .before .before .before .before .before .before .before .before .before .before .before .before .before .before .before .before .pre) (c .before .before .before .before .before .before .before .before .before .before .before .before .before .before .before .before .before .before .before .before .before .before .before .before .before .before .before .before .before .before .apply .result) (c .before .before .before .before .before .before .before .before .before .before .before .before .before .before .before .before .before .before .before .before .before .before .before .before .before .before .before .before .before .before .apply .last .0) (c .before .before .before .before .before .before .before .before .before .before .before .before .before .before .before .before .before .before .before .before .before .before .before .before .before .before .before .before .before .before .apply .last .1 .0) (c .before .before .before .before .before .before .before .before .before .before .before .before .before .before .before .before .before .before .before .before .before .before .before .before .before .before .before .before .before .before .apply .ensures) _ _ (c .before .before .before .before .before .before .before .before .before .before .before .before .before .before .before .before .before .before .before .before .before .before .before .before .sum .given .1) (c .before .before .before .before .before .before .before .before .before .before .before .before .before .before .before .before .before .before .before .before .before .before .before .before .before .before .before .before .before .before .apply .kept .1 .0) (c .before .before .before .before .before .before .before .before .before .before .before .before .before .before .before .before .before .before .before .before .apply2 .result) (c .before .before .before .before .before .before .before .before .before .before .before .before .before .before .before .before .before .before .before .before .apply2 .last .0) (c .before .before .before .before .before .before .before .before .before .before .before .before .before .before .before .before .before .before .before .before .apply2 .last .1 .0) (c .before .before .before .before .before .before .before .before .before .before .before .before .before .before .before .before .before .before .before .before .apply2 .ensures) _ _ (c .before .before .before .before .before .before .before .before .before .before .before .before .before .before .others .given .1) (c .before .before .before .before .before .before .before .before .before .before .before .before .before .before .before .before .before .before .before .before .apply2 .kept .1 .0) (c .before .before .before .before .before .before .before .before .before .st-insert-helper .result) (c .before .before .before .before .before .before .before .before .before .st-insert-helper .last .0) (c .before .before .before .before .before .before .before .before .before .st-insert-helper .last .1 .0) (c .before .before .before .before .before .before .before .before .before .st-insert-helper .last .1 .1 .0) (c .before .before .before .before .before .before .before .before .before .st-insert-helper .ensures) _ (c .before .listed .given .1)
 
 -- src/lib.rt:178:1
 same-length-8 : tie.Need-same-length-8
@@ -107,7 +107,7 @@ same-length-10 c =
 -- src/lib.rt:178:1
 returns-4 : tie.Need-returns-4
 returns-4 c =
-    let g = c .before .before .before .before .before .before .before .before .before .before .before .before .before .before .before .before .before .before .before .before .before .before .before .before .before .before .before .before .before .before .before .before .before .before .before .before .args in halves.rested (g .fields) (g .limits) (g .nodes .now) (g .states .now) (g .scratch .now) (g .c) (g .total .0) (g .meet .0) (g .target2) (g .label2 .0) (g .m) (c .before .before .before .before .before .before .before .before .before .before .before .before .before .before .before .before .before .before .before .before .before .before .before .before .before .before .before .before .before .before .before .before .before .before .before .before .pre) (c .before .before .before .before .before .before .before .before .before .before .before .before .before .before .before .before .before .before .before .before .before .before .before .before .before .before .before .before .before .before .apply .result) (c .before .before .before .before .before .before .before .before .before .before .before .before .before .before .before .before .before .before .before .before .before .before .before .before .before .before .before .before .before .before .apply .last .0) (c .before .before .before .before .before .before .before .before .before .before .before .before .before .before .before .before .before .before .before .before .before .before .before .before .before .before .before .before .before .before .apply .last .1 .0) (c .before .before .before .before .before .before .before .before .before .before .before .before .before .before .before .before .before .before .before .before .before .before .before .before .before .before .before .before .before .before .apply .ensures) _ _ (c .before .before .before .before .before .before .before .before .before .before .before .before .before .before .before .before .before .before .before .before .before .before .before .before .sum .given .1) (c .before .before .before .before .before .before .before .before .before .before .before .before .before .before .before .before .before .before .before .before .before .before .before .before .before .before .before .before .before .before .apply .kept .1 .0) (c .before .before .before .before .before .before .before .before .before .before .before .before .before .before .before .before .before .before .before .before .apply2 .result) (c .before .before .before .before .before .before .before .before .before .before .before .before .before .before .before .before .before .before .before .before .apply2 .last .0) (c .before .before .before .before .before .before .before .before .before .before .before .before .before .before .before .before .before .before .before .before .apply2 .last .1 .0) (c .before .before .before .before .before .before .before .before .before .before .before .before .before .before .before .before .before .before .before .before .apply2 .ensures) _ _ (c .before .before .before .before .before .before .before .before .before .before .before .before .before .before .others .given .1) (c .before .before .before .before .before .before .before .before .before .before .before .before .before .before .before .before .before .before .before .before .apply2 .kept .1 .0) (c .before .before .before .before .before .before .before .before .before .st-insert-helper .result) (c .before .before .before .before .before .before .before .before .before .st-insert-helper .last .0) (c .before .before .before .before .before .before .before .before .before .st-insert-helper .last .1 .0) (c .before .before .before .before .before .before .before .before .before .st-insert-helper .last .1 .1 .0) (c .before .before .before .before .before .before .before .before .before .st-insert-helper .ensures) _ _ (c .before .listed2 .given .1)
+    let g = c .before .before .before .before .before .before .before .before .before .before .before .before .before .before .before .before .before .before .before .before .before .before .before .before .before .before .before .before .before .before .before .before .before .before .before .before .args in halves.rested (g .config .fields) (g .config .limits) (g .nodes .now) (g .states .now) (g .scratch .now) (g .c) (g .total .0) (g .meet .0) (g .target2) (g .label2 .0) (g .m) (c .before .before .before .before .before .before .before .before .before .before .before .before .before .before .before .before .before .before .before .before .before .before .before .before .before .before .before .before .before .before .before .before .before .before .before .before .pre) (c .before .before .before .before .before .before .before .before .before .before .before .before .before .before .before .before .before .before .before .before .before .before .before .before .before .before .before .before .before .before .apply .result) (c .before .before .before .before .before .before .before .before .before .before .before .before .before .before .before .before .before .before .before .before .before .before .before .before .before .before .before .before .before .before .apply .last .0) (c .before .before .before .before .before .before .before .before .before .before .before .before .before .before .before .before .before .before .before .before .before .before .before .before .before .before .before .before .before .before .apply .last .1 .0) (c .before .before .before .before .before .before .before .before .before .before .before .before .before .before .before .before .before .before .before .before .before .before .before .before .before .before .before .before .before .before .apply .ensures) _ _ (c .before .before .before .before .before .before .before .before .before .before .before .before .before .before .before .before .before .before .before .before .before .before .before .before .sum .given .1) (c .before .before .before .before .before .before .before .before .before .before .before .before .before .before .before .before .before .before .before .before .before .before .before .before .before .before .before .before .before .before .apply .kept .1 .0) (c .before .before .before .before .before .before .before .before .before .before .before .before .before .before .before .before .before .before .before .before .apply2 .result) (c .before .before .before .before .before .before .before .before .before .before .before .before .before .before .before .before .before .before .before .before .apply2 .last .0) (c .before .before .before .before .before .before .before .before .before .before .before .before .before .before .before .before .before .before .before .before .apply2 .last .1 .0) (c .before .before .before .before .before .before .before .before .before .before .before .before .before .before .before .before .before .before .before .before .apply2 .ensures) _ _ (c .before .before .before .before .before .before .before .before .before .before .before .before .before .before .others .given .1) (c .before .before .before .before .before .before .before .before .before .before .before .before .before .before .before .before .before .before .before .before .apply2 .kept .1 .0) (c .before .before .before .before .before .before .before .before .before .st-insert-helper .result) (c .before .before .before .before .before .before .before .before .before .st-insert-helper .last .0) (c .before .before .before .before .before .before .before .before .before .st-insert-helper .last .1 .0) (c .before .before .before .before .before .before .before .before .before .st-insert-helper .last .1 .1 .0) (c .before .before .before .before .before .before .before .before .before .st-insert-helper .ensures) _ _ (c .before .listed2 .given .1)
 
 pub rest-in-spec : {M : Type 1} → statement M
 rest-in-spec =

@@ -13,12 +13,12 @@ use Rattle.st_edges.proofs.copy.Reads as copy-reads
 -- src/lib.rt:344:5
 copy-requires : tie.Need-copy-requires
 copy-requires c κs =
-    let g = c .before .before .before .before .before .args in walking.copy-ready (g .fields) (g .limits) (g .nodes .now) (g .states .now) (g .members .now) (g .scratch .now) (g .c) (g .s) (g .l .0) (g .m) (c .before .before .before .before .before .pre .0) (c .before .before .before .before .before .pre .1)
+    let g = c .before .before .before .before .before .args in walking.copy-ready (g .config .fields) (g .config .limits) (g .nodes .now) (g .states .now) (g .members .now) (g .scratch .now) (g .c) (g .s) (g .l .0) (g .m) (c .before .before .before .before .before .pre .0) (c .before .before .before .before .before .pre .1)
 
 -- src/lib.rt:345:9
 walk-requires : tie.Need-walk-requires
 walk-requires c κs =
-    let g = c .before .before .before .before .before .before .before .before .before .before .before .before .args in walking.walk-ready (g .fields) (g .limits) (g .nodes .now) (g .states .now) (g .members .now) (g .scratch .now) (g .c) (g .s) (g .l .0) (g .m) (c .before .before .before .before .before .before .before .before .before .before .before .before .pre .0) (c .before .before .before .before .before .before .before .before .before .before .before .before .pre .1) (c .before .before .before .before .before .before .copy .last .0) (c .before .before .before .before .before .before .copy .ensures) (c .before .before .before .before .before .before .copy .kept .0)
+    let g = c .before .before .before .before .before .before .before .before .before .before .before .before .args in walking.walk-ready (g .config .fields) (g .config .limits) (g .nodes .now) (g .states .now) (g .members .now) (g .scratch .now) (g .c) (g .s) (g .l .0) (g .m) (c .before .before .before .before .before .before .before .before .before .before .before .before .pre .0) (c .before .before .before .before .before .before .before .before .before .before .before .before .pre .1) (c .before .before .before .before .before .before .copy .last .0) (c .before .before .before .before .before .before .copy .ensures) (c .before .before .before .before .before .before .copy .kept .0)
 
 -- src/lib.rt:347:22
 enum-known-met : tie.Need-enum-known-met
@@ -31,7 +31,7 @@ enum-known-met-2 c = search needs
 -- src/lib.rt:349:39
 apply-requires : tie.Need-apply-requires
 apply-requires c κs =
-    let g = c .before .before .before .before .before .before .before .before .before .before .before .before .before .before .before .before .before .before .before .before .before .before .before .before .before .before .args in walking.difference-ready (g .fields) (g .limits) (g .nodes .now) (g .states .now) (g .members .now) (g .scratch .now) (g .c) (g .s) (g .l .0) (g .m) (c .before .before .before .before .before .before .before .before .before .before .before .before .before .before .before .before .before .before .before .before .before .before .before .before .before .before .pre .0) (c .before .before .before .before .before .before .before .before .before .before .before .before .before .before .before .before .before .before .before .before .before .before .before .before .before .before .pre .1) (c .before .before .before .before .before .before .before .before .before .before .before .before .before .before .before .before .before .before .before .before .copy .last .0) (c .before .before .before .before .before .before .before .before .before .before .before .before .before .before .before .before .before .before .before .before .copy .ensures) (c .before .before .before .before .before .before .before .before .before .before .before .before .before .before .before .before .before .before .before .before .copy .kept .0) (c .before .before .before .before .before .before .before .before .before .before .before .before .before .walk .result) (c .before .before .before .before .before .before .before .before .before .before .before .before .before .walk .last .0) (c .before .before .before .before .before .before .before .before .before .before .before .before .before .walk .last .1 .0) (c .before .before .before .before .before .before .before .before .before .before .before .before .before .walk .last .1 .1 .0) (c .before .before .before .before .before .before .before .before .before .before .before .before .before .walk .last .1 .1 .1 .0) (c .before .before .before .before .before .before .before .before .before .before .before .before .before .walk .ensures) (c .before .before .before .before .before .before .before .before .before .before .before .before .before .walk .kept .1 .1 .1 .0) _ _ _ (c .before .before .before .met2 .given .1)
+    let g = c .before .before .before .before .before .before .before .before .before .before .before .before .before .before .before .before .before .before .before .before .before .before .before .before .before .before .args in walking.difference-ready (g .config .fields) (g .config .limits) (g .nodes .now) (g .states .now) (g .members .now) (g .scratch .now) (g .c) (g .s) (g .l .0) (g .m) (c .before .before .before .before .before .before .before .before .before .before .before .before .before .before .before .before .before .before .before .before .before .before .before .before .before .before .pre .0) (c .before .before .before .before .before .before .before .before .before .before .before .before .before .before .before .before .before .before .before .before .before .before .before .before .before .before .pre .1) (c .before .before .before .before .before .before .before .before .before .before .before .before .before .before .before .before .before .before .before .before .copy .last .0) (c .before .before .before .before .before .before .before .before .before .before .before .before .before .before .before .before .before .before .before .before .copy .ensures) (c .before .before .before .before .before .before .before .before .before .before .before .before .before .before .before .before .before .before .before .before .copy .kept .0) (c .before .before .before .before .before .before .before .before .before .before .before .before .before .walk .result) (c .before .before .before .before .before .before .before .before .before .before .before .before .before .walk .last .0) (c .before .before .before .before .before .before .before .before .before .before .before .before .before .walk .last .1 .0) (c .before .before .before .before .before .before .before .before .before .before .before .before .before .walk .last .1 .1 .0) (c .before .before .before .before .before .before .before .before .before .before .before .before .before .walk .last .1 .1 .1 .0) (c .before .before .before .before .before .before .before .before .before .before .before .before .before .walk .ensures) (c .before .before .before .before .before .before .before .before .before .before .before .before .before .walk .kept .1 .1 .1 .0) _ _ _ (c .before .before .before .met2 .given .1)
 
 -- src/lib.rt:349:28
 enum-known-rest : tie.Need-enum-known-rest
@@ -60,12 +60,12 @@ same-length-4 c = search needs
 -- src/lib.rt:358:17
 returns : tie.Need-returns
 returns c =
-    let g = c .before .before .before .before .before .before .before .before .before .before .before .before .before .before .before .before .before .before .before .before .before .before .before .before .before .before .before .before .before .before .before .before .before .args in walking.no-rest (g .fields) (g .limits) (g .nodes .now) (g .states .now) (g .members .now) (g .scratch .now) (g .c) (g .s) (g .l .0) (g .m) (c .before .before .before .before .before .before .before .before .before .before .before .before .before .before .before .before .before .before .before .before .before .before .before .before .before .before .before .before .before .before .before .before .before .pre .0) (c .before .before .before .before .before .before .before .before .before .before .before .before .before .before .before .before .before .before .before .before .before .before .before .before .before .before .before .before .before .before .before .before .before .pre .1) (c .before .before .before .before .before .before .before .before .before .before .before .before .before .before .before .before .before .before .before .before .before .before .before .before .before .before .before .copy .last .0) (c .before .before .before .before .before .before .before .before .before .before .before .before .before .before .before .before .before .before .before .before .before .before .before .before .before .before .before .copy .ensures) (c .before .before .before .before .before .before .before .before .before .before .before .before .before .before .before .before .before .before .before .before .before .before .before .before .before .before .before .copy .kept .0) (c .before .before .before .before .before .before .before .before .before .before .before .before .before .before .before .before .before .before .before .before .walk .result) (c .before .before .before .before .before .before .before .before .before .before .before .before .before .before .before .before .before .before .before .before .walk .last .0) (c .before .before .before .before .before .before .before .before .before .before .before .before .before .before .before .before .before .before .before .before .walk .last .1 .0) (c .before .before .before .before .before .before .before .before .before .before .before .before .before .before .before .before .before .before .before .before .walk .last .1 .1 .0) (c .before .before .before .before .before .before .before .before .before .before .before .before .before .before .before .before .before .before .before .before .walk .last .1 .1 .1 .0) (c .before .before .before .before .before .before .before .before .before .before .before .before .before .before .before .before .before .before .before .before .walk .ensures) (c .before .before .before .before .before .before .before .before .before .before .before .before .before .before .before .before .before .before .before .before .walk .kept .1 .1 .1 .0) _ _ _ (c .before .before .before .before .before .before .before .before .before .before .met2 .given .1) (c .before .before .before .before .before .before .apply .result) (c .before .before .before .before .before .before .apply .last .0) (c .before .before .before .before .before .before .apply .last .1 .0) (c .before .before .before .before .before .before .apply .ensures) (c .before .before .before .before .before .before .apply .kept .1 .0) (c .enum-told .given .1)
+    let g = c .before .before .before .before .before .before .before .before .before .before .before .before .before .before .before .before .before .before .before .before .before .before .before .before .before .before .before .before .before .before .before .before .before .args in walking.no-rest (g .config .fields) (g .config .limits) (g .nodes .now) (g .states .now) (g .members .now) (g .scratch .now) (g .c) (g .s) (g .l .0) (g .m) (c .before .before .before .before .before .before .before .before .before .before .before .before .before .before .before .before .before .before .before .before .before .before .before .before .before .before .before .before .before .before .before .before .before .pre .0) (c .before .before .before .before .before .before .before .before .before .before .before .before .before .before .before .before .before .before .before .before .before .before .before .before .before .before .before .before .before .before .before .before .before .pre .1) (c .before .before .before .before .before .before .before .before .before .before .before .before .before .before .before .before .before .before .before .before .before .before .before .before .before .before .before .copy .last .0) (c .before .before .before .before .before .before .before .before .before .before .before .before .before .before .before .before .before .before .before .before .before .before .before .before .before .before .before .copy .ensures) (c .before .before .before .before .before .before .before .before .before .before .before .before .before .before .before .before .before .before .before .before .before .before .before .before .before .before .before .copy .kept .0) (c .before .before .before .before .before .before .before .before .before .before .before .before .before .before .before .before .before .before .before .before .walk .result) (c .before .before .before .before .before .before .before .before .before .before .before .before .before .before .before .before .before .before .before .before .walk .last .0) (c .before .before .before .before .before .before .before .before .before .before .before .before .before .before .before .before .before .before .before .before .walk .last .1 .0) (c .before .before .before .before .before .before .before .before .before .before .before .before .before .before .before .before .before .before .before .before .walk .last .1 .1 .0) (c .before .before .before .before .before .before .before .before .before .before .before .before .before .before .before .before .before .before .before .before .walk .last .1 .1 .1 .0) (c .before .before .before .before .before .before .before .before .before .before .before .before .before .before .before .before .before .before .before .before .walk .ensures) (c .before .before .before .before .before .before .before .before .before .before .before .before .before .before .before .before .before .before .before .before .walk .kept .1 .1 .1 .0) _ _ _ (c .before .before .before .before .before .before .before .before .before .before .met2 .given .1) (c .before .before .before .before .before .before .apply .result) (c .before .before .before .before .before .before .apply .last .0) (c .before .before .before .before .before .before .apply .last .1 .0) (c .before .before .before .before .before .before .apply .ensures) (c .before .before .before .before .before .before .apply .kept .1 .0) (c .enum-told .given .1)
 
 -- src/lib.rt:367:13
 st-insert-helper-requires : tie.Need-st-insert-helper-requires
 st-insert-helper-requires c κs =
-    let g = c .before .before .before .before .before .before .before .before .before .before .before .before .before .before .before .before .before .before .before .before .before .before .before .before .before .before .before .before .before .before .before .before .before .before .before .before .before .args in walking.last-ready (g .fields) (g .limits) (g .nodes .now) (g .states .now) (g .members .now) (g .scratch .now) (g .c) (g .s) (g .l .0) (g .m) (c .before .before .before .before .before .before .before .before .before .before .before .before .before .before .before .before .before .before .before .before .before .before .before .before .before .before .before .before .before .before .before .before .before .before .before .before .before .pre .0) (c .before .before .before .before .before .before .before .before .before .before .before .before .before .before .before .before .before .before .before .before .before .before .before .before .before .before .before .before .before .before .before .before .before .before .before .before .before .pre .1) (c .before .before .before .before .before .before .before .before .before .before .before .before .before .before .before .before .before .before .before .before .before .before .before .before .before .before .before .before .before .before .before .copy .last .0) (c .before .before .before .before .before .before .before .before .before .before .before .before .before .before .before .before .before .before .before .before .before .before .before .before .before .before .before .before .before .before .before .copy .ensures) (c .before .before .before .before .before .before .before .before .before .before .before .before .before .before .before .before .before .before .before .before .before .before .before .before .before .before .before .before .before .before .before .copy .kept .0) (c .before .before .before .before .before .before .before .before .before .before .before .before .before .before .before .before .before .before .before .before .before .before .before .before .walk .result) (c .before .before .before .before .before .before .before .before .before .before .before .before .before .before .before .before .before .before .before .before .before .before .before .before .walk .last .0) (c .before .before .before .before .before .before .before .before .before .before .before .before .before .before .before .before .before .before .before .before .before .before .before .before .walk .last .1 .0) (c .before .before .before .before .before .before .before .before .before .before .before .before .before .before .before .before .before .before .before .before .before .before .before .before .walk .last .1 .1 .0) (c .before .before .before .before .before .before .before .before .before .before .before .before .before .before .before .before .before .before .before .before .before .before .before .before .walk .last .1 .1 .1 .0) (c .before .before .before .before .before .before .before .before .before .before .before .before .before .before .before .before .before .before .before .before .before .before .before .before .walk .ensures) (c .before .before .before .before .before .before .before .before .before .before .before .before .before .before .before .before .before .before .before .before .before .before .before .before .walk .kept .1 .1 .1 .0) _ _ _ (c .before .before .before .before .before .before .before .before .before .before .before .before .before .before .met2 .given .1) (c .before .before .before .before .before .before .before .before .before .before .apply .result) (c .before .before .before .before .before .before .before .before .before .before .apply .last .0) (c .before .before .before .before .before .before .before .before .before .before .apply .last .1 .0) (c .before .before .before .before .before .before .before .before .before .before .apply .ensures) (c .before .before .before .before .before .before .before .before .before .before .apply .kept .1 .0) _ _ (c .before .before .before .before .rest .given .1)
+    let g = c .before .before .before .before .before .before .before .before .before .before .before .before .before .before .before .before .before .before .before .before .before .before .before .before .before .before .before .before .before .before .before .before .before .before .before .before .before .args in walking.last-ready (g .config .fields) (g .config .limits) (g .nodes .now) (g .states .now) (g .members .now) (g .scratch .now) (g .c) (g .s) (g .l .0) (g .m) (c .before .before .before .before .before .before .before .before .before .before .before .before .before .before .before .before .before .before .before .before .before .before .before .before .before .before .before .before .before .before .before .before .before .before .before .before .before .pre .0) (c .before .before .before .before .before .before .before .before .before .before .before .before .before .before .before .before .before .before .before .before .before .before .before .before .before .before .before .before .before .before .before .before .before .before .before .before .before .pre .1) (c .before .before .before .before .before .before .before .before .before .before .before .before .before .before .before .before .before .before .before .before .before .before .before .before .before .before .before .before .before .before .before .copy .last .0) (c .before .before .before .before .before .before .before .before .before .before .before .before .before .before .before .before .before .before .before .before .before .before .before .before .before .before .before .before .before .before .before .copy .ensures) (c .before .before .before .before .before .before .before .before .before .before .before .before .before .before .before .before .before .before .before .before .before .before .before .before .before .before .before .before .before .before .before .copy .kept .0) (c .before .before .before .before .before .before .before .before .before .before .before .before .before .before .before .before .before .before .before .before .before .before .before .before .walk .result) (c .before .before .before .before .before .before .before .before .before .before .before .before .before .before .before .before .before .before .before .before .before .before .before .before .walk .last .0) (c .before .before .before .before .before .before .before .before .before .before .before .before .before .before .before .before .before .before .before .before .before .before .before .before .walk .last .1 .0) (c .before .before .before .before .before .before .before .before .before .before .before .before .before .before .before .before .before .before .before .before .before .before .before .before .walk .last .1 .1 .0) (c .before .before .before .before .before .before .before .before .before .before .before .before .before .before .before .before .before .before .before .before .before .before .before .before .walk .last .1 .1 .1 .0) (c .before .before .before .before .before .before .before .before .before .before .before .before .before .before .before .before .before .before .before .before .before .before .before .before .walk .ensures) (c .before .before .before .before .before .before .before .before .before .before .before .before .before .before .before .before .before .before .before .before .before .before .before .before .walk .kept .1 .1 .1 .0) _ _ _ (c .before .before .before .before .before .before .before .before .before .before .before .before .before .before .met2 .given .1) (c .before .before .before .before .before .before .before .before .before .before .apply .result) (c .before .before .before .before .before .before .before .before .before .before .apply .last .0) (c .before .before .before .before .before .before .before .before .before .before .apply .last .1 .0) (c .before .before .before .before .before .before .before .before .before .before .apply .ensures) (c .before .before .before .before .before .before .before .before .before .before .apply .kept .1 .0) _ _ (c .before .before .before .before .rest .given .1)
 
 -- src/lib.rt:329:1
 same-length-5 : tie.Need-same-length-5
@@ -86,7 +86,7 @@ same-length-8 c = search needs
 -- src/lib.rt:329:1
 returns-2 : tie.Need-returns-2
 returns-2 c =
-    let g = c .before .before .before .before .before .before .before .before .before .before .before .before .before .before .before .before .before .before .before .before .before .before .before .before .args in walking.no-walk (g .fields) (g .limits) (g .nodes .now) (g .states .now) (g .members .now) (g .scratch .now) (g .c) (g .s) (g .l .0) (g .m) (c .before .before .before .before .before .before .before .before .before .before .before .before .before .before .before .before .before .before .before .before .before .before .before .before .pre .0) (c .before .before .before .before .before .before .before .before .before .before .before .before .before .before .before .before .before .before .before .before .before .before .before .before .pre .1) (c .before .before .before .before .before .before .before .before .before .before .before .before .before .before .before .before .before .before .copy .last .0) (c .before .before .before .before .before .before .before .before .before .before .before .before .before .before .before .before .before .before .copy .ensures) (c .before .before .before .before .before .before .before .before .before .before .before .before .before .before .before .before .before .before .copy .kept .0) (c .before .before .before .before .before .before .before .before .before .before .before .walk .result) (c .before .before .before .before .before .before .before .before .before .before .before .walk .last .0) (c .before .before .before .before .before .before .before .before .before .before .before .walk .last .1 .0) (c .before .before .before .before .before .before .before .before .before .before .before .walk .last .1 .1 .0) (c .before .before .before .before .before .before .before .before .before .before .before .walk .last .1 .1 .1 .0) (c .before .before .before .before .before .before .before .before .before .before .before .walk .ensures) (c .before .before .before .before .before .before .before .before .before .before .before .walk .kept .1 .1 .1 .0) _ (c .before .met .given .1)
+    let g = c .before .before .before .before .before .before .before .before .before .before .before .before .before .before .before .before .before .before .before .before .before .before .before .before .args in walking.no-walk (g .config .fields) (g .config .limits) (g .nodes .now) (g .states .now) (g .members .now) (g .scratch .now) (g .c) (g .s) (g .l .0) (g .m) (c .before .before .before .before .before .before .before .before .before .before .before .before .before .before .before .before .before .before .before .before .before .before .before .before .pre .0) (c .before .before .before .before .before .before .before .before .before .before .before .before .before .before .before .before .before .before .before .before .before .before .before .before .pre .1) (c .before .before .before .before .before .before .before .before .before .before .before .before .before .before .before .before .before .before .copy .last .0) (c .before .before .before .before .before .before .before .before .before .before .before .before .before .before .before .before .before .before .copy .ensures) (c .before .before .before .before .before .before .before .before .before .before .before .before .before .before .before .before .before .before .copy .kept .0) (c .before .before .before .before .before .before .before .before .before .before .before .walk .result) (c .before .before .before .before .before .before .before .before .before .before .before .walk .last .0) (c .before .before .before .before .before .before .before .before .before .before .before .walk .last .1 .0) (c .before .before .before .before .before .before .before .before .before .before .before .walk .last .1 .1 .0) (c .before .before .before .before .before .before .before .before .before .before .before .walk .last .1 .1 .1 .0) (c .before .before .before .before .before .before .before .before .before .before .before .walk .ensures) (c .before .before .before .before .before .before .before .before .before .before .before .walk .kept .1 .1 .1 .0) _ (c .before .met .given .1)
 
 -- src/lib.rt:329:1
 same-length-9 : tie.Need-same-length-9
@@ -111,7 +111,7 @@ same-length-12 c =
 -- src/lib.rt:329:1
 returns-3 : tie.Need-returns-3
 returns-3 c =
-    let g = c .before .before .before .before .before .before .before .before .before .before .before .before .before .before .before .before .before .before .before .before .before .before .before .before .before .before .before .before .before .before .before .before .before .before .before .before .before .before .before .before .before .before .before .before .args in walking.inserted (g .fields) (g .limits) (g .nodes .now) (g .states .now) (g .members .now) (g .scratch .now) (g .c) (g .s) (g .l .0) (g .m) (c .before .before .before .before .before .before .before .before .before .before .before .before .before .before .before .before .before .before .before .before .before .before .before .before .before .before .before .before .before .before .before .before .before .before .before .before .before .before .before .before .before .before .before .before .pre .0) (c .before .before .before .before .before .before .before .before .before .before .before .before .before .before .before .before .before .before .before .before .before .before .before .before .before .before .before .before .before .before .before .before .before .before .before .before .before .before .before .before .before .before .before .before .pre .1) (c .before .before .before .before .before .before .before .before .before .before .before .before .before .before .before .before .before .before .before .before .before .before .before .before .before .before .before .before .before .before .before .before .before .before .before .before .before .before .copy .last .0) (c .before .before .before .before .before .before .before .before .before .before .before .before .before .before .before .before .before .before .before .before .before .before .before .before .before .before .before .before .before .before .before .before .before .before .before .before .before .before .copy .ensures) (c .before .before .before .before .before .before .before .before .before .before .before .before .before .before .before .before .before .before .before .before .before .before .before .before .before .before .before .before .before .before .before .before .before .before .before .before .before .before .copy .kept .0) (c .before .before .before .before .before .before .before .before .before .before .before .before .before .before .before .before .before .before .before .before .before .before .before .before .before .before .before .before .before .before .before .walk .result) (c .before .before .before .before .before .before .before .before .before .before .before .before .before .before .before .before .before .before .before .before .before .before .before .before .before .before .before .before .before .before .before .walk .last .0) (c .before .before .before .before .before .before .before .before .before .before .before .before .before .before .before .before .before .before .before .before .before .before .before .before .before .before .before .before .before .before .before .walk .last .1 .0) (c .before .before .before .before .before .before .before .before .before .before .before .before .before .before .before .before .before .before .before .before .before .before .before .before .before .before .before .before .before .before .before .walk .last .1 .1 .0) (c .before .before .before .before .before .before .before .before .before .before .before .before .before .before .before .before .before .before .before .before .before .before .before .before .before .before .before .before .before .before .before .walk .last .1 .1 .1 .0) (c .before .before .before .before .before .before .before .before .before .before .before .before .before .before .before .before .before .before .before .before .before .before .before .before .before .before .before .before .before .before .before .walk .ensures) (c .before .before .before .before .before .before .before .before .before .before .before .before .before .before .before .before .before .before .before .before .before .before .before .before .before .before .before .before .before .before .before .walk .kept .1 .1 .1 .0) _ _ _ (c .before .before .before .before .before .before .before .before .before .before .before .before .before .before .before .before .before .before .before .before .before .met2 .given .1) (c .before .before .before .before .before .before .before .before .before .before .before .before .before .before .before .before .before .apply .result) (c .before .before .before .before .before .before .before .before .before .before .before .before .before .before .before .before .before .apply .last .0) (c .before .before .before .before .before .before .before .before .before .before .before .before .before .before .before .before .before .apply .last .1 .0) (c .before .before .before .before .before .before .before .before .before .before .before .before .before .before .before .before .before .apply .ensures) (c .before .before .before .before .before .before .before .before .before .before .before .before .before .before .before .before .before .apply .kept .1 .0) _ _ (c .before .before .before .before .before .before .before .before .before .before .before .rest .given .1) (c .before .before .before .before .before .before .st-insert-helper .result) (c .before .before .before .before .before .before .st-insert-helper .last .0) (c .before .before .before .before .before .before .st-insert-helper .last .1 .0) (c .before .before .before .before .before .before .st-insert-helper .last .1 .1 .0) (c .before .before .before .before .before .before .st-insert-helper .ensures) (c .before .before .before .before .before .before .st-insert-helper .kept .1 .1 .0)
+    let g = c .before .before .before .before .before .before .before .before .before .before .before .before .before .before .before .before .before .before .before .before .before .before .before .before .before .before .before .before .before .before .before .before .before .before .before .before .before .before .before .before .before .before .before .before .args in walking.inserted (g .config .fields) (g .config .limits) (g .nodes .now) (g .states .now) (g .members .now) (g .scratch .now) (g .c) (g .s) (g .l .0) (g .m) (c .before .before .before .before .before .before .before .before .before .before .before .before .before .before .before .before .before .before .before .before .before .before .before .before .before .before .before .before .before .before .before .before .before .before .before .before .before .before .before .before .before .before .before .before .pre .0) (c .before .before .before .before .before .before .before .before .before .before .before .before .before .before .before .before .before .before .before .before .before .before .before .before .before .before .before .before .before .before .before .before .before .before .before .before .before .before .before .before .before .before .before .before .pre .1) (c .before .before .before .before .before .before .before .before .before .before .before .before .before .before .before .before .before .before .before .before .before .before .before .before .before .before .before .before .before .before .before .before .before .before .before .before .before .before .copy .last .0) (c .before .before .before .before .before .before .before .before .before .before .before .before .before .before .before .before .before .before .before .before .before .before .before .before .before .before .before .before .before .before .before .before .before .before .before .before .before .before .copy .ensures) (c .before .before .before .before .before .before .before .before .before .before .before .before .before .before .before .before .before .before .before .before .before .before .before .before .before .before .before .before .before .before .before .before .before .before .before .before .before .before .copy .kept .0) (c .before .before .before .before .before .before .before .before .before .before .before .before .before .before .before .before .before .before .before .before .before .before .before .before .before .before .before .before .before .before .before .walk .result) (c .before .before .before .before .before .before .before .before .before .before .before .before .before .before .before .before .before .before .before .before .before .before .before .before .before .before .before .before .before .before .before .walk .last .0) (c .before .before .before .before .before .before .before .before .before .before .before .before .before .before .before .before .before .before .before .before .before .before .before .before .before .before .before .before .before .before .before .walk .last .1 .0) (c .before .before .before .before .before .before .before .before .before .before .before .before .before .before .before .before .before .before .before .before .before .before .before .before .before .before .before .before .before .before .before .walk .last .1 .1 .0) (c .before .before .before .before .before .before .before .before .before .before .before .before .before .before .before .before .before .before .before .before .before .before .before .before .before .before .before .before .before .before .before .walk .last .1 .1 .1 .0) (c .before .before .before .before .before .before .before .before .before .before .before .before .before .before .before .before .before .before .before .before .before .before .before .before .before .before .before .before .before .before .before .walk .ensures) (c .before .before .before .before .before .before .before .before .before .before .before .before .before .before .before .before .before .before .before .before .before .before .before .before .before .before .before .before .before .before .before .walk .kept .1 .1 .1 .0) _ _ _ (c .before .before .before .before .before .before .before .before .before .before .before .before .before .before .before .before .before .before .before .before .before .met2 .given .1) (c .before .before .before .before .before .before .before .before .before .before .before .before .before .before .before .before .before .apply .result) (c .before .before .before .before .before .before .before .before .before .before .before .before .before .before .before .before .before .apply .last .0) (c .before .before .before .before .before .before .before .before .before .before .before .before .before .before .before .before .before .apply .last .1 .0) (c .before .before .before .before .before .before .before .before .before .before .before .before .before .before .before .before .before .apply .ensures) (c .before .before .before .before .before .before .before .before .before .before .before .before .before .before .before .before .before .apply .kept .1 .0) _ _ (c .before .before .before .before .before .before .before .before .before .before .before .rest .given .1) (c .before .before .before .before .before .before .st-insert-helper .result) (c .before .before .before .before .before .before .st-insert-helper .last .0) (c .before .before .before .before .before .before .st-insert-helper .last .1 .0) (c .before .before .before .before .before .before .st-insert-helper .last .1 .1 .0) (c .before .before .before .before .before .before .st-insert-helper .ensures) (c .before .before .before .before .before .before .st-insert-helper .kept .1 .1 .0)
 
 pub st-insert-spec : {M : Type 1} → statement M
 st-insert-spec =

@@ -15,7 +15,7 @@ zero-at-depth-requires c κs = search needs
 -- src/lib.rt:104:9
 returns : tie.Need-returns
 returns c =
-    let g = c .before .before .before .before .before .before .before .args in placing.no-label (g .fields) (g .limits) (g .nodes .now) (g .states .now) (g .scratch .now) (g .c) (g .m) (g .s) (g .l .0) (c .before .before .before .before .before .before .before .pre) (c .before .before .before .zero-at-depth .result .0) (c .before .before .before .zero-at-depth .ensures (g .fields)) (c .if1 .taken)
+    let g = c .before .before .before .before .before .before .before .args in placing.no-label (g .config .fields) (g .config .limits) (g .nodes .now) (g .states .now) (g .scratch .now) (g .c) (g .m) (g .s) (g .l .0) (c .before .before .before .before .before .before .before .pre) (c .before .before .before .zero-at-depth .result .0) (c .before .before .before .zero-at-depth .ensures (g .config .fields)) (c .if1 .taken)
 
 -- src/lib.rt:106:9
 mk-spp-requires : tie.Need-mk-spp-requires
@@ -36,12 +36,12 @@ same-length c = search needs
 -- src/lib.rt:118:17
 returns-2 : tie.Need-returns-2
 returns-2 c =
-    let g = c .before .before .before .before .before .before .before .before .before .before .before .before .before .before .before .args in placing.no-state (g .fields) (g .limits) (g .nodes .now) (g .states .now) (g .scratch .now) (g .c) (g .m) (g .s) (g .l .0) (c .before .before .before .before .before .before .before .before .before .before .before .before .before .before .before .pre) (c .before .before .before .before .before .before .before .before .before .before .before .zero-at-depth .result .0) (c .before .before .before .before .before .before .before .before .before .before .before .zero-at-depth .ensures (g .fields)) (c .before .before .before .before .before .before .before .before .if1 .left) (c .before .before .before .before .before .before .mk-spp .result) (c .before .before .before .before .before .before .mk-spp .last .0) (c .before .before .before .before .before .before .mk-spp .ensures) _ _ (c .before .before .put2 .given .1) (c .if2 .taken)
+    let g = c .before .before .before .before .before .before .before .before .before .before .before .before .before .before .before .args in placing.no-state (g .config .fields) (g .config .limits) (g .nodes .now) (g .states .now) (g .scratch .now) (g .c) (g .m) (g .s) (g .l .0) (c .before .before .before .before .before .before .before .before .before .before .before .before .before .before .before .pre) (c .before .before .before .before .before .before .before .before .before .before .before .zero-at-depth .result .0) (c .before .before .before .before .before .before .before .before .before .before .before .zero-at-depth .ensures (g .config .fields)) (c .before .before .before .before .before .before .before .before .if1 .left) (c .before .before .before .before .before .before .mk-spp .result) (c .before .before .before .before .before .before .mk-spp .last .0) (c .before .before .before .before .before .before .mk-spp .ensures) _ _ (c .before .before .put2 .given .1) (c .if2 .taken)
 
 -- src/lib.rt:120:13
 place-in-requires : tie.Need-place-in-requires
 place-in-requires c κs =
-    let g = c .before .before .before .before .before .before .before .before .before .before .before .before .before .before .before .before .before .args in placing.in-ready (g .fields) (g .limits) (g .nodes .now) (g .states .now) (g .scratch .now) (g .c) (g .m) (g .s) (g .l .0) (c .before .before .before .before .before .before .before .before .before .before .before .before .before .before .before .before .before .pre) (c .before .before .before .before .before .before .before .before .before .before .before .before .before .zero-at-depth .result .0) (c .before .before .before .before .before .before .before .before .before .before .before .before .before .zero-at-depth .ensures (g .fields)) (c .before .before .before .before .before .before .before .before .before .before .if1 .left) (c .before .before .before .before .before .before .before .before .mk-spp .result) (c .before .before .before .before .before .before .before .before .mk-spp .last .0) (c .before .before .before .before .before .before .before .before .mk-spp .ensures) _ _ (c .before .before .before .before .put2 .given .1)
+    let g = c .before .before .before .before .before .before .before .before .before .before .before .before .before .before .before .before .before .args in placing.in-ready (g .config .fields) (g .config .limits) (g .nodes .now) (g .states .now) (g .scratch .now) (g .c) (g .m) (g .s) (g .l .0) (c .before .before .before .before .before .before .before .before .before .before .before .before .before .before .before .before .before .pre) (c .before .before .before .before .before .before .before .before .before .before .before .before .before .zero-at-depth .result .0) (c .before .before .before .before .before .before .before .before .before .before .before .before .before .zero-at-depth .ensures (g .config .fields)) (c .before .before .before .before .before .before .before .before .before .before .if1 .left) (c .before .before .before .before .before .before .before .before .mk-spp .result) (c .before .before .before .before .before .before .before .before .mk-spp .last .0) (c .before .before .before .before .before .before .before .before .mk-spp .ensures) _ _ (c .before .before .before .before .put2 .given .1)
 
 -- src/lib.rt:88:1
 same-length-2 : tie.Need-same-length-2
@@ -50,7 +50,7 @@ same-length-2 c = search needs
 -- src/lib.rt:88:1
 returns-3 : tie.Need-returns-3
 returns-3 c =
-    let g = c .before .before .before .before .before .before .before .before .before .before .before .before .before .before .args in placing.not-put (g .fields) (g .limits) (g .nodes .now) (g .states .now) (g .scratch .now) (g .c) (g .m) (g .s) (g .l .0) (c .before .before .before .before .before .before .before .before .before .before .before .before .before .before .pre) (c .before .before .before .before .before .before .before .before .before .before .zero-at-depth .result .0) (c .before .before .before .before .before .before .before .before .before .before .zero-at-depth .ensures (g .fields)) (c .before .before .before .before .before .before .before .if1 .left) (c .before .before .before .before .before .mk-spp .result) (c .before .before .before .before .before .mk-spp .last .0) (c .before .before .before .before .before .mk-spp .ensures) _ (c .before .put .given .1)
+    let g = c .before .before .before .before .before .before .before .before .before .before .before .before .before .before .args in placing.not-put (g .config .fields) (g .config .limits) (g .nodes .now) (g .states .now) (g .scratch .now) (g .c) (g .m) (g .s) (g .l .0) (c .before .before .before .before .before .before .before .before .before .before .before .before .before .before .pre) (c .before .before .before .before .before .before .before .before .before .before .zero-at-depth .result .0) (c .before .before .before .before .before .before .before .before .before .before .zero-at-depth .ensures (g .config .fields)) (c .before .before .before .before .before .before .before .if1 .left) (c .before .before .before .before .before .mk-spp .result) (c .before .before .before .before .before .mk-spp .last .0) (c .before .before .before .before .before .mk-spp .ensures) _ (c .before .put .given .1)
 
 -- src/lib.rt:88:1
 same-length-3 : tie.Need-same-length-3
@@ -67,7 +67,7 @@ same-length-5 c = search needs
 -- src/lib.rt:88:1
 returns-4 : tie.Need-returns-4
 returns-4 c =
-    let g = c .before .before .before .before .before .before .before .before .before .before .before .before .before .before .before .before .before .before .before .before .before .before .args in placing.placed-in (g .fields) (g .limits) (g .nodes .now) (g .states .now) (g .scratch .now) (g .c) (g .m) (g .s) (g .l .0) (c .before .before .before .before .before .before .before .before .before .before .before .before .before .before .before .before .before .before .before .before .before .before .pre) (c .before .before .before .before .before .before .before .before .before .before .before .before .before .before .before .before .before .before .zero-at-depth .result .0) (c .before .before .before .before .before .before .before .before .before .before .before .before .before .before .before .before .before .before .zero-at-depth .ensures (g .fields)) (c .before .before .before .before .before .before .before .before .before .before .before .before .before .before .before .if1 .left) (c .before .before .before .before .before .before .before .before .before .before .before .before .before .mk-spp .result) (c .before .before .before .before .before .before .before .before .before .before .before .before .before .mk-spp .last .0) (c .before .before .before .before .before .before .before .before .before .before .before .before .before .mk-spp .ensures) _ _ (c .before .before .before .before .before .before .before .before .before .put2 .given .1) (c .before .before .before .before .before .before .before .if2 .left) (c .before .before .before .before .place-in .result) (c .before .before .before .before .place-in .last .0) (c .before .before .before .before .place-in .last .1 .0) (c .before .before .before .before .place-in .ensures)
+    let g = c .before .before .before .before .before .before .before .before .before .before .before .before .before .before .before .before .before .before .before .before .before .before .args in placing.placed-in (g .config .fields) (g .config .limits) (g .nodes .now) (g .states .now) (g .scratch .now) (g .c) (g .m) (g .s) (g .l .0) (c .before .before .before .before .before .before .before .before .before .before .before .before .before .before .before .before .before .before .before .before .before .before .pre) (c .before .before .before .before .before .before .before .before .before .before .before .before .before .before .before .before .before .before .zero-at-depth .result .0) (c .before .before .before .before .before .before .before .before .before .before .before .before .before .before .before .before .before .before .zero-at-depth .ensures (g .config .fields)) (c .before .before .before .before .before .before .before .before .before .before .before .before .before .before .before .if1 .left) (c .before .before .before .before .before .before .before .before .before .before .before .before .before .mk-spp .result) (c .before .before .before .before .before .before .before .before .before .before .before .before .before .mk-spp .last .0) (c .before .before .before .before .before .before .before .before .before .before .before .before .before .mk-spp .ensures) _ _ (c .before .before .before .before .before .before .before .before .before .put2 .given .1) (c .before .before .before .before .before .before .before .if2 .left) (c .before .before .before .before .place-in .result) (c .before .before .before .before .place-in .last .0) (c .before .before .before .before .place-in .last .1 .0) (c .before .before .before .before .place-in .ensures)
 
 pub st-insert-helper-spec : {M : Type 1} → statement M
 st-insert-helper-spec =

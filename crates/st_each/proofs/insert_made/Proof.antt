@@ -27,7 +27,7 @@ enum-known-edged-2 c = search needs
 st-insert-requires : tie.Need-st-insert-requires
 st-insert-requires c κs =
     let g = c .before .before .before .before .before .before .before .before .before .before .before .before .before .before .before .before .before .before .before .before .before .before .before .before .args in
-    join.insert-ready (g .fields) (g .limits) (g .nodes .now) (g .states .now) (g .members .now) (g .scratch .now) (g .c) (eachOf (g .each)) (edgeOf (g .t)) (g .m) (c .before .before .before .before .before .before .before .before .before .before .before .before .before .before .before .before .before .before .before .before .before .before .before .before .pre)
+    join.insert-ready (g .config .fields) (g .config .limits) (g .nodes .now) (g .states .now) (g .members .now) (g .scratch .now) (g .c) (eachOf (g .each)) (edgeOf (g .t)) (g .m) (c .before .before .before .before .before .before .before .before .before .before .before .before .before .before .before .before .before .before .before .before .before .before .before .before .pre)
     (c .before .before .before .before .before .before .before .before .before .before .before .before .before .before .before .make-edge .result) (c .before .before .before .before .before .before .before .before .before .before .before .before .before .before .before .make-edge .last .0) (c .before .before .before .before .before .before .before .before .before .before .before .before .before .before .before .make-edge .last .1 .0) (c .before .before .before .before .before .before .before .before .before .before .before .before .before .before .before .make-edge .last .1 .1 .0) (c .before .before .before .before .before .before .before .before .before .before .before .before .before .before .before .make-edge .last .1 .1 .1 .0) (c .before .before .before .before .before .before .before .before .before .before .before .before .before .before .before .make-edge .ensures) (c .before .before .before .before .before .before .before .before .before .before .before .before .before .before .before .make-edge .kept .1 .1 .1 .0) _ _ (c .before .before .before .before .before .edged2 .given .1)
 
 -- src/lib.rt:147:1
@@ -54,7 +54,7 @@ same-length-4 c =
 returns : tie.Need-returns
 returns c =
     let g = c .before .before .before .before .before .before .before .before .before .before .before .before .before .before .before .before .before .before .before .before .args in
-    join.no-edge (g .fields) (g .limits) (g .nodes .now) (g .states .now) (g .members .now) (g .scratch .now) (g .c) (eachOf (g .each)) (edgeOf (g .t)) (g .m) (c .before .before .before .before .before .before .before .before .before .before .before .before .before .before .before .before .before .before .before .before .pre)
+    join.no-edge (g .config .fields) (g .config .limits) (g .nodes .now) (g .states .now) (g .members .now) (g .scratch .now) (g .c) (eachOf (g .each)) (edgeOf (g .t)) (g .m) (c .before .before .before .before .before .before .before .before .before .before .before .before .before .before .before .before .before .before .before .before .pre)
     (c .before .before .before .before .before .before .before .before .before .before .before .make-edge .result) (c .before .before .before .before .before .before .before .before .before .before .before .make-edge .last .0) (c .before .before .before .before .before .before .before .before .before .before .before .make-edge .last .1 .0) (c .before .before .before .before .before .before .before .before .before .before .before .make-edge .last .1 .1 .0) (c .before .before .before .before .before .before .before .before .before .before .before .make-edge .last .1 .1 .1 .0) (c .before .before .before .before .before .before .before .before .before .before .before .make-edge .ensures) (c .before .before .before .before .before .before .before .before .before .before .before .make-edge .kept .1 .1 .1 .0) _ (c .before .edged .given .1)
 
 -- src/lib.rt:147:1
@@ -81,7 +81,7 @@ same-length-8 c =
 returns-2 : tie.Need-returns-2
 returns-2 c =
     let g = c .before .before .before .before .before .before .before .before .before .before .before .before .before .before .before .before .before .before .before .before .before .before .before .before .before .before .before .before .before .before .before .before .before .args in
-    join.inserted (g .fields) (g .limits) (g .nodes .now) (g .states .now) (g .members .now) (g .scratch .now) (g .c) (eachOf (g .each)) (edgeOf (g .t)) (g .m) (c .before .before .before .before .before .before .before .before .before .before .before .before .before .before .before .before .before .before .before .before .before .before .before .before .before .before .before .before .before .before .before .before .before .pre)
+    join.inserted (g .config .fields) (g .config .limits) (g .nodes .now) (g .states .now) (g .members .now) (g .scratch .now) (g .c) (eachOf (g .each)) (edgeOf (g .t)) (g .m) (c .before .before .before .before .before .before .before .before .before .before .before .before .before .before .before .before .before .before .before .before .before .before .before .before .before .before .before .before .before .before .before .before .before .pre)
     (c .before .before .before .before .before .before .before .before .before .before .before .before .before .before .before .before .before .before .before .before .before .before .before .before .make-edge .result) (c .before .before .before .before .before .before .before .before .before .before .before .before .before .before .before .before .before .before .before .before .before .before .before .before .make-edge .last .0) (c .before .before .before .before .before .before .before .before .before .before .before .before .before .before .before .before .before .before .before .before .before .before .before .before .make-edge .last .1 .0) (c .before .before .before .before .before .before .before .before .before .before .before .before .before .before .before .before .before .before .before .before .before .before .before .before .make-edge .last .1 .1 .0) (c .before .before .before .before .before .before .before .before .before .before .before .before .before .before .before .before .before .before .before .before .before .before .before .before .make-edge .last .1 .1 .1 .0) (c .before .before .before .before .before .before .before .before .before .before .before .before .before .before .before .before .before .before .before .before .before .before .before .before .make-edge .ensures) (c .before .before .before .before .before .before .before .before .before .before .before .before .before .before .before .before .before .before .before .before .before .before .before .before .make-edge .kept .1 .1 .1 .0) _ _ (c .before .before .before .before .before .before .before .before .before .before .before .before .before .before .edged2 .given .1)
     (c .before .before .before .before .before .before .before .before .st-insert .result) (c .before .before .before .before .before .before .before .before .st-insert .last .0) (c .before .before .before .before .before .before .before .before .st-insert .last .1 .0) (c .before .before .before .before .before .before .before .before .st-insert .last .1 .1 .0) (c .before .before .before .before .before .before .before .before .st-insert .last .1 .1 .1 .0) (c .before .before .before .before .before .before .before .before .st-insert .ensures)
 

@@ -26,7 +26,7 @@ enum-known-each c = search needs
 mk-sequence-requires : tie.Need-mk-sequence-requires
 mk-sequence-requires c κs =
     let g = c .before .before .before .before .before .before .before .before .before .before .args in
-    join.sequence-ready (g .fields) (g .limits) (g .nodes .now) (g .states .now) (g .members .now) (g .scratch .now) (g .c) (g .each) (g .t) (c .before .before .before .before .before .before .before .before .before .before .pre) (c .before .before .before .before .each .given .1)
+    join.sequence-ready (g .config .fields) (g .config .limits) (g .nodes .now) (g .states .now) (g .members .now) (g .scratch .now) (g .c) (g .each) (g .t) (c .before .before .before .before .before .before .before .before .before .before .pre) (c .before .before .before .before .each .given .1)
 
 -- src/lib.rt:120:30
 to-state-requires : tie.Need-to-state-requires
@@ -40,7 +40,7 @@ enum-known-each-2 c = search needs
 relate-requires : tie.Need-relate-requires
 relate-requires c κs =
     let g = c .before .before .before .before .before .before .before .before .before .args in
-    join.after-ready (g .fields) (g .limits) (g .nodes .now) (g .states .now) (g .members .now) (g .scratch .now) (g .c) (g .each) (g .t) (c .before .before .before .before .before .before .before .before .before .pre) (c .before .before .before .each2 .given .1)
+    join.after-ready (g .config .fields) (g .config .limits) (g .nodes .now) (g .states .now) (g .members .now) (g .scratch .now) (g .c) (g .each) (g .t) (c .before .before .before .before .before .before .before .before .before .pre) (c .before .before .before .each2 .given .1)
 
 -- src/lib.rt:124:27
 to-label-requires : tie.Need-to-label-requires
@@ -54,7 +54,7 @@ enum-known-each-3 c = search needs
 mk-intersect-requires : tie.Need-mk-intersect-requires
 mk-intersect-requires c κs =
     let g = c .before .before .before .before .before .before .before .before .before .before .before .args in
-    join.intersect-ready (g .fields) (g .limits) (g .nodes .now) (g .states .now) (g .members .now) (g .scratch .now) (g .c) (g .each) (g .t) (c .before .before .before .before .before .before .before .before .before .before .before .pre) (c .before .before .before .before .before .each3 .given .1)
+    join.intersect-ready (g .config .fields) (g .config .limits) (g .nodes .now) (g .states .now) (g .members .now) (g .scratch .now) (g .c) (g .each) (g .t) (c .before .before .before .before .before .before .before .before .before .before .before .pre) (c .before .before .before .before .before .each3 .given .1)
 
 -- src/lib.rt:129:31
 to-state-requires-2 : tie.Need-to-state-requires-2
@@ -68,7 +68,7 @@ enum-told-2 c = search needs
 mk-complement-requires : tie.Need-mk-complement-requires
 mk-complement-requires c κs =
     let g = c .before .before .before .before .before .before .before .args in
-    join.complement-ready (g .fields) (g .limits) (g .nodes .now) (g .states .now) (g .members .now) (g .scratch .now) (g .c) (g .each) (g .t) (c .before .before .before .before .before .before .before .pre)
+    join.complement-ready (g .config .fields) (g .config .limits) (g .nodes .now) (g .states .now) (g .members .now) (g .scratch .now) (g .c) (g .each) (g .t) (c .before .before .before .before .before .before .before .pre)
 
 -- src/lib.rt:135:22
 placed-requires : tie.Need-placed-requires
@@ -86,7 +86,7 @@ enum-known-each-4 c = search needs
 apply-requires : tie.Need-apply-requires
 apply-requires c κs =
     let g = c .before .before .before .before .before .before .before .before .before .args in
-    join.rest-ready (g .fields) (g .limits) (g .nodes .now) (g .states .now) (g .members .now) (g .scratch .now) (g .c) (g .each) (g .t) (c .before .before .before .before .before .before .before .before .before .pre) (c .before .before .before .each4 .given .1)
+    join.rest-ready (g .config .fields) (g .config .limits) (g .nodes .now) (g .states .now) (g .members .now) (g .scratch .now) (g .c) (g .each) (g .t) (c .before .before .before .before .before .before .before .before .before .pre) (c .before .before .before .each4 .given .1)
 
 -- src/lib.rt:137:26
 to-label-requires-2 : tie.Need-to-label-requires-2
@@ -100,13 +100,13 @@ enum-known-each-5 c = search needs
 meet-of-requires : tie.Need-meet-of-requires
 meet-of-requires c κs =
     let g = c .before .before .before .before .before .before .before .before .before .before .before .args in
-    join.meet-ready (g .fields) (g .limits) (g .nodes .now) (g .states .now) (g .members .now) (g .scratch .now) (g .c) (g .each) (g .t) (c .before .before .before .before .before .before .before .before .before .before .before .pre) (c .before .before .before .before .before .each5 .given .1)
+    join.meet-ready (g .config .fields) (g .config .limits) (g .nodes .now) (g .states .now) (g .members .now) (g .scratch .now) (g .c) (g .each) (g .t) (c .before .before .before .before .before .before .before .before .before .before .before .pre) (c .before .before .before .before .before .each5 .given .1)
 
 -- src/lib.rt:104:1
 returns : tie.Need-returns
 returns c =
     let g = c .before .before .before .before .before .before .args in
-    join.same (g .fields) (g .limits) (g .nodes .now) (g .states .now) (g .members .now) (g .scratch .now) (g .c) (g .each) (g .t) (c .before .before .before .before .before .before .pre) (c .enum-told .given .1)
+    join.same (g .config .fields) (g .config .limits) (g .nodes .now) (g .states .now) (g .members .now) (g .scratch .now) (g .c) (g .each) (g .t) (c .before .before .before .before .before .before .pre) (c .enum-told .given .1)
 
 -- src/lib.rt:104:1
 same-length : tie.Need-same-length
@@ -127,7 +127,7 @@ same-length-3 c =
 returns-2 : tie.Need-returns-2
 returns-2 c =
     let g = c .before .before .before .before .before .before .before .before .before .before .before .before .before .before .before .before .before .before .args in
-    join.sequenced (g .fields) (g .limits) (g .nodes .now) (g .states .now) (g .members .now) (g .scratch .now) (g .c) (g .each) (g .t) (c .before .before .before .before .before .before .before .before .before .before .before .before .before .before .before .before .before .before .pre) (c .before .before .before .before .before .before .before .before .before .before .before .before .each .given .1)
+    join.sequenced (g .config .fields) (g .config .limits) (g .nodes .now) (g .states .now) (g .members .now) (g .scratch .now) (g .c) (g .each) (g .t) (c .before .before .before .before .before .before .before .before .before .before .before .before .before .before .before .before .before .before .pre) (c .before .before .before .before .before .before .before .before .before .before .before .before .each .given .1)
     (c .before .before .before .before .before .before .before .mk-sequence .result) (c .before .before .before .before .before .before .before .mk-sequence .last .0) (c .before .before .before .before .before .before .before .mk-sequence .last .1 .0) (c .before .before .before .before .before .before .before .mk-sequence .last .1 .1 .0) (c .before .before .before .before .before .before .before .mk-sequence .ensures) (c .before .before .before .before .before .before .before .mk-sequence .kept .1 .1 .0) (c .to-state .result) (c .to-state .ensures)
 
 -- src/lib.rt:104:1
@@ -144,7 +144,7 @@ same-length-5 c =
 returns-3 : tie.Need-returns-3
 returns-3 c =
     let g = c .before .before .before .before .before .before .before .before .before .before .before .before .before .before .before .args in
-    join.followed (g .fields) (g .limits) (g .nodes .now) (g .states .now) (g .members .now) (g .scratch .now) (g .c) (g .each) (g .t) (c .before .before .before .before .before .before .before .before .before .before .before .before .before .before .before .pre) (c .before .before .before .before .before .before .before .before .before .each2 .given .1)
+    join.followed (g .config .fields) (g .config .limits) (g .nodes .now) (g .states .now) (g .members .now) (g .scratch .now) (g .c) (g .each) (g .t) (c .before .before .before .before .before .before .before .before .before .before .before .before .before .before .before .pre) (c .before .before .before .before .before .before .before .before .before .each2 .given .1)
     (c .before .before .before .before .before .relate .result) (c .before .before .before .before .before .relate .last .0) (c .before .before .before .before .before .relate .last .1 .0) (c .before .before .before .before .before .relate .ensures) (c .before .before .before .before .before .relate .kept .1 .0) (c .to-label .result) (c .to-label .ensures)
 
 -- src/lib.rt:104:1
@@ -171,7 +171,7 @@ same-length-9 c =
 returns-4 : tie.Need-returns-4
 returns-4 c =
     let g = c .before .before .before .before .before .before .before .before .before .before .before .before .before .before .before .before .before .before .before .before .before .args in
-    join.intersected (g .fields) (g .limits) (g .nodes .now) (g .states .now) (g .members .now) (g .scratch .now) (g .c) (g .each) (g .t) (c .before .before .before .before .before .before .before .before .before .before .before .before .before .before .before .before .before .before .before .before .before .pre) (c .before .before .before .before .before .before .before .before .before .before .before .before .before .before .before .each3 .given .1)
+    join.intersected (g .config .fields) (g .config .limits) (g .nodes .now) (g .states .now) (g .members .now) (g .scratch .now) (g .c) (g .each) (g .t) (c .before .before .before .before .before .before .before .before .before .before .before .before .before .before .before .before .before .before .before .before .before .pre) (c .before .before .before .before .before .before .before .before .before .before .before .before .before .before .before .each3 .given .1)
     (c .before .before .before .before .before .before .before .before .before .mk-intersect .result) (c .before .before .before .before .before .before .before .before .before .mk-intersect .last .0) (c .before .before .before .before .before .before .before .before .before .mk-intersect .last .1 .0) (c .before .before .before .before .before .before .before .before .before .mk-intersect .last .1 .1 .0) (c .before .before .before .before .before .before .before .before .before .mk-intersect .last .1 .1 .1 .0) (c .before .before .before .before .before .before .before .before .before .mk-intersect .ensures) (c .before .before .before .before .before .before .before .before .before .mk-intersect .kept .1 .1 .1 .0) (c .to-state2 .result) (c .to-state2 .ensures)
 
 -- src/lib.rt:104:1
@@ -183,7 +183,7 @@ same-length-10 c =
 returns-5 : tie.Need-returns-5
 returns-5 c =
     let g = c .before .before .before .before .before .before .before .before .before .before .before .before .args in
-    join.complemented (g .fields) (g .limits) (g .nodes .now) (g .states .now) (g .members .now) (g .scratch .now) (g .c) (g .each) (g .t) (c .before .before .before .before .before .before .before .before .before .before .before .before .pre) (c .before .before .before .before .before .before .enum-told2 .given .1)
+    join.complemented (g .config .fields) (g .config .limits) (g .nodes .now) (g .states .now) (g .members .now) (g .scratch .now) (g .c) (g .each) (g .t) (c .before .before .before .before .before .before .before .before .before .before .before .before .pre) (c .before .before .before .before .before .before .enum-told2 .given .1)
     (c .before .before .before .before .mk-complement .result) (c .before .placed .result) (c .before .before .before .before .mk-complement .last .0) (c .before .before .before .before .mk-complement .ensures) (c .before .placed .ensures) (c .to-state3 .result) (c .to-state3 .ensures)
 
 -- src/lib.rt:104:1
@@ -200,7 +200,7 @@ same-length-12 c =
 returns-6 : tie.Need-returns-6
 returns-6 c =
     let g = c .before .before .before .before .before .before .before .before .before .before .before .before .before .before .before .args in
-    join.rested (g .fields) (g .limits) (g .nodes .now) (g .states .now) (g .members .now) (g .scratch .now) (g .c) (g .each) (g .t) (c .before .before .before .before .before .before .before .before .before .before .before .before .before .before .before .pre) (c .before .before .before .before .before .before .before .before .before .each4 .given .1)
+    join.rested (g .config .fields) (g .config .limits) (g .nodes .now) (g .states .now) (g .members .now) (g .scratch .now) (g .c) (g .each) (g .t) (c .before .before .before .before .before .before .before .before .before .before .before .before .before .before .before .pre) (c .before .before .before .before .before .before .before .before .before .each4 .given .1)
     (c .before .before .before .before .before .apply .result) (c .before .before .before .before .before .apply .last .0) (c .before .before .before .before .before .apply .last .1 .0) (c .before .before .before .before .before .apply .ensures) (c .before .before .before .before .before .apply .kept .1 .0) (c .to-label2 .result) (c .to-label2 .ensures)
 
 -- src/lib.rt:104:1
@@ -227,7 +227,7 @@ same-length-16 c =
 returns-7 : tie.Need-returns-7
 returns-7 c =
     let g = c .before .before .before .before .before .before .before .before .before .before .before .before .before .before .before .before .before .before .before .before .args in
-    join.meets (g .fields) (g .limits) (g .nodes .now) (g .states .now) (g .members .now) (g .scratch .now) (g .c) (g .each) (g .t) (c .before .before .before .before .before .before .before .before .before .before .before .before .before .before .before .before .before .before .before .before .pre) (c .before .before .before .before .before .before .before .before .before .before .before .before .before .before .each5 .given .1)
+    join.meets (g .config .fields) (g .config .limits) (g .nodes .now) (g .states .now) (g .members .now) (g .scratch .now) (g .c) (g .each) (g .t) (c .before .before .before .before .before .before .before .before .before .before .before .before .before .before .before .before .before .before .before .before .pre) (c .before .before .before .before .before .before .before .before .before .before .before .before .before .before .each5 .given .1)
     (c .before .before .before .before .before .before .before .before .meet-of .result) (c .before .before .before .before .before .before .before .before .meet-of .last .0) (c .before .before .before .before .before .before .before .before .meet-of .last .1 .0) (c .before .before .before .before .before .before .before .before .meet-of .last .1 .1 .0) (c .before .before .before .before .before .before .before .before .meet-of .last .1 .1 .1 .0) (c .before .before .before .before .before .before .before .before .meet-of .ensures)
 
 pub make-edge-spec : {M : Type 1} → statement M

@@ -13,7 +13,7 @@ use Rattle.st_each.proofs.to_label.Reads as to-label-reads
 mk-intersect-requires : tie.Need-mk-intersect-requires
 mk-intersect-requires c κs =
     let g = c .before .before .before .before .before .before .before .before .args in
-    join.states-ready (g .fields) (g .limits) (g .nodes .now) (g .states .now) (g .members .now) (g .scratch .now) (g .c) (g .s) (g .l) (g .t) (c .before .before .before .before .before .before .before .before .pre)
+    join.states-ready (g .config .fields) (g .config .limits) (g .nodes .now) (g .states .now) (g .members .now) (g .scratch .now) (g .c) (g .s) (g .l) (g .t) (c .before .before .before .before .before .before .before .before .pre)
 
 -- src/lib.rt:95:24
 enum-known-state : tie.Need-enum-known-state
@@ -27,7 +27,7 @@ enum-known-state-2 c = search needs
 apply-requires : tie.Need-apply-requires
 apply-requires c κs =
     let g = c .before .before .before .before .before .before .before .before .before .before .before .before .before .before .before .before .before .before .before .before .before .before .args in
-    join.labels-ready (g .fields) (g .limits) (g .nodes .now) (g .states .now) (g .members .now) (g .scratch .now) (g .c) (g .s) (g .l) (g .t) (c .before .before .before .before .before .before .before .before .before .before .before .before .before .before .before .before .before .before .before .before .before .before .pre)
+    join.labels-ready (g .config .fields) (g .config .limits) (g .nodes .now) (g .states .now) (g .members .now) (g .scratch .now) (g .c) (g .s) (g .l) (g .t) (c .before .before .before .before .before .before .before .before .before .before .before .before .before .before .before .before .before .before .before .before .before .before .pre)
     (c .before .before .before .before .before .before .before .before .before .before .before .before .before .mk-intersect .result) (c .before .before .before .before .before .before .before .before .before .before .before .before .before .mk-intersect .last .0) (c .before .before .before .before .before .before .before .before .before .before .before .before .before .mk-intersect .last .1 .0) (c .before .before .before .before .before .before .before .before .before .before .before .before .before .mk-intersect .last .1 .1 .0) (c .before .before .before .before .before .before .before .before .before .before .before .before .before .mk-intersect .last .1 .1 .1 .0) (c .before .before .before .before .before .before .before .before .before .before .before .before .before .mk-intersect .ensures) (c .before .before .before .before .before .before .before .before .before .before .before .before .before .mk-intersect .kept .1 .1 .1 .0) _ _ (c .before .before .before .state2 .given .1)
 
 -- src/lib.rt:96:28
@@ -58,7 +58,7 @@ same-length-4 c =
 returns : tie.Need-returns
 returns c =
     let g = c .before .before .before .before .before .before .before .before .before .before .before .before .before .before .before .before .before .before .before .before .args in
-    join.no-state (g .fields) (g .limits) (g .nodes .now) (g .states .now) (g .members .now) (g .scratch .now) (g .c) (g .s) (g .l) (g .t) (c .before .before .before .before .before .before .before .before .before .before .before .before .before .before .before .before .before .before .before .before .pre)
+    join.no-state (g .config .fields) (g .config .limits) (g .nodes .now) (g .states .now) (g .members .now) (g .scratch .now) (g .c) (g .s) (g .l) (g .t) (c .before .before .before .before .before .before .before .before .before .before .before .before .before .before .before .before .before .before .before .before .pre)
     (c .before .before .before .before .before .before .before .before .before .before .before .mk-intersect .result) (c .before .before .before .before .before .before .before .before .before .before .before .mk-intersect .last .0) (c .before .before .before .before .before .before .before .before .before .before .before .mk-intersect .last .1 .0) (c .before .before .before .before .before .before .before .before .before .before .before .mk-intersect .last .1 .1 .0) (c .before .before .before .before .before .before .before .before .before .before .before .mk-intersect .last .1 .1 .1 .0) (c .before .before .before .before .before .before .before .before .before .before .before .mk-intersect .ensures) (c .before .before .before .before .before .before .before .before .before .before .before .mk-intersect .kept .1 .1 .1 .0) _ (c .before .state .given .1)
 
 -- src/lib.rt:78:1
@@ -85,7 +85,7 @@ same-length-8 c =
 returns-2 : tie.Need-returns-2
 returns-2 c =
     let g = c .before .before .before .before .before .before .before .before .before .before .before .before .before .before .before .before .before .before .before .before .before .before .before .before .before .before .before .before .args in
-    join.met (g .fields) (g .limits) (g .nodes .now) (g .states .now) (g .members .now) (g .scratch .now) (g .c) (g .s) (g .l) (g .t) (c .before .before .before .before .before .before .before .before .before .before .before .before .before .before .before .before .before .before .before .before .before .before .before .before .before .before .before .before .pre)
+    join.met (g .config .fields) (g .config .limits) (g .nodes .now) (g .states .now) (g .members .now) (g .scratch .now) (g .c) (g .s) (g .l) (g .t) (c .before .before .before .before .before .before .before .before .before .before .before .before .before .before .before .before .before .before .before .before .before .before .before .before .before .before .before .before .pre)
     (c .before .before .before .before .before .before .before .before .before .before .before .before .before .before .before .before .before .before .before .mk-intersect .result) (c .before .before .before .before .before .before .before .before .before .before .before .before .before .before .before .before .before .before .before .mk-intersect .last .0) (c .before .before .before .before .before .before .before .before .before .before .before .before .before .before .before .before .before .before .before .mk-intersect .last .1 .0) (c .before .before .before .before .before .before .before .before .before .before .before .before .before .before .before .before .before .before .before .mk-intersect .last .1 .1 .0) (c .before .before .before .before .before .before .before .before .before .before .before .before .before .before .before .before .before .before .before .mk-intersect .last .1 .1 .1 .0) (c .before .before .before .before .before .before .before .before .before .before .before .before .before .before .before .before .before .before .before .mk-intersect .ensures) (c .before .before .before .before .before .before .before .before .before .before .before .before .before .before .before .before .before .before .before .mk-intersect .kept .1 .1 .1 .0) _ _ (c .before .before .before .before .before .before .before .before .before .state2 .given .1)
     (c .before .before .before .before .before .apply .result) (c .before .before .before .before .before .apply .last .0) (c .before .before .before .before .before .apply .last .1 .0) (c .before .before .before .before .before .apply .ensures) (c .before .before .before .before .before .apply .kept .1 .0) (c .to-label .result) (c .to-label .ensures)
 

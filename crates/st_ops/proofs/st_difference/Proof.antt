@@ -16,7 +16,7 @@ zero-at-depth-requires c κs = search needs
 -- src/lib.rt:118:9
 subtract-rows-requires : tie.Need-subtract-rows-requires
 subtract-rows-requires c κs =
-    join.rows-ready (c .before .before .before .before .before .before .before .before .before .before .pre) (c .before .before .before .before .zero-at-depth .ensures (c .before .before .before .before .before .before .before .before .before .before .args .fields))
+    join.rows-ready (c .before .before .before .before .before .before .before .before .before .before .pre) (c .before .before .before .before .zero-at-depth .ensures (c .before .before .before .before .before .before .before .before .before .before .args .config .fields))
 
 -- src/lib.rt:135:25
 enum-known-summed : tie.Need-enum-known-summed
@@ -29,7 +29,7 @@ enum-known-summed-2 c = search needs
 -- src/lib.rt:136:36
 insert-each-requires : tie.Need-insert-each-requires
 insert-each-requires c κs =
-    join.rest-ready (c .before .before .before .before .before .before .before .before .before .before .before .before .before .before .before .before .before .before .before .before .before .before .before .before .before .before .pre) (c .before .before .before .before .before .before .before .before .before .before .before .before .before .before .before .before .before .before .before .before .zero-at-depth .ensures (c .before .before .before .before .before .before .before .before .before .before .before .before .before .before .before .before .before .before .before .before .before .before .before .before .before .before .args .fields)) (c .before .before .before .before .before .before .before .before .before .before .before .before .before .before .before .subtract-rows .ensures) (c .before .before .before .before .before .summed2 .given .1)
+    join.rest-ready (c .before .before .before .before .before .before .before .before .before .before .before .before .before .before .before .before .before .before .before .before .before .before .before .before .before .before .pre) (c .before .before .before .before .before .before .before .before .before .before .before .before .before .before .before .before .before .before .before .before .zero-at-depth .ensures (c .before .before .before .before .before .before .before .before .before .before .before .before .before .before .before .before .before .before .before .before .before .before .before .before .before .before .args .config .fields)) (c .before .before .before .before .before .before .before .before .before .before .before .before .before .before .before .subtract-rows .ensures) (c .before .before .before .before .before .summed2 .given .1)
 
 -- src/lib.rt:100:1
 same-length : tie.Need-same-length
@@ -50,7 +50,7 @@ same-length-4 c = search needs
 -- src/lib.rt:100:1
 returns : tie.Need-returns
 returns c =
-    join.difference-refused (c .before .before .before .before .before .before .before .before .before .before .before .before .before .before .before .before .before .before .before .before .before .before .pre) (c .before .before .before .before .before .before .before .before .before .before .before .before .before .before .before .before .zero-at-depth .ensures (c .before .before .before .before .before .before .before .before .before .before .before .before .before .before .before .before .before .before .before .before .before .before .args .fields)) (c .before .before .before .before .before .before .before .before .before .before .before .subtract-rows .ensures) (c .before .summed .given .1)
+    join.difference-refused (c .before .before .before .before .before .before .before .before .before .before .before .before .before .before .before .before .before .before .before .before .before .before .pre) (c .before .before .before .before .before .before .before .before .before .before .before .before .before .before .before .before .zero-at-depth .ensures (c .before .before .before .before .before .before .before .before .before .before .before .before .before .before .before .before .before .before .before .before .before .before .args .config .fields)) (c .before .before .before .before .before .before .before .before .before .before .before .subtract-rows .ensures) (c .before .summed .given .1)
 
 -- src/lib.rt:100:1
 same-length-5 : tie.Need-same-length-5
@@ -71,7 +71,7 @@ same-length-8 c = search needs
 -- src/lib.rt:100:1
 returns-2 : tie.Need-returns-2
 returns-2 c =
-    join.difference-does (c .before .before .before .before .before .before .before .before .before .before .before .before .before .before .before .before .before .before .before .before .before .before .before .before .before .before .before .before .before .before .before .before .before .before .before .pre) (c .before .before .before .before .before .before .before .before .before .before .before .before .before .before .before .before .before .before .before .before .before .before .before .before .before .before .before .before .before .zero-at-depth .ensures (c .before .before .before .before .before .before .before .before .before .before .before .before .before .before .before .before .before .before .before .before .before .before .before .before .before .before .before .before .before .before .before .before .before .before .before .args .fields)) (c .before .before .before .before .before .before .before .before .before .before .before .before .before .before .before .before .before .before .before .before .before .before .before .before .subtract-rows .ensures) (c .before .before .before .before .before .before .before .before .before .before .before .before .before .before .summed2 .given .1) (c .before .before .before .before .before .before .before .before .insert-each .ensures)
+    join.difference-does (c .before .before .before .before .before .before .before .before .before .before .before .before .before .before .before .before .before .before .before .before .before .before .before .before .before .before .before .before .before .before .before .before .before .before .before .pre) (c .before .before .before .before .before .before .before .before .before .before .before .before .before .before .before .before .before .before .before .before .before .before .before .before .before .before .before .before .before .zero-at-depth .ensures (c .before .before .before .before .before .before .before .before .before .before .before .before .before .before .before .before .before .before .before .before .before .before .before .before .before .before .before .before .before .before .before .before .before .before .before .args .config .fields)) (c .before .before .before .before .before .before .before .before .before .before .before .before .before .before .before .before .before .before .before .before .before .before .before .before .subtract-rows .ensures) (c .before .before .before .before .before .before .before .before .before .before .before .before .before .before .summed2 .given .1) (c .before .before .before .before .before .before .before .before .insert-each .ensures)
 
 pub st-difference-spec : {M : Type 1} → statement M
 st-difference-spec =

@@ -31,7 +31,7 @@ same-length-4 c = search needs
 -- src/lib.rt:66:1
 returns : tie.Need-returns
 returns c =
-    let g = c .before .before .before .before .before .before .before .before .before .before .before .before .before .before .before .before .before .before .args in join.intersect-does (g .fields) (g .limits) (g .transitions .now) (g .scratch .now) (g .first) (g .second) (g .k) (g .j) (c .before .before .before .before .before .before .before .before .insert-pairs .ensures)
+    let g = c .before .before .before .before .before .before .before .before .before .before .before .before .before .before .before .before .before .before .args in join.intersect-does (g .config .fields) (g .config .limits) (g .transitions .now) (g .scratch .now) (g .first) (g .second) (c .before .before .before .before .before .before .before .before .insert-pairs .ensures)
 
 pub st-intersect-spec : {M : Type 1} → statement M
 st-intersect-spec =
