@@ -15,7 +15,6 @@ use Rattle.netkat.specs.Handles.{Entry}
 use Rattle.sp_steps.specs.Model as Sp
 use Rattle.sp_steps.specs.Laws as SpLaws
 use Rattle.spp_steps.specs.Laws.{by-test, false-true}
-use Rattle.aut_steps.specs.Good.{states}
 use Rattle.query_steps.specs.Tables.{Tables}
 use Rattle.query_steps.specs.Search.{capacity, machine, is-empty}
 use Rattle.query_stage.specs.Layer.{tablesOf, queryLayer, PreQuery}
@@ -32,13 +31,15 @@ use Rattle.aut_empty.specs.declared.Verdict.{Verdict}
 use Rattle.aut_empty.specs.declared.Verdict.the-variants as verdict
 use Rattle.aut_empty.specs.declared.Searched.{Searched}
 use Rattle.aut_empty.specs.declared.Searched.the-variants as searched
-use Rattle.aut_empty.specs.declared.Turned.{Turned}
-use Rattle.aut_empty.specs.declared.Turned.the-variants as turned
+use Rattle.aut_empty_pair.specs.declared.Turned.{Turned}
+use Rattle.aut_empty_pair.specs.declared.Turned.the-variants as turned
 use Rattle.aut_empty.specs.declared.Ended.{Ended}
 use Rattle.aut_empty.specs.declared.Ended.the-variants as ended
 use Rattle.aut_empty.specs.Contracts.{verdictOf, searchedOf, PostSearch}
-use Rattle.aut_empty.specs.Parts.{entryAt, entriesOf, seenIn, Seeking, Over, Puts, Rested, Emptied, turnedOf, PreTurn, PostTurn, endedOf, PreSeek, PostSeek}
-use Rattle.aut_empty.proofs.Stacks.{entries-pop, entries-none, entries-put, stack-put, fits-in, seen-none}
+use Rattle.aut_empty_words.specs.Words.{entryAt, entriesOf, seenIn, Puts, Rested, Emptied}
+use Rattle.aut_empty_pair.specs.Contracts.{Seeking, Over, turnedOf, PreTurn, PostTurn}
+use Rattle.aut_empty.specs.Parts.{endedOf, PreSeek, PostSeek}
+use Rattle.aut_empty_words.proofs.Stacks.{entries-pop, entries-none, entries-put, stack-put, fits-in, seen-none}
 
 -- ---- search
 

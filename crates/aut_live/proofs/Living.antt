@@ -40,17 +40,19 @@ use Rattle.aut_free.proofs.Free.{clear-keepLives}
 use Rattle.query_calls.specs.Working.{clearOf}
 use Rattle.query_calls.proofs.Works.{working-begin}
 use Rattle.sp.specs.declared.SP.{SP}
-use Rattle.aut_live.specs.declared.Lived.{Lived}
 use Rattle.aut_live.specs.declared.Lived.the-variants as lived
-use Rattle.aut_live.specs.declared.Room.{Room}
-use Rattle.aut_live.specs.declared.Room.the-variants as room
-use Rattle.aut_live.specs.declared.Walked.{Walked}
-use Rattle.aut_live.specs.declared.Walked.the-variants as walked
-use Rattle.aut_live.specs.Work.{workOf, liveBy, seconds, stack, Held, Doubled, Reaches, there, new, full, keepWords, clearWords}
-use Rattle.aut_live.specs.Contracts.{PostLive, PreReach, PreExplore, exploring, Explored, PostExplore, PreSettle, PostSettle, settling, Settled, SetsAt, PostSets, PreKeep, PostClear}
-use Rattle.aut_live.specs.Contracts as Contracts
-use Rattle.aut_live.proofs.Words.{seconds-same, seconds-split, seconds-one}
-use Rattle.aut_live.proofs.Held.{live-reached, live-fresh, held-fits, held-reached, held-listed, held-second, held-there, reverse-behind, seconds-new, Moved, reach-moved}
+use Rattle.aut_live_words.specs.declared.Room.{Room}
+use Rattle.aut_live_words.specs.declared.Room.the-variants as room
+use Rattle.aut_live_words.specs.declared.Walked.{Walked}
+use Rattle.aut_live_words.specs.declared.Walked.the-variants as walked
+use Rattle.aut_live_words.specs.Work.{workOf, liveBy, seconds, stack, Held, Doubled, Reaches, there, new, full, keepWords, clearWords}
+use Rattle.aut_live.specs.Contracts.{PostLive, SetsAt, PostSets}
+use Rattle.aut_live_words.specs.Contracts.{PreReach, PreKeep, PostClear}
+use Rattle.aut_live_reach.specs.Contracts.{PreExplore, exploring, Explored, PostExplore}
+use Rattle.aut_live_pull.specs.Contracts.{PreSettle, PostSettle, settling, Settled}
+use Rattle.aut_live_pull.specs.Contracts as Contracts
+use Rattle.aut_live_words.proofs.Words.{seconds-same, seconds-split, seconds-one}
+use Rattle.aut_live_words.proofs.Held.{live-reached, live-fresh, held-fits, held-reached, held-listed, held-second, held-there, reverse-behind, seconds-new, Moved, reach-moved}
 
 -- ---- entries
 

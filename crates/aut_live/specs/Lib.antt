@@ -1,3 +1,2 @@
--- Live sets in code: how they are kept while they are worked out, what is asked and what is promised.
-pub mod Work
+-- Live sets in code: what is asked and what is promised.
 pub mod Contracts

@@ -1,0 +1,2 @@
+-- A pair of the search: what is asked and what is promised.
+pub mod Contracts

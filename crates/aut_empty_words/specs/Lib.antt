@@ -1,0 +1,2 @@
+-- A search in words: pending entries and seen sets.
+pub mod Words
