@@ -1,0 +1,2 @@
+-- The replay law: a step on states and lists, done again on any later tables in order, gives the same and makes nothing. The proofs are in proofs/.
+pub mod Replay
