@@ -19,8 +19,7 @@ use Rattle.st.specs.declared.Listed.the-variants as listed
 use Rattle.st.specs.Seen.{RESULT}
 use Rattle.st.proofs.Join.{list-few}
 use Rattle.st_edges.specs.Seen.{Wrote, CopyReady}
-use Rattle.st_source.specs.declared.Source.the-variants as source
-use Rattle.st_source.specs.Seen.{Walked}
+use Rattle.st_source.specs.Seen.{scratched, Walked}
 use Rattle.aut_stage.specs.Stage.{refusal, Post, Stage, Inside, next, stuck, wrote, instead}
 use Rattle.aut_stage.specs.OnAut.{autLayer}
 use Rattle.st_stage.specs.Readings.{GivesList}
@@ -61,5 +60,5 @@ module _ {N : ℕ} {l : Limits} (limit : l .transitions ≤ 64) {whole : Outcome
             (wrote (autLayer N l) 0 1088 made (record { from = omega arith; to = omega (arith, few) }) (omega (arith, few)) (C .kept) len)
             (ap (λ (es : List Edge). k es τ1) (sym (C .is)))
 
-        pub waiting : (tr : List ℕ) → Walked N τ1 tr s2 (source.Scratch FIRST) n
+        pub waiting : (tr : List ℕ) → Walked N τ1 tr s2 (scratched FIRST n)
         waiting tr = record { within = (omega arith, omega (arith, few)); edges = subst (EdgesAt N τ1) (sym (C .is)) (told (listed.List f n) q .then .holds .edges) }

@@ -20,14 +20,14 @@ use Rattle.st_ops.proofs.Join.{none-ready, none-at, does-as}
 use Rattle.st_stage.specs.Readings.{GivesList, of-list}
 use Rattle.delta_lists.specs.Seen.{ToReady, BehindReady}
 
-module _ {N : ℕ} {l : Limits} {σ : Aut} {tr s : List ℕ} {x : Source} {k : ℕ} where
-  pub follow-ready : {e : ℕ} → ToReady N l σ tr s x k e → EachReady N l σ tr s (M.sequence e) x k 0
+module _ {N : ℕ} {l : Limits} {σ : Aut} {tr s : List ℕ} {x : Source} where
+  pub follow-ready : {e : ℕ} → ToReady N l σ tr s x e → EachReady N l σ tr s (M.sequence e) x 0
   follow-ready W = record { list = none-ready (W .list .ready) (W .list .limit); operands = W .state; walked = W .list .walked }
 
-  pub meet-ready : {e : ℕ} → ToReady N l σ tr s x k e → EachReady N l σ tr s (M.intersect e) x k 0
+  pub meet-ready : {e : ℕ} → ToReady N l σ tr s x e → EachReady N l σ tr s (M.intersect e) x 0
   meet-ready W = record { list = none-ready (W .list .ready) (W .list .limit); operands = W .state; walked = W .list .walked }
 
-  pub behind-ready : {h : ℕ} → BehindReady N l σ tr s h x k → EachReady N l σ tr s (M.after h) x k 0
+  pub behind-ready : {h : ℕ} → BehindReady N l σ tr s h x → EachReady N l σ tr s (M.after h) x 0
   behind-ready W = record { list = none-ready (W .list .ready) (W .list .limit); operands = W .label; walked = W .list .walked }
 
 module _ (N : ℕ) (l : Limits) (ts : List Edge) (e : ℕ) {σ : Aut} (r : Listed) {c : Counts} {t st mem s s′ : List ℕ} where

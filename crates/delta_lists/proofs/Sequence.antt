@@ -15,7 +15,7 @@ use Rattle.aut.specs.declared.Limits.{Limits}
 use Rattle.aut_rel.specs.Seen.{autOf, Ready}
 use Rattle.st.specs.declared.Listed.{Listed}
 use Rattle.st.specs.Seen.{DoesList}
-use Rattle.st_source.specs.declared.Source.the-variants as source
+use Rattle.st_source.specs.Seen.{stored}
 use Rattle.st_more.proofs.Join.{Joins}
 use Rattle.st_stage.specs.Readings.{GivesList, to-list}
 use Rattle.delta_lists.specs.Seen.{BehindReady, SequenceReady}
@@ -25,7 +25,7 @@ module _ {N : ℕ} {l : Limits} {σ : Aut} {tr s : List ℕ} {y ε a k b j : ℕ
   unfolding sequenceList
   sequence-joins = record { ready = W .stored .first .ready; limit = W .stored .first .limit; is = refl }
 
-  pub early-ready : {τ : Aut} {s′ : List ℕ} → Ready N l τ s′ → Grown σ τ → BehindReady N l τ tr s′ ε (source.Stored b) j
+  pub early-ready : {τ : Aut} {s′ : List ℕ} → Ready N l τ s′ → Grown σ τ → BehindReady N l τ tr s′ ε (stored b j)
   early-ready r w = record {
     list = record { ready = r; limit = W .stored .first .limit; walked = record { within = W .stored .second .within; edges = edges-grown w (W .stored .second .edges) } };
     label = label-grown w (W .label);

@@ -19,7 +19,7 @@ use Rattle.st.specs.declared.Listed.{Listed}
 use Rattle.st.specs.declared.Listed.the-variants as listed
 use Rattle.st.specs.Seen.{RESULT}
 use Rattle.st_edges.specs.Seen.{Wrote, CopyReady}
-use Rattle.st_source.specs.declared.Source.the-variants as source
+use Rattle.st_source.specs.Seen.{scratched}
 use Rattle.aut_stage.specs.Stage.{Stage, begin, finish}
 use Rattle.aut_stage.specs.OnAut.{autLayer}
 use Rattle.st_stage.specs.Readings.{listOf, GivesList}
@@ -55,7 +55,7 @@ module _ {N : ℕ} {l : Limits} {σ : Aut} {tr s : List ℕ} {x ε a k : ℕ} (W
         star-1 : Stage (autLayer N l) 0 1088 (whole σ) (early (edges s2 FIRST n) (autOf t1 st1 mem1 d)) σ (autOf t1 st1 mem1 d) c d s s2
         star-1 = copied.copied (W .stored .limit) late early (star-0 c) D1 q1 C len
 
-        pub star-ready : BehindReady N l (autOf t1 st1 mem1 d) tr s2 ε (source.Scratch FIRST) n
+        pub star-ready : BehindReady N l (autOf t1 st1 mem1 d) tr s2 ε (scratched FIRST n)
         star-ready = record {
           list = record { ready = star-1 .ready; limit = W .stored .limit; walked = copied.waiting (W .stored .limit) late early (star-0 c) D1 q1 C len tr };
           label = label-grown (star-1 .ext .grown) (W .label);

@@ -28,7 +28,7 @@ use Rattle.st.specs.declared.Listed.{Listed}
 use Rattle.st.specs.declared.Listed.the-variants as listed
 use Rattle.st.specs.Seen.{RESULT, DoesList}
 use Rattle.st_edges.specs.Seen.{Wrote, CopyReady}
-use Rattle.st_source.specs.declared.Source.the-variants as source
+use Rattle.st_source.specs.Seen.{stored, scratched}
 use Rattle.st_ops.specs.Seen.{TwoReady}
 use Rattle.aut_stage.specs.Stage.{gave, Post, Stage, Inside, begin, next, stuck, finish}
 use Rattle.aut_stage.specs.OnAut.{autLayer}
@@ -80,7 +80,7 @@ module _ {N : ℕ} {l : Limits} (t st mem : List ℕ) (c : Counts) {tr s : List 
       until-1 : Stage (autLayer N l) 0 1088 (whole σ) (after (meet u τ1) join) σ τ1 c d s s
       until-1 = next (autLayer N l) 0 1088 placed no-list meet-join until-0
 
-      pub meet-ready : ToReady N l τ1 tr s (source.Stored a) k u
+      pub meet-ready : ToReady N l τ1 tr s (stored a k) u
       meet-ready = record {
         list = record { ready = until-1 .ready; limit = W .stored .first .limit; walked = record { within = W .stored .first .walked .within; edges = edges-grown (until-1 .ext .grown) (W .stored .first .walked .edges) } };
         state = placed .then .holds;
@@ -98,7 +98,7 @@ module _ {N : ℕ} {l : Limits} (t st mem : List ℕ) (c : Counts) {tr s : List 
             until-2 : Stage (autLayer N l) 0 1088 (whole σ) (join (edges s3 FIRST n) (autOf t2 st2 mem2 f)) σ (autOf t2 st2 mem2 f) c f s s3
             until-2 = copied.copied (W .stored .first .limit) (meet u) join until-1 D q2 C len
 
-            pub join-ready : TwoReady N l (autOf t2 st2 mem2 f) tr s3 (source.Stored b) j (source.Scratch FIRST) n
+            pub join-ready : TwoReady N l (autOf t2 st2 mem2 f) tr s3 (stored b j) (scratched FIRST n)
             join-ready = record {
               first = record { ready = until-2 .ready; limit = W .stored .first .limit; walked = record { within = W .stored .second .within; edges = edges-grown (until-2 .ext .grown) (W .stored .second .edges) } };
               second = copied.waiting (W .stored .first .limit) (meet u) join until-1 D q2 C len tr;

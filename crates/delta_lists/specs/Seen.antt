@@ -11,7 +11,7 @@ use Rattle.aut.specs.declared.Limits.{Limits}
 use Rattle.aut_rel.specs.Seen.{autOf, Ready}
 use Rattle.st.specs.declared.Listed.{Listed}
 use Rattle.st_source.specs.declared.Source.{Source}
-use Rattle.st_source.specs.declared.Source.the-variants as source
+use Rattle.st_source.specs.Seen.{stored}
 use Rattle.st_ops.specs.Seen.{OneReady}
 use Rattle.st_more.specs.Seen.{StoredReady}
 use Rattle.st_stage.specs.Readings.{GivesList}
@@ -19,13 +19,13 @@ use Rattle.st_stage.specs.Readings.{GivesList}
 -- ---- from lists
 
 -- a list and a state
-pub record ToReady (N : ℕ) (l : Limits) (σ : Aut) (tr s : List ℕ) (x : Source) (k e : ℕ) : Type 0 where
-  pub list : OneReady N l σ tr s x k
+pub record ToReady (N : ℕ) (l : Limits) (σ : Aut) (tr s : List ℕ) (x : Source) (e : ℕ) : Type 0 where
+  pub list : OneReady N l σ tr s x
   pub state : State σ e
 
 -- a relation and a list
-pub record BehindReady (N : ℕ) (l : Limits) (σ : Aut) (tr s : List ℕ) (h : ℕ) (x : Source) (k : ℕ) : Type 0 where
-  pub list : OneReady N l σ tr s x k
+pub record BehindReady (N : ℕ) (l : Limits) (σ : Aut) (tr s : List ℕ) (h : ℕ) (x : Source) : Type 0 where
+  pub list : OneReady N l σ tr s x
   pub label : Label N σ h
 
 pub record SequenceReady (N : ℕ) (l : Limits) (σ : Aut) (tr s : List ℕ) (y ε a k b j : ℕ) : Type 0 where
@@ -34,7 +34,7 @@ pub record SequenceReady (N : ℕ) (l : Limits) (σ : Aut) (tr s : List ℕ) (y 
   pub label : Label N σ ε
 
 pub record StarReady (N : ℕ) (l : Limits) (σ : Aut) (tr s : List ℕ) (x ε a k : ℕ) : Type 0 where
-  pub stored : OneReady N l σ tr s (source.Stored a) k
+  pub stored : OneReady N l σ tr s (stored a k)
   pub state : State σ x
   pub label : Label N σ ε
 

@@ -5,6 +5,7 @@ use aut::State;
 use spp::SPP;
 use st::Listed;
 use st_each::Each;
+use st_source::Place;
 use st_source::Source;
 ghost use Rattle.netkat.specs.ListSteps as St;
 ghost use Rattle.aut_steps.specs.Relations.{topAt};
@@ -29,11 +30,10 @@ pub fn st_postcompose(
     c: Counts,
     config: Config,
     source: Source,
-    k: usize,
     e: u32,
 ) -> Listed
-    requires { ⌜ ToReady (config .fields) (config .limits) (autOf (now nodes) (now states) (now members) c) (now transitions) (now scratch) source k e ⌝ }
-    ensures { λ r. ⌜ GivesList (config .fields) (config .limits) 0 832 (St.st-postcompose (ops (config .fields) (limitsOf (config .limits))) (sourceOf source (now (transitions .entry)) (now (scratch .entry)) k) e) (autOf (now (nodes .entry)) (now (states .entry)) (now (members .entry)) c) c r (autOf (now (nodes .exit)) (now (states .exit)) (now (members .exit))) (now (scratch .entry)) (now (scratch .exit)) ⌝ }
+    requires { ⌜ ToReady (config .fields) (config .limits) (autOf (now nodes) (now states) (now members) c) (now transitions) (now scratch) source e ⌝ }
+    ensures { λ r. ⌜ GivesList (config .fields) (config .limits) 0 832 (St.st-postcompose (ops (config .fields) (limitsOf (config .limits))) (sourceOf source (now (transitions .entry)) (now (scratch .entry))) e) (autOf (now (nodes .entry)) (now (states .entry)) (now (members .entry)) c) c r (autOf (now (nodes .exit)) (now (states .exit)) (now (members .exit))) (now (scratch .entry)) (now (scratch .exit)) ⌝ }
 {
     st_each::insert_each(
         nodes,
@@ -42,11 +42,9 @@ pub fn st_postcompose(
         transitions,
         scratch,
         c,
-        config.limits,
-        config.fields,
+        config,
         Each::Sequence(e),
         source,
-        k,
         0,
     )
 }
@@ -62,10 +60,9 @@ pub fn st_precompose(
     config: Config,
     l: SPP,
     source: Source,
-    k: usize,
 ) -> Listed
-    requires { ⌜ BehindReady (config .fields) (config .limits) (autOf (now nodes) (now states) (now members) c) (now transitions) (now scratch) (l .0) source k ⌝ }
-    ensures { λ r. ⌜ GivesList (config .fields) (config .limits) 0 832 (St.st-precompose (ops (config .fields) (limitsOf (config .limits))) (l .0) (sourceOf source (now (transitions .entry)) (now (scratch .entry)) k)) (autOf (now (nodes .entry)) (now (states .entry)) (now (members .entry)) c) c r (autOf (now (nodes .exit)) (now (states .exit)) (now (members .exit))) (now (scratch .entry)) (now (scratch .exit)) ⌝ }
+    requires { ⌜ BehindReady (config .fields) (config .limits) (autOf (now nodes) (now states) (now members) c) (now transitions) (now scratch) (l .0) source ⌝ }
+    ensures { λ r. ⌜ GivesList (config .fields) (config .limits) 0 832 (St.st-precompose (ops (config .fields) (limitsOf (config .limits))) (l .0) (sourceOf source (now (transitions .entry)) (now (scratch .entry)))) (autOf (now (nodes .entry)) (now (states .entry)) (now (members .entry)) c) c r (autOf (now (nodes .exit)) (now (states .exit)) (now (members .exit))) (now (scratch .entry)) (now (scratch .exit)) ⌝ }
 {
     st_each::insert_each(
         nodes,
@@ -74,11 +71,9 @@ pub fn st_precompose(
         transitions,
         scratch,
         c,
-        config.limits,
-        config.fields,
+        config,
         Each::After(l),
         source,
-        k,
         0,
     )
 }
@@ -93,11 +88,10 @@ pub fn st_intersect_expr(
     c: Counts,
     config: Config,
     source: Source,
-    k: usize,
     e: u32,
 ) -> Listed
-    requires { ⌜ ToReady (config .fields) (config .limits) (autOf (now nodes) (now states) (now members) c) (now transitions) (now scratch) source k e ⌝ }
-    ensures { λ r. ⌜ GivesList (config .fields) (config .limits) 0 832 (St.st-intersect-expr (ops (config .fields) (limitsOf (config .limits))) (sourceOf source (now (transitions .entry)) (now (scratch .entry)) k) e) (autOf (now (nodes .entry)) (now (states .entry)) (now (members .entry)) c) c r (autOf (now (nodes .exit)) (now (states .exit)) (now (members .exit))) (now (scratch .entry)) (now (scratch .exit)) ⌝ }
+    requires { ⌜ ToReady (config .fields) (config .limits) (autOf (now nodes) (now states) (now members) c) (now transitions) (now scratch) source e ⌝ }
+    ensures { λ r. ⌜ GivesList (config .fields) (config .limits) 0 832 (St.st-intersect-expr (ops (config .fields) (limitsOf (config .limits))) (sourceOf source (now (transitions .entry)) (now (scratch .entry))) e) (autOf (now (nodes .entry)) (now (states .entry)) (now (members .entry)) c) c r (autOf (now (nodes .exit)) (now (states .exit)) (now (members .exit))) (now (scratch .entry)) (now (scratch .exit)) ⌝ }
 {
     st_each::insert_each(
         nodes,
@@ -106,11 +100,9 @@ pub fn st_intersect_expr(
         transitions,
         scratch,
         c,
-        config.limits,
-        config.fields,
+        config,
         Each::Intersect(e),
         source,
-        k,
         0,
     )
 }
@@ -176,8 +168,10 @@ pub fn sequence_list(
         scratch,
         c,
         config,
-        Source::Stored(first),
-        k,
+        Source {
+            place: Place::Stored(first),
+            length: k,
+        },
         y,
     );
     match late {
@@ -193,8 +187,10 @@ pub fn sequence_list(
                 d,
                 config,
                 eps,
-                Source::Stored(second),
-                j,
+                Source {
+                    place: Place::Stored(second),
+                    length: j,
+                },
             );
             match early {
                 Listed::Refused(e) => Listed::Refused(e),
@@ -207,12 +203,15 @@ pub fn sequence_list(
                         transitions,
                         scratch,
                         f,
-                        config.limits,
-                        config.fields,
-                        Source::Scratch(st::FIRST),
-                        n,
-                        Source::Scratch(st::SECOND),
-                        m,
+                        config,
+                        Source {
+                            place: Place::Scratch(st::FIRST),
+                            length: n,
+                        },
+                        Source {
+                            place: Place::Scratch(st::SECOND),
+                            length: m,
+                        },
                     )
                 }
             }
@@ -245,8 +244,10 @@ pub fn star_list(
         scratch,
         c,
         config,
-        Source::Stored(first),
-        k,
+        Source {
+            place: Place::Stored(first),
+            length: k,
+        },
         x,
     );
     match late {
@@ -262,8 +263,10 @@ pub fn star_list(
                 d,
                 config,
                 eps,
-                Source::Scratch(st::FIRST),
-                n,
+                Source {
+                    place: Place::Scratch(st::FIRST),
+                    length: n,
+                },
             )
         }
     }
@@ -301,8 +304,10 @@ pub fn until_list(
                 scratch,
                 d,
                 config,
-                Source::Stored(first),
-                k,
+                Source {
+                    place: Place::Stored(first),
+                    length: k,
+                },
                 u,
             );
             match met {
@@ -316,12 +321,15 @@ pub fn until_list(
                         transitions,
                         scratch,
                         f,
-                        config.limits,
-                        config.fields,
-                        Source::Stored(second),
-                        j,
-                        Source::Scratch(st::FIRST),
-                        n,
+                        config,
+                        Source {
+                            place: Place::Stored(second),
+                            length: j,
+                        },
+                        Source {
+                            place: Place::Scratch(st::FIRST),
+                            length: n,
+                        },
                     )
                 }
             }

@@ -31,14 +31,14 @@ use Rattle.st.specs.declared.Listed.the-variants as listed
 use Rattle.st.specs.Seen.{RESULT, DoesList}
 use Rattle.st.proofs.Join.{list-few}
 use Rattle.st_edges.specs.Seen.{Wrote, CopyReady}
-use Rattle.st_source.specs.declared.Source.the-variants as source
+use Rattle.st_source.specs.Seen.{stored, scratched}
 use Rattle.st_ops.specs.Seen.{TwoReady}
 use Rattle.aut_stage.specs.Stage.{Stage, Inside, Folds, Turned, begin, stuck, wrote, instead, finish, done, turn, over, again, all-of}
 use Rattle.aut_stage.specs.OnAut.{autLayer}
 use Rattle.st_stage.specs.Readings.{listOf, GivesList, of-list}
 use Rattle.delta_many.specs.declared.Join.{Join}
 use Rattle.delta_many.specs.declared.Join.the-variants as join
-use Rattle.delta_many.specs.declared.Place.{Place}
+use Rattle.delta_many.specs.declared.Span.{Span}
 use Rattle.delta_many.specs.Contracts.{PreMany, listsAt}
 use Rattle.delta_many.specs.Joins.{joinOne, joinAll, PreFind, PostFind, PreNext, PreAll}
 use Rattle.delta_many.proofs.Lists.{find-ready, found-is, found-in, found-at, found-few, found-list, copied, words-first}
@@ -68,7 +68,7 @@ module _ {N : ℕ} {l : Limits} {σ : Store} {s : List ℕ} {n y : ℕ} (W : Pre
   pub next-copy : CopyReady s RESULT n FIRST
   next-copy = record { source = omega (arith, few, W .prepared .ready .room); room = omega (arith, few, W .prepared .ready .room); apart = inl (omega (arith, few)) }
 
-  module _ {p : Place} (F : PostFind (σ .aut .states .words) y p) {s1 : List ℕ} (C : Wrote FIRST n (edges s RESULT n) s s1) (len : length s1 ≡ length s) (j : Join) (c : Counts) where
+  module _ {p : Span} (F : PostFind (σ .aut .states .words) y p) {s1 : List ℕ} (C : Wrote FIRST n (edges s RESULT n) s s1) (len : length s1 ≡ length s) (j : Join) (c : Counts) where
     abbrev one : List Edge → List Edge → Step Aut (List Edge)
     one = joinOne N (limitsOf l) j
 
@@ -80,7 +80,7 @@ module _ {N : ℕ} {l : Limits} {σ : Store} {s : List ℕ} {n y : ℕ} (W : Pre
         (wrote (autLayer N l) 0 1088 (begin (autLayer N l) 0 1088 (W .prepared .ready) refl) (record { from = omega arith; to = omega (arith, few) }) (omega (arith, few)) (C .kept) len)
         (ap₂ (λ (r es : List Edge). one r es (σ .aut)) (sym (C .is)) (found-is (W .prepared) (W .state) (W .has) F))
 
-    pub next-ready : TwoReady N l (σ .aut) (σ .transitions .words) s1 (source.Scratch FIRST) n (source.Stored (p .start)) (p .count)
+    pub next-ready : TwoReady N l (σ .aut) (σ .transitions .words) s1 (scratched FIRST n) (stored (p .start) (p .count))
     next-ready = record {
       first = record { ready = stage .ready; limit = W .limit; walked = record { within = (omega arith, omega (arith, few)); edges = subst (EdgesAt N (σ .aut)) (sym (C .is)) (W .list .edges) } };
       second = record { within = found-in (W .prepared) (W .state) (W .has) F; edges = found-at (W .prepared) (W .state) (W .has) F };
@@ -215,7 +215,7 @@ module _ {N : ℕ} {l : Limits} {σ : Store} {s : List ℕ} {from k : ℕ} (W : 
   pub first-find : PreFind (σ .aut .states .words) y₁
   first-find = find-ready (W .prepared) (states-in .0) (lists-in .0)
 
-  module _ {p : Place} (F : PostFind (σ .aut .states .words) y₁ p) where
+  module _ {p : Span} (F : PostFind (σ .aut .states .words) y₁ p) where
     pub first-few : p .count ≤ 64
     first-few = omega (arith, found-few (W .prepared) (states-in .0) (lists-in .0) F, W .limit)
 

@@ -21,7 +21,7 @@ use Rattle.delta_stage.specs.OnStore.{Prepared}
 use Rattle.aut.specs.Seen.{limitsOf}
 use Rattle.aut.specs.declared.Limits.{Limits}
 use Rattle.st_edges.specs.Seen.{Wrote}
-use Rattle.delta_many.specs.declared.Place.{Place}
+use Rattle.delta_many.specs.declared.Span.{Span}
 use Rattle.delta_many.specs.Joins.{PreFind, PostFind}
 
 -- ---- where it is
@@ -30,7 +30,7 @@ module _ {N : ℕ} {l : Limits} {σ : Store} {s : List ℕ} (P : Prepared N l σ
   pub find-ready : PreFind (σ .aut .states .words) y
   find-ready = record { state = omega (arith, P .ready .good .fits, k); has = has }
 
-  module _ {p : Place} (F : PostFind (σ .aut .states .words) y p) where
+  module _ {p : Span} (F : PostFind (σ .aut .states .words) y p) where
     abbrev found : List Edge
     found = edges (σ .transitions .words) (p .start) (p .count)
 

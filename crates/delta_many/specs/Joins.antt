@@ -21,7 +21,7 @@ use Rattle.aut.specs.declared.Limits.{Limits}
 use Rattle.st.specs.Seen.{RESULT}
 use Rattle.delta_many.specs.declared.Join.{Join}
 use Rattle.delta_many.specs.declared.Join.the-variants as join
-use Rattle.delta_many.specs.declared.Place.{Place}
+use Rattle.delta_many.specs.declared.Span.{Span}
 
 -- ---- the steps, by operation
 
@@ -41,7 +41,7 @@ pub record PreFind (st : List ℕ) (y : ℕ) : Type 0 where
   pub state : 12 * y + 11 < length st
   pub has : 0 < countOf st y
 
-pub record PostFind (st : List ℕ) (y : ℕ) (p : Place) : Type 0 where
+pub record PostFind (st : List ℕ) (y : ℕ) (p : Span) : Type 0 where
   pub start : startOf st y ≡ p .start
   pub count : countOf st y ≡ p .count + 1
 

@@ -3,6 +3,7 @@
 use aut::Config;
 use aut::Counts;
 use st::Listed;
+use st_source::Place;
 use st_source::Source;
 ghost use mathlib.Core.List.{[]};
 ghost use Rattle.st_steps.specs.Edges.{edges};
@@ -23,21 +24,21 @@ enum Join {
     Intersect,
 }
 
-// where a stored list is
-struct Place {
+// a list among the transitions: its first record, and how many
+struct Span {
     start: usize,
     count: usize,
 }
 
 // the list of state y
-fn find_list(states: &[u32], y: u32) -> Place
+fn find_list(states: &[u32], y: u32) -> Span
     requires { ⌜ PreFind (now states) y ⌝ }
     ensures { λ r. ⌜ PostFind (now (states .entry)) y r ⌝ }
 {
     let i = y as usize;
     let start = states[aut::STATE * i + aut::word::START] as usize;
     let count = states[aut::STATE * i + aut::word::COUNT] as usize;
-    Place {
+    Span {
         start: start,
         count: count - 1,
     }
@@ -53,12 +54,10 @@ fn join_two(
     config: Config,
     join: Join,
     first: Source,
-    k: usize,
     second: Source,
-    j: usize,
 ) -> Listed
-    requires { ⌜ TwoReady (config .fields) (config .limits) (autOf (now nodes) (now states) (now members) c) (now transitions) (now scratch) first k second j ⌝ }
-    ensures { λ r. ⌜ DoesList (config .fields) (config .limits) 0 832 (joinOne (config .fields) (limitsOf (config .limits)) join (sourceOf first (now (transitions .entry)) (now (scratch .entry)) k) (sourceOf second (now (transitions .entry)) (now (scratch .entry)) j)) (autOf (now (nodes .entry)) (now (states .entry)) (now (members .entry)) c) r c (now (nodes .exit)) (now (states .exit)) (now (members .exit)) (now (scratch .entry)) (now (scratch .exit)) ⌝ }
+    requires { ⌜ TwoReady (config .fields) (config .limits) (autOf (now nodes) (now states) (now members) c) (now transitions) (now scratch) first second ⌝ }
+    ensures { λ r. ⌜ DoesList (config .fields) (config .limits) 0 832 (joinOne (config .fields) (limitsOf (config .limits)) join (sourceOf first (now (transitions .entry)) (now (scratch .entry))) (sourceOf second (now (transitions .entry)) (now (scratch .entry)))) (autOf (now (nodes .entry)) (now (states .entry)) (now (members .entry)) c) r c (now (nodes .exit)) (now (states .exit)) (now (members .exit)) (now (scratch .entry)) (now (scratch .exit)) ⌝ }
 {
     match join {
         Join::Union => st_ops::st_union(
@@ -68,12 +67,9 @@ fn join_two(
             transitions,
             scratch,
             c,
-            config.limits,
-            config.fields,
+            config,
             first,
-            k,
             second,
-            j,
         ),
         Join::Intersect => st_ops::st_intersect(
             nodes,
@@ -82,12 +78,9 @@ fn join_two(
             transitions,
             scratch,
             c,
-            config.limits,
-            config.fields,
+            config,
             first,
-            k,
             second,
-            j,
         ),
     }
 }
@@ -119,10 +112,14 @@ fn join_next(
         c,
         config,
         join,
-        Source::Scratch(st::FIRST),
-        n,
-        Source::Stored(place.start),
-        place.count,
+        Source {
+            place: Place::Scratch(st::FIRST),
+            length: n,
+        },
+        Source {
+            place: Place::Stored(place.start),
+            length: place.count,
+        },
     )
 }
 

@@ -44,7 +44,7 @@ same-length-4 c = search needs
 -- src/lib.rt:43:1
 returns : tie.Need-returns
 returns c =
-    let g = c .before .before .before .before .before .before .before .before .before .before .before .before .before .before .before .before .before .before .before .before .args in joins.two-done (g .config .fields) (g .config .limits) (autOf (g .nodes .now) (g .states .now) (g .members .now) (g .c)) (sourceOf (g .first) (g .transitions .now) (g .scratch .now) (g .k)) (sourceOf (g .second) (g .transitions .now) (g .scratch .now) (g .j)) (c .before .before .before .before .before .before .before .before .before .before .before .before .before .enum-told .given .1) (c .before .before .before .before .before .before .before .before .st-union .ensures)
+    let g = c .before .before .before .before .before .before .before .before .before .before .before .before .before .before .before .before .before .before .before .before .args in joins.two-done (g .config .fields) (g .config .limits) (autOf (g .nodes .now) (g .states .now) (g .members .now) (g .c)) (sourceOf (g .first) (g .transitions .now) (g .scratch .now)) (sourceOf (g .second) (g .transitions .now) (g .scratch .now)) (c .before .before .before .before .before .before .before .before .before .before .before .before .before .enum-told .given .1) (c .before .before .before .before .before .before .before .before .st-union .ensures)
 
 -- src/lib.rt:43:1
 same-length-5 : tie.Need-same-length-5
@@ -65,7 +65,7 @@ same-length-8 c = search needs
 -- src/lib.rt:43:1
 returns-2 : tie.Need-returns-2
 returns-2 c =
-    let g = c .before .before .before .before .before .before .before .before .before .before .before .before .before .before .before .before .before .before .before .before .args in joins.two-done (g .config .fields) (g .config .limits) (autOf (g .nodes .now) (g .states .now) (g .members .now) (g .c)) (sourceOf (g .first) (g .transitions .now) (g .scratch .now) (g .k)) (sourceOf (g .second) (g .transitions .now) (g .scratch .now) (g .j)) (c .before .before .before .before .before .before .before .before .before .before .before .before .before .enum-told2 .given .1) (c .before .before .before .before .before .before .before .before .st-intersect .ensures)
+    let g = c .before .before .before .before .before .before .before .before .before .before .before .before .before .before .before .before .before .before .before .before .args in joins.two-done (g .config .fields) (g .config .limits) (autOf (g .nodes .now) (g .states .now) (g .members .now) (g .c)) (sourceOf (g .first) (g .transitions .now) (g .scratch .now)) (sourceOf (g .second) (g .transitions .now) (g .scratch .now)) (c .before .before .before .before .before .before .before .before .before .before .before .before .before .enum-told2 .given .1) (c .before .before .before .before .before .before .before .before .st-intersect .ensures)
 
 pub join-two-spec : {M : Type 1} → statement M
 join-two-spec =
