@@ -35,7 +35,7 @@ use Rattle.aut_stage.specs.OnNodes.{withNodes, relation-given, relation-refused
 use Rattle.st.specs.declared.Listed.{Listed}
 use Rattle.st.specs.declared.Listed.the-variants as listed
 use Rattle.st.specs.Seen.{DoesList}
-use Rattle.st_source.specs.declared.Source.the-variants as source
+use Rattle.st_source.specs.Seen.{stored}
 use Rattle.st_ops.specs.Seen.{OneReady, TwoReady}
 use Rattle.st_ops.proofs.Join.{none-at}
 use Rattle.st_more.specs.Seen.{StoredReady}
@@ -116,7 +116,7 @@ module _ {N : ℕ} {l : Limits} {t st mem tr : List ℕ} (c : Counts) {s : List 
 
   -- ---- one list
 
-  pub complement-ready : {r : Span} → K ≡ COMPLEMENT → Spans st A r → Not.OneReady N l σ tr s (source.Stored (r .start)) (r .count)
+  pub complement-ready : {r : Span} → K ≡ COMPLEMENT → Spans st A r → Not.OneReady N l σ tr s (stored (r .start) (r .count))
   complement-ready e q = record { ready = W .prepared .ready; limit = W .limit; walked = operands.spanned c W (operands.complement-operand c W e) q }
 
   pub of-complement : {r : Span} → K ≡ COMPLEMENT → Spans st A r → (z : Listed) {t1 st1 mem1 s1 : List ℕ} → GivesList N l 0 832 (St.st-complement (ops N (limitsOf l)) (edges tr (r .start) (r .count))) σ c z (autOf t1 st1 mem1) s s1
@@ -151,7 +151,7 @@ module _ {N : ℕ} {l : Limits} {t st mem tr : List ℕ} (c : Counts) {s : List 
     unfolding togetherWith
     of-xor e z P = gives (St.st-xor (ops N (limitsOf l)) ts us) (all-of 0 1088) (at-kind XOR e ∙ lists-are (St.st-xor (ops N (limitsOf l)))) z P
 
-    pub difference-ready : K ≡ DIFFERENCE → TwoReady N l σ tr s (source.Stored (r1 .start)) (r1 .count) (source.Stored (r2 .start)) (r2 .count)
+    pub difference-ready : K ≡ DIFFERENCE → TwoReady N l σ tr s (stored (r1 .start) (r1 .count)) (stored (r2 .start) (r2 .count))
     difference-ready e = two-ready (operands.difference-operands c W e)
 
     pub of-difference : K ≡ DIFFERENCE → (z : Listed) {t1 st1 mem1 s1 : List ℕ} → DoesList N l 0 832 (St.st-difference (ops N (limitsOf l)) ts us) σ z c t1 st1 mem1 s s1 → GivesList N l 0 1088 whole σ c z (autOf t1 st1 mem1) s s1

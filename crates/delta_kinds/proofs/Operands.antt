@@ -28,8 +28,7 @@ use Rattle.aut.specs.declared.Counts.{Counts}
 use Rattle.aut.specs.declared.Limits.{Limits}
 use Rattle.aut_rel.proofs.Order.{in-table}
 use Rattle.aut_eps.proofs.Shapes as shapes
-use Rattle.st_source.specs.declared.Source.the-variants as source
-use Rattle.st_source.specs.Seen.{Walked}
+use Rattle.st_source.specs.Seen.{stored, Walked}
 use Rattle.delta_stage.specs.OnStore.{storeOf}
 use Rattle.delta_many.specs.Contracts.{PreMany}
 use Rattle.delta_kinds.specs.declared.Span.{Span}
@@ -106,17 +105,17 @@ module _ {N : ℕ} {l : Limits} {t st mem tr : List ℕ} (c : Counts) {s : List 
   pub stored-ask : {y : ℕ} → Operand y → (12 * y + 11 < length st) × (0 < countOf st y)
   stored-ask p = (in-table good (p .0), p .1)
 
-  walked : (y : ℕ) → Operand y → Walked N (σ .aut) tr s (source.Stored (startOf st y)) (countOf st y - 1)
+  walked : (y : ℕ) → Operand y → Walked N (σ .aut) tr s (stored (startOf st y) (countOf st y - 1))
   unfolding listAt
   walked y p =
       let H : Lists N (limitsOf l) σ = W .prepared .worked .lists in
       let h : Held N (limitsOf l) σ y = H .held y (p .0) in
       record { within = omega (arith, h .inside (countOf st y - 1) (omega (arith, p .1)), H .fit); edges = list-at (limitsOf l) (h .list (p .1)) }
 
-  pub spanned : {y : ℕ} {r : Span} → Operand y → Spans st y r → Walked N (σ .aut) tr s (source.Stored (r .start)) (r .count)
+  pub spanned : {y : ℕ} {r : Span} → Operand y → Spans st y r → Walked N (σ .aut) tr s (stored (r .start) (r .count))
   spanned {y} {r} p q =
-      subst (λ (k : ℕ). Walked N (σ .aut) tr s (source.Stored (r .start)) k) (q .count)
-      (subst (λ (a : ℕ). Walked N (σ .aut) tr s (source.Stored a) (countOf st y - 1)) (q .start) (walked y p))
+      subst (λ (k : ℕ). Walked N (σ .aut) tr s (stored (r .start) k)) (q .count)
+      (subst (λ (a : ℕ). Walked N (σ .aut) tr s (stored a (countOf st y - 1))) (q .start) (walked y p))
 
   pub list-is : {y : ℕ} {r : Span} → Spans st y r → listAt σ y ≡ edges tr (r .start) (r .count)
   unfolding listAt

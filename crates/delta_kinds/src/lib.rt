@@ -5,6 +5,7 @@ use aut_mk::Task;
 use spp::Made;
 use spp::SPP;
 use st::Listed;
+use st_source::Place;
 use st_source::Source;
 ghost use mathlib.Core.Path.{_≡_};
 ghost use Prim.Native.Nat.{_+_, _*_, _≤_, _<_};
@@ -110,10 +111,11 @@ fn together_boolean(
             transitions,
             scratch,
             c,
-            config.limits,
-            config.fields,
-            Source::Stored(one.start),
-            one.count,
+            config,
+            Source {
+                place: Place::Stored(one.start),
+                length: one.count,
+            },
         );
     }
     let two = stored(states, b);
@@ -125,8 +127,7 @@ fn together_boolean(
             transitions,
             scratch,
             c,
-            config.limits,
-            config.fields,
+            config,
             one.start,
             one.count,
             two.start,
@@ -142,12 +143,15 @@ fn together_boolean(
         transitions,
         scratch,
         c,
-        config.limits,
-        config.fields,
-        Source::Stored(left.start),
-        left.count,
-        Source::Stored(right.start),
-        right.count,
+        config,
+        Source {
+            place: Place::Stored(left.start),
+            length: left.count,
+        },
+        Source {
+            place: Place::Stored(right.start),
+            length: right.count,
+        },
     )
 }
 
