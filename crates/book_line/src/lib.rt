@@ -201,16 +201,7 @@ fn make_line(
     ensures { λ r. ⌜ PostMake config k line r c (now (nodes .entry)) (now (states .entry)) (now (members .entry)) (now (scratch .entry)) (now (nodes .exit)) (now (states .exit)) (now (members .exit)) (now (scratch .exit)) ⌝ }
 {
     let at = WORK;
-    let made = line::make(
-        nodes,
-        states,
-        members,
-        &mut scratch[at..],
-        c,
-        config.limits,
-        config.fields,
-        line,
-    );
+    let made = line::make(nodes, states, members, &mut scratch[at..], c, config, line);
     match made {
         State::Refused(e) => State::Refused(e),
         State::Is(z, d) => {
