@@ -37,7 +37,8 @@ use Rattle.aut_empty.specs.declared.Ended.{Ended}
 use Rattle.aut_empty.specs.declared.Ended.the-variants as ended
 use Rattle.aut_empty.specs.Contracts.{verdictOf, searchedOf, PostSearch}
 use Rattle.aut_empty_words.specs.Words.{entryAt, entriesOf, seenIn, Puts, Rested, Emptied}
-use Rattle.aut_empty_pair.specs.Contracts.{Seeking, Over, turnedOf, PreTurn, PostTurn}
+use Rattle.aut_empty_pair.specs.Contracts.{Seeking, Over, turnedOf}
+use Rattle.aut_empty_turn.specs.Contracts.{PreTurn, PostTurn}
 use Rattle.aut_empty.specs.Parts.{endedOf, PreSeek, PostSeek}
 use Rattle.aut_empty_words.proofs.Stacks.{entries-pop, entries-none, entries-put, stack-put, fits-in, seen-none}
 

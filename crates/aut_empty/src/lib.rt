@@ -48,7 +48,7 @@ fn search(
         if count >= budget {
             return Ended::At(Verdict::Spent, count, d, n);
         }
-        let turned = aut_empty_pair::turn(
+        let turned = aut_empty_turn::turn(
             sp,
             nodes,
             states,

@@ -1,7 +1,7 @@
--- 01, "Lent tables" (state word 8) and `is_empty` (a pair): how the search stands in the tables between two pairs, and what the code of a pair asks and promises.
+-- 01, "Lent tables" (state word 8) and `is_empty` (a pair): how the search stands in the tables between two pairs, and what the code of a pair with fresh packets asks and promises.
 use mathlib.Core.Path.{_≡_}
 use mathlib.Core.List.{List}
-use Prim.Native.Nat.{ℕ, _+_, _*_, _-_, _/_, _≤_, _<_}
+use Prim.Native.Nat.{ℕ, _+_, _*_, _/_, _≤_, _<_}
 use lib.ListN.{length, getD}
 use Rattle.common.specs.Runs.{table}
 use Rattle.netkat.specs.Handles as Handles
@@ -17,7 +17,7 @@ use Rattle.aut_stage.specs.Stage.{Answer, gave, refusal, Post}
 use Rattle.query_calls.specs.Working.{clearOf, Working}
 use Rattle.aut_empty_pair.specs.declared.Turned.{Turned}
 use Rattle.aut_empty_pair.specs.declared.Turned.the-variants as turned
-use Rattle.aut_empty_words.specs.Words.{entryAt, entriesOf, seenIn, Stack}
+use Rattle.aut_empty_words.specs.Words.{entriesOf, seenIn, Stack}
 
 -- words 9 to 11 of the states are 0
 abbrev pub Spare : List ℕ → Type 0
@@ -37,7 +37,7 @@ pub record Over (N : ℕ) (l : Limits) (sp t st mem tr : List ℕ) (c : Counts) 
   pub room : 2 * n ≤ length p
   pub idle : (j : ℕ) → 2 * n ≤ j → getD p j 0 ≡ 0
 
--- ---- a turn
+-- ---- fresh packets at a state
 
 abbrev pub turnedOf : (N : ℕ) (L : StepLimits) (lent : ℕ) → (st p : List ℕ) → Turned → Answer Counts (Handles.Turn (machine N L lent))
 turnedOf N L lent st p (turned.Goes d m) = gave d (goes (entriesOf p m) (seenIn N st))
@@ -58,11 +58,3 @@ pub record PreExpand (N : ℕ) (l : Limits) (sp t st mem tr p s : List ℕ) (c :
 pub record PostExpand (N : ℕ) (l : Limits) (c : Counts) (n x fresh : ℕ) (r : Turned) (sp t st mem tr p s sp′ t′ st′ mem′ tr′ p′ s′ : List ℕ) : Type 0 where
   pub post : Post (queryLayer N l) 0 1088 (λ τ v. Unit) (Handles.expand (machine N (limitsOf l) (length p / 2)) x fresh (entriesOf p n) (seenIn N st) (clearOf sp t st mem tr c)) (clearOf sp t st mem tr c) c (turnedOf N (limitsOf l) (length p / 2) st′ p′ r) (clearOf sp′ t′ st′ mem′ tr′) s s′
   pub to : TurnedTo N l sp′ t′ st′ mem′ tr′ n r s′ p′
-
-pub record PreTurn (N : ℕ) (l : Limits) (sp t st mem tr p s : List ℕ) (c : Counts) (n : ℕ) : Type 0 where
-  pub seeking : Seeking N l sp t st mem tr c s p n
-  pub some : 0 < n
-
-pub record PostTurn (N : ℕ) (l : Limits) (c : Counts) (n : ℕ) (r : Turned) (sp t st mem tr p s sp′ t′ st′ mem′ tr′ p′ s′ : List ℕ) : Type 0 where
-  pub post : Post (queryLayer N l) 0 1088 (λ τ v. Unit) (Handles.turn (machine N (limitsOf l) (length p / 2)) (entryAt p (n - 1)) (entriesOf p (n - 1)) (seenIn N st) (clearOf sp t st mem tr c)) (clearOf sp t st mem tr c) c (turnedOf N (limitsOf l) (length p / 2) st′ p′ r) (clearOf sp′ t′ st′ mem′ tr′) s s′
-  pub to : TurnedTo N l sp′ t′ st′ mem′ tr′ (n - 1) r s′ p′

@@ -1,2 +1,2 @@
--- A pair of the search: what is asked and what is promised.
+-- Fresh packets at a state: what is asked and what is promised.
 pub mod Contracts

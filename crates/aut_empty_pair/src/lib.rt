@@ -1,9 +1,9 @@
-// A pair of is_empty of aut.rs: taken from the pending table, its fresh packets are seen, end a string, or go on.
+// A pair of is_empty of aut.rs: its fresh packets are seen, end a string, or go on.
 use aut::Config;
 use aut::Counts;
 use aut_empty_walk::Walked;
 use sp::SP;
-ghost use Rattle.aut_empty_pair.specs.Contracts.{PreExpand, PostExpand, PreTurn, PostTurn};
+ghost use Rattle.aut_empty_pair.specs.Contracts.{PreExpand, PostExpand};
 
 // so many pending entries, or a string is found; or 01's number
 pub enum Turned {
@@ -13,7 +13,7 @@ pub enum Turned {
 }
 
 // fresh packets at a state: they are seen; a string ends here, or they go on
-fn expand(
+pub fn expand(
     sp: &mut [u32],
     nodes: &mut [u32],
     states: &mut [u32],
@@ -66,51 +66,4 @@ fn expand(
             Turned::Goes(d, m)
         }
     }
-}
-
-// the last pending entry is taken
-pub fn turn(
-    sp: &mut [u32],
-    nodes: &mut [u32],
-    states: &mut [u32],
-    members: &mut [u32],
-    transitions: &mut [u32],
-    pending: &mut [u32],
-    scratch: &mut [u32],
-    c: Counts,
-    config: Config,
-    n: usize,
-) -> Turned
-    requires { ⌜ PreTurn (config .fields) (config .limits) (now sp) (now nodes) (now states) (now members) (now transitions) (now pending) (now scratch) c n ⌝ }
-    ensures { λ r. ⌜ PostTurn (config .fields) (config .limits) c n r (now (sp .entry)) (now (nodes .entry)) (now (states .entry)) (now (members .entry)) (now (transitions .entry)) (now (pending .entry)) (now (scratch .entry)) (now (sp .exit)) (now (nodes .exit)) (now (states .exit)) (now (members .exit)) (now (transitions .exit)) (now (pending .exit)) (now (scratch .exit)) ⌝ }
-{
-    let fields = config.fields;
-    let k = n - 1;
-    let x = pending[2 * k];
-    let packets = SP(pending[2 * k + 1]);
-    pending[2 * k] = 0;
-    pending[2 * k + 1] = 0;
-    let seen = aut_empty_words::seen_at(states, fields, x);
-    let sp::Made::Node(fresh, m) = aut_sets::difference(sp, scratch, c, fields, packets, seen)
-    else {
-        return Turned::Refused(aut::refusal::SP);
-    };
-    let d = Counts { sp: m, ..c };
-    if sp::is_zero(fields, fresh) {
-        return Turned::Goes(d, k);
-    }
-    expand(
-        sp,
-        nodes,
-        states,
-        members,
-        transitions,
-        pending,
-        scratch,
-        d,
-        config,
-        k,
-        x,
-        fresh,
-    )
 }

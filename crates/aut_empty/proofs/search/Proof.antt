@@ -9,7 +9,7 @@ use Rattle.aut_empty.proofs.search.Statement.{statement}
 use Rattle.aut_empty.proofs.search.Tie as tie
 use Rattle.aut_empty.proofs.search.Reads as reads
 use Rattle.aut_empty.proofs.search.Lts as lts
-use Rattle.aut_empty_pair.proofs.turn.Reads as turn-reads
+use Rattle.aut_empty_turn.proofs.turn.Reads as turn-reads
 
 abbrev Inv-loop : tie.InvT-loop
 Inv-loop sp₀ nodes₀ states₀ members₀ transitions₀ pending₀ scratch₀ config budget first d₀ n₀ count₀ sp nodes states members transitions pending scratch d n count =
