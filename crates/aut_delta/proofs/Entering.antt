@@ -36,7 +36,7 @@ use Rattle.aut_stage.specs.OnNodes.{withNodes, relation-given}
 use Rattle.delta_stage.specs.OnStore.{storeOf, storeLayer, aut-given, epsilon-given}
 use Rattle.aut_delta.specs.declared.Entered.{Entered}
 use Rattle.aut_delta.specs.declared.Entered.the-variants as entered
-use Rattle.aut_delta.proofs.Shapes.{kind-word}
+use Rattle.aut_operands.proofs.Shapes.{kind-word}
 use Rattle.aut_delta.specs.Seen.{PreEnter, Enters, PostEpsilon, PostStar, PostEnter, unless, PostNew}
 
 -- ---- nothing is done

@@ -1,6 +1,4 @@
--- The operands of a state; those looked at one after another; what is worked out before their lists; the way down; the list stored; the loop over states below.
-pub mod Shapes
-pub mod Passes
+-- What is worked out before the operands' lists; the way down; the list stored; the loop over states below.
 pub mod Entering
 pub mod Ways
 pub mod Storing

@@ -40,7 +40,7 @@ use Rattle.st.specs.declared.Listed.the-variants as listed
 use Rattle.st_stage.specs.Readings.{listOf, GivesList}
 use Rattle.delta_stage.specs.OnStore.{storeOf, storeLayer, aut-given, aut-refused}
 use Rattle.delta_kinds.specs.Contracts.{PreTogether, togetherOf}
-use Rattle.delta_keep.specs.Contracts.{PreKeep, seenKept, PostKeep}
+use Rattle.delta_keep.specs.Contracts.{PreKeep, seenKept, SameSets, PostKeep}
 use Rattle.delta_keep.specs.declared.Kept.{Kept}
 use Rattle.delta_keep.specs.declared.Kept.the-variants as kept
 use Rattle.aut_delta.specs.declared.Entered as Entering
@@ -66,10 +66,6 @@ keep-nodes x es σ {τ} {fs} q = go (roomT (σ .transitions) (length es)) q
     go : (b : Bool) → (if b then given (store (written α x 6 (length es + 1)) (append es (σ .transitions))) es else refused 25) ≡ given τ fs → τ .aut .nodes ≡ σ .aut .nodes
     go true p = ap (λ (υ : Store). υ .aut .nodes) (sym (given-store p))
     go false p = absurd (refused≢given p)
-
--- the counts, with that of packet sets as it was
-abbrev pub withSets : Counts → ℕ → Counts
-withSets c n = record { sp = n; spp = c .spp; states = c .states; members = c .members; transitions = c .transitions }
 
 module _ {N : ℕ} {l : Bounds} {x : ℕ} (c : Counts) {t st mem tr s : List ℕ} (F : PreFinish N l (storeOf t st mem tr c) s x) where
   abbrev L : Limits
@@ -168,7 +164,7 @@ module _ {N : ℕ} {l : Bounds} {x : ℕ} (c : Counts) {t st mem tr s : List ℕ
 
           module _ {r3 : Kept} (st3 tr3 : List ℕ) (K : PostKeep x m d2 r3 st2 tr s2 st3 tr3) where
             kept-is : {q : Kept} → r3 ≡ q → whole ≡ seenKept q es t2 st3 mem2 tr3
-            kept-is e = g3 .is ∙ K t2 mem2 ∙ ap (λ (r : Kept). seenKept r es t2 st3 mem2 tr3) e
+            kept-is e = g3 .is ∙ K .is t2 mem2 ∙ ap (λ (r : Kept). seenKept r es t2 st3 mem2 tr3) e
 
             pub no-room : {e : ℕ} → r3 ≡ kept.Refused e → {at : Counts → Store} {s′ : List ℕ} → PostDelta N l x σ c (worked.Refused e) at s s′
             no-room z = record { is = kept-is z; then = tt }
@@ -181,14 +177,14 @@ module _ {N : ℕ} {l : Bounds} {x : ℕ} (c : Counts) {t st mem tr s : List ℕ
               D = agree-came (subst (λ o. Agree (Halted N L σ) (Deltaed N L x σ) o whole) (kept-is z) (delta-goes W (F .has)))
 
               frame : Left N 0 1088 (τ3 .aut .nodes) s s2
-              frame = subst (λ (t : Table). Left N 0 1088 t s s2) (sym (keep-nodes x es τ2 (K t2 mem2 ∙ ap (λ (r : Kept). seenKept r es t2 st3 mem2 tr3) z))) (g3 .frame)
+              frame = subst (λ (t : Table). Left N 0 1088 t s s2) (sym (keep-nodes x es τ2 (K .is t2 mem2 ∙ ap (λ (r : Kept). seenKept r es t2 st3 mem2 tr3) z))) (g3 .frame)
 
-              pub stored : PostDelta N l x σ c (worked.Done (withSets f (c .sp))) (storeOf t2 st3 mem2 tr3) s s2
+              pub stored : PostDelta N l x σ c (worked.Done f) (storeOf t2 st3 mem2 tr3) s s2
               stored = record {
                 is = kept-is z ∙ ap (λ (es : List Edge). given τ3 es) (sym (D .stored .reads));
                 then = record {
                   ext = D .listed .went;
-                  beside = refl;
+                  beside = subst (SameSets d2) z (K .sets) ∙ g3 .beside;
                   frame = frame;
                   ready = record { ready = ready-left N l 0 1088 (σ .aut) (τ3 .aut) s s2 (D .listed .went .grown) (D .listed .worked .good) len frame (F .prepared .ready); worked = D .listed .worked };
                   holds = record { marked = D .stored .marked; reads = refl };

@@ -10,10 +10,9 @@ use lib.ListN.{length, drop}
 use borrow.Author.Tests.{eqb-true, eqb-false, ltb-true, ltb-false}
 use Rattle.common.specs.Outcome.{Outcome, refused, given, after}
 use Rattle.spp_steps.specs.Laws.{by-test}
-use Rattle.aut_steps.specs.Tables.{UNION, INTERSECT, nest, Limits, Aut}
-use Rattle.aut_steps.specs.Kinds.{form}
+use Rattle.aut_steps.specs.Tables.{nest, Limits}
 use Rattle.aut_steps.specs.ListLaws.{All, all-map}
-use Rattle.aut_steps.specs.Good.{states, kind, nesting, Good, ok-as}
+use Rattle.aut_steps.specs.Good.{states, nesting}
 use Rattle.delta_steps.specs.Delta.{countOf, Store}
 use Rattle.delta_steps.specs.Operands.{Below}
 use Rattle.delta_steps.specs.Worked.{Worked}
@@ -27,9 +26,12 @@ use Rattle.aut_rel.proofs.Order.{in-table}
 use Rattle.aut_stage.specs.Stage.{gave, Post, Came}
 use Rattle.aut_stage.specs.OnNodes.{withNodes}
 use Rattle.delta_stage.specs.OnStore.{storeOf, Prepared, storeLayer}
+use Rattle.aut_operands.specs.declared.Part.the-variants as part
+use Rattle.aut_operands.specs.Contracts.{operandsOf, Worked as WorkedOut, NotYet, Looks, Next, none, some}
+use Rattle.aut_operands.proofs.Down.{inside-of}
 use Rattle.aut_delta.specs.declared.Entered.{Entered}
 use Rattle.aut_delta.specs.declared.Entered.the-variants as entered
-use Rattle.aut_delta.specs.Seen.{Inside, listOperandsOf, Marked, Unmarked, Looks, Next, none, some, PreEnter, nodesOf, unless, PostNew, PreDescend, Ends, EndsFull}
+use Rattle.aut_delta.specs.Seen.{PreEnter, nodesOf, unless, PostNew, PreDescend, Ends, EndsFull}
 
 -- ---- a way down from each state that has no list
 
@@ -66,17 +68,11 @@ module _ {N : ℕ} {L : Limits} {σ : Store} (W : Worked N L σ) where
 
 -- ---- what is looked at
 
--- a list's members are in the table
-inside-of : {N : ℕ} {L : Limits} {σ : Aut} → Good N L σ → {x : ℕ} → x < states σ → Inside (σ .states .words) (σ .members .words) x
-unfolding form
-inside-of {σ = σ} g {x} l = record {
-  state = in-table g l;
-  list = λ p q. by-test (eqb (kind σ x) UNION)
-      (λ b. omega (arith, ok-as g UNION l (eqb-true (kind σ x) UNION b) .inside, g .members-fit))
-      (λ b. omega (arith, ok-as g INTERSECT l (omega (arith, eqb-false (kind σ x) UNION b)) .inside, g .members-fit));
-}
+-- y is the first that has no list
+abbrev FirstOpen : List ℕ → ℕ → List ℕ → Type 0
+FirstOpen st = First (WorkedOut part.Delta st) (NotYet part.Delta st)
 
-pub looks : {N : ℕ} {L : Limits} {σ : Store} → Worked N L σ → {x : ℕ} → x < states (σ .aut) → Looks (σ .aut .states .words) (σ .aut .members .words) x
+pub looks : {N : ℕ} {L : Limits} {σ : Store} → Worked N L σ → {x : ℕ} → x < states (σ .aut) → Looks part.Delta (σ .aut .states .words) (σ .aut .members .words) x
 looks {σ = σ} W {x} l = record { inside = inside-of (W .good) l; operands = all-map (listOperands σ x) (λ y b. in-table (W .good) (b .state)) (list-operands-below W l) }
 
 first-map : {K O K′ O′ : ℕ → Type 0} {z : ℕ} {ys : List ℕ} → ((y : ℕ) → K y → K′ y) → ((y : ℕ) → O y → O′ y) → First K O z ys → First K′ O′ z ys
@@ -123,7 +119,7 @@ module _ (N : ℕ) (l : Bounds) (x k : ℕ) (c : Counts) (mem t₀ st₀ s₀ tr
   pub record Walk (t st s : List ℕ) (n z i : ℕ) : Type 0 where
     pub came : Came (storeLayer N l) 0 0 SameCounts σ₀ (storeOf t st mem tr (withNodes c n)) c (withNodes c n) tt s₀ s
     pub has : z < c .states
-    pub not-yet : Unmarked st₀ z
+    pub not-yet : countOf st₀ z ≡ 0
     pub back : (y : ℕ) (ys : List ℕ) → ListWay σ₀ y ys z → Back N x k σ₀ (storeOf t st mem tr (withNodes c n)) i y ys
 
 -- whatever the transitions are
@@ -159,7 +155,7 @@ module _ {N : ℕ} {l : Bounds} {x k : ℕ} {c : Counts} {mem t₀ st₀ s₀ : 
       at : Walk N l x k c mem t₀ st₀ s₀ (p .transitions) t st s n z i
       at = v .walk (p .transitions) (p .prepared)
 
-      pub open-ready : Looks st mem z
+      pub open-ready : Looks part.Delta st mem z
       open-ready = looks (at .came .ready .worked) (at .has)
 
       pub new-ready : PreEnter N l (storeOf t st mem (p .transitions) (withNodes c n) .aut) s z
@@ -178,16 +174,16 @@ module _ {N : ℕ} {l : Bounds} {x k : ℕ} {c : Counts} {mem t₀ st₀ s₀ : 
       same : listOperands τ z ≡ listOperands σ z
       same = same-list-operands (R .worked) (w .came .ext) (w .has)
 
-      all-has : All (Marked st) (listOperandsOf st mem z) → All (Has σ) (listOperands σ z)
-      all-has a = subst (All (Has σ)) same (all-map (listOperandsOf st mem z) (λ y h. omega (arith, w .came .holds y)) a)
+      all-has : All (WorkedOut part.Delta st) (operandsOf part.Delta st mem z) → All (Has σ) (listOperands σ z)
+      all-has a = subst (All (Has σ)) same (all-map (operandsOf part.Delta st mem z) (λ y h. omega (arith, w .came .holds y)) a)
 
-      first-has : {y : ℕ} → First (Marked st) (Unmarked st) y (listOperandsOf st mem z) → First (Has σ) (HasNot σ) y (listOperands σ z)
+      first-has : {y : ℕ} → FirstOpen st y (operandsOf part.Delta st mem z) → First (Has σ) (HasNot σ) y (listOperands σ z)
       first-has {y} f = subst (First (Has σ) (HasNot σ) y) same (first-map (λ j h. omega (arith, w .came .holds j)) (λ j e. sym (w .came .holds j) ∙ e) f)
 
-      below : {y : ℕ} → First (Marked st) (Unmarked st) y (listOperandsOf st mem z) → Below (σ .aut) z y
+      below : {y : ℕ} → FirstOpen st y (operandsOf part.Delta st mem z) → Below (σ .aut) z y
       below f = first-of (Below (σ .aut) z) (first-has f) (list-operands-below (R .worked) (w .has))
 
-      ends-here : {y : ℕ} → Next st mem z y → y ≡ z → Ends N l x k z i n σ c (storeOf t st mem tr) s₀ s
+      ends-here : {y : ℕ} → Next part.Delta st mem z y → y ≡ z → Ends N l x k z i n σ c (storeOf t st mem tr) s₀ s
       ends-here (none e a) q =
           let b = w .back z [] (bottom (w .not-yet) (all-has a)) in
           record {
@@ -201,12 +197,12 @@ module _ {N : ℕ} {l : Bounds} {x k : ℕ} {c : Counts} {mem t₀ st₀ s₀ : 
           }
       ends-here (some f) q = absurd (omega (arith, below f .lower, ap (nesting (σ .aut)) q))
 
-      lower : {y : ℕ} → Next st mem z y → (y ≡ z → ⊥) → nest st₀ y < nest st₀ z
+      lower : {y : ℕ} → Next part.Delta st mem z y → (y ≡ z → ⊥) → nest st₀ y < nest st₀ z
       lower (none e a) m = absurd (m e)
       lower (some f) m = below f .lower
 
       -- z is entered
-      module _ {y : ℕ} (f : First (Marked st) (Unmarked st) y (listOperandsOf st mem z)) where
+      module _ {y : ℕ} (f : FirstOpen st y (operandsOf part.Delta st mem z)) where
         longer : (e : ℕ) (ys : List ℕ) → ListWay σ e ys y → Back N x k σ τ i e (z ∷ ys)
         longer e ys u = w .back e (z ∷ ys) (down (w .not-yet) (first-has f) u)
 
@@ -249,17 +245,17 @@ module _ {N : ℕ} {l : Bounds} {x k : ℕ} {c : Counts} {mem t₀ st₀ s₀ : 
 
     -- ---- for all of them
 
-    pub arrived : {y : ℕ} → Next st mem z y → y ≡ z → (tr : List ℕ) → Prepared N l (storeOf t₀ st₀ mem tr c) s₀ → Ends N l x k z i n (storeOf t₀ st₀ mem tr c) c (storeOf t st mem tr) s₀ s
+    pub arrived : {y : ℕ} → Next part.Delta st mem z y → y ≡ z → (tr : List ℕ) → Prepared N l (storeOf t₀ st₀ mem tr c) s₀ → Ends N l x k z i n (storeOf t₀ st₀ mem tr c) c (storeOf t st mem tr) s₀ s
     arrived g q tr R = ends-here R g q
 
-    pub falls : PreDescend N l t₀ st₀ mem s₀ c x → {y : ℕ} → Next st mem z y → (y ≡ z → ⊥) → nest st₀ y < nest st₀ z
+    pub falls : PreDescend N l t₀ st₀ mem s₀ c x → {y : ℕ} → Next part.Delta st mem z y → (y ≡ z → ⊥) → nest st₀ y < nest st₀ z
     falls p g m = lower (p .prepared) g m
 
-    module _ {y : ℕ} (g : Next st mem z y) (m : y ≡ z → ⊥) where
-      f : First (Marked st) (Unmarked st) y (listOperandsOf st mem z)
+    module _ {y : ℕ} (g : Next part.Delta st mem z y) (m : y ≡ z → ⊥) where
+      f : FirstOpen st y (operandsOf part.Delta st mem z)
       f = open-one g
         where
-          open-one : Next st mem z y → First (Marked st) (Unmarked st) y (listOperandsOf st mem z)
+          open-one : Next part.Delta st mem z y → FirstOpen st y (operandsOf part.Delta st mem z)
           open-one (none e a) = absurd (m e)
           open-one (some f) = f
 

@@ -1,20 +1,19 @@
--- 01, "Lent tables": word 6 of a state is 0 while its list is not stored, words 1 and 2 are its operands. What the answers of delta's parts say in the words of its step, and what is asked.
+-- 01, "Lent tables": word 6 of a state is 0 while its list is not stored. What the answers of delta's parts say in the words of its step, and what is asked.
 use mathlib.Core.Path.{_≡_}
 use mathlib.Core.Bool.{Bool, true, false}
-use mathlib.Core.List.{List, [], _∷_}
-use Prim.Native.Nat.{ℕ, _+_, _*_, _≤_, _<_}
+use mathlib.Core.List.{List}
+use Prim.Native.Nat.{ℕ, _≤_, _<_}
 use lib.Dec.{ltb}
 use lib.ListN.{length, drop}
 use Rattle.common.specs.Outcome.{refused, Step, _>>=_, return}
 use Rattle.aut_steps.specs.Relations as Rel
-use Rattle.aut_steps.specs.Tables.{UNION, INTERSECT, kindOf, op1, op2, words, Aut, onNodes}
+use Rattle.aut_steps.specs.Tables.{Aut, onNodes}
 use Rattle.aut_steps.specs.ListLaws.{All}
 use Rattle.aut_steps.specs.Good.{states}
 use Rattle.delta_steps.specs.Epsilon.{epsilon}
 use Rattle.delta_steps.specs.Delta.{countOf, Store, onAut}
 use Rattle.delta_steps.specs.Worked.{Epsilons}
-use Rattle.delta_steps.specs.EpsilonDown.{First}
-use Rattle.delta_steps.specs.DeltaReads.{listOperandsWith, listOperands, quit, enter}
+use Rattle.delta_steps.specs.DeltaReads.{listOperands, quit, enter}
 use Rattle.delta_steps.specs.DeltaDown.{Has, HasNot, ListWay, enters}
 use Rattle.aut.specs.declared.Counts.{Counts}
 use Rattle.aut.specs.declared.Limits.{Limits}
@@ -22,67 +21,10 @@ use Rattle.aut_rel.specs.Seen.{Ready}
 use Rattle.aut_stage.specs.Stage.{Answer, gave, refusal, Post}
 use Rattle.aut_stage.specs.OnNodes.{withNodes}
 use Rattle.delta_stage.specs.OnStore.{storeOf, Prepared, storeLayer}
-use Rattle.aut_delta.specs.declared.Shape.{Shape}
-use Rattle.aut_delta.specs.declared.Shape.the-variants as shape
 use Rattle.aut_delta.specs.declared.Entered.{Entered}
 use Rattle.aut_delta.specs.declared.Entered.the-variants as entered
 use Rattle.aut_delta.specs.declared.Down.{Down}
 use Rattle.aut_delta.specs.declared.Down.the-variants as downs
-
--- ---- the operands of a kind
-
-abbrev pub operandsIn : Shape → List ℕ → ℕ → ℕ → List ℕ
-operandsIn shape.Many ys a b = ys
-operandsIn shape.Both ys a b = a ∷ b ∷ []
-operandsIn shape.First ys a b = a ∷ []
-operandsIn shape.Alone ys a b = []
-
--- how many there are, with k members
-abbrev pub sizeOf : Shape → ℕ → ℕ
-sizeOf shape.Many k = k
-sizeOf shape.Both k = 2
-sizeOf shape.First k = 1
-sizeOf shape.Alone k = 0
-
--- lists are a Union's and an Intersect's
-abbrev pub ManyOnly : Shape → ℕ → Type 0
-ManyOnly shape.Many kind = (UNION ≤ kind) × (kind ≤ INTERSECT)
-ManyOnly shape.Both kind = Unit
-ManyOnly shape.First kind = Unit
-ManyOnly shape.Alone kind = Unit
-
-pub record Shaped (kind : ℕ) (r : Shape) : Type 0 where
-  pub operands : (ys : List ℕ) (a b : ℕ) → listOperandsWith kind ys a b ≡ operandsIn r ys a b
-  pub many : ManyOnly r kind
-
--- the operands whose lists are worked out
-abbrev pub listOperandsOf : List ℕ → List ℕ → ℕ → List ℕ
-listOperandsOf st mem x = listOperandsWith (kindOf st x) (words mem (op1 st x) (op2 st x)) (op1 st x) (op2 st x)
-
--- a list's members are in the table
-pub record Inside (st mem : List ℕ) (x : ℕ) : Type 0 where
-  pub state : 12 * x + 11 < length st
-  pub list : UNION ≤ kindOf st x → kindOf st x ≤ INTERSECT → op1 st x + op2 st x ≤ length mem
-
--- ---- the way down
-
--- the list of x is stored
-abbrev pub Marked : List ℕ → ℕ → Type 0
-Marked st x = 0 < countOf st x
-
--- it is not
-abbrev pub Unmarked : List ℕ → ℕ → Type 0
-Unmarked st x = countOf st x ≡ 0
-
--- x and its operands are states that can be looked at
-pub record Looks (st mem : List ℕ) (x : ℕ) : Type 0 where
-  pub inside : Inside st mem x
-  pub operands : All (λ y. 12 * y + 11 < length st) (listOperandsOf st mem x)
-
--- r is x's first operand that has no list, or x where all have one
-pub data Next (st mem : List ℕ) (x r : ℕ) : Type 0 where
-  none : r ≡ x → All (Marked st) (listOperandsOf st mem x) → Next st mem x r
-  some : First (Marked st) (Unmarked st) r (listOperandsOf st mem x) → Next st mem x r
 
 -- ---- to enter a state
 
@@ -125,7 +67,7 @@ pub record PreDescend (N : ℕ) (l : Limits) (t st mem s : List ℕ) (c : Counts
   pub transitions : List ℕ
   pub prepared : Prepared N l (storeOf t st mem transitions c) s
   pub has : x < c .states
-  pub not-yet : Unmarked st x
+  pub not-yet : countOf st x ≡ 0
 
 -- it is the end of a way from x; of the states above it those from number k on are entered
 pub record Ends (N : ℕ) (l : Limits) (x k y i n : ℕ) (σ : Store) (c : Counts) (at : Counts → Store) (s s′ : List ℕ) : Type 0 where

@@ -3,30 +3,19 @@
 use aut::Config;
 use aut::Counts;
 use aut_mk::Task;
+use aut_operands::Part;
 use delta_keep::Kept;
 use spp::Made;
 use st::Listed;
-ghost use mathlib.Core.Path.{_≡_};
-ghost use mathlib.Core.List.{List};
-ghost use Prim.Native.Nat.{ℕ, _+_, _*_, _<_};
-ghost use lib.ListN.{length, getD};
 ghost use Rattle.aut_rel.specs.Seen.{autOf};
 ghost use Rattle.delta_stage.specs.OnStore.{storeOf};
 ghost use Rattle.aut_delta.specs.Contracts.{PreDelta, PostDelta};
-ghost use Rattle.aut_delta.specs.Seen.{Shaped, Inside, listOperandsOf, Looks, Next, PreEnter, PostEnter, PostEpsilon, PostStar, PostNew, PreDescend, PostDescend, PreFinish};
+ghost use Rattle.aut_delta.specs.Seen.{PreEnter, PostEnter, PostEpsilon, PostStar, PostNew, PreDescend, PostDescend, PreFinish};
 
 // the list is in the tables; or 01's number
 pub enum Worked {
     Done(Counts),
     Refused(u32),
-}
-
-// the operands whose lists are read
-pub enum Shape {
-    Many,
-    Both,
-    First,
-    Alone,
 }
 
 // the number of relation nodes, or no room for one
@@ -39,89 +28,6 @@ pub enum Entered {
 pub enum Down {
     At(u32, usize, usize),
     Full,
-}
-
-// ---- operands
-
-fn shape_of(kind: u32) -> Shape
-    ensures { λ r. ⌜ Shaped kind r ⌝ }
-{
-    if kind == aut::kind::UNION {
-        return Shape::Many;
-    }
-    if kind == aut::kind::INTERSECT {
-        return Shape::Many;
-    }
-    if kind == aut::kind::XOR {
-        return Shape::Both;
-    }
-    if kind == aut::kind::DIFFERENCE {
-        return Shape::Both;
-    }
-    if kind == aut::kind::COMPLEMENT {
-        return Shape::First;
-    }
-    if kind == aut::kind::SEQUENCE {
-        return Shape::Both;
-    }
-    if kind == aut::kind::STAR {
-        return Shape::First;
-    }
-    if kind == aut::kind::UNTIL {
-        return Shape::Both;
-    }
-    Shape::Alone
-}
-
-fn operand_count(states: &[u32], x: u32) -> usize
-    requires { ⌜ 12 * x + 11 < length (now states) ⌝ }
-    ensures { λ r. ⌜ ((mem : List ℕ) → length (listOperandsOf (now (states .entry)) mem x) ≡ r) ⌝ }
-{
-    let i = x as usize;
-    let shape = shape_of(states[aut::STATE * i + aut::word::KIND]);
-    match shape {
-        Shape::Many => states[aut::STATE * i + aut::word::SECOND] as usize,
-        Shape::Both => 2,
-        Shape::First => 1,
-        Shape::Alone => 0,
-    }
-}
-
-fn operand(states: &[u32], members: &[u32], x: u32, j: usize) -> u32
-    requires { ⌜ Inside (now states) (now members) x × (j < length (listOperandsOf (now states) (now members) x)) ⌝ }
-    ensures { λ r. ⌜ getD (listOperandsOf (now (states .entry)) (now (members .entry)) x) j 0 ≡ r ⌝ }
-{
-    let i = x as usize;
-    let shape = shape_of(states[aut::STATE * i + aut::word::KIND]);
-    match shape {
-        Shape::Many => {
-            let from = states[aut::STATE * i + aut::word::FIRST] as usize;
-            members[from + j]
-        }
-        Shape::Both => states[aut::STATE * i + aut::word::FIRST + j],
-        Shape::First => states[aut::STATE * i + aut::word::FIRST],
-        Shape::Alone => 0,
-    }
-}
-
-// ---- the way down
-
-// the first operand that has no list; x where all have one
-fn open_operand(states: &[u32], members: &[u32], x: u32) -> u32
-    requires { ⌜ Looks (now states) (now members) x ⌝ }
-    ensures { λ r. ⌜ Next (now (states .entry)) (now (members .entry)) x r ⌝ }
-{
-    let k = operand_count(states, x);
-    let mut j = 0;
-    while j < k {
-        let y = operand(states, members, x, j);
-        let at = y as usize;
-        if states[aut::STATE * at + aut::word::COUNT] == 0 {
-            return y;
-        }
-        j += 1;
-    }
-    x
 }
 
 // ---- what is worked out before the operands' lists
@@ -233,7 +139,7 @@ fn descend(
     let mut y = x;
     let mut i = 0;
     loop {
-        let z = open_operand(states, members, y);
+        let z = aut_operands::open_operand(states, members, Part::Delta, y);
         if z == y {
             return Down::At(y, i, n);
         }
@@ -291,8 +197,7 @@ fn finish(
             let kept = delta_keep::keep_list(states, transitions, scratch, d, x, m);
             match kept {
                 Kept::Refused(e) => Worked::Refused(e),
-                // no packet set is new
-                Kept::Done(f) => Worked::Done(Counts { sp: c.sp, ..f }),
+                Kept::Done(f) => Worked::Done(f),
             }
         }
     }

@@ -28,10 +28,13 @@ use Rattle.delta_steps.specs.Labels.{complement-makes}
 use Rattle.aut_rel.specs.Behind.{Left, Backed, left-refl, left-trans, backed-left}
 use Rattle.aut_rel.specs.Seen.{RelateReady, Relates}
 use Rattle.aut_rel.proofs.Each.{Grows, Keeps, makes-gives, each-gives}
-use Rattle.aut_eps.specs.declared.Shape.{Shape}
-use Rattle.aut_eps.specs.declared.Shape.the-variants.{Many, Both, First, Second, Alone}
-use Rattle.aut_eps.specs.Seen.{ValueAt, operandsIn, manyBy, bothBy, firstBy, aloneBy, combineIn, Shaped, EachReady, ManyReady, ValuesReady, CombineReady}
-use Rattle.aut_eps.proofs.Shapes.{a-shape, operands-are, list-inside}
+use Rattle.aut_operands.specs.declared.Part.the-variants as part
+use Rattle.aut_operands.specs.declared.Shape.{Shape}
+use Rattle.aut_operands.specs.declared.Shape.the-variants.{Many, Both, First, Second, Alone}
+use Rattle.aut_operands.specs.Contracts.{shapeOf}
+use Rattle.aut_operands.proofs.Shapes.{operandsIn}
+use Rattle.aut_eps.specs.Seen.{ValueAt, manyBy, bothBy, firstBy, aloneBy, combineIn, EachReady, ManyReady, ValuesReady, CombineReady}
+use Rattle.aut_eps.proofs.Shapes.{combine-is, operands-are, list-inside}
 
 -- values as they were read
 pub relate-ready : {N : ℕ} {t : Table} {st s : List ℕ} {x y a b : ℕ} → Backed N t s → ValueAt N t st x → ValueAt N t st y → valueOf st x ≡ a → valueOf st y ≡ b → RelateReady N t s a b
@@ -240,16 +243,16 @@ module _ (N : ℕ) (st : List ℕ) where
   pub combine-made : (mem : List ℕ) (x : ℕ) {t : Table} {s : List ℕ} → CombineReady N t st mem s x → Relation-made t (combineOn N st mem x t)
   unfolding kindOf
   combine-made mem x {t} p =
-      let (r, s) = a-shape (getD st (12 * x) 0) in
-      subst (Relation-made t) (sym (s .combine N (valueOf st) (words mem (op1 st x) (op2 st x)) (op1 st x) (op2 st x) t))
-      (shape-made r (getD st (12 * x) 0) (words mem (op1 st x) (op2 st x)) (op1 st x) (op2 st x) t (p .backed .wf) (subst (All (ValueAt N t st)) (operands-are st x s mem) (p .values)))
+      subst (Relation-made t) (sym (combine-is st x refl N (valueOf st) (words mem (op1 st x) (op2 st x)) (op1 st x) (op2 st x) t))
+      (shape-made (shapeOf part.Epsilon (getD st (12 * x) 0)) (getD st (12 * x) 0) (words mem (op1 st x) (op2 st x)) (op1 st x) (op2 st x) t (p .backed .wf)
+      (subst (All (ValueAt N t st)) (operands-are st x refl mem) (p .values)))
 
   pub handle-small : (mem : List ℕ) (x : ℕ) {t : Table} {s : List ℕ} → CombineReady N t st mem s x → {t′ : Table} {h : ℕ} → combineOn N st mem x t ≡ given t′ h → h < 16777218
   handle-small mem x p {t′} {h} e = let g = given-of (combine-made mem x p) e in omega (arith, at-below t′ N h (g .holds), g .wf .nodes .small)
 
 -- ---- combine: by shape, with the words of x as they were read
 
-module _ {N : ℕ} {t : Table} {st mem s : List ℕ} {x : ℕ} (p : CombineReady N t st mem s x) {r : Shape} (f : Shaped (getD st (12 * x) 0) r) where
+module _ {N : ℕ} {t : Table} {st mem s : List ℕ} {x : ℕ} (p : CombineReady N t st mem s x) {r : Shape} (f : shapeOf part.Epsilon (getD st (12 * x) 0) ≡ r) where
   abbrev a : ℕ
   a = getD st (12 * x + 1) 0
 
@@ -261,7 +264,7 @@ module _ {N : ℕ} {t : Table} {st mem s : List ℕ} {x : ℕ} (p : CombineReady
   values-in e = subst (λ (r : Shape). All (ValueAt N t st) (operandsIn r (words mem a b) a b)) e (subst (All (ValueAt N t st)) (operands-are st x f mem) (p .values))
 
   pub many-ready : r ≡ Many → ManyReady N t st mem s a b
-  many-ready e = let i = list-inside st x f e (p .inside) in record { backed = p .backed; values = values-in e; inside = i .1; some = i .0 }
+  many-ready e = let i = list-inside st x f e (p .inside) (p .some) in record { backed = p .backed; values = values-in e; inside = i .1; some = i .0 }
 
   pub both-ready : r ≡ Both → ValuesReady N t st s (a ∷ b ∷ [])
   both-ready e = record { backed = p .backed; values = values-in e }
@@ -274,4 +277,4 @@ module _ {N : ℕ} {t : Table} {st mem s : List ℕ} {x : ℕ} (p : CombineReady
 
   pub combined : {q : Shape} → r ≡ q → combineOn N st mem x t ≡ combineIn N q (getD st (12 * x) 0) (valueOf st) (words mem a b) a b t
   unfolding kindOf op1 op2
-  combined e = f .combine N (valueOf st) (words mem a b) a b t ∙ ap (λ (r : Shape). combineIn N r (getD st (12 * x) 0) (valueOf st) (words mem a b) a b t) e
+  combined e = combine-is st x f N (valueOf st) (words mem a b) a b t ∙ ap (λ (r : Shape). combineIn N r (getD st (12 * x) 0) (valueOf st) (words mem a b) a b t) e

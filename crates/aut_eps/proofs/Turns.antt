@@ -14,10 +14,9 @@ use Rattle.spp.specs.declared.Made.{Made}
 use Rattle.spp.specs.declared.SPP as Spp
 use Rattle.spp.specs.declared.Made.the-variants.{Node, Full}
 use Rattle.aut_steps.specs.Tables.{UNION, INTERSECT, nest, Limits, Aut, aut, putNodes}
-use Rattle.aut_steps.specs.Kinds.{form}
 use Rattle.aut_steps.specs.Facts.{words-length}
 use Rattle.aut_steps.specs.ListLaws.{All, all-map, all-with}
-use Rattle.aut_steps.specs.Good.{states, kind, first, second, members, kind-grown, nesting-grown, state-grown, Good, ok-as}
+use Rattle.aut_steps.specs.Good.{states, kind, first, second, members, kind-grown, nesting-grown, state-grown, Good}
 use Rattle.delta_steps.specs.Epsilon.{epsilonOf, setWord, keepEpsilon, epsilon}
 use Rattle.delta_steps.specs.Agree.{Agree, agree-came}
 use Rattle.delta_steps.specs.Noted.{Noted, noted-refl, noted-trans, noted-grown, noted-good}
@@ -34,7 +33,9 @@ use Rattle.aut_rel.specs.Seen.{autOf, MadeLeft, Ready}
 use Rattle.aut_rel.proofs.Order.{in-table, backed-of, ready-after}
 use Rattle.aut_eps.specs.declared.Kept.{Kept}
 use Rattle.aut_eps.specs.declared.Kept.the-variants.{Handle, Nothing}
-use Rattle.aut_eps.specs.Seen.{Keeps, Inside, Descends, CombineReady, Finishes, seenEpsilon, Asks, After, AfterBy, Works}
+use Rattle.aut_operands.specs.Contracts.{Descends}
+use Rattle.aut_operands.proofs.Down.{inside-of}
+use Rattle.aut_eps.specs.Seen.{Keeps, CombineReady, Finishes, seenEpsilon, Asks, After, AfterBy, Works}
 use Rattle.aut_eps.proofs.Together.{combine-made}
 
 -- the counts with n relation nodes
@@ -66,21 +67,14 @@ kept-works {N} {c} {t} {st} {mem} {s} {x} a {k} f {h} e =
 
 -- ---- tables in order
 
--- a list has a member, and its members are in the table
-inside-of : {N : ℕ} {L : Limits} {σ : Aut} → Good N L σ → {x : ℕ} → x < states σ → Inside (σ .states .words) (σ .members .words) x
-unfolding form
-inside-of {N} {L} {σ} g {x} l = record {
-  state = in-table g l;
-  list = λ p q. by-test (eqb (kind σ x) UNION)
-      (λ b. let e : kind σ x ≡ UNION = eqb-true (kind σ x) UNION b in (omega (arith, g .unions x l e .some, long), omega (arith, ok-as g UNION l e .inside, g .members-fit)))
-      (λ b. let e : kind σ x ≡ INTERSECT = omega (arith, eqb-false (kind σ x) UNION b) in (some-member e, omega (arith, ok-as g INTERSECT l e .inside, g .members-fit)));
-}
+-- a list has a member
+some-of : {N : ℕ} {L : Limits} {σ : Aut} → Good N L σ → {x : ℕ} → x < states σ → UNION ≤ kind σ x → kind σ x ≤ INTERSECT → 1 ≤ second σ x
+some-of {σ = σ} g {x} l p q =
+    by-test (eqb (kind σ x) UNION) (λ b. omega (arith, g .unions x l (eqb-true (kind σ x) UNION b) .some, long))
+    (λ b. let m = g .intersects x l (omega (arith, eqb-false (kind σ x) UNION b)) in omega (arith, long, ap length (m .parts), length-append (m .others) (m .last), m .some))
   where
     long : length (members σ x) ≡ second σ x
     long = words-length (σ .members .words) (first σ x) (second σ x)
-
-    some-member : kind σ x ≡ INTERSECT → 1 ≤ second σ x
-    some-member e = let m = g .intersects x l e in omega (arith, long, ap length (m .parts), length-append (m .others) (m .last), m .some)
 
 -- ---- the loop: some states below x are worked out
 
@@ -190,6 +184,7 @@ module _ {N : ℕ} (c : Counts) {mem : List ℕ} {x : ℕ} {t₀ st₀ s₀ : Li
         combine-ready = record {
           backed = v .backed;
           inside = inside-of good has;
+          some = some-of good has;
           values = all-with (operandsOf st mem x) (λ z b k. record { state = in-table good (b .state); known = k; at = known-means law-ready (b .state) k .den .at }) (operands-below law-ready has) known;
         }
 

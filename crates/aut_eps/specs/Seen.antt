@@ -11,13 +11,13 @@ use Rattle.spp.specs.Seen.{seen}
 use Rattle.spp.specs.declared.Made.{Made}
 use Rattle.spp.specs.declared.Made.the-variants.{Node, Full}
 use Rattle.aut_steps.specs.Relations as Rel
-use Rattle.aut_steps.specs.Tables.{UNION, INTERSECT, XOR, DIFFERENCE, COMPLEMENT, TOP, kindOf, op1, op2, nest, words, Aut, aut}
+use Rattle.aut_steps.specs.Tables.{UNION, INTERSECT, XOR, DIFFERENCE, COMPLEMENT, TOP, kindOf, op2, words, Aut, aut}
 use Rattle.aut_steps.specs.ListLaws.{All}
 use Rattle.aut_steps.specs.Good.{states}
 use Rattle.st_steps.specs.Operations as Ops
 use Rattle.delta_steps.specs.Epsilon.{valueOf, epsilon}
-use Rattle.delta_steps.specs.EpsilonReads.{operandsWith, operandsOf, uniteValues, meetValues, combineBy, combineOn}
-use Rattle.delta_steps.specs.EpsilonDown.{Known, Open, FirstOpen}
+use Rattle.delta_steps.specs.EpsilonReads.{operandsOf, uniteValues, meetValues, combineOn}
+use Rattle.delta_steps.specs.EpsilonDown.{Known, Open}
 use Rattle.delta_steps.specs.EpsilonLaws.{Epsiloned}
 use Rattle.delta_steps.specs.Worked.{Epsilons}
 use Rattle.aut.specs.Seen.{limitsOf}
@@ -25,10 +25,11 @@ use Rattle.aut.specs.declared.Counts.{Counts}
 use Rattle.aut.specs.declared.Limits.{Limits}
 use Rattle.aut_rel.specs.Behind.{Backed}
 use Rattle.aut_rel.specs.Seen.{autOf, MadeLeft, Ready}
+use Rattle.aut_operands.specs.Contracts.{Inside}
+use Rattle.aut_operands.specs.declared.Shape.{Shape}
+use Rattle.aut_operands.specs.declared.Shape.the-variants.{Many, Both, First, Second, Alone}
 use Rattle.aut_eps.specs.declared.Kept.{Kept}
 use Rattle.aut_eps.specs.declared.Kept.the-variants.{Handle, Nothing}
-use Rattle.aut_eps.specs.declared.Shape.{Shape}
-use Rattle.aut_eps.specs.declared.Shape.the-variants.{Many, Both, First, Second, Alone}
 
 -- ---- what is kept
 
@@ -42,22 +43,7 @@ pub record ValueAt (N : ℕ) (t : Table) (st : List ℕ) (y : ℕ) : Type 0 wher
   pub known : Known st y
   pub at : At t N (valueOf st y)
 
--- ---- the operands of a kind
-
-abbrev pub operandsIn : Shape → List ℕ → ℕ → ℕ → List ℕ
-operandsIn Many ys a b = ys
-operandsIn Both ys a b = a ∷ b ∷ []
-operandsIn First ys a b = a ∷ []
-operandsIn Second ys a b = b ∷ []
-operandsIn Alone ys a b = []
-
--- how many there are, with k members
-abbrev pub sizeOf : Shape → ℕ → ℕ
-sizeOf Many k = k
-sizeOf Both k = 2
-sizeOf First k = 1
-sizeOf Second k = 1
-sizeOf Alone k = 0
+-- ---- relations put together
 
 -- values put together, by kind
 module _ (N kind : ℕ) where
@@ -80,50 +66,6 @@ combineIn N First kind v ys a b t = firstBy N kind (v a) t
 combineIn N Second kind v ys a b t = given t (v b)
 combineIn N Alone kind v ys a b t = given t (aloneBy N kind)
 
--- lists are a Union's and an Intersect's
-abbrev pub ManyOnly : Shape → ℕ → Type 0
-ManyOnly Many kind = (UNION ≤ kind) × (kind ≤ INTERSECT)
-ManyOnly Both kind = Unit
-ManyOnly First kind = Unit
-ManyOnly Second kind = Unit
-ManyOnly Alone kind = Unit
-
-pub record Shaped (kind : ℕ) (r : Shape) : Type 0 where
-  pub operands : (ys : List ℕ) (a b : ℕ) → operandsWith kind ys a b ≡ operandsIn r ys a b
-  pub combine : (N : ℕ) (v : ℕ → ℕ) (ys : List ℕ) (a b : ℕ) (t : Table) → combineBy N v kind ys a b t ≡ combineIn N r kind v ys a b t
-  pub many : ManyOnly r kind
-
--- a list's members are in the table, and there is one
-pub record Inside (st mem : List ℕ) (x : ℕ) : Type 0 where
-  pub state : 12 * x + 11 < length st
-  pub list : UNION ≤ kindOf st x → kindOf st x ≤ INTERSECT → (1 ≤ op2 st x) × (op1 st x + op2 st x ≤ length mem)
-
--- ---- the way down
-
--- x and its operands are states that can be looked at
-pub record Looks (st mem : List ℕ) (x : ℕ) : Type 0 where
-  pub inside : Inside st mem x
-  pub operands : All (λ y. 12 * y + 11 < length st) (operandsOf st mem x)
-
--- r is x's first operand that is not worked out, or x where all are
-pub data Next (st mem : List ℕ) (x r : ℕ) : Type 0 where
-  none : r ≡ x → All (Known st) (operandsOf st mem x) → Next st mem x r
-  some : FirstOpen st r (operandsOf st mem x) → Next st mem x r
-
--- so many states, whose operands are states that are nested lower
-pub record Nested (st mem : List ℕ) (count : ℕ) : Type 0 where
-  pub inside : (x : ℕ) → x < count → Inside st mem x
-  pub lower : (x : ℕ) → x < count → All (λ y. (y < count) × (nest st y < nest st x)) (operandsOf st mem x)
-
--- x is one of them, and not worked out
-pub record Descends (st mem : List ℕ) (x : ℕ) : Type 0 where
-  pub count : ℕ
-  pub nested : Nested st mem count
-  pub has : x < count
-  pub not-yet : Open st x
-
--- ---- relations put together
-
 pub record EachReady (N : ℕ) (t : Table) (st mem s : List ℕ) (h from k : ℕ) : Type 0 where
   pub backed : Backed N t s
   pub at-h : At t N h
@@ -143,6 +85,8 @@ pub record ValuesReady (N : ℕ) (t : Table) (st s ys : List ℕ) : Type 0 where
 pub record CombineReady (N : ℕ) (t : Table) (st mem s : List ℕ) (x : ℕ) : Type 0 where
   pub backed : Backed N t s
   pub inside : Inside st mem x
+  -- a list has a member
+  pub some : UNION ≤ kindOf st x → kindOf st x ≤ INTERSECT → 1 ≤ op2 st x
   pub values : All (ValueAt N t st) (operandsOf st mem x)
 
 -- .. and kept in word 4 of x

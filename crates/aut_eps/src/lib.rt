@@ -2,37 +2,30 @@
 // lower; their values are read from the tables when they are put together, so nothing waits in scratch over a call, and nothing on the stack.
 use aut::Counts;
 use aut_mk::Task;
+use aut_operands::Part;
+use aut_operands::Shape;
 use spp::Made;
 use spp::Op;
 use spp::SPP;
 ghost use mathlib.Core.Path.{_≡_};
-ghost use mathlib.Core.List.{List, [], _∷_};
-ghost use Prim.Native.Nat.{ℕ, _+_, _*_, _≤_, _<_};
-ghost use lib.ListN.{length, getD};
+ghost use mathlib.Core.List.{[], _∷_};
+ghost use Prim.Native.Nat.{_+_, _*_, _≤_, _<_};
+ghost use lib.ListN.{length};
 ghost use Rattle.common.specs.Runs.{table};
 ghost use Rattle.spp_steps.specs.Model as M;
 ghost use Rattle.spp.specs.Seen.{opOf};
 ghost use Rattle.aut_steps.specs.Tables.{words};
 ghost use Rattle.aut_steps.specs.Constructors.{each};
 ghost use Rattle.delta_steps.specs.Epsilon.{valueOf};
-ghost use Rattle.delta_steps.specs.EpsilonReads.{operandsOf, combineOn};
-ghost use Rattle.delta_steps.specs.EpsilonDown.{Known, Way};
+ghost use Rattle.delta_steps.specs.EpsilonReads.{combineOn};
+ghost use Rattle.delta_steps.specs.EpsilonDown.{Known};
 ghost use Rattle.aut_rel.specs.Seen.{autOf, Relates};
-ghost use Rattle.aut_eps.specs.Seen.{Keeps, manyBy, bothBy, firstBy, aloneBy, Shaped, Inside, Looks, Next, Descends, EachReady, ManyReady, ValuesReady, CombineReady, Finishes, Asks, Works};
+ghost use Rattle.aut_eps.specs.Seen.{Keeps, manyBy, bothBy, firstBy, aloneBy, EachReady, ManyReady, ValuesReady, CombineReady, Finishes, Asks, Works};
 
 // what a state has: an SPP its handle, another what is kept
 pub enum Kept {
     Handle(SPP),
     Nothing,
-}
-
-// the operands that epsilon goes into
-pub enum Shape {
-    Many,
-    Both,
-    First,
-    Second,
-    Alone,
 }
 
 // ---- words of a state
@@ -61,105 +54,6 @@ fn value(states: &[u32], y: u32) -> SPP
         return SPP(states[12 * i + 1]);
     }
     SPP(states[12 * i + 4] - 1)
-}
-
-// ---- operands
-
-fn shape_of(kind: u32) -> Shape
-    ensures { λ r. ⌜ Shaped kind r ⌝ }
-{
-    if kind == aut::kind::UNION {
-        return Shape::Many;
-    }
-    if kind == aut::kind::INTERSECT {
-        return Shape::Many;
-    }
-    if kind == aut::kind::XOR {
-        return Shape::Both;
-    }
-    if kind == aut::kind::DIFFERENCE {
-        return Shape::Both;
-    }
-    if kind == aut::kind::COMPLEMENT {
-        return Shape::First;
-    }
-    if kind == aut::kind::SEQUENCE {
-        return Shape::Both;
-    }
-    if kind == aut::kind::STAR {
-        return Shape::First;
-    }
-    if kind == aut::kind::UNTIL {
-        return Shape::Second;
-    }
-    Shape::Alone
-}
-
-fn operand_count(states: &[u32], x: u32) -> usize
-    requires { ⌜ 12 * x + 11 < length (now states) ⌝ }
-    ensures { λ r. ⌜ ((mem : List ℕ) → length (operandsOf (now (states .entry)) mem x) ≡ r) ⌝ }
-{
-    let i = x as usize;
-    let shape = shape_of(states[12 * i]);
-    match shape {
-        Shape::Many => states[12 * i + 2] as usize,
-        Shape::Both => 2,
-        Shape::First => 1,
-        Shape::Second => 1,
-        Shape::Alone => 0,
-    }
-}
-
-fn operand(states: &[u32], members: &[u32], x: u32, j: usize) -> u32
-    requires { ⌜ Inside (now states) (now members) x × (j < length (operandsOf (now states) (now members) x)) ⌝ }
-    ensures { λ r. ⌜ getD (operandsOf (now (states .entry)) (now (members .entry)) x) j 0 ≡ r ⌝ }
-{
-    let i = x as usize;
-    let shape = shape_of(states[12 * i]);
-    match shape {
-        Shape::Many => {
-            let from = states[12 * i + 1] as usize;
-            members[from + j]
-        }
-        Shape::Both => states[12 * i + 1 + j],
-        Shape::First => states[12 * i + 1],
-        Shape::Second => states[12 * i + 2],
-        Shape::Alone => 0,
-    }
-}
-
-// ---- the way down
-
-// the first operand that is not worked out; x where all are
-fn open_operand(states: &[u32], members: &[u32], x: u32) -> u32
-    requires { ⌜ Looks (now states) (now members) x ⌝ }
-    ensures { λ r. ⌜ Next (now (states .entry)) (now (members .entry)) x r ⌝ }
-{
-    let k = operand_count(states, x);
-    let mut j = 0;
-    while j < k {
-        let y = operand(states, members, x, j);
-        let Kept::Handle(_) = look(states, y) else {
-            return y;
-        };
-        j += 1;
-    }
-    x
-}
-
-// from x down along first operands that are not worked out, to a state of which all are
-fn lowest(states: &[u32], members: &[u32], x: u32) -> u32
-    requires { ⌜ Descends (now states) (now members) x ⌝ }
-    ensures { λ r. ⌜ Way (now (states .entry)) (now (members .entry)) r x ⌝ }
-{
-    let mut y = x;
-    loop {
-        let z = open_operand(states, members, y);
-        if z == y {
-            return y;
-        }
-        y = z;
-    }
 }
 
 // ---- values put together
@@ -312,7 +206,7 @@ fn combine(
     let kind = states[12 * i];
     let a = states[12 * i + 1];
     let b = states[12 * i + 2];
-    let shape = shape_of(kind);
+    let shape = aut_operands::shape_of(Part::Epsilon, kind);
     match shape {
         Shape::Many => combine_many(
             nodes,
@@ -375,7 +269,7 @@ pub fn epsilon(
     }
     let mut n = c.spp;
     loop {
-        let y = lowest(states, members, x);
+        let y = aut_operands::lowest(states, members, x);
         if y == x {
             return finish(nodes, states, members, scratch, n, fields, x);
         }

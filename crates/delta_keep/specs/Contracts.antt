@@ -22,6 +22,12 @@ abbrev pub seenKept : Kept → List Edge → List ℕ → List ℕ → List ℕ 
 seenKept (kept.Done d) es t st mem tr = given (storeOf t st mem tr d) es
 seenKept (kept.Refused e) es t st mem tr = refused e
 
+-- no packet set is new
+abbrev pub SameSets : Counts → Kept → Type 0
+SameSets c (kept.Done d) = d .sp ≡ c .sp
+SameSets c (kept.Refused e) = Unit
+
 -- whatever the nodes and the members are
-abbrev pub PostKeep : ℕ → ℕ → Counts → Kept → List ℕ → List ℕ → List ℕ → List ℕ → List ℕ → Type 0
-PostKeep x m c r st tr s st′ tr′ = (t mem : List ℕ) → keepList x (edges s RESULT m) (storeOf t st mem tr c) ≡ seenKept r (edges s RESULT m) t st′ mem tr′
+pub record PostKeep (x m : ℕ) (c : Counts) (r : Kept) (st tr s st′ tr′ : List ℕ) : Type 0 where
+  pub is : (t mem : List ℕ) → keepList x (edges s RESULT m) (storeOf t st mem tr c) ≡ seenKept r (edges s RESULT m) t st′ mem tr′
+  pub sets : SameSets c r

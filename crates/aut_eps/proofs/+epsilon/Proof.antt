@@ -14,7 +14,7 @@ use Rattle.aut_eps.proofs.epsilon.Kinds as epsilon-kinds
 use Rattle.aut_eps.proofs.+epsilon.Lts-epsilon as epsilon-lts
 use Rattle.aut_eps.proofs.finish.Reads as finish-reads
 use Rattle.aut_eps.proofs.look.Reads as look-reads
-use Rattle.aut_eps.proofs.lowest.Reads as lowest-reads
+use Rattle.aut_operands.proofs.lowest.Reads as lowest-reads
 use Rattle.aut_eps.proofs.+epsilon.{statement}
 use Rattle.aut_eps.proofs.+epsilon.Tie.{close}
 

@@ -1,3 +1,4 @@
+use mathlib.Core.Path.{refl}
 use native.Mathlib.Omega.{arith}
 use lib.ListN.{length-set}
 use Rattle.delta_keep.proofs.Keeping as keeping
@@ -15,12 +16,12 @@ add-end c = search needs
 -- src/lib.rt:22:9
 returns : tie.Need-returns
 returns c =
-    let g = c .before .before .before .before .args in keeping.no-room (g .states .now) (g .transitions .now) (g .scratch .now) (g .c) (g .x) (g .m) (c .if1 .taken)
+    let g = c .before .before .before .before .args in record { is = keeping.no-room (g .states .now) (g .transitions .now) (g .scratch .now) (g .c) (g .x) (g .m) (c .if1 .taken); sets = tt }
 
 -- src/lib.rt:25:9
 returns-2 : tie.Need-returns-2
 returns-2 c =
-    let g = c .before .before .before .before .before .args in keeping.no-cap (g .states .now) (g .transitions .now) (g .scratch .now) (g .c) (g .x) (g .m) (c .if2 .taken)
+    let g = c .before .before .before .before .before .args in record { is = keeping.no-cap (g .states .now) (g .transitions .now) (g .scratch .now) (g .c) (g .x) (g .m) (c .if2 .taken); sets = tt }
 
 -- src/lib.rt:27:28
 mul-copy : tie.Need-mul-copy
@@ -94,7 +95,7 @@ same-length-2 c = search needs
 -- src/lib.rt:15:1
 returns-3 : tie.Need-returns-3
 returns-3 c =
-    let g = c .before .before .before .before .before .before .before .before .before .args in keeping.stored (g .states .now) (g .transitions .now) (g .scratch .now) (g .c) (g .x) (g .m) (c .before .before .before .before .before .if1 .left) (c .before .before .before .before .if2 .left) (c .before .before .copy .ensures)
+    let g = c .before .before .before .before .before .before .before .before .before .args in record { is = keeping.stored (g .states .now) (g .transitions .now) (g .scratch .now) (g .c) (g .x) (g .m) (c .before .before .before .before .before .if1 .left) (c .before .before .before .before .if2 .left) (c .before .before .copy .ensures); sets = refl }
 
 pub keep-list-spec : {M : Type 1} → statement M
 keep-list-spec =

@@ -1,9 +1,9 @@
 use Prim.Native.Nat.{_+_, _*_}
 use native.Mathlib.Omega.{arith}
-use Rattle.aut_delta.proofs.Shapes as shapes
+use Rattle.aut_operands.proofs.Shapes as shapes
 use borrow.Author.Needs.{needs}
-use Rattle.aut_delta.proofs.operand_count.Statement.{statement}
-use Rattle.aut_delta.proofs.operand_count.Tie as tie
+use Rattle.aut_operands.proofs.operand_count.Statement.{statement}
+use Rattle.aut_operands.proofs.operand_count.Tie as tie
 
 mul-shape-of : tie.Need-mul-shape-of
 mul-shape-of c = search needs
@@ -48,21 +48,28 @@ enum-told-3 c = search needs
 enum-told-4 : tie.Need-enum-told-4
 enum-told-4 c = search needs
 
+enum-told-5 : tie.Need-enum-told-5
+enum-told-5 c = search needs
+
 returns : tie.Need-returns
 returns c =
-    shapes.count-is (c .before .before .before .before .before .before .args .states .now) (c .before .before .before .before .before .before .args .x) (c .before .before .before .shape-of .ensures) (c .before .enum-told .given .1)
+    shapes.count-is (c .before .before .before .before .before .before .args .part) (c .before .before .before .before .before .before .args .states .now) (c .before .before .before .before .before .before .args .x) (c .before .before .before .shape-of .ensures) (c .before .enum-told .given .1)
 
 returns-2 : tie.Need-returns-2
 returns-2 c =
-    shapes.count-is (c .before .before .before .before .before .args .states .now) (c .before .before .before .before .before .args .x) (c .before .before .shape-of .ensures) (c .enum-told2 .given .1)
+    shapes.count-is (c .before .before .before .before .before .args .part) (c .before .before .before .before .before .args .states .now) (c .before .before .before .before .before .args .x) (c .before .before .shape-of .ensures) (c .enum-told2 .given .1)
 
 returns-3 : tie.Need-returns-3
 returns-3 c =
-    shapes.count-is (c .before .before .before .before .before .args .states .now) (c .before .before .before .before .before .args .x) (c .before .before .shape-of .ensures) (c .enum-told3 .given .1)
+    shapes.count-is (c .before .before .before .before .before .args .part) (c .before .before .before .before .before .args .states .now) (c .before .before .before .before .before .args .x) (c .before .before .shape-of .ensures) (c .enum-told3 .given .1)
 
 returns-4 : tie.Need-returns-4
 returns-4 c =
-    shapes.count-is (c .before .before .before .before .before .args .states .now) (c .before .before .before .before .before .args .x) (c .before .before .shape-of .ensures) (c .enum-told4 .given .1)
+    shapes.count-is (c .before .before .before .before .before .args .part) (c .before .before .before .before .before .args .states .now) (c .before .before .before .before .before .args .x) (c .before .before .shape-of .ensures) (c .enum-told4 .given .1)
+
+returns-5 : tie.Need-returns-5
+returns-5 c =
+    shapes.count-is (c .before .before .before .before .before .args .part) (c .before .before .before .before .before .args .states .now) (c .before .before .before .before .before .args .x) (c .before .before .shape-of .ensures) (c .enum-told5 .given .1)
 
 pub operand-count-spec : {M : Type 1} → statement M
 operand-count-spec =
@@ -82,7 +89,9 @@ operand-count-spec =
     enum-told-2
     enum-told-3
     enum-told-4
+    enum-told-5
     returns
     returns-2
     returns-3
-    returns-4)
+    returns-4
+    returns-5)

@@ -1,8 +1,8 @@
 use Rattle.aut_steps.specs.Tables.{nest}
-use Rattle.aut_eps.proofs.Down as below
-use Rattle.aut_eps.proofs.Down.{Reached}
-use Rattle.aut_eps.proofs.lowest.Statement.{statement}
-use Rattle.aut_eps.proofs.lowest.Tie as tie
+use Rattle.aut_operands.proofs.Down as below
+use Rattle.aut_operands.proofs.Down.{Reached}
+use Rattle.aut_operands.proofs.lowest.Statement.{statement}
+use Rattle.aut_operands.proofs.lowest.Tie as tie
 
 abbrev Inv-loop : tie.InvT-loop
 Inv-loop states members x y₀ y =
