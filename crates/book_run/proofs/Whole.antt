@@ -28,15 +28,16 @@ use Rattle.reader.specs.declared.Heading.the-variants as heading
 use Rattle.book_query.specs.declared.Setting.{Setting}
 use Rattle.book_line.specs.declared.Place.{Place}
 use Rattle.book_line.specs.Contracts.{Memory, memory, Standing}
-use Rattle.book_run.specs.declared.Header.{Header}
-use Rattle.book_run.specs.declared.Begun.{Begun}
-use Rattle.book_run.specs.declared.Begun.the-variants as begun
+use Rattle.book_begin.specs.declared.Header.{Header}
+use Rattle.book_begin.specs.declared.Begun.{Begun}
+use Rattle.book_begin.specs.declared.Begun.the-variants as begun
+use Rattle.book_begin.specs.Contracts.{TablesZeroed, WorkZeroed, headerOf, settingFor, PreBegin, fresh, begunOf, Wrote, Begins as Started, BeginsBy as StartedBy, PostBegin}
+use Rattle.book_begin.proofs.Zero.{zeroed-own}
 use Rattle.book_run.specs.declared.Went.{Went}
 use Rattle.book_run.specs.declared.Went.the-variants as went
 use Rattle.book_run.specs.declared.Ran.{Ran}
 use Rattle.book_run.specs.declared.Ran.the-variants as ran
-use Rattle.book_run.specs.Contracts.{lengthsOf, SameLengths, TablesZeroed, WorkZeroed, headerOf, settingFor, PreBegin, fresh, begunOf, Wrote, Begins as Started, BeginsBy as StartedBy, PostBegin, PreGo, wentOf, writtenBy, PostGo, Empty, resultOf, PreStarted, PostStarted, PostOpen, ranOf, SameTables, TablesBy, PostFinish, numberOf, textLineOf, lengthOf, slices}
-use Rattle.book_run.proofs.Zero.{zeroed-own}
+use Rattle.book_run.specs.Contracts.{lengthsOf, SameLengths, PreGo, wentOf, writtenBy, PostGo, Empty, resultOf, PreStarted, PostStarted, PostOpen, ranOf, SameTables, TablesBy, PostFinish, numberOf, textLineOf, lengthOf, slices}
 
 -- ---- the constants, and the lines
 

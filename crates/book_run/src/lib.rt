@@ -1,17 +1,12 @@
 // A book: its header, the constants, then line by line; and the public entry over what is lent.
-use aut::Config;
-use aut::Counts;
-use aut::Limits;
+use book_begin::Begun;
+use book_begin::Header;
 use book_line::Obeyed;
 use book_line::Place;
 use book_query::Setting;
 use reader::Cut;
 use reader::Heading;
-use writer::Answered;
-ghost use mathlib.Core.Path.{_≡_};
 ghost use mathlib.Core.List.{[]};
-ghost use lib.ListN.{length};
-ghost use Rattle.book_steps.specs.Run.{zeroed};
 ghost use Rattle.book_line.specs.Contracts.{memory};
 ghost use Rattle.book_steps.specs.Claim.{EntrySpec};
 ghost use Rattle.book_run.specs.Contracts as Its;
@@ -22,17 +17,6 @@ pub const SCRATCH: usize = 6144;
 
 // the most instructions of a book
 pub const INSTRUCTIONS: usize = 2048;
-
-// everything that stands before the instructions
-pub struct Header {
-    pub fields: u32,
-    pub budget: u64,
-}
-
-pub enum Begun {
-    At(Place),
-    Refused(u32),
-}
 
 // the next place, and the text behind the line; or 01's number
 pub enum Turned {
@@ -50,88 +34,6 @@ pub enum Went {
 pub enum Ran {
     Answered(usize),
     Refused(u32, usize, usize),
-}
-
-// ---- zeroing
-
-fn clear(table: &mut [u32])
-    ensures { λ _. ⌜ now (table .exit) ≡ zeroed (length (now (table .entry))) ⌝ }
-{
-    let mut i = 0;
-    while i < table.len() {
-        table[i] = 0;
-        i += 1;
-    }
-}
-
-fn clear_tables(
-    sp: &mut [u32],
-    nodes: &mut [u32],
-    states: &mut [u32],
-    members: &mut [u32],
-    transitions: &mut [u32],
-)
-    ensures { λ _. ⌜ Its.TablesZeroed (now (sp .entry)) (now (nodes .entry)) (now (states .entry)) (now (members .entry)) (now (transitions .entry)) (now (sp .exit)) (now (nodes .exit)) (now (states .exit)) (now (members .exit)) (now (transitions .exit)) ⌝ }
-{
-    clear(sp);
-    clear(nodes);
-    clear(states);
-    clear(members);
-    clear(transitions);
-}
-
-fn clear_work(pending: &mut [u32], scratch: &mut [u32])
-    ensures { λ _. ⌜ Its.WorkZeroed (now (pending .entry)) (now (scratch .entry)) (now (pending .exit)) (now (scratch .exit)) ⌝ }
-{
-    clear(pending);
-    clear(scratch);
-}
-
-// ---- before the instructions
-
-// 01's limits
-fn setting_of(h: Header) -> Setting
-    ensures { λ r. ⌜ r ≡ Its.settingFor h ⌝ }
-{
-    Setting {
-        config: Config {
-            fields: h.fields,
-            limits: Limits {
-                nesting: 256,
-                list: 64,
-                products: 32,
-                transitions: 64,
-            },
-        },
-        budget: h.budget,
-    }
-}
-
-// the constants in zeroed tables, and the line `fields N`
-fn begin(sp: &mut [u32], nodes: &mut [u32], output: &mut [u8], h: Header) -> Begun
-    requires { ⌜ Its.PreBegin (now sp) (now nodes) h ⌝ }
-    ensures { λ r. ⌜ Its.PostBegin h r (now (sp .entry)) (now (nodes .entry)) (now (output .entry)) (now (sp .exit)) (now (nodes .exit)) (now (output .exit)) ⌝ }
-{
-    let sp::Made::Node(_, a) = sp::start(sp, h.fields) else {
-        return Begun::Refused(20);
-    };
-    let spp::Started::Store(_, b) = spp::start(nodes, h.fields) else {
-        return Begun::Refused(21);
-    };
-    let Answered::At(end) = writer::fields_answer(output, 0, h.fields) else {
-        return Begun::Refused(27);
-    };
-    Begun::At(Place {
-        counts: Counts {
-            sp: a,
-            spp: b,
-            states: 0,
-            members: 0,
-            transitions: 0,
-        },
-        lines: 0,
-        output: end,
-    })
 }
 
 // ---- the instructions
@@ -253,7 +155,7 @@ fn started(
     requires { ⌜ Its.PreStarted (now book) (memory (now sp) (now nodes) (now states) (now members) (now transitions) (now pending) (now scratch) (now output)) h from ⌝ }
     ensures { λ r. ⌜ Its.PostStarted (now (book .entry)) (memory (now (sp .entry)) (now (nodes .entry)) (now (states .entry)) (now (members .entry)) (now (transitions .entry)) (now (pending .entry)) (now (scratch .entry)) (now (output .entry))) h from r (memory (now (sp .exit)) (now (nodes .exit)) (now (states .exit)) (now (members .exit)) (now (transitions .exit)) (now (pending .exit)) (now (scratch .exit)) (now (output .exit))) ⌝ }
 {
-    let begun = begin(sp, nodes, output, h);
+    let begun = book_begin::begin(sp, nodes, output, h);
     match begun {
         Begun::Refused(e) => Went::Stopped(e, 1, 0),
         Begun::At(place) => go_on(
@@ -266,7 +168,7 @@ fn started(
             pending,
             scratch,
             output,
-            setting_of(h),
+            book_begin::setting_of(h),
             place,
             from,
             2,
@@ -333,11 +235,11 @@ fn finish(
 ) -> Ran
     ensures { λ r. ⌜ Its.PostFinish went r (memory (now (sp .entry)) (now (nodes .entry)) (now (states .entry)) (now (members .entry)) (now (transitions .entry)) (now (pending .entry)) (now (scratch .entry)) []) (memory (now (sp .exit)) (now (nodes .exit)) (now (states .exit)) (now (members .exit)) (now (transitions .exit)) (now (pending .exit)) (now (scratch .exit)) []) ⌝ }
 {
-    clear_work(pending, scratch);
+    book_begin::clear_work(pending, scratch);
     match went {
         Went::End(place) => Ran::Answered(place.output),
         Went::Stopped(number, line, length) => {
-            clear_tables(sp, nodes, states, members, transitions);
+            book_begin::clear_tables(sp, nodes, states, members, transitions);
             Ran::Refused(number, line, length)
         }
     }
@@ -357,8 +259,8 @@ pub fn run(
 ) -> Ran
     ensures { λ r. ⌜ EntrySpec (lentOf (slices (now (sp .entry)) (now (spp .entry)) (now (states .entry)) (now (members .entry)) (now (transitions .entry)) (now (pending .entry)) (now (scratch .entry)) (now (output .entry)))) (now (book .entry)) (slices (now (sp .entry)) (now (spp .entry)) (now (states .entry)) (now (members .entry)) (now (transitions .entry)) (now (pending .entry)) (now (scratch .entry)) (now (output .entry))) (numberOf r) (textLineOf r) (lengthOf r) (slices (now (sp .exit)) (now (spp .exit)) (now (states .exit)) (now (members .exit)) (now (transitions .exit)) (now (pending .exit)) (now (scratch .exit)) (now (output .exit))) ⌝ }
 {
-    clear_tables(sp, spp, states, members, transitions);
-    clear_work(pending, scratch);
+    book_begin::clear_tables(sp, spp, states, members, transitions);
+    book_begin::clear_work(pending, scratch);
     let went = open(
         book,
         sp,

@@ -23,7 +23,6 @@ same-length c = search needs
 same-length-2 : tie.Need-same-length-2
 same-length-2 c = search needs
 
--- antt refused `returns` as it was built: the module's report says why
 returns : tie.Need-returns
 returns c =
     whole.finish-end _ (c .before .before .before .before .before .before .before .clear-work .ensures) (c .before .went .given .1)
@@ -49,12 +48,10 @@ same-length-8 c = search needs
 same-length-9 : tie.Need-same-length-9
 same-length-9 c = search needs
 
--- antt refused `returns-2` as it was built: the module's report says why
 returns-2 : tie.Need-returns-2
 returns-2 c =
     whole.finish-stopped _ (c .before .before .before .before .before .before .before .before .before .before .before .before .before .before .before .before .before .before .before .before .before .before .before .clear-work .ensures) (c .before .before .before .before .before .before .before .before .before .before .before .before .before .before .before .before .before .went2 .given .1) (c .before .before .before .before .before .before .before .before .before .before .clear-tables .ensures)
 
--- antt refused `finish-spec` as it was built: the module's report says why
 pub finish-spec : {M : Type 1} → statement M
 finish-spec =
     tie.close

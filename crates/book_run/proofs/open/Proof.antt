@@ -8,7 +8,6 @@ use Rattle.book_run.proofs.open.Tie as tie
 use Rattle.book_run.proofs.open.Reads as reads
 use Rattle.book_run.proofs.open.Lts as lts
 
--- antt refused `returns` as it was built: the module's report says why
 returns : tie.Need-returns
 returns c =
     whole.open-short _ _ (c .if1 .taken)
@@ -22,12 +21,10 @@ enum-known-c c = search needs
 enum-told : tie.Need-enum-told
 enum-told c = search needs
 
--- antt refused `returns-2` as it was built: the module's report says why
 returns-2 : tie.Need-returns-2
 returns-2 c =
     whole.open-unended _ _ (c .before .before .before .if1 .left) (c .before .before .line-at .ensures) (c .enum-told .given .1)
 
--- antt refused `header-requires` as it was built: the module's report says why
 header-requires : tie.Need-header-requires
 header-requires c κs =
     whole.header-within _ (memory (c .before .before .before .before .before .before .before .before .before .before .before .before .before .before .args .sp .now) (c .before .before .before .before .before .before .before .before .before .before .before .before .before .before .args .nodes .now) (c .before .before .before .before .before .before .before .before .before .before .before .before .before .before .args .states .now) (c .before .before .before .before .before .before .before .before .before .before .before .before .before .before .args .members .now) (c .before .before .before .before .before .before .before .before .before .before .before .before .before .before .args .transitions .now) (c .before .before .before .before .before .before .before .before .before .before .before .before .before .before .args .pending .now) (c .before .before .before .before .before .before .before .before .before .before .before .before .before .before .args .scratch .now) (c .before .before .before .before .before .before .before .before .before .before .before .before .before .before .args .output .now)) (c .before .before .before .before .if1 .left) (c .before .before .before .line-at .ensures) (c .before .c .given .1)
@@ -38,12 +35,10 @@ enum-known-n c = search needs
 enum-told-2 : tie.Need-enum-told-2
 enum-told-2 c = search needs
 
--- antt refused `returns-3` as it was built: the module's report says why
 returns-3 : tie.Need-returns-3
 returns-3 c =
     whole.open-headless _ (memory (c .before .before .before .before .before .before .before .before .before .before .before .before .before .before .before .before .before .args .sp .now) (c .before .before .before .before .before .before .before .before .before .before .before .before .before .before .before .before .before .args .nodes .now) (c .before .before .before .before .before .before .before .before .before .before .before .before .before .before .before .before .before .args .states .now) (c .before .before .before .before .before .before .before .before .before .before .before .before .before .before .before .before .before .args .members .now) (c .before .before .before .before .before .before .before .before .before .before .before .before .before .before .before .before .before .args .transitions .now) (c .before .before .before .before .before .before .before .before .before .before .before .before .before .before .before .before .before .args .pending .now) (c .before .before .before .before .before .before .before .before .before .before .before .before .before .before .before .before .before .args .scratch .now) (c .before .before .before .before .before .before .before .before .before .before .before .before .before .before .before .before .before .args .output .now)) (c .before .before .before .before .before .before .before .if1 .left) (c .before .before .before .before .before .before .line-at .ensures) (c .before .before .before .before .c .given .1) (c .before .before .header .result) (c .before .before .header .ensures) (c .enum-told2 .given .1)
 
--- antt refused `returns-4` as it was built: the module's report says why
 returns-4 : tie.Need-returns-4
 returns-4 c =
     whole.open-wide _ (memory (c .before .before .before .before .before .before .before .before .before .before .before .before .before .before .before .before .before .before .before .args .sp .now) (c .before .before .before .before .before .before .before .before .before .before .before .before .before .before .before .before .before .before .before .args .nodes .now) (c .before .before .before .before .before .before .before .before .before .before .before .before .before .before .before .before .before .before .before .args .states .now) (c .before .before .before .before .before .before .before .before .before .before .before .before .before .before .before .before .before .before .before .args .members .now) (c .before .before .before .before .before .before .before .before .before .before .before .before .before .before .before .before .before .before .before .args .transitions .now) (c .before .before .before .before .before .before .before .before .before .before .before .before .before .before .before .before .before .before .before .args .pending .now) (c .before .before .before .before .before .before .before .before .before .before .before .before .before .before .before .before .before .before .before .args .scratch .now) (c .before .before .before .before .before .before .before .before .before .before .before .before .before .before .before .before .before .before .before .args .output .now)) (c .before .before .before .before .before .before .before .before .before .if1 .left) (c .before .before .before .before .before .before .before .before .line-at .ensures) (c .before .before .before .before .before .before .c .given .1) (c .before .before .before .before .header .result) (c .before .before .before .before .header .ensures) (c .before .before .n .given .1) (c .if2 .taken)
@@ -51,11 +46,9 @@ returns-4 c =
 cast-t33 : tie.Need-cast-t33
 cast-t33 c = omega (arith, c .before .before .before .before .before .before .before .before .if2 .left)
 
--- antt refused `add-started` as it was built: the module's report says why
 add-started : tie.Need-add-started
 add-started c = omega (arith, c .before .before .before .before .before .before .before .before .before .before .before .before .before .before .before .before .before .before .before .before .before .before .before .before .before .before .before .before .good .0 .1, whole.header-within _ (memory (c .before .before .before .before .before .before .before .before .before .before .before .before .before .before .before .before .before .before .before .before .before .before .before .before .before .before .before .before .args .sp .now) (c .before .before .before .before .before .before .before .before .before .before .before .before .before .before .before .before .before .before .before .before .before .before .before .before .before .before .before .before .args .nodes .now) (c .before .before .before .before .before .before .before .before .before .before .before .before .before .before .before .before .before .before .before .before .before .before .before .before .before .before .before .before .args .states .now) (c .before .before .before .before .before .before .before .before .before .before .before .before .before .before .before .before .before .before .before .before .before .before .before .before .before .before .before .before .args .members .now) (c .before .before .before .before .before .before .before .before .before .before .before .before .before .before .before .before .before .before .before .before .before .before .before .before .before .before .before .before .args .transitions .now) (c .before .before .before .before .before .before .before .before .before .before .before .before .before .before .before .before .before .before .before .before .before .before .before .before .before .before .before .before .args .pending .now) (c .before .before .before .before .before .before .before .before .before .before .before .before .before .before .before .before .before .before .before .before .before .before .before .before .before .before .before .before .args .scratch .now) (c .before .before .before .before .before .before .before .before .before .before .before .before .before .before .before .before .before .before .before .before .before .before .before .before .before .before .before .before .args .output .now)) (c .before .before .before .before .before .before .before .before .before .before .before .before .before .before .before .before .before .before .if1 .left) (c .before .before .before .before .before .before .before .before .before .before .before .before .before .before .before .before .before .line-at .ensures) (c .before .before .before .before .before .before .before .before .before .before .before .before .before .before .before .c .given .1) .inside)
 
--- antt refused `started-requires` as it was built: the module's report says why
 started-requires : tie.Need-started-requires
 started-requires c κs =
     whole.open-ready _ (memory (c .before .before .before .before .before .before .before .before .before .before .before .before .before .before .before .before .before .before .before .before .before .before .before .before .before .before .before .before .args .sp .now) (c .before .before .before .before .before .before .before .before .before .before .before .before .before .before .before .before .before .before .before .before .before .before .before .before .before .before .before .before .args .nodes .now) (c .before .before .before .before .before .before .before .before .before .before .before .before .before .before .before .before .before .before .before .before .before .before .before .before .before .before .before .before .args .states .now) (c .before .before .before .before .before .before .before .before .before .before .before .before .before .before .before .before .before .before .before .before .before .before .before .before .before .before .before .before .args .members .now) (c .before .before .before .before .before .before .before .before .before .before .before .before .before .before .before .before .before .before .before .before .before .before .before .before .before .before .before .before .args .transitions .now) (c .before .before .before .before .before .before .before .before .before .before .before .before .before .before .before .before .before .before .before .before .before .before .before .before .before .before .before .before .args .pending .now) (c .before .before .before .before .before .before .before .before .before .before .before .before .before .before .before .before .before .before .before .before .before .before .before .before .before .before .before .before .args .scratch .now) (c .before .before .before .before .before .before .before .before .before .before .before .before .before .before .before .before .before .before .before .before .before .before .before .before .before .before .before .before .args .output .now)) (c .before .before .before .before .before .before .before .before .before .before .before .before .before .before .before .before .before .before .if1 .left) (c .before .before .before .before .before .before .before .before .before .before .before .before .before .before .before .before .before .line-at .ensures) (c .before .before .before .before .before .before .before .before .before .before .before .before .before .before .before .c .given .1) (c .before .before .before .before .before .before .before .before .before .before .before .before .before .header .result) (c .before .before .before .before .before .before .before .before .before .before .before .before .before .header .ensures) (c .before .before .before .before .before .before .before .before .before .before .before .n .given .1) (c .before .before .before .before .before .before .before .before .before .if2 .left) (c .before .before .before .before .before .before .before .before .before .before .before .before .before .before .before .before .before .before .before .before .before .before .before .before .before .before .before .before .pre)
@@ -84,12 +77,10 @@ same-length-7 c = c .before .before .before .before .before .before .before .bef
 same-length-8 : tie.Need-same-length-8
 same-length-8 c = c .before .before .before .before .before .before .before .before .before .before .before .before .before .before .before .before .started .kept .1 .1 .1 .1 .1 .1 .1 .1 .0
 
--- antt refused `returns-5` as it was built: the module's report says why
 returns-5 : tie.Need-returns-5
 returns-5 c =
     whole.open-started _ (memory (c .before .before .before .before .before .before .before .before .before .before .before .before .before .before .before .before .before .before .before .before .before .before .before .before .before .before .before .before .before .before .before .before .before .before .before .before .before .before .before .before .before .before .before .before .before .args .sp .now) (c .before .before .before .before .before .before .before .before .before .before .before .before .before .before .before .before .before .before .before .before .before .before .before .before .before .before .before .before .before .before .before .before .before .before .before .before .before .before .before .before .before .before .before .before .before .args .nodes .now) (c .before .before .before .before .before .before .before .before .before .before .before .before .before .before .before .before .before .before .before .before .before .before .before .before .before .before .before .before .before .before .before .before .before .before .before .before .before .before .before .before .before .before .before .before .before .args .states .now) (c .before .before .before .before .before .before .before .before .before .before .before .before .before .before .before .before .before .before .before .before .before .before .before .before .before .before .before .before .before .before .before .before .before .before .before .before .before .before .before .before .before .before .before .before .before .args .members .now) (c .before .before .before .before .before .before .before .before .before .before .before .before .before .before .before .before .before .before .before .before .before .before .before .before .before .before .before .before .before .before .before .before .before .before .before .before .before .before .before .before .before .before .before .before .before .args .transitions .now) (c .before .before .before .before .before .before .before .before .before .before .before .before .before .before .before .before .before .before .before .before .before .before .before .before .before .before .before .before .before .before .before .before .before .before .before .before .before .before .before .before .before .before .before .before .before .args .pending .now) (c .before .before .before .before .before .before .before .before .before .before .before .before .before .before .before .before .before .before .before .before .before .before .before .before .before .before .before .before .before .before .before .before .before .before .before .before .before .before .before .before .before .before .before .before .before .args .scratch .now) (c .before .before .before .before .before .before .before .before .before .before .before .before .before .before .before .before .before .before .before .before .before .before .before .before .before .before .before .before .before .before .before .before .before .before .before .before .before .before .before .before .before .before .before .before .before .args .output .now)) (c .before .before .before .before .before .before .before .before .before .before .before .before .before .before .before .before .before .before .before .before .before .before .before .before .before .before .before .before .before .before .before .before .before .before .before .if1 .left) (c .before .before .before .before .before .before .before .before .before .before .before .before .before .before .before .before .before .before .before .before .before .before .before .before .before .before .before .before .before .before .before .before .before .before .line-at .ensures) (c .before .before .before .before .before .before .before .before .before .before .before .before .before .before .before .before .before .before .before .before .before .before .before .before .before .before .before .before .before .before .before .before .c .given .1) (c .before .before .before .before .before .before .before .before .before .before .before .before .before .before .before .before .before .before .before .before .before .before .before .before .before .before .before .before .before .before .header .result) (c .before .before .before .before .before .before .before .before .before .before .before .before .before .before .before .before .before .before .before .before .before .before .before .before .before .before .before .before .before .before .header .ensures) (c .before .before .before .before .before .before .before .before .before .before .before .before .before .before .before .before .before .before .before .before .before .before .before .before .before .before .before .before .n .given .1) (c .before .before .before .before .before .before .before .before .before .before .before .before .before .before .before .before .before .before .before .before .before .before .before .before .before .before .if2 .left) (c .before .before .before .before .before .before .before .before .before .before .before .before .before .before .before .before .before .before .before .before .before .before .before .before .before .before .before .before .before .before .before .before .before .before .before .before .before .before .before .before .before .before .before .before .before .pre) (c .before .before .before .before .before .before .before .before .before .before .before .before .before .before .before .before .started .ensures)
 
--- antt refused `open-spec` as it was built: the module's report says why
 pub open-spec : {M : Type 1} → statement M
 open-spec =
     tie.close

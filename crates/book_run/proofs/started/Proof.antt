@@ -20,7 +20,6 @@ enum-known-begun-2 c = search needs
 setting-of-requires : tie.Need-setting-of-requires
 setting-of-requires c κs = search needs
 
--- antt refused `go-on-requires` as it was built: the module's report says why
 go-on-requires : tie.Need-go-on-requires
 go-on-requires c κs =
     whole.started-go _ _ _ _ (c .before .before .before .before .before .before .before .before .before .before .before .before .before .before .before .before .before .before .before .before .before .before .before .before .before .before .before .before .before .before .before .pre) (c .before .before .before .before .before .before .before .before .before .before .before .before .before .before .before .before .before .before .begin .ensures) (c .before .before .before .before .before .before .before .before .before .before .begun2 .given .1) (c .before .before .before .before .before .before .before .before .before .before .before .before .before .before .before .before .before .before .begin .kept .1 .1 .0) (c .setting-of .result) (c .setting-of .ensures)
@@ -34,16 +33,13 @@ same-length-2 c = c .before .before .before .before .before .before .before .bef
 same-length-3 : tie.Need-same-length-3
 same-length-3 c = c .before .before .before .before .before .before .before .before .before .begin .kept .1 .1 .0
 
--- antt refused `returns` as it was built: the module's report says why
 returns : tie.Need-returns
 returns c =
     whole.started-refused _ _ _ _ (c .before .before .before .before .before .before .before .before .before .before .before .before .before .before .before .before .before .before .before .before .before .before .pre) (c .before .before .before .before .before .before .before .before .before .begin .ensures) (c .before .begun .given .1)
 
--- antt refused `same-length-4` as it was built: the module's report says why
 same-length-4 : tie.Need-same-length-4
 same-length-4 c = c .before .before .before .before .before .before .before .before .before .before .before .before .before .before .before .before .go-on .kept .1 .0 ∙ c .before .before .before .before .before .before .before .before .before .before .before .before .before .before .before .before .before .before .before .before .before .before .before .before .before .before .before .before .before .before .before .before .before .before .before .begin .kept .0
 
--- antt refused `same-length-5` as it was built: the module's report says why
 same-length-5 : tie.Need-same-length-5
 same-length-5 c = c .before .before .before .before .before .before .before .before .before .before .before .before .before .before .before .before .go-on .kept .1 .1 .0 ∙ c .before .before .before .before .before .before .before .before .before .before .before .before .before .before .before .before .before .before .before .before .before .before .before .before .before .before .before .before .before .before .before .before .before .before .before .begin .kept .1 .0
 
@@ -62,16 +58,13 @@ same-length-9 c = c .before .before .before .before .before .before .before .bef
 same-length-10 : tie.Need-same-length-10
 same-length-10 c = c .before .before .before .before .before .before .before .before .before .before .before .before .before .before .before .before .go-on .kept .1 .1 .1 .1 .1 .1 .1 .0
 
--- antt refused `same-length-11` as it was built: the module's report says why
 same-length-11 : tie.Need-same-length-11
 same-length-11 c = c .before .before .before .before .before .before .before .before .before .before .before .before .before .before .before .before .go-on .kept .1 .1 .1 .1 .1 .1 .1 .1 .0 ∙ c .before .before .before .before .before .before .before .before .before .before .before .before .before .before .before .before .before .before .before .before .before .before .before .before .before .before .before .before .before .before .before .before .before .before .before .begin .kept .1 .1 .0
 
--- antt refused `returns-2` as it was built: the module's report says why
 returns-2 : tie.Need-returns-2
 returns-2 c =
     whole.started-went _ _ _ _ (c .before .before .before .before .before .before .before .before .before .before .before .before .before .before .before .before .before .before .before .before .before .before .before .before .before .before .before .before .before .before .before .before .before .before .before .before .before .before .before .before .before .before .before .before .before .before .before .before .pre) (c .before .before .before .before .before .before .before .before .before .before .before .before .before .before .before .before .before .before .before .before .before .before .before .before .before .before .before .before .before .before .before .before .before .before .before .begin .ensures) (c .before .before .before .before .before .before .before .before .before .before .before .before .before .before .before .before .before .before .before .before .before .before .before .before .before .before .before .begun2 .given .1) (c .before .before .before .before .before .before .before .before .before .before .before .before .before .before .before .before .before .before .before .before .before .before .before .before .before .before .before .before .before .before .before .before .before .before .before .begin .kept .1 .1 .0) (c .before .before .before .before .before .before .before .before .before .before .before .before .before .before .before .before .before .setting-of .result) (c .before .before .before .before .before .before .before .before .before .before .before .before .before .before .before .before .before .setting-of .ensures) (c .before .before .before .before .before .before .before .before .before .before .before .before .before .before .before .before .go-on .ensures)
 
--- antt refused `started-spec` as it was built: the module's report says why
 pub started-spec : {M : Type 1} → statement M
 started-spec =
     tie.close

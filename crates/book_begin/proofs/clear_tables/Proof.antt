@@ -1,8 +1,6 @@
 use borrow.Author.Needs.{needs}
-use Rattle.book_run.proofs.clear_tables.Statement.{statement}
-use Rattle.book_run.proofs.clear_tables.Tie as tie
-use Rattle.book_run.proofs.clear_tables.Reads as reads
-use Rattle.book_run.proofs.clear_tables.Lts as lts
+use Rattle.book_begin.proofs.clear_tables.Statement.{statement}
+use Rattle.book_begin.proofs.clear_tables.Tie as tie
 
 clear-requires : tie.Need-clear-requires
 clear-requires c κs = search needs
@@ -38,7 +36,6 @@ returns : tie.Need-returns
 returns c =
     record { sp = c .before .before .before .before .before .before .before .before .before .before .before .before .before .before .before .before .before .before .clear .ensures; nodes = c .before .before .before .before .before .before .before .before .before .before .before .before .before .before .clear2 .ensures; states = c .before .before .before .before .before .before .before .before .before .before .clear3 .ensures; members = c .before .before .before .before .before .before .clear4 .ensures; transitions = c .before .before .clear5 .ensures }
 
--- antt refused `clear-tables-spec` as it was built: the module's report says why
 pub clear-tables-spec : {M : Type 1} → statement M
 clear-tables-spec =
     tie.close

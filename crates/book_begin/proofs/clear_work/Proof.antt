@@ -1,8 +1,6 @@
 use borrow.Author.Needs.{needs}
-use Rattle.book_run.proofs.clear_work.Statement.{statement}
-use Rattle.book_run.proofs.clear_work.Tie as tie
-use Rattle.book_run.proofs.clear_work.Reads as reads
-use Rattle.book_run.proofs.clear_work.Lts as lts
+use Rattle.book_begin.proofs.clear_work.Statement.{statement}
+use Rattle.book_begin.proofs.clear_work.Tie as tie
 
 clear-requires : tie.Need-clear-requires
 clear-requires c κs = search needs
@@ -20,7 +18,6 @@ returns : tie.Need-returns
 returns c =
     record { pending = c .before .before .before .before .before .before .clear .ensures; scratch = c .before .before .clear2 .ensures }
 
--- antt refused `clear-work-spec` as it was built: the module's report says why
 pub clear-work-spec : {M : Type 1} → statement M
 clear-work-spec =
     tie.close (tie.spec clear-requires clear-requires-2 same-length same-length-2 returns)

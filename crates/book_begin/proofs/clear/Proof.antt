@@ -2,11 +2,9 @@ use Prim.Native.Nat.{_-_}
 use native.Mathlib.Omega.{arith}
 use lib.ListN.{length, length-set}
 use borrow.Author.Needs.{needs}
-use Rattle.book_run.proofs.Zero as zero
-use Rattle.book_run.proofs.clear.Statement.{statement}
-use Rattle.book_run.proofs.clear.Tie as tie
-use Rattle.book_run.proofs.clear.Reads as reads
-use Rattle.book_run.proofs.clear.Lts as lts
+use Rattle.book_begin.proofs.Zero as zero
+use Rattle.book_begin.proofs.clear.Statement.{statement}
+use Rattle.book_begin.proofs.clear.Tie as tie
 
 abbrev Inv-loop : tie.InvT-loop
 Inv-loop table₀ i₀ table i =

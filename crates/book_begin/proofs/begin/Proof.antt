@@ -1,9 +1,7 @@
-use Rattle.book_run.proofs.Beginning as beginning
+use Rattle.book_begin.proofs.Beginning as beginning
 use borrow.Author.Needs.{needs}
-use Rattle.book_run.proofs.begin.Statement.{statement}
-use Rattle.book_run.proofs.begin.Tie as tie
-use Rattle.book_run.proofs.begin.Reads as reads
-use Rattle.book_run.proofs.begin.Lts as lts
+use Rattle.book_begin.proofs.begin.Statement.{statement}
+use Rattle.book_begin.proofs.begin.Tie as tie
 
 start-requires : tie.Need-start-requires
 start-requires c κs = search needs
@@ -17,7 +15,6 @@ enum-told c = search needs
 same-length : tie.Need-same-length
 same-length c = search needs
 
--- antt refused `returns` as it was built: the module's report says why
 returns : tie.Need-returns
 returns c =
     beginning.begin-no-sets _ _ _ _ (c .before .before .before .before .before .before .before .before .before .pre) _ (c .before .before .before .before .start .ensures) (c .enum-told .given .1)
@@ -37,7 +34,6 @@ same-length-2 c = search needs
 same-length-3 : tie.Need-same-length-3
 same-length-3 c = search needs
 
--- antt refused `returns-2` as it was built: the module's report says why
 returns-2 : tie.Need-returns-2
 returns-2 c =
     beginning.begin-no-relations _ _ _ _ (c .before .before .before .before .before .before .before .before .before .before .before .before .before .before .before .before .pre) _ (c .before .before .before .before .before .before .before .before .before .before .before .start .ensures) (c .before .before .before .before .before .before .before .a .given .1) _ (c .before .before .before .before .start2 .ensures) (c .enum-told2 .given .1)
@@ -60,7 +56,6 @@ same-length-5 c = search needs
 same-length-6 : tie.Need-same-length-6
 same-length-6 c = search needs
 
--- antt refused `returns-3` as it was built: the module's report says why
 returns-3 : tie.Need-returns-3
 returns-3 c =
     beginning.begin-full _ _ _ _ (c .before .before .before .before .before .before .before .before .before .before .before .before .before .before .before .before .before .before .before .before .before .before .before .pre) _ (c .before .before .before .before .before .before .before .before .before .before .before .before .before .before .before .before .before .before .start .ensures) (c .before .before .before .before .before .before .before .before .before .before .before .before .before .before .a .given .1) _ (c .before .before .before .before .before .before .before .before .before .before .before .start2 .ensures) (c .before .before .before .before .before .before .before .b .given .1) _ (c .before .before .before .before .fields-answer .ensures) (c .enum-told3 .given .1)
@@ -74,12 +69,10 @@ same-length-8 c = search needs
 same-length-9 : tie.Need-same-length-9
 same-length-9 c = search needs
 
--- antt refused `returns-4` as it was built: the module's report says why
 returns-4 : tie.Need-returns-4
 returns-4 c =
     beginning.begin-given _ _ _ _ (c .before .before .before .before .before .before .before .before .before .before .before .before .before .before .before .before .before .before .before .before .before .before .before .before .pre) _ (c .before .before .before .before .before .before .before .before .before .before .before .before .before .before .before .before .before .before .before .start .ensures) (c .before .before .before .before .before .before .before .before .before .before .before .before .before .before .before .a .given .1) _ (c .before .before .before .before .before .before .before .before .before .before .before .before .start2 .ensures) (c .before .before .before .before .before .before .before .before .b .given .1) _ (c .before .before .before .before .before .fields-answer .ensures) (c .before .end .given .1)
 
--- antt refused `begin-spec` as it was built: the module's report says why
 pub begin-spec : {M : Type 1} → statement M
 begin-spec =
     tie.close

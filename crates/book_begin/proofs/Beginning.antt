@@ -40,10 +40,10 @@ use Rattle.writer.specs.declared.Answered.the-variants as answered
 use Rattle.book_line.specs.declared.Place.{Place}
 use Rattle.book_line.specs.Contracts.{WORK, work, linesOf, tablesAt, Standing}
 use Rattle.book_line.proofs.Scratch.{line-beyond}
-use Rattle.book_run.specs.declared.Header.{Header}
-use Rattle.book_run.specs.declared.Begun.the-variants as begun
-use Rattle.book_run.specs.Contracts.{headerOf, limits, settingFor, PreBegin, fresh, PostBegin}
-use Rattle.book_run.proofs.Zero.{zeros}
+use Rattle.book_begin.specs.declared.Header.{Header}
+use Rattle.book_begin.specs.declared.Begun.the-variants as begun
+use Rattle.book_begin.specs.Contracts.{headerOf, limits, settingFor, PreBegin, fresh, PostBegin}
+use Rattle.book_begin.proofs.Zero.{zeros}
 
 -- ---- an empty cache
 
