@@ -2,7 +2,7 @@
 use mathlib.Core.Path.{_≡_, refl, sym, _∙_, ap, subst}
 use mathlib.Core.Bool.{Bool, true, false}
 use mathlib.Core.List.{List, [], _∷_}
-use Prim.Native.Nat.{ℕ, suc, _+_, _*_, _≤_}
+use Prim.Native.Nat.{ℕ, suc, _+_, _*_, _≤_, _<_}
 use native.Mathlib.Omega.{arith}
 use lib.ListN.{length}
 use Rattle.common.specs.Packets.{Packet, bit, Relation}
@@ -43,7 +43,7 @@ ats-ext d [] e a = tt
 ats-ext d (h ∷ hs) e a = (at-ext e d h (a .0), ats-ext d hs e (a .1))
 
 pub fits : {N n : ℕ} {t : List ℕ} → Wf N (table t n) → Fits t n
-fits w = record { fits = w .nodes .fits; small = w .nodes .small }
+fits w = record { fits = w .nodes .fits; small = w .nodes .small; rising = w .nodes .rising }
 
 -- where the children of a handle are
 pub inside : {N n : ℕ} {t : List ℕ} (d h : ℕ) → Wf N (table t n) → At (table t n) (suc d) h → (2 ≤ h) × (4 * h ≤ length t + 4)
@@ -61,9 +61,9 @@ module _ (N d : ℕ) (deep : d ≤ N) {σ : Table} where
 joined : List ℕ → (d : ℕ) → Quad → Relation (suc d)
 joined t d X (bit i p) (bit j q) = mem t d (X i j) p q
 
-pub mk-can : {N : ℕ} {σ : Table} (d : ℕ) (X : Quad) → Wf N σ → ((i j : Bool) → At σ d (X i j)) → Runs (sppTheory N) (mk X) (λ τ h. At τ (suc d) h) σ
+pub mk-can : {N : ℕ} {σ : Table} (d : ℕ) (X : Quad) → d < N → Wf N σ → ((i j : Bool) → At σ d (X i j)) → Runs (sppTheory N) (mk X) (λ τ h. At τ (suc d) h) σ
 unfolding joined
-mk-can {N} {σ} d X w a = runs-map (sppTheory N) (λ υ h _ _ D. D .at) (mk-exact X (joined (σ .words) d X) w (λ i j. den-mem (a i j)) .runs)
+mk-can {N} {σ} d X l w a = runs-map (sppTheory N) (λ υ h _ _ D. D .at) (mk-exact X (joined (σ .words) d X) w l (λ i j. den-mem (a i j)) .runs)
 
 pub quad-at : (σ : Table) (d a b c e : ℕ) → At σ d a → At σ d b → At σ d c → At σ d e → (i j : Bool) → At σ d (quad a b c e i j)
 quad-at σ d a b c e x y z u false false = x

@@ -1,7 +1,7 @@
 -- Four calls of one operation on relations, one after the other: what each asks, and what they come to.
 use mathlib.Core.Path.{_≡_, _∙_, ap}
 use mathlib.Core.List.{List, [], _∷_}
-use Prim.Native.Nat.{ℕ, suc}
+use Prim.Native.Nat.{ℕ, suc, _<_}
 use Rattle.common.specs.Outcome.{Outcome, refused, given, Step, after}
 use Rattle.common.specs.Runs.{Table, table}
 use Rattle.cache.specs.Stage as stage
@@ -100,13 +100,13 @@ module _ {N d : ℕ} {f : ℕ → ℕ → Step Table ℕ} {c : Outcome Table ℕ
   pub made : {o : Outcome Table ℕ} → mk (quad h1 h2 h3 h4) (table t4 n4) ≡ o → c ≡ o
   made q = last Q g1 g2 g3 g4 .left ∙ q
 
-  pub node : {τ : Table} {h : ℕ} → mk (quad h1 h2 h3 h4) (table t4 n4) ≡ given τ h → Stage (sppMemo N) c (given τ h) σ τ m m4
-  node q =
+  pub node : d < N → {τ : Table} {h : ℕ} → mk (quad h1 h2 h3 h4) (table t4 n4) ≡ given τ h → Stage (sppMemo N) c (given τ h) σ τ m m4
+  node l q =
       let s = last Q g1 g2 g3 g4 in
       let p = held Q g1 g2 g3 g4 in
-      stage.finish (sppMemo N) (mk (quad h1 h2 h3 h4)) s (mk-can d (quad h1 h2 h3 h4) (s .wf) (quad-at (table t4 n4) d h1 h2 h3 h4 (p .0) (p .1) (p .2) (p .3))) (gave-alone q)
+      stage.finish (sppMemo N) (mk (quad h1 h2 h3 h4)) s (mk-can d (quad h1 h2 h3 h4) l (s .wf) (quad-at (table t4 n4) d h1 h2 h3 h4 (p .0) (p .1) (p .2) (p .3))) (gave-alone q)
 
   -- the node is the answer
-  pub ended : (r : Made) (t′ : List ℕ) → mk (quad h1 h2 h3 h4) (table t4 n4) ≡ seen r t′ → Noted N m (seen r t′) m4
-  ended (Node h n) t′ q = node q .notes
-  ended Full t′ q = tt
+  pub ended : d < N → (r : Made) (t′ : List ℕ) → mk (quad h1 h2 h3 h4) (table t4 n4) ≡ seen r t′ → Noted N m (seen r t′) m4
+  ended l (Node h n) t′ q = node l q .notes
+  ended l Full t′ q = tt

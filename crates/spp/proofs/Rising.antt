@@ -4,48 +4,70 @@ use mathlib.Core.Bool.{Bool, true, false}
 use mathlib.Core.List.{List}
 use Prim.Native.Nat.{ℕ, zero, suc, _+_, _*_, _-_, _≤_, _<_}
 use native.Mathlib.Omega.{arith}
+use native.Mathlib.Nat.{le-trans}
 use lib.ListN.{length}
 use Rattle.common.specs.Outcome.{Outcome, refused, given, Step, return, after, _>>=_, Gives, refusal, gives}
 use Rattle.common.specs.Follow.{given-of, call}
 use Rattle.common.specs.Runs.{Table, table}
-use Rattle.spp_steps.specs.Model.{Quad, quad, mk, zeroAt, oneAt, zeros, ones, tops, constants, Constants, field}
-use Rattle.spp_steps.specs.Make.{Ways, there, fresh, short, ways, grown, put-len, room-fits}
-use Rattle.spp.specs.Seen.{Fits, columns, beside}
+use Rattle.spp_steps.specs.Model.{Quad, quad, mk, zeroAt, oneAt, zeros, ones, tops, constants, Constants, field, test, assign}
+use Rattle.spp_steps.specs.Laws.{Wf, false-true}
+use Rattle.spp_steps.specs.Make.{Ways, there, fresh, short, ways, grown, put-len, room-fits, grown-rising}
+use Rattle.spp_steps.specs.Begin.{zeros-count}
+use Rattle.spp_steps.specs.Field.{test-exact, assign-exact}
+use Rattle.spp.specs.Seen.{Fits, ColumnAsked, columns, beside, entryOf}
+use Rattle.spp.proofs.Calls.{fits}
 
--- ---- the nodes still fit
+-- ---- the nodes still fit, and the handle is one of them
 
-Room : Table → ℕ → Type 0
-Room τ h = Fits (τ .words) (τ .count)
+record Raised (n : ℕ) (τ : Table) (h : ℕ) : Type 0 where
+  fits : Fits (τ .words) (τ .count)
+  within : h < τ .count + 2
+  more : n ≤ τ .count
 
-mk-room : (X : Quad) (σ : Table) → Fits (σ .words) (σ .count) → Gives Room (mk X σ)
-unfolding Room
-mk-room X σ f = go (mk X σ) (ways X σ)
+mk-raised : (n : ℕ) (X : Quad) (σ : Table) → n ≤ σ .count → Fits (σ .words) (σ .count) → ((i j : Bool) → X i j < σ .count + 2) → Gives (Raised n) (mk X σ)
+mk-raised n X σ m f below = go (mk X σ) (ways X σ)
   where
-    go : (o : Outcome Table ℕ) → Ways X σ o → Gives Room o
-    go o (there k l q) = gives {σ = σ} f
-    go o (fresh m r) =
+    go : (o : Outcome Table ℕ) → Ways X σ o → Gives (Raised n) o
+    go o (there k l q) = gives {σ = σ} {a = k + 2} (record { fits = f; within = omega arith; more = omega arith })
+    go o (fresh miss r) =
         let l = room-fits (σ .words) (σ .count) r in
-        gives {σ = grown X σ} (record { fits = omega (arith, put-len (σ .words) (σ .count) X, l .0); small = omega (arith, l .1) })
+        gives {σ = grown X σ} {a = σ .count + 2} (record {
+          fits = record { fits = omega (arith, put-len (σ .words) (σ .count) X, l .0); small = omega (arith, l .1); rising = grown-rising X σ r (f .rising) below };
+          within = omega arith;
+          more = omega arith;
+        })
     go o (short z) = refusal
 
-columns-room : (N : ℕ) (b : Bool) (x d : ℕ) (σ : Table) → Fits (σ .words) (σ .count) → Gives Room (columns N b x d σ)
-unfolding columns Room
-columns-room N b x zero σ f = gives f
-columns-room N b x (suc d) σ f = call (columns-room N b x d σ f) (λ τ y g. mk-room _ τ g)
+zero-most : (N d : ℕ) → zeroAt N d ≤ d + 1
+unfolding zeroAt
+zero-most N zero = omega arith
+zero-most N (suc d) = omega arith
 
-field-room : (N : ℕ) (e : ℕ → ℕ → Quad) (d f : ℕ) (σ : Table) → Fits (σ .words) (σ .count) → Gives Room (field N e d f σ)
-unfolding field Room
-field-room N e zero f σ r = gives r
-field-room N e (suc d) zero σ r = mk-room _ σ r
-field-room N e (suc d) (suc f) σ r = call (field-room N e d f σ r) (λ τ y g. mk-room _ τ g)
+-- the children of the next constant
+next-below : (N : ℕ) (b : Bool) (y d n : ℕ) → y < n + 2 → (b ≡ true → suc d ≤ n) → (i j : Bool) → quad y (beside b y (zeroAt N d)) (beside b y (zeroAt N d)) y i j < n + 2
+next-below N b y d n l z false false = l
+next-below N b y d n l z true true = l
+next-below N false y d n l z false true = l
+next-below N false y d n l z true false = l
+next-below N true y d n l z false true = let k : suc d ≤ n = z refl in omega (arith, zero-most N d)
+next-below N true y d n l z true false = let k : suc d ≤ n = z refl in omega (arith, zero-most N d)
 
-pub columns-fit : (N : ℕ) (b : Bool) (x d : ℕ) {σ τ : Table} {h : ℕ} → Fits (σ .words) (σ .count) → columns N b x d σ ≡ given τ h → Fits (τ .words) (τ .count)
-unfolding Room
-columns-fit N b x d {σ} f e = given-of (columns-room N b x d σ f) e
+columns-raised : (N : ℕ) (b : Bool) (x d : ℕ) (σ : Table) → Fits (σ .words) (σ .count) → x < σ .count + 2 → (b ≡ true → d ≤ σ .count) → Gives (Raised (σ .count)) (columns N b x d σ)
+unfolding columns
+columns-raised N b x zero σ f l z = gives (record { fits = f; within = l; more = omega arith })
+columns-raised N b x (suc d) σ f l z =
+    call (columns-raised N b x d σ f l (λ e. let k : suc d ≤ σ .count = z e in omega arith)) (λ τ y g.
+    mk-raised (σ .count) _ τ (g .more) (g .fits) (next-below N b y d (τ .count) (g .within) (λ e. le-trans (z e) (g .more))))
 
-pub field-fit : (N : ℕ) (e : ℕ → ℕ → Quad) (d f : ℕ) {σ τ : Table} {h : ℕ} → Fits (σ .words) (σ .count) → field N e d f σ ≡ given τ h → Fits (τ .words) (τ .count)
-unfolding Room
-field-fit N e d f {σ} r q = given-of (field-room N e d f σ r) q
+-- the nodes fit after a column, whole or a part of it
+pub columns-fits : (N : ℕ) {t : List ℕ} {n : ℕ} {b : Bool} {x d : ℕ} (e : ℕ) {τ : Table} {h : ℕ} → ColumnAsked t n b x d → e ≤ d → columns N b x e (table t n) ≡ given τ h → Fits (τ .words) (τ .count)
+columns-fits N {t} {n} {b} {x} e q l p = given-of (columns-raised N b x e (table t n) (q .fits) (q .base-in) (λ z. le-trans l (q .zeros-in z))) p .fits
+
+-- the nodes fit after a diagram of one field
+pub field-fits : (N : ℕ) (assigned value : Bool) (d f : ℕ) {σ τ : Table} {h : ℕ} → Wf N σ → d ≤ N → f < d → field N (entryOf assigned value) d f σ ≡ given τ h → Fits (τ .words) (τ .count)
+unfolding test assign
+field-fits N true v d f {σ} w l m q = fits (given-of (assign-exact N v d f l m σ w .runs) q .wf)
+field-fits N false v d f {σ} w l m q = fits (given-of (test-exact N v d f l m σ w .runs) q .wf)
 
 -- ---- a node more
 
@@ -90,6 +112,28 @@ tops-is : (N d : ℕ) (σ : Table) → tops d σ ≡ columns N false 1 d σ
 unfolding tops columns above
 tops-is N zero σ = refl
 tops-is N (suc d) σ = ap (λ (o : Outcome Table ℕ). after o (above N false d)) (tops-is N d σ)
+
+-- what is asked by the three of a store's start
+module _ (N : ℕ) (t : List ℕ) (few : N ≤ 31) where
+  pub asked-1 : ColumnAsked t 0 false 0 N
+  asked-1 = record {
+    deep = few;
+    fits = record { fits = omega arith; small = omega arith; rising = λ k l i j. absurd (omega arith) };
+    base-in = omega arith;
+    zeros-in = λ e. absurd (false-true e);
+  }
+
+  module _ {t1 : List ℕ} {n1 z : ℕ} (q1 : columns N false 0 N (table t 0) ≡ given (table t1 n1) z) where
+    pub asked-2 : ColumnAsked t1 n1 true 1 N
+    asked-2 = record {
+      deep = few;
+      fits = columns-fits N N asked-1 (omega arith) q1;
+      base-in = omega arith;
+      zeros-in = λ e. omega (arith, zeros-count N t (table t1 n1) z (zeros-is N N (table t 0) ∙ q1));
+    }
+
+    pub asked-3 : {t2 : List ℕ} {n2 o : ℕ} → columns N true 1 N (table t1 n1) ≡ given (table t2 n2) o → ColumnAsked t2 n2 false 1 N
+    asked-3 q2 = record { deep = few; fits = columns-fits N N asked-2 (omega arith) q2; base-in = omega arith; zeros-in = λ e. absurd (false-true e) }
 
 module _ (N : ℕ) (σ : Table) where
   k3 : ℕ → ℕ → ℕ → Step Table Constants

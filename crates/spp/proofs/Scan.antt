@@ -2,13 +2,17 @@
 use mathlib.Core.Path.{_≡_, refl, sym, _∙_, ap, fun-ext}
 use mathlib.Core.Bool.{Bool, true, false, _&&_, and-false}
 use mathlib.Core.List.{List}
-use Prim.Native.Nat.{ℕ, suc, _+_, _-_, _*_, _<_, _≤_}
+use mathlib.Core.Logic.{_⊎_, ⊎-elim}
+use Prim.Native.Nat.{ℕ, zero, suc, _+_, _-_, _*_, _<_, _≤_}
 use native.Mathlib.Omega.{arith}
+use native.Mathlib.Nat.{le-trans}
 use lib.Dec.{eqb}
 use lib.ListN.{getD}
 use borrow.Author.Tests.{eq-eqb, ne-eqb}
 use Rattle.spp_steps.specs.Model.{Quad, quad, seek, same, kid, kids}
-use Rattle.spp_steps.specs.Make.{seek-yes, seek-no, seek-none}
+use Rattle.spp_steps.specs.Laws.{Rising, by-test}
+use Rattle.spp_steps.specs.Make.{same-kids, seek-yes, seek-no, seek-none}
+use Rattle.spp.specs.Seen.{First, Larger}
 
 pub quad-is : (X : Quad) → quad (X false false) (X false true) (X true false) (X true true) ≡ X
 quad-is X = fun-ext (λ i. fun-ext (λ j. go i j))
@@ -58,3 +62,47 @@ scan-skip t X n i l e = ap (seek t X i) (left-of n i l) ∙ seek-no t X i (n - (
 
 pub scan-end : (t : List ℕ) (X : Quad) (n i : ℕ) → i ≤ n → n ≤ i → seek t X i (n - i) ≡ i
 scan-end t X n i l m = ap (seek t X i) {y = 0} (omega arith) ∙ seek-none t X i
+
+-- ---- the first node that can have the children X
+
+pub larger-second : (a b : ℕ) → a < b → Larger a b b
+larger-second a b l = record { from-a = omega arith; from-b = omega arith; one = _⊎_.inr refl }
+
+pub larger-first : (a b : ℕ) → b ≤ a → Larger a b a
+larger-first a b l = record { from-a = omega arith; from-b = l; one = _⊎_.inl refl }
+
+module _ (X : Quad) (a b h : ℕ) (p : Larger (X false false) (X false true) a) (q : Larger (X true false) (X true true) b) (s : Larger a b h) where
+  high : (i : Bool) × (j : Bool) × (h ≡ X i j)
+  high = ⊎-elim
+      (λ e. ⊎-elim (λ f. (false, false, e ∙ f)) (λ f. (false, true, e ∙ f)) (p .one))
+      (λ e. ⊎-elim (λ f. (true, false, e ∙ f)) (λ f. (true, true, e ∙ f)) (q .one)) (s .one)
+
+  all : (i j : Bool) → X i j ≤ h
+  all false false = le-trans (p .from-a) (s .from-a)
+  all false true = le-trans (p .from-b) (s .from-a)
+  all true false = le-trans (q .from-a) (s .from-b)
+  all true true = le-trans (q .from-b) (s .from-b)
+
+  pub first-zero : h < 2 → First X 0
+  first-zero l = record { after = λ i j. omega (arith, all i j); before = λ k m. absurd (omega arith) }
+
+  pub first-above : 2 ≤ h → First X (h - 1)
+  first-above l = record { after = λ i j. omega (arith, all i j); before = λ k m. (high .0, high .1, omega (arith, high .2)) }
+
+skipped : (t : List ℕ) (X : Quad) (n i : ℕ) → i ≤ n → ((k : ℕ) → k < i → same t X k ≡ false) → seek t X 0 n ≡ seek t X i (n - i)
+skipped t X n zero l f = ap (seek t X 0) (omega arith)
+skipped t X n (suc i) l f =
+    skipped t X n i (omega arith) (λ k m. f k (omega arith)) ∙ scan-skip t X n i l (f i (omega arith)) ∙ ap (λ (k : ℕ). seek t X k (n - k)) (omega arith)
+
+module _ (t : List ℕ) (X : Quad) (n r : ℕ) (up : Rising t n) (f : First X r) where
+  others : (k : ℕ) → k < r → k < n → same t X k ≡ false
+  others k l m =
+      by-test (same t X k)
+      (λ e. let (i, j, c) = f .before k l in absurd (omega (arith, up k m i j, same-kids t X k e i j)))
+      (λ e. e)
+
+  pub begins : r ≤ n → seek t X 0 n ≡ seek t X r (n - r)
+  begins l = skipped t X n r l (λ k m. others k m (omega arith))
+
+  pub beyond : n < r → seek t X 0 n ≡ n
+  beyond l = skipped t X n n (omega arith) (λ k m. others k (omega arith) m) ∙ scan-end t X n n (omega arith) (omega arith)

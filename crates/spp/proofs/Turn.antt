@@ -2,7 +2,7 @@
 use mathlib.Core.Path.{_≡_, refl, sym, _∙_, ap, ap₂, subst}
 use mathlib.Core.Bool.{Bool, true, false}
 use mathlib.Core.List.{List, [], _∷_}
-use Prim.Native.Nat.{ℕ, zero, suc, _+_, _*_, _-_, _≤_}
+use Prim.Native.Nat.{ℕ, zero, suc, _+_, _*_, _-_, _≤_, _<_}
 use native.Mathlib.Omega.{arith}
 use lib.ListN.{length}
 use Rattle.common.specs.Packets.{Packet, bit, Relation}
@@ -57,6 +57,9 @@ module _ (N : ℕ) (o : Op) (D a b : ℕ) (t m : List ℕ) (n : ℕ) (r : Asked 
   -- at depth 0 there is an exit
   pub above : D ≡ suc (D - 1)
   above = low D (r .at .0) (r .at .1 .0) go-on
+
+  pub lower : D - 1 < N
+  lower = omega (arith, above, r .deep)
 
   at-x : At (table t n) (suc (D - 1)) x
   at-x = subst (λ (k : ℕ). At (table t n) k x) above (going .den-x .at)

@@ -2,14 +2,15 @@
 use mathlib.Core.Path.{_≡_}
 use mathlib.Core.Bool.{Bool, true, false}
 use mathlib.Core.List.{List, [], _∷_}
-use Prim.Native.Nat.{ℕ, zero, suc, _*_, _≤_, _<_}
+use mathlib.Core.Logic.{_⊎_}
+use Prim.Native.Nat.{ℕ, zero, suc, _+_, _*_, _≤_, _<_}
 use lib.ListN.{length}
 use Rattle.common.specs.Outcome.{Outcome, refused, given, Step, return, _>>=_}
 use Rattle.common.specs.Runs.{Table, table}
 use Rattle.cache.specs.Cache.{Of, Own, Sound, Notes}
 use Rattle.spp_steps.specs.Model as M
 use Rattle.spp_steps.specs.Model.{Quad, quad, cap}
-use Rattle.spp_steps.specs.Laws.{Wf, At}
+use Rattle.spp_steps.specs.Laws.{Rising, Wf, At}
 use Rattle.spp.specs.Reuse.{Kept}
 use Rattle.spp.specs.declared.Made.{Made}
 use Rattle.spp.specs.declared.Made.the-variants.{Node, Full}
@@ -62,17 +63,32 @@ columns N diagonal x (suc d) = columns N diagonal x d >>= λ y. M.mk (quad y (be
 pub record Fits (t : List ℕ) (n : ℕ) : Type 0 where
   pub fits : 4 * n ≤ length t
   pub small : n ≤ cap
+  pub rising : Rising t n
 
-pub record ColumnAsked (t : List ℕ) (n d : ℕ) : Type 0 where
+-- r is the first node that can have the children X
+pub record First (X : Quad) (r : ℕ) : Type 0 where
+  pub after : (i j : Bool) → X i j < r + 2
+  pub before : (k : ℕ) → k < r → (i : Bool) × (j : Bool) × (k + 2 ≤ X i j)
+
+-- r is the larger of a and b
+pub record Larger (a b r : ℕ) : Type 0 where
+  pub from-a : a ≤ r
+  pub from-b : b ≤ r
+  pub one : (r ≡ a) ⊎ (r ≡ b)
+
+-- d constants above the handle base, where a diagonal has the zeros beside it
+pub record ColumnAsked (t : List ℕ) (n : ℕ) (diagonal : Bool) (base d : ℕ) : Type 0 where
   pub deep : d ≤ 31
   pub fits : Fits t n
+  pub base-in : base < n + 2
+  pub zeros-in : diagonal ≡ true → d ≤ n
 
 -- a diagram of depth d with an entry at field f
 pub record FieldAsked (N : ℕ) (t : List ℕ) (n d f : ℕ) : Type 0 where
   pub few : N ≤ 31
-  pub deep : d ≤ 31
+  pub deep : d ≤ N
   pub below : f < d
-  pub fits : Fits t n
+  pub wf : Wf N (table t n)
 
 -- all of hs are handles of depth d
 abbrev pub Ats : Table → ℕ → List ℕ → Type 0

@@ -7,7 +7,7 @@ ghost use lib.ListN.{length, getD};
 ghost use Rattle.common.specs.Runs.{table};
 ghost use Rattle.spp_steps.specs.Model as M;
 ghost use Rattle.spp.specs.Reuse.{codeOf};
-ghost use Rattle.spp.specs.Seen.{seen, opOf, exitOf, quadOf, entryOf, columns, seenStart, Fits, ColumnAsked, FieldAsked, Asked, Answer};
+ghost use Rattle.spp.specs.Seen.{seen, opOf, exitOf, quadOf, entryOf, columns, seenStart, Fits, First, Larger, ColumnAsked, FieldAsked, Asked, Answer};
 use cache::Looked;
 
 pub struct SPP(pub u32);
@@ -116,12 +116,37 @@ fn is_at(nodes: &[u32], i: usize, x: SPPnode) -> bool
     true
 }
 
+fn larger(a: u32, b: u32) -> u32
+    ensures { λ r. ⌜ Larger a b r ⌝ }
+{
+    if a < b {
+        return b;
+    }
+    a
+}
+
+// the first node that can have the children x: it comes after theirs
+fn first(x: SPPnode) -> usize
+    ensures { λ r. ⌜ First (quadOf x) r ⌝ }
+{
+    let a = larger(x.x00.0, x.x01.0);
+    let b = larger(x.x10.0, x.x11.0);
+    let high = larger(a, b);
+    if high < 2 {
+        return 0;
+    }
+    (high - 1) as usize
+}
+
 // the number of node x, or count
 fn find(nodes: &[u32], count: usize, x: SPPnode) -> usize
-    requires { ⌜ 4 * count ≤ length (now nodes) ⌝ }
+    requires { ⌜ Fits (now nodes) count ⌝ }
     ensures { λ r. ⌜ r ≡ M.seek (now (nodes .entry)) (quadOf x) 0 count ⌝ }
 {
-    let mut i = 0;
+    let mut i = first(x);
+    if count < i {
+        return count;
+    }
     while i < count {
         if is_at(nodes, i, x) {
             return i;
@@ -407,7 +432,7 @@ pub enum Started {
 
 // the constants of depth 1 to depth: x in all four places, or on the diagonal with zeros beside it
 fn column(nodes: &mut [u32], count: usize, diagonal: bool, base: SPP, depth: u32) -> Made
-    requires { ⌜ ColumnAsked (now nodes) count depth ⌝ }
+    requires { ⌜ ColumnAsked (now nodes) count diagonal (base .0) depth ⌝ }
     ensures { λ r. ⌜ ((N : ℕ) → columns N diagonal (base .0) depth (table (now (nodes .entry)) count) ≡ seen r (now (nodes .exit))) ⌝ }
 {
     if depth == 0 {

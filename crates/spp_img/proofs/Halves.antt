@@ -9,9 +9,10 @@ use Rattle.common.specs.Follow.{given-of}
 use Rattle.common.specs.Runs.{Table, table, Good, Runs, runs-map, runs-bind}
 use Rattle.cache.specs.Cache.{Notes, notes-trans, notes-refl}
 use Rattle.sp_steps.specs.Model.{mem, mk, union}
-use Rattle.sp_steps.specs.Laws.{Wf, At, Den, spTheory, at-ext, den-mem}
+use Rattle.sp_steps.specs.Laws.{WfIn, Any, At, Den, theoryIn, at-ext, den-mem}
 use Rattle.sp_steps.specs.Make.{mk-runs}
-use Rattle.sp_steps.specs.Sets.{union-runs}
+use Rattle.sp_steps.specs.Op.{Op}
+use Rattle.sp_steps.specs.Apply.{apply-runs}
 use Rattle.sp_steps.specs.Reuse.{SpNoted}
 use Rattle.sp.specs.Frame.{sound-own, notes-ext}
 use Rattle.sp.specs.Seen.{seen, MkReady, Ready, Asked, Noted, Answer}
@@ -22,19 +23,21 @@ use Rattle.spp_img.specs.Ways.{join}
 use Rattle.spp_img.specs.Seen.{JoinAsked}
 
 -- a union and a node, as runs
-union-at : (N d : ℕ) {σ : Table} (a b : ℕ) → d ≤ N → Wf N σ → At σ d a → At σ d b → Runs (spTheory N) (union d a b) (λ τ h. At τ d h) σ
-union-at N d {σ} a b l w x y = runs-map (spTheory N) (λ τ h _ _ D. D .at) (union-runs N d l σ a b _ _ w (den-mem x) (den-mem y))
+module _ (P : ℕ → Type 0) (N d : ℕ) {σ : Table} where
+  union-at : (a b : ℕ) → d ≤ N → WfIn P N σ → At σ d a → At σ d b → Runs (theoryIn P N) (union d a b) (λ τ h. At τ d h) σ
+  unfolding union
+  union-at a b l w x y = runs-map (theoryIn P N) (λ τ h _ _ D. D .at) (apply-runs P N Op.union d l σ a b _ _ w (den-mem x) (den-mem y))
 
-mk-at : (N d : ℕ) {σ : Table} (a b : ℕ) → Wf N σ → At σ d a → At σ d b → Runs (spTheory N) (mk a b) (λ τ h. At τ (suc d) h) σ
-mk-at N d a b w x y = runs-map (spTheory N) (λ τ h _ _ D. D .at) (mk-runs {d = d} w (den-mem x) (den-mem y))
+  mk-at : (a b : ℕ) → P d → WfIn P N σ → At σ d a → At σ d b → Runs (theoryIn P N) (mk a b) (λ τ h. At τ (suc d) h) σ
+  mk-at a b low w x y = runs-map (theoryIn P N) (λ τ h _ _ D. D .at) (mk-runs {d = d} w low (den-mem x) (den-mem y))
 
-pub join-runs : (N d : ℕ) {σ : Table} (w x y z : ℕ) → d ≤ N → Wf N σ → At σ d w → At σ d x → At σ d y → At σ d z
-    → Runs (spTheory N) (join d w x y z) (λ τ h. At τ (suc d) h) σ
+pub join-runs : (P : ℕ → Type 0) (N d : ℕ) {σ : Table} (w x y z : ℕ) → d ≤ N → P d → WfIn P N σ → At σ d w → At σ d x → At σ d y → At σ d z
+    → Runs (theoryIn P N) (join d w x y z) (λ τ h. At τ (suc d) h) σ
 unfolding join
-join-runs N d w x y z l wf a b c e =
-    runs-bind (spTheory N) (union-at N d w x l wf a b) (λ τ x0 f v p.
-    runs-bind (spTheory N) (union-at N d y z l v (at-ext f d y c) (at-ext f d z e)) (λ υ x1 g u q.
-    mk-at N d x0 x1 u (at-ext g d x0 p) q))
+join-runs P N d w x y z l low wf a b c e =
+    runs-bind (theoryIn P N) (union-at P N d w x l wf a b) (λ τ x0 f v p.
+    runs-bind (theoryIn P N) (union-at P N d y z l v (at-ext f d y c) (at-ext f d z e)) (λ υ x1 g u q.
+    mk-at P N d x0 x1 low u (at-ext g d x0 p) q))
 
 -- what a call has given
 module _ {c : Step Table ℕ} {t m t′ m′ : List ℕ} {n : ℕ} {r : Made} (a : Answer c t m n r t′ m′) where
@@ -57,8 +60,8 @@ module _ (d : ℕ) (t m : List ℕ) (n w x y z : ℕ) (q : JoinAsked t m n d w x
     full-1 e = record { gives = ap (λ (o : Outcome Table ℕ). after o (λ x0. λ τ. after (union d y z τ) (λ x1. mk x0 x1))) (lost a1 e); notes = tt }
 
     module _ {h1 : SP} {n1 : ℕ} (e1 : r1 ≡ Node h1 n1) where
-      good-1 : Good (spTheory d) (union d w x) (λ τ h. At τ d h) (table t n) (table t1 n1) (h1 .0)
-      good-1 = given-of (union-at d d w x (le-refl d) (q .wf) (q .at-w) (q .at-x)) (gives a1 e1)
+      good-1 : Good (theoryIn Any d) (union d w x) (λ τ h. At τ d h) (table t n) (table t1 n1) (h1 .0)
+      good-1 = given-of (union-at Any d d w x (le-refl d) (q .wf) (q .at-w) (q .at-x)) (gives a1 e1)
 
       then-1 : join d w x y z (table t n) ≡ after (union d y z (table t1 n1)) (λ x1. mk (h1 .0) x1)
       unfolding join
@@ -75,17 +78,17 @@ module _ (d : ℕ) (t m : List ℕ) (n w x y z : ℕ) (q : JoinAsked t m n d w x
         full-2 e = record { gives = then-1 ∙ ap (λ (o : Outcome Table ℕ). after o (λ x1. mk (h1 .0) x1)) (lost a2 e); notes = tt }
 
         module _ {h2 : SP} {n2 : ℕ} (e2 : r2 ≡ Node h2 n2) where
-          good-2 : Good (spTheory d) (union d y z) (λ τ h. At τ d h) (table t1 n1) (table t2 n2) (h2 .0)
-          good-2 = given-of (union-at d d y z (le-refl d) (good-1 .wf) (asked-2 .ready .at-a) (asked-2 .ready .at-b)) (gives a2 e2)
+          good-2 : Good (theoryIn Any d) (union d y z) (λ τ h. At τ d h) (table t1 n1) (table t2 n2) (h2 .0)
+          good-2 = given-of (union-at Any d d y z (le-refl d) (good-1 .wf) (asked-2 .ready .at-a) (asked-2 .ready .at-b)) (gives a2 e2)
 
           then-2 : join d w x y z (table t n) ≡ mk (h1 .0) (h2 .0) (table t2 n2)
           then-2 = then-1 ∙ ap (λ (o : Outcome Table ℕ). after o (λ x1. mk (h1 .0) x1)) (gives a2 e2)
 
           pub mk-ready : MkReady t2 n2
-          mk-ready = record { fits = good-2 .wf .fits; small = good-2 .wf .small }
+          mk-ready = record { fits = good-2 .wf .fits; small = good-2 .wf .small; rising = good-2 .wf .rising }
 
           pub made : (r : Made) (t3 : List ℕ) → mk (h1 .0) (h2 .0) (table t2 n2) ≡ seen r t3 → Answer (join d w x y z) t m n r t3 m2
           made Full t3 e = record { gives = then-2 ∙ e; notes = tt }
           made (Node h k) t3 e =
-              let good = given-of (mk-at d d (h1 .0) (h2 .0) (good-2 .wf) (at-ext (good-2 .ext) d (h1 .0) (good-1 .holds)) (good-2 .holds)) e in
+              let good = given-of (mk-at Any d d (h1 .0) (h2 .0) tt (good-2 .wf) (at-ext (good-2 .ext) d (h1 .0) (good-1 .holds)) (good-2 .holds)) e in
               record { gives = then-2 ∙ e; notes = notes-ext (good .ext) (notes-trans (notes-ext (good-2 .ext) (notes a1 e1)) (notes a2 e2)) }

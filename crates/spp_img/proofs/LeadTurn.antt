@@ -172,7 +172,7 @@ module _ (N D : ℕ) (w : Way) (σ : Stores) (m : List ℕ) (s r : ℕ) (q : Lea
       abbrev pub turning : Turn N (D - 1) (lead w N D s r) σ m
       turning = record {
         few = q .few;
-        deep = omega (arith, q .deep);
+        deep = omega (arith, q .deep, deeper);
         way = w;
         call = λ i j. lead w N (D - 1) (quad p0 u v p1 i j) (A j i);
         Ask = λ i j τ m′. LeadAsked N (D - 1) τ m′ (quad p0 u v p1 i j) (A j i);

@@ -114,7 +114,7 @@ module _ (N D : ℕ) (w : Way) (σ : Stores) (m : List ℕ) (r : ℕ) (q : Asked
     abbrev pub turning : Turn N (D - 1) (project w D r) σ m
     turning = record {
       few = q .few;
-      deep = omega (arith, q .deep);
+      deep = omega (arith, q .deep, deeper);
       way = Forward;
       call = λ i j. project w (D - 1) (X i j);
       Ask = λ i j τ m′. Asked N (D - 1) τ m′ (X i j);

@@ -3,7 +3,7 @@ use mathlib.Core.Path.{_≡_, refl, sym, _∙_, ap, subst, fun-ext}
 use mathlib.Core.Bool.{Bool, true, false}
 use mathlib.Core.List.{List}
 use mathlib.Core.Logic.{_⊎_, inl, inr}
-use Prim.Native.Nat.{ℕ, suc, _≤_}
+use Prim.Native.Nat.{ℕ, suc, _≤_, _<_}
 use native.Mathlib.Omega.{arith}
 use lib.Dec.{eqb}
 use Rattle.common.specs.Outcome.{Outcome, refused, given, Step, after, _>>=_}
@@ -61,7 +61,7 @@ ending way d a b c e = onSp (join d a (first way b c) (second way b c) e)
 
 pub record Turn (N d : ℕ) (C : Step Stores ℕ) (σ : Stores) (m : List ℕ) : Type 1 where
   pub few : N ≤ 31
-  pub deep : d ≤ N
+  pub deep : d < N
   pub way : Way
   pub call : Bool → Bool → Step Stores ℕ
   pub Ask : Bool → Bool → Stores → List ℕ → Type 0
@@ -160,7 +160,7 @@ module _ {N d : ℕ} {C : Step Stores ℕ} {σ : Stores} {m : List ℕ} (T : Tur
                         let p = either (T .way) (h2 .0) (h3 .0) (held .1) (held .2) in
                         record {
                           deep = omega (arith, T .few, T .deep);
-                          wf = SpLaws.wf-down (last .wf .sp-wf) (T .deep);
+                          wf = SpLaws.wf-down (last .wf .sp-wf) (omega (arith, T .deep));
                           at-w = held .0;
                           at-x = subst (SpLaws.At (table t4 n4) d) (sym x-is) (p .0);
                           at-y = subst (SpLaws.At (table t4 n4) d) (sym y-is) (p .1);
@@ -183,7 +183,7 @@ module _ {N d : ℕ} {C : Step Stores ℕ} {σ : Stores} {m : List ℕ} (T : Tur
                       done {h5} {n5} e =
                           stage.finish (setMemo N) (onSp (join d (h1 .0) x y (h4 .0)))
                           (record { ext = last .ext; wf = last .wf; sound = last .sound; notes = last .notes; left = left })
-                          (runs-on (inSp N) (last .wf) (halves.join-runs N d (h1 .0) x y (h4 .0) (T .deep) (last .wf .sp-wf) (join-ready .at-w) (join-ready .at-x) (join-ready .at-y) (join-ready .at-z)))
+                          (runs-on (inSp N) (last .wf) (halves.join-runs (SpLaws.Below N) N d (h1 .0) x y (h4 .0) (omega (arith, T .deep)) (T .deep) (last .wf .sp-wf) (join-ready .at-w) (join-ready .at-x) (join-ready .at-y) (join-ready .at-z)))
                           (record {
                             is = ap (placed (λ s σ. stores s (σ .spp)) (stores (table t4 n4) (σ .spp))) (halves.gives a5 e);
                             notes = notes-map (λ _ _ _ _ v. inl v) (halves.notes a5 e);

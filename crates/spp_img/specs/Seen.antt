@@ -52,7 +52,7 @@ pub record Answer (N : ℕ) (c : Step Stores ℕ) (σ : Stores) (m : List ℕ) (
 -- what `join` of four packet sets of depth d asks, with the packet nodes t, n of them, and the cache m
 pub record JoinAsked (t m : List ℕ) (n d w x y z : ℕ) : Type 0 where
   pub deep : d ≤ 31
-  pub wf : SpLaws.Wf d (table t n)
+  pub wf : SpLaws.WfAny d (table t n)
   pub at-w : SpLaws.At (table t n) d w
   pub at-x : SpLaws.At (table t n) d x
   pub at-y : SpLaws.At (table t n) d y

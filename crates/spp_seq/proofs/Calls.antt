@@ -1,7 +1,7 @@
 -- Each part can be called in every store where its operands are handles; and what it gives are handles.
 use mathlib.Core.Path.{_≡_, sym, _∙_, ap}
 use mathlib.Core.Bool.{Bool, true, false}
-use Prim.Native.Nat.{ℕ, zero, suc, _-_, _≤_}
+use Prim.Native.Nat.{ℕ, zero, suc, _-_, _≤_, _<_}
 use native.Mathlib.Omega.{arith}
 use Rattle.common.specs.Outcome.{given, Step, return, _>>=_}
 use Rattle.common.specs.Runs.{Table, Runs, runs-map, runs-bind, runs-return}
@@ -68,15 +68,15 @@ module _ (N d : ℕ) (deep : d ≤ N) {σ : Table} where
       runs-return (sppTheory N) (quad a b c h) w4
       (quad-at τ4 d a b c h (at-ext (ext-trans e2 (ext-trans e3 e4)) d a A1) (at-ext (ext-trans e3 e4) d b A2) (at-ext e4 d c A3) A4)))))
 
-  pub sums-can : (R S : Quad) → ((i j : Bool) → At σ d (R i j)) → ((i j : Bool) → At σ d (S i j)) → Can (sppMemo N) (λ τ h. At τ (suc d) h) σ (sums (apply N union d) R S)
+  pub sums-can : (R S : Quad) → ((i j : Bool) → At σ d (R i j)) → ((i j : Bool) → At σ d (S i j)) → d < N → Can (sppMemo N) (λ τ h. At τ (suc d) h) σ (sums (apply N union d) R S)
   unfolding sums
-  sums-can R S x y τ e w =
+  sums-can R S x y l τ e w =
       runs-bind (sppTheory N) (apply-can N d deep union _ _ (x false false) (x false true) τ e w) (λ τ1 a e1 w1 A1.
       runs-bind (sppTheory N) (apply-can N d deep union _ _ (x true false) (x true true) τ1 (ext-trans e e1) w1) (λ τ2 b e2 w2 A2.
       let f2 = ext-trans e (ext-trans e1 e2) in
       runs-bind (sppTheory N) (apply-can N d deep union _ _ (y false false) (y false true) τ2 f2 w2) (λ τ3 c e3 w3 A3.
       runs-bind (sppTheory N) (apply-can N d deep union _ _ (y true false) (y true true) τ3 (ext-trans f2 e3) w3) (λ τ4 h e4 w4 A4.
-      mk-can d (quad a b c h) w4
+      mk-can d (quad a b c h) l w4
       (quad-at τ4 d a b c h (at-ext (ext-trans e2 (ext-trans e3 e4)) d a A1) (at-ext (ext-trans e3 e4) d b A2) (at-ext e4 d c A3) A4)))))
 
 module _ (N d : ℕ) (deep : d ≤ N) where
@@ -89,10 +89,10 @@ module _ (N d : ℕ) (deep : d ≤ N) where
       runs-bind (sppTheory N) (apply-can N d deep union (X false false) b (at-ext (ext-trans e1 e2) d _ (x false false)) A2 τ2 (ext-refl τ2) w2) (λ τ3 c e3 w3 A3.
       runs-return (sppTheory N) (record { first = a; second = c }) w3 (at-ext (ext-trans e2 e3) d a A1, A3))))
 
-  pub around-can : (τ : Table) (c v q x : ℕ) → At τ d c → At τ d v → At τ d q → At τ d x → Wf N τ
+  pub around-can : (τ : Table) (c v q x : ℕ) → At τ d c → At τ d v → At τ d q → At τ d x → d < N → Wf N τ
       → Runs (sppTheory N) (around (sequence N d) (apply N union d) c v q x) (λ τ h. At τ (suc d) h) τ
   unfolding around
-  around-can τ c v q x Ac Av Aq Ax w =
+  around-can τ c v q x Ac Av Aq Ax l w =
       runs-bind (sppTheory N) (sequence-can N d deep x q Ax Aq τ (ext-refl τ) w) (λ τ1 x01 e1 w1 A1.
       runs-bind (sppTheory N) (sequence-can N d deep c x (at-ext e1 d c Ac) (at-ext e1 d x Ax) τ1 (ext-refl τ1) w1) (λ τ2 cx e2 w2 A2.
       let f2 = ext-trans e1 e2 in
@@ -101,5 +101,5 @@ module _ (N d : ℕ) (deep : d ≤ N) where
       runs-bind (sppTheory N) (sequence-can N d deep x10 q A3 (at-ext f3 d q Aq) τ3 (ext-refl τ3) w3) (λ τ4 xq e4 w4 A4.
       let f4 = ext-trans f3 e4 in
       runs-bind (sppTheory N) (apply-can N d deep union v xq (at-ext f4 d v Av) A4 τ4 (ext-refl τ4) w4) (λ τ5 x11 e5 w5 A5.
-      mk-can d (quad x x01 x10 x11) w5
+      mk-can d (quad x x01 x10 x11) l w5
       (quad-at τ5 d x x01 x10 x11 (at-ext (ext-trans f4 e5) d x Ax) (at-ext (ext-trans e2 (ext-trans e3 (ext-trans e4 e5))) d x01 A1) (at-ext (ext-trans e4 e5) d x10 A3) A5))))))

@@ -2,7 +2,7 @@
 use mathlib.Core.Path.{_≡_, refl, sym, _∙_, ap, subst}
 use mathlib.Core.Bool.{Bool, true, false}
 use mathlib.Core.List.{List, [], _∷_}
-use Prim.Native.Nat.{ℕ, suc, _+_, _*_, _-_, _≤_}
+use Prim.Native.Nat.{ℕ, suc, _+_, _*_, _-_, _≤_, _<_}
 use native.Mathlib.Omega.{arith}
 use lib.ListN.{length}
 use Rattle.common.specs.Outcome.{Outcome, refused, given, Step, return, after}
@@ -20,6 +20,7 @@ use Rattle.spp.specs.Seen.{seen, Asked, Noted, Fits}
 use Rattle.spp.specs.declared.Made.{Made}
 use Rattle.spp.proofs.Calls.{inside, fits, at-kids, ats-ext, quad-at}
 use Rattle.spp_seq.specs.Parts.{Pair, through, around, blocks-parts}
+use Rattle.spp_seq.specs.Seen.{NodeAsked}
 use Rattle.spp_seq.proofs.Calls.{star-above, star-more, star-can, through-can, around-can}
 use Rattle.spp_seq.proofs.Moment.{Moment, start, asks, past, past-sequence, past-union, ended}
 
@@ -75,7 +76,7 @@ module _ (N d : ℕ) (X : Quad) (v : ℕ) {σ : Table} {m : List ℕ} (r : Asked
 
 -- ---- the other entries, and the node
 
-module _ (N d c v q x : ℕ) {σ : Table} {m : List ℕ} (r : Asked N d σ m (c ∷ v ∷ q ∷ x ∷ [])) where
+module _ (N d c v q x : ℕ) {σ : Table} {m : List ℕ} (r : NodeAsked N d σ m (c ∷ v ∷ q ∷ x ∷ [])) where
   a5 : ℕ → ℕ → ℕ → Step Table ℕ
   a5 x01 x10 x11 = mk (quad x x01 x10 x11)
 
@@ -93,17 +94,17 @@ module _ (N d c v q x : ℕ) {σ : Table} {m : List ℕ} (r : Asked N d σ m (c 
 
   around-0 : Moment N d (around (sequence N d) (apply N union d) c v q x σ) (after (sequence N d x q σ) a1) σ σ m m (c ∷ v ∷ q ∷ x ∷ [])
   unfolding around a1 a2 a3 a4 a5
-  around-0 = start r refl
+  around-0 = start (r .asked) refl
 
   pub around-ready-1 : Asked N d σ m (x ∷ q ∷ [])
-  around-ready-1 = let a = r .at in asks around-0 (x ∷ q ∷ []) (a .1 .1 .1 .0, (a .1 .1 .0, tt))
+  around-ready-1 = let a = r .asked .at in asks around-0 (x ∷ q ∷ []) (a .1 .1 .1 .0, (a .1 .1 .0, tt))
 
   pub around-lost-1 : sequence N d x q σ ≡ refused 21 → around (sequence N d) (apply N union d) c v q x σ ≡ refused 21
   around-lost-1 e = stage.stuck (sppMemo N) (sequence N d x q) a1 (around-0 .here) e
 
   module _ {σ1 : Table} {m1 : List ℕ} {x01 : ℕ} (g1 : Gave (sppMemo N) (sequence N d x q) σ m σ1 m1 x01) where
     around-1 : Moment N d (around (sequence N d) (apply N union d) c v q x σ) (a1 x01 σ1) σ σ1 m m1 (x01 ∷ c ∷ v ∷ q ∷ x ∷ [])
-    around-1 = let a = r .at in past-sequence x q a1 around-0 (a .1 .1 .1 .0) (a .1 .1 .0) g1
+    around-1 = let a = r .asked .at in past-sequence x q a1 around-0 (a .1 .1 .1 .0) (a .1 .1 .0) g1
 
     pub around-ready-2 : Asked N d σ1 m1 (c ∷ x ∷ [])
     around-ready-2 = let a = around-1 .at in asks around-1 (c ∷ x ∷ []) (a .1 .0, (a .1 .1 .1 .1 .0, tt))
@@ -162,13 +163,16 @@ module _ (N d c v q x : ℕ) {σ : Table} {m : List ℕ} (r : Asked N d σ m (c 
 
             pub around-ended : (z : Made) (t′ : List ℕ) → mk (quad x x01 x10 x11) (table t5 n5) ≡ seen z t′ → Noted N m (seen z t′) m5
             unfolding a5
-            around-ended = let a = around-5 .at in ended (quad x x01 x10 x11) around-5 (quad-at (table t5 n5) d x x01 x10 x11 (a .1 .1 .1 .1 .1 .1 .1 .1 .0) (a .1 .1 .1 .1 .0) (a .1 .1 .0) (a .0))
+            around-ended = let a = around-5 .at in ended (quad x x01 x10 x11) around-5 (quad-at (table t5 n5) d x x01 x10 x11 (a .1 .1 .1 .1 .1 .1 .1 .1 .0) (a .1 .1 .1 .1 .0) (a .1 .1 .0) (a .0)) (r .low)
 
 -- ---- the turn
 
 module _ (N D x : ℕ) (t m : List ℕ) (n : ℕ) (r : Asked N D (table t n) m (x ∷ [])) (go-on : starExit N D x ≡ more) where
   pub up : D ≡ suc (D - 1)
   up = star-above N D x (table t n) (r .at .0) go-on
+
+  lower : D - 1 < N
+  lower = omega (arith, r .deep, up)
 
   at-x : At (table t n) (suc (D - 1)) x
   at-x = subst (λ (k : ℕ). At (table t n) k x) up (r .at .0)
@@ -262,9 +266,11 @@ module _ (N D x : ℕ) (t m : List ℕ) (n : ℕ) (r : Asked N D (table t n) m (
           unfolding b2
           turn-3 = past (star N (D - 1) (p .second)) (b3 e p) turn-2 (star-can N (D - 1) (turn-0 .deep) (p .second) (turn-2 .at .1 .0) σ2 (ext-refl σ2) (turn-2 .here .wf)) g3
 
-          pub ready-4 : Asked N (D - 1) σ3 m3 (A true false ∷ e ∷ p .first ∷ x00 ∷ [])
+          pub ready-4 : NodeAsked N (D - 1) σ3 m3 (A true false ∷ e ∷ p .first ∷ x00 ∷ [])
           unfolding hs
-          ready-4 = let a = turn-3 .at in asks turn-3 (A true false ∷ e ∷ p .first ∷ x00 ∷ []) (a .1 .1 .1 .1 .1 .1 .0, (a .1 .1 .1 .0, (a .1 .0, (a .0, tt))))
+          ready-4 =
+              let a = turn-3 .at in
+              record { asked = asks turn-3 (A true false ∷ e ∷ p .first ∷ x00 ∷ []) (a .1 .1 .1 .1 .1 .1 .0, (a .1 .1 .1 .0, (a .1 .0, (a .0, tt)))); low = lower }
 
           pub lost-4 : around (sequence N (D - 1)) (apply N union (D - 1)) (A true false) e (p .first) x00 σ3 ≡ refused 21 → star N D x (table t n) ≡ refused 21
           unfolding b3
@@ -276,4 +282,4 @@ module _ (N D x : ℕ) (t m : List ℕ) (n : ℕ) (r : Asked N D (table t n) m (
           made g4 =
               let a = turn-3 .at in
               stage.finish (sppMemo N) (around (sequence N (D - 1)) (apply N union (D - 1)) (A true false) e (p .first) x00) (turn-3 .here)
-              (around-can N (D - 1) (turn-0 .deep) σ3 (A true false) e (p .first) x00 (a .1 .1 .1 .1 .1 .1 .0) (a .1 .1 .1 .0) (a .1 .0) (a .0) (turn-3 .here .wf)) g4
+              (around-can N (D - 1) (turn-0 .deep) σ3 (A true false) e (p .first) x00 (a .1 .1 .1 .1 .1 .1 .0) (a .1 .1 .1 .0) (a .1 .0) (a .0) lower (turn-3 .here .wf)) g4

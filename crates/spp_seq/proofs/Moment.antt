@@ -2,7 +2,7 @@
 use mathlib.Core.Path.{_≡_, _∙_}
 use mathlib.Core.Bool.{Bool}
 use mathlib.Core.List.{List, [], _∷_}
-use Prim.Native.Nat.{ℕ, suc, _≤_}
+use Prim.Native.Nat.{ℕ, suc, _≤_, _<_}
 use Rattle.common.specs.Outcome.{Outcome, given, Step, after}
 use Rattle.common.specs.Follow.{given-of}
 use Rattle.common.specs.Runs.{Table, Runs}
@@ -48,7 +48,7 @@ module _ {A : Type 0} {N d : ℕ} {c : Outcome Table A} {σ : Table} {m hs : Lis
       past-union a b k M x y g = past (apply N union d a b) k M (apply-can N d (M .deep) union a b x y σ′ (ext-refl σ′) (M .here .wf)) g
 
 -- a node is the answer
-pub ended : {N d : ℕ} {c : Outcome Table ℕ} {σ σ′ : Table} {m m′ hs : List ℕ} (X : Quad) → Moment N d c (mk X σ′) σ σ′ m m′ hs → ((i j : Bool) → At σ′ d (X i j))
+pub ended : {N d : ℕ} {c : Outcome Table ℕ} {σ σ′ : Table} {m m′ hs : List ℕ} (X : Quad) → Moment N d c (mk X σ′) σ σ′ m m′ hs → ((i j : Bool) → At σ′ d (X i j)) → d < N
     → (r : Made) (t′ : List ℕ) → mk X σ′ ≡ seen r t′ → Noted N m (seen r t′) m′
-ended {N} {d} X M a (Node h n) t′ q = stage.finish (sppMemo N) (mk X) (M .here) (mk-can d X (M .here .wf) a) (gave-alone q) .notes
-ended X M a Full t′ q = tt
+ended {N} {d} X M a l (Node h n) t′ q = stage.finish (sppMemo N) (mk X) (M .here) (mk-can d X l (M .here .wf) a) (gave-alone q) .notes
+ended X M a l Full t′ q = tt

@@ -2,7 +2,7 @@
 use mathlib.Core.Path.{_≡_, refl, sym, _∙_, ap, ap₂, subst}
 use mathlib.Core.Bool.{Bool, true, false}
 use mathlib.Core.List.{List, [], _∷_}
-use Prim.Native.Nat.{ℕ, suc, _+_, _*_, _-_, _≤_}
+use Prim.Native.Nat.{ℕ, suc, _+_, _*_, _-_, _≤_, _<_}
 use native.Mathlib.Omega.{arith}
 use lib.ListN.{length}
 use Rattle.common.specs.Outcome.{Outcome, refused, given, Step, return, after}
@@ -20,6 +20,7 @@ use Rattle.spp.specs.Seen.{Asked}
 use Rattle.spp.proofs.Calls.{inside, at-kids, ats-ext, apply-can}
 use Rattle.spp.proofs.Quartet.{Quartet}
 use Rattle.spp_seq.specs.Parts.{row, sums, product-parts}
+use Rattle.spp_seq.specs.Seen.{NodeAsked}
 use Rattle.spp_seq.proofs.Calls.{seq-above, sequence-more, sequence-can, row-can, sums-can}
 
 -- the handles of a quadruple, in a list
@@ -51,11 +52,11 @@ row-calls N d p0 p1 B r =
       is = refl;
     }
 
-pub sums-calls : (N d : ℕ) (R S : Quad) {σ : Table} {m : List ℕ} → Asked N d σ m (list R (list S []))
+pub sums-calls : (N d : ℕ) (R S : Quad) {σ : Table} {m : List ℕ} → NodeAsked N d σ m (list R (list S []))
     → Quartet N d (apply N union d) (λ a b c e. mk (quad a b c e)) (sums (apply N union d) R S σ) σ m
     (R false false) (R false true) (R true false) (R true true) (S false false) (S false true) (S true false) (S true true)
 unfolding sums
-sums-calls N d R S r = record { can = apply-can N d (r .deep) union; asked = r; is = refl }
+sums-calls N d R S r = record { can = apply-can N d (r .asked .deep) union; asked = r .asked; is = refl }
 
 -- ---- the turn
 
@@ -97,8 +98,11 @@ module _ (N D a b : ℕ) (t m : List ℕ) (n : ℕ) (r : Asked N D (table t n) m
     at-B : (i j : Bool) → At (table t n) (D - 1) (B i j)
     at-B = at-kids (table t n) (D - 1) b B B-is at-b
 
+    lower : D - 1 < N
+    lower = omega (arith, r .deep, up)
+
     deep : D - 1 ≤ N
-    deep = omega (arith, r .deep)
+    deep = omega (arith, lower)
 
     rest : Quad → Step Table ℕ
     rest R σ1 = after (row (sequence N (D - 1)) (A true false) (A true true) B σ1) (λ S. sums (apply N union (D - 1)) R S)
@@ -153,15 +157,18 @@ module _ (N D a b : ℕ) (t m : List ℕ) (n : ℕ) (r : Asked N D (table t n) m
         at-R : (i j : Bool) → At σ2 (D - 1) (R i j)
         at-R i j = at-ext (run-2 .ext) (D - 1) (R i j) (run-1 .holds i j)
 
-        pub ready-3 : Asked N (D - 1) σ2 m2 (list R (list S []))
+        pub ready-3 : NodeAsked N (D - 1) σ2 m2 (list R (list S []))
         ready-3 =
             let h = run-2 .holds in
             record {
-              few = r .few;
-              deep = deep;
-              wf = s2 .wf;
-              at = (at-R false false, (at-R false true, (at-R true false, (at-R true true, (h false false, (h false true, (h true false, (h true true, tt))))))));
-              sound = s2 .sound;
+              asked = record {
+                few = r .few;
+                deep = deep;
+                wf = s2 .wf;
+                at = (at-R false false, (at-R false true, (at-R true false, (at-R true true, (h false false, (h false true, (h true false, (h true true, tt))))))));
+                sound = s2 .sound;
+              };
+              low = lower;
             }
 
         pub lost-3 : sums (apply N union (D - 1)) R S σ2 ≡ refused 21 → sequence N D a b (table t n) ≡ refused 21
@@ -169,4 +176,4 @@ module _ (N D a b : ℕ) (t m : List ℕ) (n : ℕ) (r : Asked N D (table t n) m
 
         pub made : {σ3 : Table} {m3 : List ℕ} {h : ℕ} → Gave (sppMemo N) (sums (apply N union (D - 1)) R S) σ2 m2 σ3 m3 h
             → Stage (sppMemo N) (sequence N D a b (table t n)) (given σ3 h) (table t n) σ3 m m3
-        made g3 = stage.finish (sppMemo N) (sums (apply N union (D - 1)) R S) s2 (sums-can N (D - 1) deep R S at-R (run-2 .holds) σ2 (ext-refl σ2) (s2 .wf)) g3
+        made g3 = stage.finish (sppMemo N) (sums (apply N union (D - 1)) R S) s2 (sums-can N (D - 1) deep R S at-R (run-2 .holds) lower σ2 (ext-refl σ2) (s2 .wf)) g3

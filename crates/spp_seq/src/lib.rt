@@ -10,7 +10,7 @@ ghost use Rattle.common.specs.Runs.{table};
 ghost use Rattle.spp_steps.specs.Model as M;
 ghost use Rattle.spp.specs.Seen.{seen, quadOf, Asked, Answer};
 ghost use Rattle.spp_seq.specs.Parts.{row, sums, through, around};
-ghost use Rattle.spp_seq.specs.Seen.{earlyOf, seenRow, seenTwo};
+ghost use Rattle.spp_seq.specs.Seen.{earlyOf, seenRow, seenTwo, NodeAsked};
 
 // A finished handle, or: go down.
 pub enum Early {
@@ -98,7 +98,7 @@ fn sums(
     r: SPPnode,
     s: SPPnode,
 ) -> Made
-    requires { ⌜ Asked fields depth (table (now nodes) count) (now cache) (r .x00 .0 ∷ r .x01 .0 ∷ r .x10 .0 ∷ r .x11 .0 ∷ s .x00 .0 ∷ s .x01 .0 ∷ s .x10 .0 ∷ s .x11 .0 ∷ []) ⌝ }
+    requires { ⌜ NodeAsked fields depth (table (now nodes) count) (now cache) (r .x00 .0 ∷ r .x01 .0 ∷ r .x10 .0 ∷ r .x11 .0 ∷ s .x00 .0 ∷ s .x01 .0 ∷ s .x10 .0 ∷ s .x11 .0 ∷ []) ⌝ }
     ensures { λ z. ⌜ Answer fields seen (sums (M.apply fields M.union depth) (quadOf r) (quadOf s)) (table (now (nodes .entry)) count) (now (cache .entry)) z (now (nodes .exit)) (now (cache .exit)) ⌝ }
 {
     let Made::Node(x00, n1) = spp::union(nodes, cache, count, fields, depth, r.x00, r.x01) else {
@@ -207,7 +207,7 @@ fn around(
     be: SPP,
     x00: SPP,
 ) -> Made
-    requires { ⌜ Asked fields depth (table (now nodes) count) (now cache) (c .0 ∷ e .0 ∷ be .0 ∷ x00 .0 ∷ []) ⌝ }
+    requires { ⌜ NodeAsked fields depth (table (now nodes) count) (now cache) (c .0 ∷ e .0 ∷ be .0 ∷ x00 .0 ∷ []) ⌝ }
     ensures { λ r. ⌜ Answer fields seen (around (M.sequence fields depth) (M.apply fields M.union depth) (c .0) (e .0) (be .0) (x00 .0)) (table (now (nodes .entry)) count) (now (cache .entry)) r (now (nodes .exit)) (now (cache .exit)) ⌝ }
 {
     let Made::Node(x01, n1) = sequence(nodes, cache, count, fields, depth, x00, be) else {

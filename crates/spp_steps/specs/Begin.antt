@@ -98,7 +98,7 @@ mk-new {σ} X n below miss = go (mk X σ) (ways X σ)
     go : (o : Outcome Table ℕ) → Ways X σ o → Comes (room (σ .words) (σ .count) ≡ false) (New X σ) o
     go o (there k l q) = absurd (miss k l q)
     go o (fresh m r) =
-        comes (record { ext = put-ext (σ .words) (σ .count) X; nodes = grown-nodes X σ m r n below; count = refl; handle = refl; kids = put-new (σ .words) (σ .count) X (room-fits _ _ r .0) })
+        comes (record { ext = put-ext (σ .words) (σ .count) X; nodes = grown-nodes X σ r m n below; count = refl; handle = refl; kids = put-new (σ .words) (σ .count) X (room-fits _ _ r .0) })
     go o (short z) = fails (z .no-room)
 
 last : {d : ℕ} {k : ℕ} → k < suc d → (k ≡ d) ⊎ (k < d)
@@ -317,6 +317,13 @@ module _ (N : ℕ) (t : List ℕ) where
         one-is = Q .1;
         top-is = R .1;
       }))))
+
+  -- the zeros are N nodes
+  pub zeros-count : (τ : Table) (z : ℕ) → zeros N σ ≡ given τ z → τ .count ≡ N
+  zeros-count τ z e = go (subst (Comes F (λ τ h. Stage N N 0 0 σ τ × (h ≡ zeroAt N N))) e (zeros-stage N (omega arith)))
+    where
+      go : Comes F (λ τ h. Stage N N 0 0 σ τ × (h ≡ zeroAt N N)) (given τ z) → τ .count ≡ N
+      go (comes P) = omega (arith, P .0 .count)
 
   -- unless refused, the store is begun
   pub begun : Gives (Begun N σ) (constants N σ)

@@ -17,7 +17,7 @@ use Rattle.common.specs.Runs.{Table, table, Good}
 use Rattle.spp_steps.specs.Exact.{Limited, Stops, stuck, goes, Exact}
 use Rattle.spp_steps.specs.Model.{Quad, quad, kid, kids, same, seek, cap, room, put, putIf, foundIf, mk}
 use Rattle.spp_steps.specs.Relations.{part}
-use Rattle.spp_steps.specs.Laws.{Nodes, Level, Wf, Ext, At, Den, sppTheory, ext-refl, at-ext, fixed-ext, level-ext, at-below, den-ext, den-node, by-test, false-true}
+use Rattle.spp_steps.specs.Laws.{Rising, Nodes, Level, Wf, Ext, At, Den, sppTheory, ext-refl, at-ext, fixed-ext, level-ext, at-below, den-ext, den-node, by-test, false-true}
 
 -- ---- same
 
@@ -188,25 +188,28 @@ mk-short X σ z = go (mk X σ) (ways X σ)
     go o (fresh m r) = absurd (false-true (sym (z .no-room) ∙ r))
     go o (short z) = refl
 
-module _ (X : Quad) (σ : Table) (miss : Missing X σ) (r : room (σ .words) (σ .count) ≡ true) where
+split : {n k : ℕ} → k < n + 1 → (k ≡ n) ⊎ (k < n)
+split m = eq-or-lt-of-le (omega arith)
+
+module _ (X : Quad) (σ : Table) (r : room (σ .words) (σ .count) ≡ true) where
   abbrev t : List ℕ
   t = σ .words
 
   abbrev n : ℕ
   n = σ .count
 
-  l : (4 * n + 3 < length t) × (n < cap)
-  l = room-fits (σ .words) (σ .count) r
-
-  split : {k : ℕ} → k < n + 1 → (k ≡ n) ⊎ (k < n)
-  split m = eq-or-lt-of-le (omega arith)
-
   new : {k : ℕ} → k ≡ n → (i j : Bool) → kid (put t n X) k i j ≡ X i j
-  new p i j = ap (λ (k : ℕ). kid (put t n X) k i j) p ∙ put-new t n X (l .0) i j
+  new p i j = ap (λ (k : ℕ). kid (put t n X) k i j) p ∙ put-new t n X (room-fits t n r .0) i j
 
-  pub grown-nodes : Nodes σ → ((i j : Bool) → X i j < σ .count + 2) → Nodes (grown X σ)
-  grown-nodes w below = record { fits = omega (arith, put-len t n X, l .0); small = omega (arith, l); once = once; rising = rising }
+  pub grown-rising : Rising (σ .words) (σ .count) → ((i j : Bool) → X i j < σ .count + 2) → Rising (grown X σ .words) (grown X σ .count)
+  grown-rising w below k a i j = ⊎-elim (λ p. omega (arith, p, new p i j, below i j)) (λ p. omega (arith, put-old t n X k p i j, w k p i j)) (split a)
+
+  pub grown-nodes : Missing X σ → Nodes σ → ((i j : Bool) → X i j < σ .count + 2) → Nodes (grown X σ)
+  grown-nodes miss w below = record { fits = omega (arith, put-len t n X, l .0); small = omega (arith, l .1); once = once; rising = grown-rising (w .rising) below }
     where
+      l : (4 * n + 3 < length t) × (n < cap)
+      l = room-fits t n r
+
       once : (k m : ℕ) → k < n + 1 → m < n + 1 → ((i j : Bool) → kid (put t n X) k i j ≡ kid (put t n X) m i j) → k ≡ m
       once k m a b e =
           ⊎-elim
@@ -216,12 +219,9 @@ module _ (X : Quad) (σ : Table) (miss : Missing X σ) (r : room (σ .words) (σ
           (λ q. w .once k m p q (λ i j. sym (put-old t n X k p i j) ∙ e i j ∙ put-old t n X m q i j)) (split b))
           (split a)
 
-      rising : (k : ℕ) → k < n + 1 → (i j : Bool) → kid (put t n X) k i j < k + 2
-      rising k a i j = ⊎-elim (λ p. omega (arith, p, new p i j, below i j)) (λ p. omega (arith, put-old t n X k p i j, w .rising k p i j)) (split a)
-
-  pub grown-wf : {N : ℕ} (d : ℕ) → Wf N σ → d < N → ((i j : Bool) → At σ d (X i j)) → Wf N (grown X σ)
-  grown-wf {N} d w low at = record {
-    nodes = grown-nodes (w .nodes) (λ i j. at-below σ d (X i j) (at i j));
+  pub grown-wf : {N : ℕ} (d : ℕ) → Missing X σ → Wf N σ → d < N → ((i j : Bool) → At σ d (X i j)) → Wf N (grown X σ)
+  grown-wf d miss w low at = record {
+    nodes = grown-nodes miss (w .nodes) (λ i j. at-below σ d (X i j) (at i j));
     fixed = fixed-ext (w .fixed) (put-ext t n X);
     level = λ k m. ⊎-elim
         (λ p. record { depth = d; low = low; children = λ i j. subst (At (grown X σ) d) (sym (new p i j)) (at-ext (put-ext t n X) d (X i j) (at i j)) })
@@ -256,7 +256,7 @@ module _ {N d : ℕ} {σ : Table} (X : Quad) (R : Relation (suc d)) where
       go o (there k l q) = gives (found σ k (ext-refl σ) w l q D)
       go o (fresh m r) =
           let e : Ext σ (grown X σ) = put-ext (σ .words) (σ .count) X in
-          gives (found (grown X σ) (σ .count) e (grown-wf X σ m r d w low (λ i j. D i j .at)) (omega arith) (put-new (σ .words) (σ .count) X (room-fits _ _ r .0)) D)
+          gives (found (grown X σ) (σ .count) e (grown-wf X σ r d m w low (λ i j. D i j .at)) (omega arith) (put-new (σ .words) (σ .count) X (room-fits _ _ r .0)) D)
       go o (short z) = refusal
 
       halt : (o : Outcome Table ℕ) → Ways X σ o → Stops (sppLimits N) σ o

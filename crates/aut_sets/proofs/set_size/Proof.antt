@@ -1,5 +1,6 @@
 use native.Mathlib.Omega.{arith}
 use Rattle.common.specs.Runs.{table}
+use Rattle.sp_steps.specs.Laws.{wf-down}
 use Rattle.aut_sets.proofs.Back as back
 use borrow.Author.Needs.{needs}
 use Rattle.aut_sets.proofs.set_size.Statement.{statement}
@@ -28,7 +29,7 @@ part-size-end c = search needs
 size-requires : tie.Need-size-requires
 size-requires c κs =
     let g = c .before .before .before .args in let p = c .before .before .before .pre in
-    record { deep = p .few; wf = p .wf; at-a = p .at-a; sound = back.lent-sound (g .scratch .now) (p .sound) }
+    record { deep = p .few; wf = wf-down (p .wf) (omega arith); at-a = p .at-a; sound = back.lent-sound (g .scratch .now) (p .sound) }
 
 -- src/lib.rt:139:1
 same-length : tie.Need-same-length

@@ -369,7 +369,9 @@ apply-returns-8 t c =
     (gave (c .before .before .before .before .before .before .before .before .before .before .before .before .before .before .before .before .before .before .before .before .before .before .before .before .before .before .before .before .before .before .before .before .before .before .before .before .before .before .before .before .before .before .before .before .before .before .before .before .apply .ensures) (c .before .before .before .before .before .before .before .before .before .before .before .before .before .before .before .before .before .before .before .before .before .before .before .before .before .before .before .before .before .before .before .before .before .before .before .before .before .before .before .before .before .before .x00 .given .1))
     (gave (c .before .before .before .before .before .before .before .before .before .before .before .before .before .before .before .before .before .before .before .before .before .before .before .before .before .before .before .before .before .before .before .before .before .before .before .before .before .before .apply2 .ensures) (c .before .before .before .before .before .before .before .before .before .before .before .before .before .before .before .before .before .before .before .before .before .before .before .before .before .before .before .before .before .before .before .before .x01 .given .1))
     (gave (c .before .before .before .before .before .before .before .before .before .before .before .before .before .before .before .before .before .before .before .before .before .before .before .before .before .before .before .before .apply3 .ensures) (c .before .before .before .before .before .before .before .before .before .before .before .before .before .before .before .before .before .before .before .before .before .before .x10 .given .1))
-    (gave (c .before .before .before .before .before .before .before .before .before .before .before .before .before .before .before .before .before .before .apply4 .ensures) (c .before .before .before .before .before .before .before .before .before .before .before .before .x11 .given .1)) (c .before .before .before .before .before .before .before .before .before .mk .ensures ∙ ap (λ r. seen r (c .before .before .before .before .before .before .before .before .before .mk .last .0)) (c .before .before .before .before .before .h .given .1)) in
+    (gave (c .before .before .before .before .before .before .before .before .before .before .before .before .before .before .before .before .before .before .apply4 .ensures) (c .before .before .before .before .before .before .before .before .before .before .before .before .x11 .given .1))
+    (turn.lower (g .fields) (opOf (g .op)) (g .depth) (g .a .0) (g .b .0) (g .nodes .now) (g .cache .now) (g .count) (c .before .before .before .before .before .before .before .before .before .before .before .before .before .before .before .before .before .before .before .before .before .before .before .before .before .before .before .before .before .before .before .before .before .before .before .before .before .before .before .before .before .before .before .before .before .before .before .before .before .before .before .before .before .before .before .before .before .before .before .before .before .before .before .before .before .before .pre .1) _ _ _ (c .before .before .before .before .before .before .before .before .before .before .before .before .before .before .before .before .before .before .before .before .before .before .before .before .before .before .before .before .before .before .before .before .before .before .before .before .before .before .before .before .before .before .before .before .before .before .before .before .before .before .before .before .before .before .before .before .before .before .before .before .before .before .before .exit .ensures ∙ ap exitOf (c .before .before .before .before .before .before .before .before .before .before .before .before .before .before .before .before .before .before .before .before .before .before .before .before .before .before .before .before .before .before .before .before .before .before .before .before .before .before .before .before .before .before .before .before .before .before .before .before .before .before .before .before .before .before .before .before .before .before .before .before .before .quick2 .given .1)))
+    (c .before .before .before .before .before .before .before .before .before .mk .ensures ∙ ap (λ r. seen r (c .before .before .before .before .before .before .before .before .before .mk .last .0)) (c .before .before .before .before .before .h .given .1)) in
     record { gives = s .left; notes = turn.noted (g .fields) (opOf (g .op)) (g .depth) (g .a .0) (g .b .0) (g .nodes .now) (g .cache .now) (g .count) (c .before .before .before .before .before .before .before .before .before .before .before .before .before .before .before .before .before .before .before .before .before .before .before .before .before .before .before .before .before .before .before .before .before .before .before .before .before .before .before .before .before .before .before .before .before .before .before .before .before .before .before .before .before .before .before .before .before .before .before .before .before .before .before .before .before .before .pre .1) _ _ _ (c .before .before .before .before .before .before .before .before .before .before .before .before .before .before .before .before .before .before .before .before .before .before .before .before .before .before .before .before .before .before .before .before .before .before .before .before .before .before .before .before .before .before .before .before .before .before .before .before .before .before .before .before .before .before .before .before .before .before .before .before .before .before .before .exit .ensures ∙ ap exitOf (c .before .before .before .before .before .before .before .before .before .before .before .before .before .before .before .before .before .before .before .before .before .before .before .before .before .before .before .before .before .before .before .before .before .before .before .before .before .before .before .before .before .before .before .before .before .before .before .before .before .before .before .before .before .before .before .before .before .before .before .before .before .quick2 .given .1)) (c .before .before .before .before .before .before .before .before .before .before .before .before .before .before .before .before .before .before .before .before .before .before .before .before .before .before .before .before .before .before .before .before .before .before .before .before .before .before .before .before .before .before .before .before .before .before .before .before .before .before .before .before .before .before .before .before .before .before .before .code .ensures) s (c .before .before .note .ensures) }
 
 pub +apply-spec : {M : Type 1} → statement M

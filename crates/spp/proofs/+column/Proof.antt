@@ -45,7 +45,8 @@ column-sub-column t c =
 -- src/lib.rt:370:28
 column-column-requires : (t : ℕ) → column-lts.Need-column-requires (claims t) (column-at t) column-rd.Post
 column-column-requires t c κs =
-    (omega (arith, c .before .before .before .pre .0), record { deep = omega (arith, c .before .before .before .pre .1 .deep); fits = c .before .before .before .pre .1 .fits })
+    let q = c .before .before .before .pre .1 in
+    (omega (arith, c .before .before .before .pre .0), record { deep = omega (arith, q .deep); fits = q .fits; base-in = q .base-in; zeros-in = λ e. omega (arith, q .zeros-in e) })
 
 -- src/lib.rt:370:20
 column-enum-known-x : (t : ℕ) → column-lts.Need-enum-known-x (claims t) (column-at t) column-rd.Post
@@ -82,8 +83,7 @@ column-zero-at-depth-requires t c κs =
 -- src/lib.rt:375:9
 column-mk-requires : (t : ℕ) → column-lts.Need-mk-requires (claims t) (column-at t) column-rd.Post
 column-mk-requires t c κs =
-    let g = c .before .before .before .before .before .before .before .before .before .before .before .before .args in
-    rising.columns-fit 0 (g .diagonal) (g .base .0) (g .depth - 1) (c .before .before .before .before .before .before .before .before .before .before .before .before .pre .1 .fits) (c .before .before .before .before .before .before .before .before .column .ensures 0 ∙ ap (λ r. seen r (c .before .before .before .before .before .before .before .before .column .last .0)) (c .before .before .before .before .x .given .1))
+    rising.columns-fits 0 (c .before .before .before .before .before .before .before .before .before .before .before .before .args .depth - 1) (c .before .before .before .before .before .before .before .before .before .before .before .before .pre .1) (omega arith) (c .before .before .before .before .before .before .before .before .column .ensures 0 ∙ ap (λ r. seen r (c .before .before .before .before .before .before .before .before .column .last .0)) (c .before .before .before .before .x .given .1))
 
 -- src/lib.rt:375:9
 column-same-length-2 : (t : ℕ) → column-lts.Need-same-length-2 (claims t) (column-at t) column-rd.Post
@@ -101,8 +101,7 @@ column-returns-3 t c =
 -- src/lib.rt:377:5
 column-mk-requires-2 : (t : ℕ) → column-lts.Need-mk-requires-2 (claims t) (column-at t) column-rd.Post
 column-mk-requires-2 t c κs =
-    let g = c .before .before .before .before .before .before .before .before .before .before .before .before .args in
-    rising.columns-fit 0 (g .diagonal) (g .base .0) (g .depth - 1) (c .before .before .before .before .before .before .before .before .before .before .before .before .pre .1 .fits) (c .before .before .before .before .before .before .before .before .column .ensures 0 ∙ ap (λ r. seen r (c .before .before .before .before .before .before .before .before .column .last .0)) (c .before .before .before .before .x .given .1))
+    rising.columns-fits 0 (c .before .before .before .before .before .before .before .before .before .before .before .before .args .depth - 1) (c .before .before .before .before .before .before .before .before .before .before .before .before .pre .1) (omega arith) (c .before .before .before .before .before .before .before .before .column .ensures 0 ∙ ap (λ r. seen r (c .before .before .before .before .before .before .before .before .column .last .0)) (c .before .before .before .before .x .given .1))
 
 -- src/lib.rt:363:1
 column-same-length-3 : (t : ℕ) → column-lts.Need-same-length-3 (claims t) (column-at t) column-rd.Post

@@ -5,6 +5,7 @@ use Prim.Native.Nat.{_-_}
 use Rattle.common.specs.Runs.{table}
 use Rattle.spp_steps.specs.Model.{mk, Quad}
 use Rattle.spp.specs.Seen.{seen, entryOf}
+use Rattle.spp.proofs.Calls.{fits}
 use Rattle.spp.proofs.Rising as rising
 use Prim.Native.Nat.{ℕ, _<_}
 use borrow.Fn.Kinds.{In}
@@ -41,12 +42,12 @@ field-sub-below t c =
 -- src/lib.rt:419:9
 field-zero-at-depth-requires : (t : ℕ) → field-lts.Need-zero-at-depth-requires (claims t) (field-at t) field-rd.Post
 field-zero-at-depth-requires t c κs =
-    omega (arith, c .before .pre .1 .deep)
+    omega (arith, c .before .pre .1 .deep, c .before .pre .1 .few)
 
 -- src/lib.rt:421:13
 field-one-at-depth-requires : (t : ℕ) → field-lts.Need-one-at-depth-requires (claims t) (field-at t) field-rd.Post
 field-one-at-depth-requires t c κs =
-    (c .before .before .before .pre .1 .few, omega (arith, c .before .before .before .pre .1 .deep))
+    (c .before .before .before .pre .1 .few, omega (arith, c .before .before .before .pre .1 .deep, c .before .before .before .pre .1 .few))
 
 -- src/lib.rt:422:33
 field-entry-requires : (t : ℕ) → field-lts.Need-entry-requires (claims t) (field-at t) field-rd.Post
@@ -56,7 +57,7 @@ field-entry-requires t c κs =
 -- src/lib.rt:422:9
 field-mk-requires : (t : ℕ) → field-lts.Need-mk-requires (claims t) (field-at t) field-rd.Post
 field-mk-requires t c κs =
-    c .before .before .before .before .before .before .pre .1 .fits
+    fits (c .before .before .before .before .before .before .pre .1 .wf)
 
 -- src/lib.rt:422:9
 field-same-length : (t : ℕ) → field-lts.Need-same-length (claims t) (field-at t) field-rd.Post
@@ -84,7 +85,7 @@ field-field-requires t c κs = (
     few = c .before .before .before .before .pre .1 .few;
     deep = omega (arith, c .before .before .before .before .pre .1 .deep);
     below = omega (arith, c .before .before .before .before .pre .1 .below);
-    fits = c .before .before .before .before .pre .1 .fits;
+    wf = c .before .before .before .before .pre .1 .wf;
   },
 )
 
@@ -114,7 +115,8 @@ field-returns-2 t c =
 field-mk-requires-2 : (t : ℕ) → field-lts.Need-mk-requires-2 (claims t) (field-at t) field-rd.Post
 field-mk-requires-2 t c κs =
     let g = c .before .before .before .before .before .before .before .before .before .before .before .args in
-    rising.field-fit (g .fields) (entryOf (g .assigned) (g .value)) (g .depth - 1) (g .var - 1) (c .before .before .before .before .before .before .before .before .before .before .before .pre .1 .fits)
+    let q = c .before .before .before .before .before .before .before .before .before .before .before .pre .1 in
+    rising.field-fits (g .fields) (g .assigned) (g .value) (g .depth - 1) (g .var - 1) (q .wf) (omega (arith, q .deep)) (omega (arith, q .below, c .before .before .before .before .before .before .before .before .if1 .left))
     (c .before .before .before .before .before .before .field .ensures ∙ ap (λ r. seen r (c .before .before .before .before .before .before .field .last .0)) (c .before .before .x .given .1))
 
 -- src/lib.rt:414:1

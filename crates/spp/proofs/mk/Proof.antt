@@ -13,7 +13,7 @@ use Rattle.spp.proofs.find.Reads as find-reads
 -- src/lib.rt:133:9
 find-requires : tie.Need-find-requires
 find-requires c κs =
-    c .before .before .pre .fits
+    c .before .before .pre
 
 -- src/lib.rt:135:32
 add-t8 : tie.Need-add-t8

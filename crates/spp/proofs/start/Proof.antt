@@ -1,10 +1,8 @@
 use mathlib.Core.Path.{_≡_, _∙_, ap}
 use mathlib.Core.Bool.{true, false}
-use mathlib.Core.List.{List}
 use Prim.Native.Nat.{ℕ}
-use native.Mathlib.Omega.{arith}
 use Rattle.common.specs.Runs.{table}
-use Rattle.spp.specs.Seen.{seen, Fits}
+use Rattle.spp.specs.Seen.{seen}
 use Rattle.spp.proofs.Rising as rising
 use borrow.Author.Needs.{needs}
 use Rattle.spp.proofs.start.Statement.{statement}
@@ -13,12 +11,10 @@ use Rattle.spp.proofs.start.Reads as reads
 use Rattle.spp.proofs.start.Lts as lts
 use Rattle.spp.proofs.column.Reads as column-reads
 
-empty : (t : List ℕ) → Fits t 0
-empty t = record { fits = omega arith; small = omega arith }
-
 -- src/lib.rt:384:32
 column-requires : tie.Need-column-requires
-column-requires c κs = search needs
+column-requires c κs =
+    rising.asked-1 (c .before .before .args .fields) (c .before .before .args .nodes .now) (c .before .before .pre)
 
 -- src/lib.rt:384:20
 enum-known-zero : tie.Need-enum-known-zero
@@ -40,7 +36,8 @@ returns c =
 -- src/lib.rt:387:31
 column-requires-2 : tie.Need-column-requires-2
 column-requires-2 c κs =
-    record { deep = c .before .before .before .before .before .before .before .before .before .pre; fits = rising.columns-fit (c .before .before .before .before .before .before .before .before .before .args .fields) false 0 (c .before .before .before .before .before .before .before .before .before .args .fields) (empty (c .before .before .before .before .before .before .before .before .before .args .nodes .now)) (c .before .before .before .before .before .before .column .ensures (c .before .before .before .before .before .before .before .before .before .args .fields) ∙ ap (λ r. seen r (c .before .before .before .before .before .before .column .last .0)) (c .before .before .zero .given .1)) }
+    let N = c .before .before .before .before .before .before .before .before .before .args .fields in
+    rising.asked-2 N (c .before .before .before .before .before .before .before .before .before .args .nodes .now) (c .before .before .before .before .before .before .before .before .before .pre) (c .before .before .before .before .before .before .column .ensures N ∙ ap (λ r. seen r (c .before .before .before .before .before .before .column .last .0)) (c .before .before .zero .given .1))
 
 -- src/lib.rt:387:20
 enum-known-one : tie.Need-enum-known-one
@@ -62,12 +59,9 @@ returns-2 c =
 -- src/lib.rt:390:31
 column-requires-3 : tie.Need-column-requires-3
 column-requires-3 c κs =
-    record {
-      deep = c .before .before .before .before .before .before .before .before .before .before .before .before .before .before .before .before .pre;
-      fits = rising.columns-fit (c .before .before .before .before .before .before .before .before .before .before .before .before .before .before .before .before .args .fields) true 1 (c .before .before .before .before .before .before .before .before .before .before .before .before .before .before .before .before .args .fields)
-          (rising.columns-fit (c .before .before .before .before .before .before .before .before .before .before .before .before .before .before .before .before .args .fields) false 0 (c .before .before .before .before .before .before .before .before .before .before .before .before .before .before .before .before .args .fields) (empty (c .before .before .before .before .before .before .before .before .before .before .before .before .before .before .before .before .args .nodes .now)) (c .before .before .before .before .before .before .before .before .before .before .before .before .before .column .ensures (c .before .before .before .before .before .before .before .before .before .before .before .before .before .before .before .before .args .fields) ∙ ap (λ r. seen r (c .before .before .before .before .before .before .before .before .before .before .before .before .before .column .last .0)) (c .before .before .before .before .before .before .before .before .before .zero .given .1)))
-          (c .before .before .before .before .before .before .column2 .ensures (c .before .before .before .before .before .before .before .before .before .before .before .before .before .before .before .before .args .fields) ∙ ap (λ r. seen r (c .before .before .before .before .before .before .column2 .last .0)) (c .before .before .one .given .1));
-    }
+    let N = c .before .before .before .before .before .before .before .before .before .before .before .before .before .before .before .before .args .fields in
+    rising.asked-3 N (c .before .before .before .before .before .before .before .before .before .before .before .before .before .before .before .before .args .nodes .now) (c .before .before .before .before .before .before .before .before .before .before .before .before .before .before .before .before .pre) (c .before .before .before .before .before .before .before .before .before .before .before .before .before .column .ensures N ∙ ap (λ r. seen r (c .before .before .before .before .before .before .before .before .before .before .before .before .before .column .last .0)) (c .before .before .before .before .before .before .before .before .before .zero .given .1))
+    (c .before .before .before .before .before .before .column2 .ensures N ∙ ap (λ r. seen r (c .before .before .before .before .before .before .column2 .last .0)) (c .before .before .one .given .1))
 
 -- src/lib.rt:390:20
 enum-known-top : tie.Need-enum-known-top

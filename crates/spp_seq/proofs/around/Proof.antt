@@ -13,7 +13,9 @@ use Rattle.spp_seq.proofs.sequence.Reads as sequence-reads
 
 -- src/lib.rt:205:31
 sequence-requires : tie.Need-sequence-requires
-sequence-requires c κs = search needs
+sequence-requires c κs =
+    let g = c .before .before .before .before .args in
+    closing.around-ready-1 (g .fields) (g .depth) (g .c .0) (g .e .0) (g .be .0) (g .x00 .0) (c .before .before .before .before .pre)
 
 -- src/lib.rt:205:20
 enum-known-x01 : tie.Need-enum-known-x01

@@ -13,7 +13,9 @@ use Rattle.spp.proofs.union.Reads as union-reads
 
 -- src/lib.rt:96:31
 union-requires : tie.Need-union-requires
-union-requires c κs = search needs
+union-requires c κs =
+    let g = c .before .before .before .before .args in
+    quartet.ready-1 (sums-calls (g .fields) (g .depth) (quadOf (g .r)) (quadOf (g .s)) (c .before .before .before .before .pre))
 
 -- src/lib.rt:96:20
 enum-known-x00 : tie.Need-enum-known-x00
@@ -181,7 +183,7 @@ returns-5 c =
           (gave (c .before .before .before .before .before .before .before .before .before .before .before .before .before .before .before .before .before .before .before .before .before .before .before .before .before .before .before .before .before .before .before .before .before .before .before .before .before .before .before .before .before .union .ensures) (c .before .before .before .before .before .before .before .before .before .before .before .before .before .before .before .before .before .before .before .before .before .before .before .before .before .before .before .before .before .before .before .before .before .before .before .x00 .given .1))
           (gave (c .before .before .before .before .before .before .before .before .before .before .before .before .before .before .before .before .before .before .before .before .before .before .before .before .before .before .before .before .before .before .before .union2 .ensures) (c .before .before .before .before .before .before .before .before .before .before .before .before .before .before .before .before .before .before .before .before .before .before .before .before .before .x01 .given .1))
           (gave (c .before .before .before .before .before .before .before .before .before .before .before .before .before .before .before .before .before .before .before .before .before .union3 .ensures) (c .before .before .before .before .before .before .before .before .before .before .before .before .before .before .before .x10 .given .1))
-          (gave (c .before .before .before .before .before .before .before .before .before .before .before .union4 .ensures) (c .before .before .before .before .before .x11 .given .1)) (c .before .before .mk .result) (c .before .before .mk .last .0) (c .before .before .mk .ensures);
+          (gave (c .before .before .before .before .before .before .before .before .before .before .before .union4 .ensures) (c .before .before .before .before .before .x11 .given .1)) (c .before .before .before .before .before .before .before .before .before .before .before .before .before .before .before .before .before .before .before .before .before .before .before .before .before .before .before .before .before .before .before .before .before .before .before .before .before .before .before .before .before .before .before .before .before .before .pre .low) (c .before .before .mk .result) (c .before .before .mk .last .0) (c .before .before .mk .ensures);
     }
 
 pub sums-spec : {M : Type 1} → statement M
