@@ -1,7 +1,8 @@
 -- What an answer says in the words of the steps, and what the functions ask of the tables.
 use mathlib.Core.Path.{_≡_}
-use mathlib.Core.List.{List}
-use Prim.Native.Nat.{ℕ, _+_, _*_, _≤_, _<_}
+use mathlib.Core.Bool.{Bool, false}
+use mathlib.Core.List.{List, [], _∷_}
+use Prim.Native.Nat.{ℕ, _+_, _*_, _≤_, _<_, max}
 use lib.ListN.{length}
 use Rattle.common.specs.Outcome.{Outcome, refused, given}
 use Rattle.common.specs.Runs.{Table, table}
@@ -42,15 +43,27 @@ pub record Fits (t : List ℕ) (n : ℕ) : Type 0 where
   pub fits : 12 * n ≤ length t
   pub small : n ≤ stateCap
 
--- the operands are states
-pub record Ready1 (t : List ℕ) (n x : ℕ) : Type 0 where
+-- where a search for the first of n with f may begin: none before it has f
+pub record From (f : ℕ → Bool) (from n : ℕ) : Type 0 where
+  pub within : from ≤ n
+  pub none : (i : ℕ) → i < from → f i ≡ false
+
+-- the operands are states; those of a state of kind k are earlier states
+pub record Ready1 (t : List ℕ) (n k x : ℕ) : Type 0 where
   pub fits : Fits t n
   pub has-x : x < n
+  pub earlier : (i : ℕ) → i < n → kindOf t i ≡ k → op1 t i < i
 
-pub record Ready2 (t : List ℕ) (n x y : ℕ) : Type 0 where
+pub record Ready2 (t : List ℕ) (n k x y : ℕ) : Type 0 where
   pub fits : Fits t n
   pub has-x : x < n
   pub has-y : y < n
+  pub earlier : (i : ℕ) → i < n → kindOf t i ≡ k → (op1 t i < i) × (op2 t i < i)
+
+-- one above the highest of a list, or h if that is more
+unfoldable pub aboveL : ℕ → List ℕ → ℕ
+aboveL h [] = h
+aboveL h (x ∷ xs) = aboveL (max h (x + 1)) xs
 
 -- where state i is of the list kind k, its members are in the table
 pub record ListIn (st m : List ℕ) (i k : ℕ) : Type 0 where
@@ -71,3 +84,5 @@ pub record ListReady (st m s : List ℕ) (c : Counts) (kind base k : ℕ) : Type
   pub add : AddReady st m s c base k
   pub lists : (i : ℕ) → i < c .states → ListIn st m i kind
   pub below : Below st s base k
+  pub has : All (λ x. x < c .states) (words s base k)
+  pub earlier : (i : ℕ) → i < c .states → kindOf st i ≡ kind → All (λ x. x < i) (words m (op1 st i) (op2 st i))

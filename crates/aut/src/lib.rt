@@ -10,10 +10,10 @@ ghost use Prim.Native.Nat.{ℕ, _+_, _*_, _≤_, _<_, max};
 ghost use lib.ListN.{length, getD};
 ghost use lib.Seq.{sets};
 ghost use Rattle.common.specs.Runs.{table};
-ghost use Rattle.aut_steps.specs.Tables.{exprs, words, nest};
+ghost use Rattle.aut_steps.specs.Tables.{COMPLEMENT, UNTIL, exprs, words, nest};
 ghost use Rattle.aut_steps.specs.Intern as M;
 ghost use Rattle.aut_steps.specs.Constructors as C;
-ghost use Rattle.aut.specs.Seen.{seenPut, Interned, limitsOf, Fits, Ready1, Ready2, ListIn, Below, AddReady, ListReady};
+ghost use Rattle.aut.specs.Seen.{seenPut, Interned, limitsOf, Fits, From, Ready1, Ready2, ListIn, Below, AddReady, ListReady, aboveL};
 
 // records in use of each table
 pub struct Counts {
@@ -69,12 +69,12 @@ fn is_at2(states: &[u32], i: usize, kind: u32, x: u32, y: u32) -> bool
     true
 }
 
-// its number, or count
-fn find2(states: &[u32], count: usize, kind: u32, x: u32, y: u32) -> usize
-    requires { ⌜ Fits (now states) count ⌝ }
+// its number, or count; it is no state before from
+fn find2(states: &[u32], from: usize, count: usize, kind: u32, x: u32, y: u32) -> usize
+    requires { ⌜ Fits (now states) count × From (M.same2 (now states) kind x y) from count ⌝ }
     ensures { λ r. ⌜ r ≡ M.seek (M.same2 (now (states .entry)) kind x y) 0 count ⌝ }
 {
-    let mut i = 0;
+    let mut i = from;
     while i < count {
         if is_at2(states, i, kind, x, y) {
             return i;
@@ -82,6 +82,17 @@ fn find2(states: &[u32], count: usize, kind: u32, x: u32, y: u32) -> usize
         i += 1;
     }
     i
+}
+
+// one above x, or at if that is more. Operands are earlier states, so a search for a state begins above its operands
+fn above(at: usize, x: u32) -> usize
+    ensures { λ r. ⌜ r ≡ max at (x + 1) ⌝ }
+{
+    let next = x as usize + 1;
+    if at < next {
+        return next;
+    }
+    at
 }
 
 pub fn nest_of(states: &[u32], x: u32) -> u32
@@ -114,7 +125,7 @@ pub fn intern0(states: &mut [u32], count: usize, kind: u32, x: u32) -> Put
     requires { ⌜ Fits (now states) count ⌝ }
     ensures { λ r. ⌜ M.intern0 kind x (table (now (states .entry)) count) ≡ seenPut r (now (states .exit)) ⌝ }
 {
-    let i = find2(states, count, kind, x, 0);
+    let i = find2(states, 0, count, kind, x, 0);
     if i < count {
         return Put::At(i as u32, count);
     }
@@ -122,10 +133,11 @@ pub fn intern0(states: &mut [u32], count: usize, kind: u32, x: u32) -> Put
 }
 
 pub fn intern1(states: &mut [u32], count: usize, limits: Limits, kind: u32, x: u32) -> Put
-    requires { ⌜ Ready1 (now states) count x ⌝ }
+    requires { ⌜ Ready1 (now states) count kind x ⌝ }
     ensures { λ r. ⌜ M.intern1 (limitsOf limits) kind x (table (now (states .entry)) count) ≡ seenPut r (now (states .exit)) ⌝ }
 {
-    let i = find2(states, count, kind, x, 0);
+    let from = above(0, x);
+    let i = find2(states, from, count, kind, x, 0);
     if i < count {
         return Put::At(i as u32, count);
     }
@@ -146,10 +158,11 @@ fn higher(a: u32, b: u32) -> u32
 }
 
 pub fn intern2(states: &mut [u32], count: usize, limits: Limits, kind: u32, x: u32, y: u32) -> Put
-    requires { ⌜ Ready2 (now states) count x y ⌝ }
+    requires { ⌜ Ready2 (now states) count kind x y ⌝ }
     ensures { λ r. ⌜ M.intern2 (limitsOf limits) kind x y (table (now (states .entry)) count) ≡ seenPut r (now (states .exit)) ⌝ }
 {
-    let i = find2(states, count, kind, x, y);
+    let from = above(above(0, x), y);
+    let i = find2(states, from, count, kind, x, y);
     if i < count {
         return Put::At(i as u32, count);
     }
@@ -202,15 +215,16 @@ fn find_list(
     states: &[u32],
     members: &[u32],
     scratch: &[u32],
+    from: usize,
     count: usize,
     kind: u32,
     base: usize,
     k: usize,
 ) -> usize
-    requires { ⌜ Fits (now states) count × ((i : ℕ) → i < count → ListIn (now states) (now members) i kind) × (base + k ≤ length (now scratch)) ⌝ }
+    requires { ⌜ Fits (now states) count × ((i : ℕ) → i < count → ListIn (now states) (now members) i kind) × (base + k ≤ length (now scratch)) × From (M.sameL (now states) (now members) kind (words (now scratch) base k)) from count ⌝ }
     ensures { λ r. ⌜ r ≡ M.seek (M.sameL (now (states .entry)) (now (members .entry)) kind (words (now (scratch .entry)) base k)) 0 count ⌝ }
 {
-    let mut i = 0;
+    let mut i = from;
     while i < count {
         if is_at_list(states, members, scratch, i, kind, base, k) {
             return i;
@@ -218,6 +232,20 @@ fn find_list(
         i += 1;
     }
     i
+}
+
+// one above the highest of the list
+fn above_list(scratch: &[u32], base: usize, k: usize) -> usize
+    requires { ⌜ base + k ≤ length (now scratch) ⌝ }
+    ensures { λ r. ⌜ r ≡ aboveL 0 (words (now (scratch .entry)) base k) ⌝ }
+{
+    let mut at: usize = 0;
+    let mut j = 0;
+    while j < k {
+        at = above(at, scratch[base + j]);
+        j += 1;
+    }
+    at
 }
 
 // the highest nesting of the list
@@ -295,7 +323,8 @@ pub fn intern_list(
     requires { ⌜ ListReady (now states) (now members) (now scratch) c kind base k ⌝ }
     ensures { λ r. ⌜ Interned (M.internL (limitsOf limits) kind (words (now (scratch .entry)) base k) (exprs (table (now (states .entry)) (c .states)) (table (now (members .entry)) (c .members)))) r c (now (states .exit)) (now (members .exit)) ⌝ }
 {
-    let i = find_list(states, members, scratch, c.states, kind, base, k);
+    let from = above_list(scratch, base, k);
+    let i = find_list(states, members, scratch, from, c.states, kind, base, k);
     if i < c.states {
         return State::Is(i as u32, c);
     }
@@ -328,14 +357,14 @@ pub fn mk_top(states: &mut [u32], count: usize) -> Put
 }
 
 pub fn mk_until(states: &mut [u32], count: usize, limits: Limits, x: u32, y: u32) -> Put
-    requires { ⌜ Ready2 (now states) count x y ⌝ }
+    requires { ⌜ Ready2 (now states) count UNTIL x y ⌝ }
     ensures { λ r. ⌜ C.mk-until (limitsOf limits) x y (table (now (states .entry)) count) ≡ seenPut r (now (states .exit)) ⌝ }
 {
     intern2(states, count, limits, kind::UNTIL, x, y)
 }
 
 pub fn mk_complement(states: &mut [u32], count: usize, config: Config, x: u32) -> Put
-    requires { ⌜ Ready1 (now states) count x × (config .fields ≤ 31) ⌝ }
+    requires { ⌜ Ready1 (now states) count COMPLEMENT x × (config .fields ≤ 31) ⌝ }
     ensures { λ r. ⌜ C.mk-complement (config .fields) (limitsOf (config .limits)) x (table (now (states .entry)) count) ≡ seenPut r (now (states .exit)) ⌝ }
 {
     let i = x as usize;

@@ -9,7 +9,7 @@ use borrow.Author.Tests.{eq-eqb, ne-eqb, lt-ltb, le-ltb}
 use Rattle.common.specs.Outcome.{given, Step}
 use Rattle.common.specs.Runs.{Table, table, placed}
 use Rattle.aut_steps.specs.Relations as Rel
-use Rattle.aut_steps.specs.Tables.{SPP, XOR, DIFFERENCE, STAR, TOP, kindOf, op1, Limits, Aut, putStates, onStates}
+use Rattle.aut_steps.specs.Tables.{SPP, XOR, DIFFERENCE, SEQUENCE, STAR, TOP, kindOf, op1, Limits, Aut, putStates, onStates}
 use Rattle.aut_steps.specs.Intern.{intern1, intern2}
 use Rattle.aut_steps.specs.Constructors.{relations, spp-of, mk-spp, mk-top, mk-xor, mk-difference, mk-star}
 use Rattle.aut_steps.specs.StateLaws as StateLaws
@@ -26,7 +26,7 @@ use Rattle.spp.specs.declared.Made.the-variants.{Node, Full}
 use Rattle.aut_rel.specs.Behind.{LISTS, Readable, left-refl, lent, lent-is, back, left-back}
 use Rattle.aut_rel.specs.Seen.{autOf, MadeLeft, RelateReady, Relates, Places, SppReady, DoesSpp}
 use Rattle.aut_rel.proofs.Join.{same-left}
-use Rattle.aut_rel.proofs.Order.{fits, in-table, spp-ready}
+use Rattle.aut_rel.proofs.Order.{fits, in-table, ready-star, ready-xor, ready-difference, ready-sequence, spp-ready}
 use Rattle.aut_mk.specs.declared.Known.{Known}
 use Rattle.aut_mk.specs.declared.Task.{Task}
 use Rattle.aut_mk.specs.Seen.{Enters, Makes, Asks, taskOf, knownOf}
@@ -54,8 +54,8 @@ module _ {N : ℕ} {l : Bounds} {t st s : List ℕ} {c : Counts} {x : ℕ} {more
   pub in-x : 12 * x + 11 < length st
   in-x = in-table (a .ready .good) (a .has .0)
 
-  pub ready-x : Ready1 st (c .states) x
-  ready-x = record { fits = fits-of; has-x = a .has .0 }
+  pub star-ready : Ready1 st (c .states) STAR x
+  star-ready = ready-star (a .ready .good) (a .has .0)
 
   pub relation-x : getD st (12 * x) 0 ≡ SPP → SppReady N t st s c x x
   unfolding kindOf
@@ -65,11 +65,17 @@ module _ {N : ℕ} {l : Bounds} {t st s : List ℕ} {c : Counts} {x y : ℕ} (a 
   pub in-both : (12 * x + 11 < length st) × (12 * y + 11 < length st)
   in-both = (in-x a, in-table (a .ready .good) (a .has .1 .0))
 
-  pub ready-both : Ready2 st (c .states) x y
-  ready-both = record { fits = fits-of a; has-x = a .has .0; has-y = a .has .1 .0 }
+  pub xor-ready : Ready2 st (c .states) XOR x y
+  xor-ready = ready-xor (a .ready .good) (a .has .0) (a .has .1 .0)
 
-  pub ready-turned : Ready2 st (c .states) y x
-  ready-turned = record { fits = fits-of a; has-x = a .has .1 .0; has-y = a .has .0 }
+  pub turned-ready : Ready2 st (c .states) XOR y x
+  turned-ready = ready-xor (a .ready .good) (a .has .1 .0) (a .has .0)
+
+  pub difference-ready : Ready2 st (c .states) DIFFERENCE x y
+  difference-ready = ready-difference (a .ready .good) (a .has .0) (a .has .1 .0)
+
+  pub sequence-ready : Ready2 st (c .states) SEQUENCE x y
+  sequence-ready = ready-sequence (a .ready .good) (a .has .0) (a .has .1 .0)
 
   pub kinds-ready : (kindOf st x ≡ SPP) × (kindOf st y ≡ SPP) → SppReady N t st s c x y
   kinds-ready e = spp-ready c (a .ready) (a .has .0) (a .has .1 .0) e

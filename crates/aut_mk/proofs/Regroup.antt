@@ -72,6 +72,7 @@ module _ (N : ℕ) (l : Bounds) (c : Counts) (x y : ℕ) (t₀ st₀ s₀ : List
     pub chain : Chain st₀ x u
     pub has-e : e < c .states
     pub lower : nest st₀ e < nest st₀ x
+    pub last : kindOf st₀ e ≡ SEQUENCE → ⊥
     pub has-z : z < d .states
     pub len : length s ≡ length s₀
     pub grown : Grown (autOf t₀ st₀ (from .members) c) (autOf t st (from .members) d)
@@ -92,6 +93,7 @@ module _ {N : ℕ} {l : Bounds} {t st s : List ℕ} {c : Counts} {x y : ℕ} (a 
         chain = f .chain;
         has-e = chain-state (nested-of (a .ready .good)) (a .has .0) (f .chain);
         lower = chain-apart (nested-of (a .ready .good)) (a .has .0) (f .chain) (λ k. f .last (ap (kindOf st) k ∙ i .0));
+        last = f .last;
         has-z = a .has .1 .0;
         len = refl;
         grown = grown-refl (autOf t st (a .members) c);
@@ -128,6 +130,10 @@ module _ {N : ℕ} {l : Bounds} {c : Counts} {x y : ℕ} {t₀ st₀ s₀ t st s
 
   pub call-ready : {m : ℕ} → nest st₀ x ≡ m → (nest st e < m) × Asks N l t st s d (e ∷ z ∷ [])
   call-ready q = (omega (arith, v .lower, same-nest), record { members = mem₀; ready = v .ready; has = (has-e, (v .has-z, tt)) })
+
+  -- what is called does not regroup, so it calls nothing: mk_sequence is at most two deep
+  pub call-last : {w : Way} → Plans N st e z w → w ≡ way.Regroup → ⊥
+  call-last p q = v .last (sym (kind-grown (v .grown) e (v .has-e)) ∙ subst (Since N st e z) q (p .since) .0)
 
   module _ {r : State} {t1 st1 s1 : List ℕ} (o : Sequences N L e z r d t st s t1 st1 s1) where
     law : Goes N L (Meaning.Is N (Join (Holds N τ e) (Holds N τ z))) τ (mk-sequence N L e z τ)
@@ -220,6 +226,7 @@ module _ {N : ℕ} {l : Bounds} {c : Counts} {x y : ℕ} {t₀ st₀ s₀ t st s
               chain = chain-1;
               has-e = omega (arith, two .earlier1, first-w, has-w);
               lower = omega (arith, nest-f, chain-lower nested has chain-1);
+              last = λ q. v .from .ready .good .made w has-w .sequence kind-w .regrouped (ap (kindOf st₀) first-w ∙ q);
               has-z = gone-1 .holds .state;
               len = len ∙ v .len;
               grown = grown-1;

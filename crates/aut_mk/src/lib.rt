@@ -61,7 +61,7 @@ fn top(states: &mut [u32], c: Counts) -> State
 }
 
 fn intern_one(states: &mut [u32], c: Counts, limits: Limits, kind: u32, x: u32) -> State
-    requires { ⌜ Ready1 (now states) (c .states) x ⌝ }
+    requires { ⌜ Ready1 (now states) (c .states) kind x ⌝ }
     ensures { λ r. ⌜ Enters (M.intern1 (limitsOf limits) kind x) r c (now (states .entry)) (now (states .exit)) ⌝ }
 {
     let put = aut::intern1(states, c.states, limits, kind, x);
@@ -69,7 +69,7 @@ fn intern_one(states: &mut [u32], c: Counts, limits: Limits, kind: u32, x: u32) 
 }
 
 fn intern_two(states: &mut [u32], c: Counts, limits: Limits, kind: u32, x: u32, y: u32) -> State
-    requires { ⌜ Ready2 (now states) (c .states) x y ⌝ }
+    requires { ⌜ Ready2 (now states) (c .states) kind x y ⌝ }
     ensures { λ r. ⌜ Enters (M.intern2 (limitsOf limits) kind x y) r c (now (states .entry)) (now (states .exit)) ⌝ }
 {
     let put = aut::intern2(states, c.states, limits, kind, x, y);

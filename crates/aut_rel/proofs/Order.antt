@@ -9,12 +9,13 @@ use lib.ListN.{length, getD}
 use Rattle.common.specs.Outcome.{Outcome, refused, given, Gives}
 use Rattle.common.specs.Follow.{given-of}
 use Rattle.common.specs.Runs.{Table, table}
+use Rattle.netkat.specs.Rules.{Rule, xor, difference, complement, sequence, star, until}
 use Rattle.spp_steps.specs.Laws.{Wf, Ext, At, at-ext}
-use Rattle.aut_steps.specs.Tables.{SPP, UNION, INTERSECT, kindOf, op1, op2, words, Limits, Aut, stateCap}
-use Rattle.aut_steps.specs.Kinds.{form}
+use Rattle.aut_steps.specs.Tables.{SPP, UNION, INTERSECT, XOR, DIFFERENCE, COMPLEMENT, SEQUENCE, STAR, UNTIL, kindOf, op1, op2, words, Limits, Aut, stateCap}
+use Rattle.aut_steps.specs.Kinds.{Form, one, two, form}
 use Rattle.aut_steps.specs.ListLaws.{All, all-map}
 use Rattle.aut_steps.specs.Products.{union-size}
-use Rattle.aut_steps.specs.Good.{states, kind, first, second, ok-as, Grown, Good}
+use Rattle.aut_steps.specs.Good.{states, kind, first, second, Ok, ok-as, Grown, Good}
 use Rattle.aut_steps.specs.Goes.{Gone, Goes}
 use Rattle.aut_steps.specs.StateLaws as StateLaws
 use Rattle.aut.specs.declared.Counts.{Counts}
@@ -69,19 +70,56 @@ module _ {N : ℕ} {L : Limits} {σ : Aut} (g : Good N L σ) where
   pub rel-at : {x : ℕ} → x < states σ → RelAt N (σ .nodes) st x
   rel-at l = record { state = in-table l; handle = λ e. StateLaws.handle g l e }
 
+  -- ---- operands are earlier states
+
+  one-ready : (k : ℕ) (r : Rule N → Rule N) → form {N = N} k ≡ one r → {x : ℕ} → x < states σ → Ready1 st (states σ) k x
+  one-ready k r q l = record { fits = fits; has-x = l; earlier = λ i m e. (subst (λ (f : Form N). Ok f σ i) q (ok-as g k m e)) .earlier }
+
+  two-ready : (k : ℕ) (r : Rule N → Rule N → Rule N) → form {N = N} k ≡ two r → {x y : ℕ} → x < states σ → y < states σ → Ready2 st (states σ) k x y
+  two-ready k r q l l′ = record { fits = fits; has-x = l; has-y = l′; earlier = λ i m e. let o = subst (λ (f : Form N). Ok f σ i) q (ok-as g k m e) in (o .earlier1, o .earlier2) }
+
+  pub ready-complement : {x : ℕ} → x < states σ → Ready1 st (states σ) COMPLEMENT x
+  unfolding form
+  ready-complement l = one-ready COMPLEMENT complement refl l
+
+  pub ready-star : {x : ℕ} → x < states σ → Ready1 st (states σ) STAR x
+  unfolding form
+  ready-star l = one-ready STAR star refl l
+
+  pub ready-xor : {x y : ℕ} → x < states σ → y < states σ → Ready2 st (states σ) XOR x y
+  unfolding form
+  ready-xor l m = two-ready XOR xor refl l m
+
+  pub ready-difference : {x y : ℕ} → x < states σ → y < states σ → Ready2 st (states σ) DIFFERENCE x y
+  unfolding form
+  ready-difference l m = two-ready DIFFERENCE difference refl l m
+
+  pub ready-sequence : {x y : ℕ} → x < states σ → y < states σ → Ready2 st (states σ) SEQUENCE x y
+  unfolding form
+  ready-sequence l m = two-ready SEQUENCE sequence refl l m
+
+  pub ready-until : {x y : ℕ} → x < states σ → y < states σ → Ready2 st (states σ) UNTIL x y
+  unfolding form
+  ready-until l m = two-ready UNTIL until refl l m
+
   module _ (c : Counts) (states-is : c .states ≡ states σ) (members-is : c .members ≡ σ .members .count) (s : List ℕ) (base k : ℕ) (a : All (λ x. x < states σ) (words s base k)) (r : base + k ≤ length s) (few : k ≤ 128) where
-    ready : (kind : ℕ) → ((i : ℕ) → i < states σ → ListIn st mem i kind) → ListReady st mem s c kind base k
-    ready kind f = record {
+    ready : (kind : ℕ) → ((i : ℕ) → i < states σ → ListIn st mem i kind) → ((i : ℕ) → i < states σ → kindOf st i ≡ kind → All (λ x. x < i) (words mem (op1 st i) (op2 st i)))
+        → ListReady st mem s c kind base k
+    ready kind f e = record {
       add = record { fits = record { fits = omega (arith, g .fits, states-is); small = omega (arith, g .small, states-is) }; small = omega (arith, g .members-small, members-is); within = r; few = few };
       lists = λ i l. f i (omega (arith, states-is));
       below = record { within = r; states = below (words s base k) a };
+      has = subst (λ (n : ℕ). All (λ x. x < n) (words s base k)) (sym states-is) a;
+      earlier = λ i l. e i (omega (arith, states-is));
     }
 
     pub union-ready : ListReady st mem s c UNION base k
-    union-ready = ready UNION (λ i l. record { within = union-inside l })
+    unfolding form
+    union-ready = ready UNION (λ i l. record { within = union-inside l }) (λ i l e. ok-as g UNION l e .earlier)
 
     pub intersect-ready : ListReady st mem s c INTERSECT base k
-    intersect-ready = ready INTERSECT (λ i l. record { within = intersect-inside l })
+    unfolding form
+    intersect-ready = ready INTERSECT (λ i l. record { within = intersect-inside l }) (λ i l e. ok-as g INTERSECT l e .earlier)
 
 -- scratch and nodes
 pub backed-of : {N : ℕ} {l : Bounds} {σ : Aut} {s : List ℕ} → Ready N l σ s → Backed N (σ .nodes) s

@@ -29,6 +29,13 @@ pub seek-end : (f : ℕ → Bool) (n i : ℕ) → n ≤ i → seek f i (n - i) �
 unfolding seek
 seek-end f n i m = ap (seek f i) {x = n - i} {y = 0} (omega arith)
 
+-- a search that begins behind places where there is nothing to find
+pub seek-skip : (f : ℕ → Bool) (n j : ℕ) → j ≤ n → ((i : ℕ) → i < j → f i ≡ false) → seek f 0 n ≡ seek f j (n - j)
+seek-skip f n zero l e = ap (seek f 0) {x = n} {y = n - 0} (omega arith)
+seek-skip f n (suc j) l e =
+    seek-skip f n j (omega arith) (λ i m. e i (omega arith)) ∙ seek-on f n j (omega arith) (e j (omega arith))
+    ∙ ap₂ (seek f) {x = j + 1} {y = suc j} {u = n - (j + 1)} {v = n - suc j} (omega arith) (omega arith)
+
 -- ---- a list of k words from a on, of which j are done
 
 pub words-on : (s : List ℕ) (a k j : ℕ) → j < k → words s (a + j) (k - j) ≡ getD s (a + j) 0 ∷ words s (a + (j + 1)) (k - (j + 1))

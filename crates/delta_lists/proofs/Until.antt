@@ -8,7 +8,7 @@ use Rattle.common.specs.Outcome.{Step, after, _>>=_}
 use Rattle.common.specs.Runs.{table}
 use Rattle.netkat.specs.ListSteps as St
 use Rattle.netkat.specs.ListSteps.{Edge}
-use Rattle.aut_steps.specs.Tables.{Aut, onStates}
+use Rattle.aut_steps.specs.Tables.{UNTIL, Aut, onStates}
 use Rattle.aut_steps.specs.Constructors.{mk-until}
 use Rattle.aut_steps.specs.Goes.{goes-map}
 use Rattle.aut_steps.specs.StateLaws.{mk-until-goes}
@@ -23,7 +23,7 @@ use Rattle.aut.specs.declared.Put.{Put}
 use Rattle.aut.specs.declared.State as S
 use Rattle.aut.specs.declared.State.the-variants as state
 use Rattle.aut_rel.specs.Seen.{autOf, Places}
-use Rattle.aut_rel.proofs.Order.{fits}
+use Rattle.aut_rel.proofs.Order.{ready-until}
 use Rattle.st.specs.declared.Listed.{Listed}
 use Rattle.st.specs.declared.Listed.the-variants as listed
 use Rattle.st.specs.Seen.{RESULT, DoesList}
@@ -63,8 +63,8 @@ module _ {N : ℕ} {l : Limits} (t st mem : List ℕ) (c : Counts) {tr s : List 
   unfolding untilList
   until-0 = begin (autLayer N l) 0 1088 (W .stored .first .ready) refl
 
-  pub make-ready : Ready2 st (c .states) x y
-  make-ready = record { fits = fits (W .stored .first .ready .good); has-x = W .first; has-y = W .second }
+  pub make-ready : Ready2 st (c .states) UNTIL x y
+  make-ready = ready-until (W .stored .first .ready .good) (W .first) (W .second)
 
   module _ (p : Put) {r1 : S.State} (st1 : List ℕ) (q : mk-until (limitsOf l) x y (table st (c .states)) ≡ seenPut p st1) (v : Places p c r1) where
     pub until-stuck-1 : {e : ℕ} {s1 : List ℕ} → r1 ≡ state.Refused e → GivesList N l 0 1088 whole σ c (listed.Refused e) (autOf t st1 mem) s s1

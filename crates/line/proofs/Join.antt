@@ -7,14 +7,14 @@ use lib.ListN.{length}
 use Rattle.common.specs.Outcome.{Outcome, Step}
 use Rattle.common.specs.Runs.{Table, table}
 use Rattle.spp.specs.Seen.{FieldAsked}
-use Rattle.aut_steps.specs.Tables.{Aut, onStates}
+use Rattle.aut_steps.specs.Tables.{COMPLEMENT, UNTIL, Aut, onStates}
 use Rattle.aut_steps.specs.Constructors.{spp-of, mk-spp}
 use Rattle.aut_steps.specs.Goes.{Goes, came}
 use Rattle.netkat.specs.Rules.{In}
 use Rattle.aut_steps.specs.Meaning.{rule, Is}
 use Rattle.line_steps.specs.Lines as M
 use Rattle.line_steps.specs.LineLaws.{make-goes}
-use Rattle.aut.specs.Seen.{limitsOf, Fits}
+use Rattle.aut.specs.Seen.{limitsOf, Fits, Ready1, Ready2}
 use Rattle.aut.specs.declared.Counts.{Counts}
 use Rattle.aut.specs.declared.Limits.{Limits}
 use Rattle.aut.specs.declared.State.{State}
@@ -22,7 +22,7 @@ use Rattle.aut.specs.declared.State.the-variants as state
 use Rattle.aut_rel.specs.Behind.{LISTS, left-refl, left-any, left-wide}
 use Rattle.aut_rel.specs.Seen.{autOf, seenAut, LeftBy, Ready, Does, DoesSpp}
 use Rattle.aut_rel.proofs.Join.{same-left}
-use Rattle.aut_rel.proofs.Order.{fits, ready-after}
+use Rattle.aut_rel.proofs.Order.{fits, ready-complement, ready-until, ready-after}
 use Rattle.aut_mk.specs.Seen.{Enters, Makes, Asks}
 use Rattle.aut_union.specs.Seen.{ListAt, PairAt}
 use Rattle.line.specs.declared.Constant.{Constant}
@@ -46,7 +46,7 @@ module _ {N : ℕ} {l : Limits} {t st mem s : List ℕ} (c : Counts) (R : Ready 
 
     pub bit-ready : {w : Bit} {f : ℕ} {v : _} → a ≡ line.Bit w f v → FieldAsked N t (c .spp) N f × Fits st (c .states)
     bit-ready e = (
-      record { few = R .few; deep = R .few; below = turned e .asked .field; fits = record { fits = R .good .nodes .nodes .fits; small = R .good .nodes .nodes .small } },
+      record { few = R .few; deep = omega arith; below = turned e .asked .field; wf = R .good .nodes },
       fits (R .good),
     )
 
@@ -61,6 +61,12 @@ module _ {N : ℕ} {l : Limits} {t st mem s : List ℕ} (c : Counts) (R : Ready 
 
   pub asks-pair : {x y : ℕ} → PairAt (c .states) x y → Asks N l t st s c (x ∷ y ∷ [])
   asks-pair p = record { members = mem; ready = R; has = (p .has-x, (p .has-y, tt)) }
+
+  pub until-ready : {x y : ℕ} → PairAt (c .states) x y → Ready2 st (c .states) UNTIL x y
+  until-ready p = ready-until (R .good) (p .has-x) (p .has-y)
+
+pub not-ready : {N : ℕ} {l : Limits} {t st s : List ℕ} {c : Counts} {x : ℕ} → Asks N l t st s c (x ∷ []) → Ready1 st (c .states) COMPLEMENT x × (N ≤ 31)
+not-ready a = (ready-complement (a .ready .good) (a .has .0), a .ready .few)
 
 -- ---- answers
 

@@ -12,7 +12,7 @@ use Rattle.spp.specs.declared.SPP.{SPP}
 use Rattle.spp.specs.declared.Made.{Made}
 use Rattle.spp.specs.declared.Made.the-variants.{Node, Full}
 use Rattle.aut_steps.specs.Tables as T
-use Rattle.aut_steps.specs.Tables.{Aut, onNodes, onStates}
+use Rattle.aut_steps.specs.Tables.{COMPLEMENT, Aut, onNodes, onStates}
 use Rattle.aut_steps.specs.Relations as Rel
 use Rattle.aut_steps.specs.Constructors as C
 use Rattle.aut_steps.specs.Good.{grown-trans}
@@ -32,7 +32,7 @@ use Rattle.aut.specs.declared.State.the-variants as state
 use Rattle.aut_rel.specs.Behind.{Left, left-refl, left-any, left-wide, left-trans}
 use Rattle.aut_rel.specs.Seen.{autOf, seenAut, Beside, LeftBy, RelateReady, Relates, Places, Ready, Does}
 use Rattle.aut_rel.proofs.Join.{same-left}
-use Rattle.aut_rel.proofs.Order.{fits, backed-of, ready-after}
+use Rattle.aut_rel.proofs.Order.{ready-complement, backed-of, ready-after}
 use Rattle.aut_mk.specs.Seen.{Enters, Makes, Asks, Sequences}
 use Rattle.aut_mk.proofs.Join.{enters}
 use Rattle.aut_union.specs.Seen.{PairAt}
@@ -199,8 +199,8 @@ module _ (N : ℕ) (l : Limits) (t st mem s : List ℕ) (c : Counts) (a : Each) 
   pub intersected : {x : ℕ} → a ≡ each.Intersect x → (r : State) (t′ st′ mem′ s′ : List ℕ) → Does N 0 576 (C.mk-intersect N Lₘ (u .target) x ρ) r c t′ st′ mem′ s s′ → length s′ ≡ length s → (w : Edged) → w ≡ stateEdge r (u .label) → Does-it w t′ st′ mem′ s′
   intersected {x} q r t′ st′ mem′ s′ D len w e = by-state (C.mk-intersect N Lₘ (u .target) x ρ) (is q) r D len w e
 
-  pub complement-ready : Ready1 st (c .states) (u .target) × (N ≤ 31)
-  complement-ready = (record { fits = fits (R .ready .good); has-x = R .edge .state }, R .ready .few)
+  pub complement-ready : Ready1 st (c .states) COMPLEMENT (u .target) × (N ≤ 31)
+  complement-ready = (ready-complement (R .ready .good) (R .edge .state), R .ready .few)
 
   pub complemented : a ≡ each.Complement → (p : Put) (r : State) (st′ : List ℕ) → C.mk-complement N Lₘ (u .target) (table st (c .states)) ≡ seenPut p st′ → Places p c r → (w : Edged) → w ≡ stateEdge r (u .label) → Does-it w t st′ mem s
   complemented q p r st′ e v w f = by-state (onStates (C.mk-complement N Lₘ (u .target)) ρ) (is q) r (of-enters t mem s (enters {o = C.mk-complement N Lₘ (u .target)} p r e v)) refl w f

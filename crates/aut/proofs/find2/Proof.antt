@@ -1,9 +1,9 @@
-use Rattle.aut_steps.specs.Scratch.{seek-here, seek-on, seek-end}
+use Rattle.aut_steps.specs.Scratch.{seek-here, seek-on, seek-end, seek-skip}
 use Rattle.aut_steps.specs.Intern.{seek, same2}
 use borrow.Author.Needs.{needs}
 use native.Mathlib.Omega.{arith}
 use Prim.Native.Nat.{_≤_, _-_}
-use mathlib.Core.Path.{_≡_, sym, _∙_, ap}
+use mathlib.Core.Path.{_≡_, sym, _∙_}
 use Rattle.aut.proofs.find2.Statement.{statement}
 use Rattle.aut.proofs.find2.Tie as tie
 use Rattle.aut.proofs.find2.Reads as reads
@@ -11,20 +11,20 @@ use Rattle.aut.proofs.find2.Lts as lts
 use Rattle.aut.proofs.is_at2.Reads as is-at2-reads
 
 abbrev Inv-loop : tie.InvT-loop
-Inv-loop states count kind x y i₀ i =
+Inv-loop states from count kind x y i₀ i =
     (i ≤ count) × (seek (same2 states kind x y) 0 count ≡ seek (same2 states kind x y) i (count - i))
 
 abbrev μ-loop : tie.MeasureT-loop
-μ-loop states count kind x y i₀ i =
+μ-loop states from count kind x y i₀ i =
     count - i
 
 loop-holds : tie.Need-loop-holds Inv-loop μ-loop
 loop-holds c =
-    let g = c .before .args in (omega arith, ap (seek (same2 (g .states .now) (g .kind) (g .x) (g .y)) 0) {x = g .count} {y = g .count - 0} (omega arith))
+    let g = c .before .args in let f = c .before .pre .1 in (f .within, seek-skip (same2 (g .states .now) (g .kind) (g .x) (g .y)) (g .count) (g .from) (f .within) (f .none))
 
 is-at2-requires : tie.Need-is-at2-requires Inv-loop μ-loop
 is-at2-requires c κs =
-    omega arith
+    omega (arith, c .before .before .before .pre .0 .fits, c .loop-test .taken)
 
 returns : tie.Need-returns Inv-loop μ-loop
 returns c =

@@ -1,10 +1,10 @@
-use Rattle.aut_steps.specs.Scratch.{seek-here, seek-on, seek-end}
+use Rattle.aut_steps.specs.Scratch.{seek-here, seek-on, seek-end, seek-skip}
 use Rattle.aut_steps.specs.Intern.{seek, sameL}
 use Rattle.aut_steps.specs.Tables.{words}
 use borrow.Author.Needs.{needs}
 use native.Mathlib.Omega.{arith}
 use Prim.Native.Nat.{_≤_, _-_}
-use mathlib.Core.Path.{_≡_, sym, _∙_, ap}
+use mathlib.Core.Path.{_≡_, sym, _∙_}
 use Rattle.aut.proofs.find_list.Statement.{statement}
 use Rattle.aut.proofs.find_list.Tie as tie
 use Rattle.aut.proofs.find_list.Reads as reads
@@ -12,16 +12,16 @@ use Rattle.aut.proofs.find_list.Lts as lts
 use Rattle.aut.proofs.is_at_list.Reads as is-at-list-reads
 
 abbrev Inv-loop : tie.InvT-loop
-Inv-loop states members scratch count kind base k i₀ i =
+Inv-loop states members scratch from count kind base k i₀ i =
     (i ≤ count) × (seek (sameL states members kind (words scratch base k)) 0 count ≡ seek (sameL states members kind (words scratch base k)) i (count - i))
 
 abbrev μ-loop : tie.MeasureT-loop
-μ-loop states members scratch count kind base k i₀ i =
+μ-loop states members scratch from count kind base k i₀ i =
     count - i
 
 loop-holds : tie.Need-loop-holds Inv-loop μ-loop
 loop-holds c =
-    let g = c .before .before .before .args in (omega arith, ap (seek (sameL (g .states .now) (g .members .now) (g .kind) (words (g .scratch .now) (g .base) (g .k))) 0) {x = g .count} {y = g .count - 0} (omega arith))
+    let g = c .before .before .before .args in let f = c .before .before .before .pre .3 in (f .within, seek-skip (sameL (g .states .now) (g .members .now) (g .kind) (words (g .scratch .now) (g .base) (g .k))) (g .count) (g .from) (f .within) (f .none))
 
 is-at-list-requires : tie.Need-is-at-list-requires Inv-loop μ-loop
 is-at-list-requires c κs =

@@ -1,4 +1,6 @@
+use Rattle.aut_steps.specs.Intern.{same2}
 use Rattle.aut.proofs.Intern as intern
+use Rattle.aut.proofs.Scan as scan
 use borrow.Author.Needs.{needs}
 use Rattle.aut.proofs.intern0.Statement.{statement}
 use Rattle.aut.proofs.intern0.Tie as tie
@@ -9,7 +11,8 @@ use Rattle.aut.proofs.push.Reads as push-reads
 
 -- src/lib.rt:117:9
 find2-requires : tie.Need-find2-requires
-find2-requires c κs = search needs
+find2-requires c κs =
+    let g = c .before .before .args in (c .before .before .pre, scan.from-start (same2 (g .states .now) (g .kind) (g .x) 0) (g .count))
 
 -- src/lib.rt:119:24
 cast-t9 : tie.Need-cast-t9

@@ -39,7 +39,7 @@ enum-told-6 c = search needs
 
 intern-two-requires : tie.Need-intern-two-requires
 intern-two-requires c κs =
-    join.ready-both (c .before .before .before .before .before .before .pre .0)
+    join.sequence-ready (c .before .before .before .before .before .before .pre .0)
 
 same-length : tie.Need-same-length
 same-length c =

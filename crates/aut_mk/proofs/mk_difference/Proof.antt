@@ -45,7 +45,7 @@ returns-2 c =
 
 intern-two-requires : tie.Need-intern-two-requires
 intern-two-requires c κs =
-    join.ready-both (c .before .before .before .before .before .before .before .before .pre)
+    join.difference-ready (c .before .before .before .before .before .before .before .before .pre)
 
 same-length-5 : tie.Need-same-length-5
 same-length-5 c =

@@ -55,7 +55,7 @@ returns-3 c =
 
 intern-one-requires : tie.Need-intern-one-requires
 intern-one-requires c κs =
-    join.ready-x (c .before .before .before .before .before .before .before .before .pre)
+    join.star-ready (c .before .before .before .before .before .before .before .before .pre)
 
 same-length-5 : tie.Need-same-length-5
 same-length-5 c =

@@ -45,7 +45,7 @@ returns-2 c =
 
 intern-two-requires : tie.Need-intern-two-requires
 intern-two-requires c κs =
-    join.ready-both (c .before .before .before .before .before .before .before .before .before .pre)
+    join.xor-ready (c .before .before .before .before .before .before .before .before .before .pre)
 
 same-length-5 : tie.Need-same-length-5
 same-length-5 c =
@@ -58,7 +58,7 @@ returns-3 c =
 
 intern-two-requires-2 : tie.Need-intern-two-requires-2
 intern-two-requires-2 c κs =
-    join.ready-turned (c .before .before .before .before .before .before .before .before .before .pre)
+    join.turned-ready (c .before .before .before .before .before .before .before .before .before .pre)
 
 same-length-6 : tie.Need-same-length-6
 same-length-6 c =

@@ -13,7 +13,8 @@ use Rattle.st_ops.proofs.st_union.Reads as st-union-reads
 
 -- src/lib.rt:291:9
 mk-until-requires : tie.Need-mk-until-requires
-mk-until-requires c κs = search needs
+mk-until-requires c κs =
+    until.make-ready _ _ _ (c .before .before .before .before .before .before .args .c) (c .before .before .before .before .before .before .pre)
 
 -- src/lib.rt:292:9
 placed-requires : tie.Need-placed-requires

@@ -63,7 +63,8 @@ enum-told-6 c = search needs
 
 -- src/lib.rt:174:17
 mk-until-requires : tie.Need-mk-until-requires
-mk-until-requires c κs = search needs
+mk-until-requires c κs =
+    join.until-ready (c .before .before .before .before .before .before .before .args .c) (c .before .before .before .before .before .before .before .pre .0) (c .before .before .before .before .before .before .before .pre .1)
 
 -- src/lib.rt:175:13
 placed-requires : tie.Need-placed-requires

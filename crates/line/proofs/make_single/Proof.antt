@@ -18,7 +18,8 @@ enum-told c = search needs
 
 -- src/lib.rt:143:17
 mk-complement-requires : tie.Need-mk-complement-requires
-mk-complement-requires c κs = search needs
+mk-complement-requires c κs =
+    join.not-ready (c .before .before .before .before .before .before .pre)
 
 -- src/lib.rt:144:13
 placed-requires : tie.Need-placed-requires
