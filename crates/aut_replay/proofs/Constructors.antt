@@ -1,8 +1,8 @@
 -- The smart constructors (aut_steps' Constructors) replay.
-use mathlib.Core.Path.{_≡_, refl, sym, _∙_, ap, ap₂, subst}
+use mathlib.Core.Path.{_≡_, refl, sym, ap, subst}
 use mathlib.Core.Bool.{Bool, true, false, _&&_}
 use mathlib.Core.List.{List, [], _∷_, _++_}
-use Prim.Native.Nat.{ℕ, zero, suc, _+_, _≤_, _<_, max}
+use Prim.Native.Nat.{ℕ, zero, suc, _+_, _≤_, _<_}
 use native.Mathlib.Omega.{arith}
 use lib.Dec.{eqb, ltb}
 use lib.ListN.{length, getD}
@@ -11,28 +11,28 @@ use Rattle.common.specs.Outcome.{Outcome, refused, given, Step, return, after, 
 use Rattle.common.specs.Runs as Runs
 use Rattle.common.specs.Runs.{Table, placed, runs-bind, runs-return, runs-map}
 use Rattle.spp_steps.specs.Model as Spp
-use Rattle.spp_steps.specs.Laws.{Wf, Ext, At, at-ext, den-mem, den-zero, den-top, sppTheory}
+use Rattle.spp_steps.specs.Laws.{Wf, Ext, At, at-ext, den-mem, den-top, sppTheory}
 use Rattle.spp_steps.specs.Apply.{apply-exact}
 use Rattle.spp_steps.specs.Sequence.{sequence-exact}
 use Rattle.spp_steps.specs.Star.{star-exact}
 use Rattle.aut_steps.specs.Relations as Rel
-use Rattle.aut_steps.specs.Tables.{SPP, UNION, INTERSECT, XOR, DIFFERENCE, COMPLEMENT, SEQUENCE, STAR, DUP, UNTIL, TOP, kindOf, op1, Limits, Exprs, exprs, Aut, putStates, putExprs, onNodes, onStates, onExprs, onStatesOf}
-use Rattle.aut_steps.specs.Intern.{intern1, intern2, internL}
+use Rattle.aut_steps.specs.Tables.{SPP, UNION, INTERSECT, XOR, DIFFERENCE, COMPLEMENT, SEQUENCE, STAR, DUP, UNTIL, TOP, kindOf, op1, Limits, Exprs, exprs, Aut, putStates, putExprs, onNodes, onStates, onExprs}
+use Rattle.aut_steps.specs.Intern.{intern1, internL}
 use Rattle.aut_steps.specs.Lists.{sorted}
 use Rattle.aut_steps.specs.Constructors.{Within, within, beyond, openAll, Opened, list, top, long, openUnion, each, countAll, product, mk-spp, mk-dup, mk-top, mk-until, spp-of, relations, is-relation, Parts, parts, Met, met, addLast, uniteOne, addRelation, meetOne, finish, unite, uniteOpened, mk-union-n, mk-union, meetFinish, meet, meetOpened, mk-intersect-n-base, base, bases, distribute, intersectOpened, mk-intersect-n, mk-intersect, mk-xor, mk-difference, mk-complement, sequence-with, sequence-by, mk-sequence, mk-star}
 use Rattle.netkat.specs.Rules.{union, intersection}
 use Rattle.aut_steps.specs.Kinds.{form}
-use Rattle.aut_steps.specs.ListLaws.{All, all-map, all-append, all-sorted, st-singleton}
-use Rattle.aut_steps.specs.Good.{states, kind, first, second, nesting, Grown, state-grown, states-grown, Two, Good, ok-as}
-use Rattle.aut_steps.specs.Goes.{Goes, goes-map}
-use Rattle.aut_steps.specs.InternLaws.{Fit, State2, intern0-goes, intern1-goes, intern2-goes}
-use Rattle.aut_steps.specs.StateLaws.{handle, both-spp}
+use Rattle.aut_steps.specs.ListLaws.{All, all-map, all-append}
+use Rattle.aut_steps.specs.Good.{states, kind, first, second, nesting, nesting-grown, state-grown, states-grown, Two, Good, ok-as}
+use Rattle.aut_steps.specs.Goes.{goes-map}
+use Rattle.aut_steps.specs.StateLaws.{handle, both-spp, mk-spp-goes, mk-dup-goes, mk-top-goes, mk-until-goes, mk-xor-goes, mk-difference-goes, mk-complement-goes, mk-star-goes}
 use Rattle.aut_steps.specs.UnionLaws.{mk-union-n-goes}
+use Rattle.aut_steps.specs.SequenceLaws.{sequence-by-goes}
 use Rattle.aut_steps.specs.IntersectLaws.{mk-intersect-n-base-goes, mk-intersect-n-goes}
-use Rattle.st_steps.specs.ListGoes.{Label, State, label-grown, zero-label}
-use Rattle.aut_replay.specs.Replay.{Later, Wider, Again, Replays, stops, comes, In}
-use Rattle.aut_replay.proofs.Runs.{later-refl, kind-later, first-later, second-later, nesting-later, replays-return, replays-map, replays-as, replays-from, replays-bind, replays-choose, replays-test, replays-limit, replays-in, replays-goes, replays-of, states-then, nodes-replay}
-use Rattle.aut_replay.proofs.Interning.{Some, intern0-again, intern1-again, intern2-again, internL-replays}
+use Rattle.st_steps.specs.ListGoes.{Label, State, zero-label}
+use Rattle.aut_replay.specs.Replay.{Later, Wider, Replays, stops, In}
+use Rattle.aut_replay.proofs.Runs.{later-refl, kind-later, first-later, second-later, nesting-later, replays-return, replays-map, replays-as, replays-from, replays-bind, replays-choose, replays-test, replays-limit, replays-in, replays-goes, states-then, nodes-replay}
+use Rattle.aut_replay.proofs.Interning.{Some, intern0-replays, intern1-replays, intern2-replays, internL-replays}
 use Rattle.aut_replay.proofs.Opening.{Withins, Openings, within-same, open-top, open-list, openAll-later, openUnion-later, countAll-later, product-are, product-later}
 
 -- ---- relations
@@ -66,34 +66,29 @@ module _ {N : ℕ} {L L′ : Limits} {σ : Aut} (g : Good N L σ) where
   pub mk-spp-replay : {h : ℕ} → Label N σ h → Replays N L′ (In N L State) (onStates (mk-spp h)) σ (onStates (mk-spp h) σ)
   unfolding mk-spp form
   mk-spp-replay {h} a =
-      replays-map (replays-of (intern0-goes g SPP h (a .at, refl, refl)) (λ τ z v s. intern0-again SPP h z s)) (λ τ z w p. (p .0, p .1 .state))
+      replays-goes (goes-map (mk-spp-goes g (den-mem (a .at))) (λ τ z w v i. i .state)) (intern0-replays g SPP h)
 
   pub mk-dup-replay : Replays N L′ (In N L State) (onStates mk-dup) σ (onStates mk-dup σ)
   unfolding mk-dup form
-  mk-dup-replay = replays-map (replays-of (intern0-goes g DUP 0 (refl, refl, refl)) (λ τ z v s. intern0-again DUP 0 z s)) (λ τ z w p. (p .0, p .1 .state))
+  mk-dup-replay = replays-goes (goes-map (mk-dup-goes g) (λ τ z w v i. i .state)) (intern0-replays g DUP 0)
 
   pub mk-top-replay : Replays N L′ (In N L State) (onStates mk-top) σ (onStates mk-top σ)
   unfolding mk-top form
-  mk-top-replay = replays-map (replays-of (intern0-goes g TOP 0 (refl, refl, refl)) (λ τ z v s. intern0-again TOP 0 z s)) (λ τ z w p. (p .0, p .1 .state))
+  mk-top-replay = replays-goes (goes-map (mk-top-goes g) (λ τ z w v i. i .state)) (intern0-replays g TOP 0)
 
   pub zero-replay : Replays N L′ (In N L State) (onStates (mk-spp (Rel.zeroAt N))) σ (onStates (mk-spp (Rel.zeroAt N)) σ)
   zero-replay = mk-spp-replay (zero-label g)
 
-  -- one and two operands
-  one-replay : (k : ℕ) {x : ℕ} → x < states σ → Fit (form {N = N} k) σ x 0 (nesting σ x + 1) → Replays N L′ (In N L State) (onStates (intern1 L′ k x)) σ (onStates (intern1 L k x) σ)
-  one-replay k {x} l f = replays-map (replays-of (intern1-goes g k x l f) (λ τ z v s. intern1-again k x z s)) (λ τ z w p. (p .0, p .1 .state))
-
-  two-replay : (k : ℕ) {x y : ℕ} → x < states σ → y < states σ → Fit (form {N = N} k) σ x y (max (nesting σ x) (nesting σ y) + 1)
-      → Replays N L′ (In N L State) (onStates (intern2 L′ k x y)) σ (onStates (intern2 L k x y) σ)
-  two-replay k {x} {y} l m f = replays-map (replays-of (intern2-goes g k x y l m f) (λ τ z v s. intern2-again k x y z s)) (λ τ z w p. (p .0, p .1 .state))
-
   pub mk-until-replay : {x y : ℕ} → State σ x → State σ y → Replays N L′ (In N L State) (onStates (mk-until L′ x y)) σ (onStates (mk-until L x y) σ)
   unfolding mk-until form
-  mk-until-replay l m = two-replay UNTIL l m (l, m, refl)
+  mk-until-replay {x} {y} l m = replays-goes (goes-map (mk-until-goes g l m) (λ τ z w v i. i .state)) (intern2-replays g UNTIL x y)
 
 -- the state of a relation that a step makes
 spp-of-replay : {N : ℕ} {L L′ : Limits} {σ : Aut} (c : Step Table ℕ) → Replays N L′ (In N L (Label N)) (onNodes c) σ (onNodes c σ) → Replays N L′ (In N L State) (spp-of c) σ (spp-of c σ)
 spp-of-replay c r = replays-bind r (λ τ h w p. mk-spp-replay (p .0) (p .1))
+
+some : {N : ℕ} {L : Limits} {P : Aut → ℕ → Type 0} {step : Step Aut ℕ} {σ : Aut} {o : Outcome Aut ℕ} → Replays N L P step σ o → Replays N L Some step σ o
+some r = replays-map r (λ τ z w p. tt)
 
 -- ---- what is read of states
 
@@ -138,7 +133,7 @@ module _ (N n : ℕ) where
     at : At t N (p .relation)
     others : All (λ x. x < n) (p .others)
 
-  apply-runs : (o : Spp.Op) {t : Table} (a b : ℕ) → Wf N t → At t N a → At t N b → Runs.Runs (sppTheory N) (Spp.apply N o N a b) (λ t h. At t N h) t
+  pub apply-runs : (o : Spp.Op) {t : Table} (a b : ℕ) → Wf N t → At t N a → At t N b → Runs.Runs (sppTheory N) (Spp.apply N o N a b) (λ t h. At t N h) t
   apply-runs o {t} a b w x y = runs-map (sppTheory N) (λ t h e w d. d .at) (apply-exact N o N (omega arith) t a b _ _ w (den-mem x) (den-mem y) .runs)
 
   uniteOne-runs : (st : List ℕ) {t : Table} → Wf N t → (x : ℕ) → Member N n st t x → (p : Parts) → PartsAt t p → Runs.Runs (sppTheory N) (uniteOne N st x p) PartsAt t
@@ -344,71 +339,81 @@ module _ {N : ℕ} {L L′ : Limits} {σ : Aut} (g : Good N L σ) where
     pub mk-xor-replay : Replays N L′ (In N L State) (mk-xor N L′ x y) σ (mk-xor N L x y σ)
     unfolding mk-xor form
     mk-xor-replay =
-        replays-choose (eqb x y) (λ q. zero-replay g)
+        replays-goes (goes-map (mk-xor-goes g l m) (λ τ z w v i. i .state))
+        (replays-choose (eqb x y) (λ q. some (zero-replay g))
         (λ n. replays-test (λ υ. relations (υ .states .words) x y) _ _ (λ υ w. relations-later w l m)
         (λ q. let (a, b) = handles g l m q in
-        replays-as (λ υ w v. λ d. spp-of (Rel.xor N (first-later w x l d) (first-later w y m d)) υ) (spp-of-replay (Rel.xor N (first σ x) (first σ y)) (apply-replay g a b Spp.xor)))
-        (λ q. replays-choose (ltb x y) (λ q. two-replay g XOR l m (l, m, refl)) (λ q. two-replay g XOR m l (m, l, refl))))
+        replays-as (λ υ w v. λ d. spp-of (Rel.xor N (first-later w x l d) (first-later w y m d)) υ) (some (spp-of-replay (Rel.xor N (first σ x) (first σ y)) (apply-replay g a b Spp.xor))))
+        (λ q. replays-choose (ltb x y) (λ q. intern2-replays g XOR x y) (λ q. intern2-replays g XOR y x))))
 
     pub mk-difference-replay : Replays N L′ (In N L State) (mk-difference N L′ x y) σ (mk-difference N L x y σ)
     unfolding mk-difference form
     mk-difference-replay =
-        replays-choose (eqb x y) (λ q. zero-replay g)
+        replays-goes (goes-map (mk-difference-goes g l m) (λ τ z w v i. i .state))
+        (replays-choose (eqb x y) (λ q. some (zero-replay g))
         (λ n. replays-test (λ υ. relations (υ .states .words) x y) _ _ (λ υ w. relations-later w l m)
         (λ q. let (a, b) = handles g l m q in
-        replays-as (λ υ w v. λ d. spp-of (Rel.difference N (first-later w x l d) (first-later w y m d)) υ) (spp-of-replay (Rel.difference N (first σ x) (first σ y)) (apply-replay g a b Spp.difference)))
-        (λ q. two-replay g DIFFERENCE l m (l, m, refl)))
+        replays-as (λ υ w v. λ d. spp-of (Rel.difference N (first-later w x l d) (first-later w y m d)) υ) (some (spp-of-replay (Rel.difference N (first σ x) (first σ y)) (apply-replay g a b Spp.difference))))
+        (λ q. intern2-replays g DIFFERENCE x y)))
 
   module _ {x : ℕ} (l : State σ x) where
     pub mk-star-replay : Replays N L′ (In N L State) (mk-star N L′ x) σ (mk-star N L x σ)
     unfolding mk-star form
     mk-star-replay =
-        replays-test (λ υ. eqb (kind υ x) STAR) _ _ (λ υ w. is-kind-later w l STAR) (λ q. replays-return x (g, l))
+        replays-goes (goes-map (mk-star-goes g l) (λ τ z w v i. i .state))
+        (replays-test {P = Some} (λ υ. eqb (kind υ x) STAR) _ _ (λ υ w. is-kind-later w l STAR) (λ q. replays-return x tt)
         (λ n. replays-test (λ υ. eqb (kind υ x) SPP) _ _ (λ υ w. is-kind-later w l SPP)
-        (λ q. replays-as (λ υ w v. λ d. spp-of (Rel.star N (first-later w x l d)) υ) (spp-of-replay (Rel.star N (first σ x)) (star-replay g (record { at = handle g l (eqb-true (kind σ x) SPP q) }))))
-        (λ n. replays-test (λ υ. eqb (kind υ x) TOP) _ _ (λ υ w. is-kind-later w l TOP) (λ q. mk-top-replay g) (λ q. one-replay g STAR l (l, refl, refl))))
+        (λ q. replays-as (λ υ w v. λ d. spp-of (Rel.star N (first-later w x l d)) υ) (some (spp-of-replay (Rel.star N (first σ x)) (star-replay g (record { at = handle g l (eqb-true (kind σ x) SPP q) })))))
+        (λ n. replays-test (λ υ. eqb (kind υ x) TOP) _ _ (λ υ w. is-kind-later w l TOP) (λ q. some (mk-top-replay g)) (λ q. intern1-replays g STAR x))))
 
     pub mk-complement-replay : Replays N L′ (In N L State) (onStates (mk-complement N L′ x)) σ (onStates (mk-complement N L x) σ)
     unfolding mk-complement form
     mk-complement-replay =
-        replays-as (λ υ w v. λ d. placed putStates υ
+        replays-goes (goes-map (mk-complement-goes g l) (λ τ z w v i. i .state))
+        (replays-as (λ υ w v. λ d. placed putStates υ
         (if eqb (kind-later w x l d) COMPLEMENT then given (υ .states) (first-later w x l d) else if eqb (kind-later w x l d) TOP then mk-spp (Rel.zeroAt N) (υ .states) else intern1 L′ COMPLEMENT x (υ .states)))
-        (go (eqb (kind σ x) COMPLEMENT) (eqb (kind σ x) TOP) refl)
+        (go (eqb (kind σ x) COMPLEMENT) (eqb (kind σ x) TOP)))
       where
-        go : (b c : Bool) → eqb (kind σ x) COMPLEMENT ≡ b
-            → Replays N L′ (In N L State) (λ υ. placed putStates υ (if b then given (υ .states) (first σ x) else if c then mk-spp (Rel.zeroAt N) (υ .states) else intern1 L′ COMPLEMENT x (υ .states))) σ
+        go : (b c : Bool)
+            → Replays N L′ Some (λ υ. placed putStates υ (if b then given (υ .states) (first σ x) else if c then mk-spp (Rel.zeroAt N) (υ .states) else intern1 L′ COMPLEMENT x (υ .states))) σ
             (placed putStates σ (if b then given (σ .states) (first σ x) else if c then mk-spp (Rel.zeroAt N) (σ .states) else intern1 L COMPLEMENT x (σ .states)))
-        go true c q = replays-return (first σ x) (g, omega (arith, ok-as g COMPLEMENT l (eqb-true (kind σ x) COMPLEMENT q) .earlier))
-        go false true q = zero-replay g
-        go false false q = one-replay g COMPLEMENT l (l, refl, refl)
+        go true c = replays-return (first σ x) tt
+        go false true = some (zero-replay g)
+        go false false = intern1-replays g COMPLEMENT x
 
--- (a; b); c is regrouped
-abbrev Regroups : (N : ℕ) (L L′ : Limits) → (ℕ → ℕ → Step Aut ℕ) → (ℕ → ℕ → Step Aut ℕ) → Type 0
-Regroups N L L′ again other = (σ : Aut) → Good N L σ → (x y : ℕ) → State σ x → State σ y → Replays N L′ (In N L State) (other x y) σ (again x y σ)
+-- (a; b); c is regrouped, by calls on operands that are nested lower
+abbrev Regroups : (N : ℕ) (L L′ : Limits) → ℕ → (ℕ → ℕ → Step Aut ℕ) → (ℕ → ℕ → Step Aut ℕ) → Type 0
+Regroups N L L′ depth again other = (σ : Aut) → Good N L σ → (x y : ℕ) → State σ x → State σ y → nesting σ x < depth → Replays N L′ (In N L State) (other x y) σ (again x y σ)
 
 module _ {N : ℕ} {L L′ : Limits} where
-  sequence-with-replay : {again other : ℕ → ℕ → Step Aut ℕ} → Regroups N L L′ again other → Regroups N L L′ (sequence-with N L again) (sequence-with N L′ other)
+  sequence-with-replay : {again other : ℕ → ℕ → Step Aut ℕ} {σ : Aut} → Good N L σ → {x y : ℕ} → State σ x → State σ y → Regroups N L L′ (nesting σ x) again other
+      → Replays N L′ Some (sequence-with N L′ other x y) σ (sequence-with N L again x y σ)
   unfolding sequence-with form
-  sequence-with-replay {again} {other} f σ g x y l m =
-      replays-test (λ υ. relations (υ .states .words) x y) _ _ (λ υ w. relations-later w l m)
+  sequence-with-replay {again} {other} {σ} g {x} {y} l m f =
+      replays-test {P = Some} (λ υ. relations (υ .states .words) x y) _ _ (λ υ w. relations-later w l m)
       (λ q. let (a, b) = handles g l m q in
-      replays-as (λ υ w v. λ d. spp-of (Rel.sequence N (first-later w x l d) (first-later w y m d)) υ) (spp-of-replay (Rel.sequence N (first σ x) (first σ y)) (sequence-replay g a b)))
-      (λ n₁. replays-test (λ υ. is-relation (υ .states .words) x (Rel.oneAt N)) _ _ (λ υ w. is-relation-later w l (Rel.oneAt N)) (λ q. replays-return y (g, m))
-      (λ n₂. replays-test (λ υ. is-relation (υ .states .words) x (Rel.zeroAt N)) _ _ (λ υ w. is-relation-later w l (Rel.zeroAt N)) (λ q. zero-replay g)
-      (λ n₃. replays-test (λ υ. is-relation (υ .states .words) y (Rel.oneAt N)) _ _ (λ υ w. is-relation-later w m (Rel.oneAt N)) (λ q. replays-return x (g, l))
-      (λ n₄. replays-test (λ υ. is-relation (υ .states .words) y (Rel.zeroAt N)) _ _ (λ υ w. is-relation-later w m (Rel.zeroAt N)) (λ q. zero-replay g)
+      replays-as (λ υ w v. λ d. spp-of (Rel.sequence N (first-later w x l d) (first-later w y m d)) υ) (some (spp-of-replay (Rel.sequence N (first σ x) (first σ y)) (sequence-replay g a b))))
+      (λ n₁. replays-test (λ υ. is-relation (υ .states .words) x (Rel.oneAt N)) _ _ (λ υ w. is-relation-later w l (Rel.oneAt N)) (λ q. replays-return y tt)
+      (λ n₂. replays-test (λ υ. is-relation (υ .states .words) x (Rel.zeroAt N)) _ _ (λ υ w. is-relation-later w l (Rel.zeroAt N)) (λ q. some (zero-replay g))
+      (λ n₃. replays-test (λ υ. is-relation (υ .states .words) y (Rel.oneAt N)) _ _ (λ υ w. is-relation-later w m (Rel.oneAt N)) (λ q. replays-return x tt)
+      (λ n₄. replays-test (λ υ. is-relation (υ .states .words) y (Rel.zeroAt N)) _ _ (λ υ w. is-relation-later w m (Rel.zeroAt N)) (λ q. some (zero-replay g))
       (λ n₅. replays-test (λ υ. eqb (kind υ x) SEQUENCE) _ _ (λ υ w. is-kind-later w l SEQUENCE)
       (λ q. let t : Two σ x = ok-as g SEQUENCE l (eqb-true (kind σ x) SEQUENCE q) in
+      let l1 : first σ x < states σ = omega (arith, t .earlier1) in
       replays-as (λ υ w v. λ d. (other (second-later w x l d) y >>= other (first-later w x l d)) υ)
-      (replays-bind (f σ g _ y (omega (arith, t .earlier2)) m) (λ τ z w (v, s). f τ v _ z (state-grown w (omega (arith, t .earlier1))) s)))
-      (λ n₆. replays-test (λ υ. eqb (kind υ x) TOP && eqb (kind υ y) TOP) _ _ (λ υ w. λ d. is-kind-later w l TOP d && is-kind-later w m TOP d) (λ q. mk-top-replay g)
-      (λ q. two-replay g SEQUENCE l m (l, m, refl))))))))
+      (replays-bind (f σ g (second σ x) y (omega (arith, t .earlier2)) m (omega (arith, t .nested))) (λ τ z w (v, s).
+      some (f τ v (first σ x) z (state-grown w l1) s (omega (arith, t .nested, nesting-grown w (first σ x) l1))))))
+      (λ n₆. replays-test (λ υ. eqb (kind υ x) TOP && eqb (kind υ y) TOP) _ _ (λ υ w. λ d. is-kind-later w l TOP d && is-kind-later w m TOP d) (λ q. some (mk-top-replay g))
+      (λ q. intern2-replays g SEQUENCE x y)))))))
 
-  sequence-by-replay : (depth : ℕ) → Regroups N L L′ (sequence-by N L depth) (sequence-by N L′ depth)
+  sequence-by-replay : (depth : ℕ) {σ : Aut} → Good N L σ → {x y : ℕ} → State σ x → State σ y → nesting σ x ≤ depth → Replays N L′ (In N L State) (sequence-by N L′ depth x y) σ (sequence-by N L depth x y σ)
   unfolding sequence-by
-  sequence-by-replay zero = sequence-with-replay (λ σ g x y l m. replays-return x (g, l))
-  sequence-by-replay (suc depth) = sequence-with-replay (sequence-by-replay depth)
+  sequence-by-replay zero g l m d =
+      replays-goes (goes-map (sequence-by-goes zero g l m d) (λ τ z w v i. i .state)) (sequence-with-replay {again = λ a b. return a} {other = λ a b. return a} g l m (λ τ v a b i j k. absurd (omega arith)))
+  sequence-by-replay (suc depth) g l m d =
+      replays-goes (goes-map (sequence-by-goes (suc depth) g l m d) (λ τ z w v i. i .state))
+      (sequence-with-replay {again = sequence-by N L depth} {other = sequence-by N L′ depth} g l m (λ τ v a b i j k. sequence-by-replay depth v i j (omega arith)))
 
   pub mk-sequence-replay : {σ : Aut} → Good N L σ → {x y : ℕ} → State σ x → State σ y → Replays N L′ (In N L State) (mk-sequence N L′ x y) σ (mk-sequence N L x y σ)
   unfolding mk-sequence
-  mk-sequence-replay {σ} g {x} {y} l m = replays-as (λ υ w v. λ d. sequence-by N L′ (nesting-later w x l d) x y υ) (sequence-by-replay (nesting σ x) σ g x y l m)
+  mk-sequence-replay {σ} g {x} {y} l m = replays-as (λ υ w v. λ d. sequence-by N L′ (nesting-later w x l d) x y υ) (sequence-by-replay (nesting σ x) g l m (omega arith))

@@ -2,25 +2,25 @@
 use mathlib.Core.Path.{_≡_, refl, sym, _∙_, ap, ap₂, subst}
 use mathlib.Core.Bool.{Bool, true, false}
 use mathlib.Core.List.{List, [], _∷_}
-use Prim.Native.Nat.{ℕ, _+_, _*_, _≤_, _<_}
+use Prim.Native.Nat.{ℕ, _+_, _≤_, _<_, max}
 use native.Mathlib.Omega.{arith}
-use lib.Dec.{eqb, ltb}
-use lib.ListN.{length, getD}
+use lib.Dec.{ltb}
+use lib.ListN.{length}
 use lib.Seq.{length-sets}
 use borrow.Author.Tests.{ltb-true, ltb-false, lt-ltb}
-use Rattle.common.specs.Outcome.{Outcome, refused, given, if_then_else_}
+use Rattle.common.specs.Outcome.{Outcome, refused, given, Step, if_then_else_}
 use Rattle.common.specs.Runs.{Table, table, placed}
 use Rattle.netkat.specs.Rules.{Rule, Rules}
 use Rattle.spp_steps.specs.Laws.{by-test}
-use Rattle.aut_steps.specs.Tables.{UNION, INTERSECT, op1, op2, words, Limits, roomS, roomM, put4, Exprs, exprs, Aut, putStates, putExprs, onStates, onExprs}
+use Rattle.aut_steps.specs.Tables.{op1, op2, nest, words, Limits, roomS, roomM, put4, exprs, Aut, putStates, putExprs, onStates, onExprs}
 use Rattle.aut_steps.specs.Intern.{seek, same2, sameL, put, intern0, intern1, intern2, nestL, store, putL, internL}
 use Rattle.aut_steps.specs.Kinds.{Form, leaf, constant, one, two, many, nothing, form, operandsBy}
 use Rattle.aut_steps.specs.Facts.{seek-hit, seek-miss, Is2, same2-is, is-same2, IsL, sameL-is, is-sameL, sets-below, sets-above, words-sets, room-state, room-members}
-use Rattle.aut_steps.specs.Good.{states, kind, ExtM, Grown, grown-refl, Ok, Good, ok-as, operands}
-use Rattle.aut_steps.specs.Goes.{plus, grown-plus, kind-plus, first-plus, second-plus}
+use Rattle.aut_steps.specs.Good.{states, kind, ExtM, extm-refl, grown-refl, Ok, Good, ok-as, operands}
+use Rattle.aut_steps.specs.Goes.{plus, grown-plus, memos-plus, kind-plus, first-plus, second-plus}
 use Rattle.aut_steps.specs.InternLaws.{State2, StateL}
 use Rattle.aut_replay.specs.Replay.{Later, Again, Replays, stops, comes}
-use Rattle.aut_replay.proofs.Runs.{kind-later, first-later, second-later, members-later, replays-return}
+use Rattle.aut_replay.proofs.Runs.{kind-later, first-later, second-later, members-later}
 
 -- the first of which f holds is z, if f holds of no other
 seek-only : (f : ℕ → Bool) (n z : ℕ) → z < n → f z ≡ true → ((i : ℕ) → i < n → f i ≡ true → i ≡ z) → seek f 0 n ≡ z
@@ -98,11 +98,68 @@ module _ {N : ℕ} {L : Limits} {τ : Aut} where
         hit v putExprs (exprs (υ .states) (υ .members)) _ z _ refl (findL v k c q xs z t) (t .state);
   }
 
--- ---- a list's state, whatever the list
-
 -- any state
 abbrev pub Some : Aut → ℕ → Type 0
 Some τ z = Unit {0}
+
+-- ---- a state, whatever its operands
+
+module _ {N : ℕ} {L : Limits} {σ : Aut} (g : Good N L σ) (k x y : ℕ) where
+  abbrev Finds : Limits → Step Table ℕ → Type 0
+  Finds L′ step = (τ : Aut) (z : ℕ) → State2 k x y τ z → Again N L′ (onStates step) τ z
+
+  put-finds : {L′ : Limits} (step : Step Table ℕ) → Finds L′ step → (e : ℕ) → Replays N L′ Some (onStates step) σ (placed putStates σ (put k x y e (σ .states)))
+  unfolding put
+  put-finds {L′} step f e = go (roomS (σ .states)) refl
+    where
+      m : ExtM (σ .members) (σ .members)
+      m = extm-refl (σ .members)
+
+      go : (b : Bool) → roomS (σ .states) ≡ b → Replays N L′ Some (onStates step) σ (placed putStates σ (if b then given (table (put4 (σ .states .words) (states σ) k x y e) (states σ + 1)) (states σ) else refused 22))
+      go false q = stops
+      go true q =
+          let (room, cap) = room-state (σ .states) q in
+          comes (grown-plus g k x y e (σ .members) m room) (memos-plus g k x y e (σ .members) m room) tt
+          (f (plus g k x y e (σ .members) m room) (states σ) (record {
+            state = omega arith;
+            is = record { kind = kind-plus g k x y e (σ .members) m room; first = first-plus g k x y e (σ .members) m room; second = second-plus g k x y e (σ .members) m room };
+          }))
+
+  seek-finds : {L′ : Limits} (step : Step Table ℕ) → Finds L′ step → (o : Outcome Table ℕ) → Replays N L′ Some (onStates step) σ (placed putStates σ o)
+      → Replays N L′ Some (onStates step) σ (placed putStates σ (if ltb (seek (same2 (σ .states .words) k x y) 0 (states σ)) (states σ) then given (σ .states) (seek (same2 (σ .states .words) k x y) 0 (states σ)) else o))
+  seek-finds {L′} step f o r = go (ltb i (states σ)) refl
+    where
+      i : ℕ
+      i = seek (same2 (σ .states .words) k x y) 0 (states σ)
+
+      go : (b : Bool) → ltb i (states σ) ≡ b → Replays N L′ Some (onStates step) σ (placed putStates σ (if b then given (σ .states) i else o))
+      go true q =
+          let l : i < states σ = ltb-true i (states σ) q in
+          comes (grown-refl σ) (λ i w l m. refl) tt (f σ i (record { state = l; is = same2-is (σ .states .words) k x y i (seek-hit (same2 (σ .states .words) k x y) 0 (states σ) (omega arith)) }))
+      go false q = r
+
+  deep-finds : {L′ : Limits} (step : Step Table ℕ) → Finds L′ step → (b : Bool) (e : ℕ) → Replays N L′ Some (onStates step) σ (placed putStates σ (if b then refused 8 else put k x y e (σ .states)))
+  deep-finds step f true e = stops
+  deep-finds step f false e = put-finds step f e
+
+module _ {N : ℕ} {L : Limits} {σ : Aut} (g : Good N L σ) where
+  pub intern0-replays : {L′ : Limits} (k x : ℕ) → Replays N L′ Some (onStates (intern0 k x)) σ (onStates (intern0 k x) σ)
+  unfolding intern0
+  intern0-replays k x = seek-finds g k x 0 (intern0 k x) (λ τ z s. intern0-again k x z s) _ (put-finds g k x 0 (intern0 k x) (λ τ z s. intern0-again k x z s) 0)
+
+  pub intern1-replays : {L′ : Limits} (k x : ℕ) → Replays N L′ Some (onStates (intern1 L′ k x)) σ (onStates (intern1 L k x) σ)
+  unfolding intern1
+  intern1-replays {L′} k x =
+      seek-finds g k x 0 (intern1 L′ k x) (λ τ z s. intern1-again k x z s) _
+      (deep-finds g k x 0 (intern1 L′ k x) (λ τ z s. intern1-again k x z s) (ltb (L .nesting) (nest (σ .states .words) x + 1)) (nest (σ .states .words) x + 1))
+
+  pub intern2-replays : {L′ : Limits} (k x y : ℕ) → Replays N L′ Some (onStates (intern2 L′ k x y)) σ (onStates (intern2 L k x y) σ)
+  unfolding intern2
+  intern2-replays {L′} k x y =
+      seek-finds g k x y (intern2 L′ k x y) (λ τ z s. intern2-again k x y z s) _
+      (deep-finds g k x y (intern2 L′ k x y) (λ τ z s. intern2-again k x y z s) (ltb (L .nesting) (max (nest (σ .states .words) x) (nest (σ .states .words) y) + 1)) (max (nest (σ .states .words) x) (nest (σ .states .words) y) + 1))
+
+-- ---- a list's state, whatever the list
 
 module _ {N : ℕ} {L : Limits} {σ : Aut} (g : Good N L σ) (k : ℕ) (c : Rules N → Rule N) (q : form {N = N} k ≡ many c) (xs : List ℕ) where
   abbrev nm : ℕ
@@ -130,7 +187,7 @@ module _ {N : ℕ} {L : Limits} {σ : Aut} (g : Good N L σ) (k : ℕ) (c : Rule
           let τ : Aut = plus g k nm (length xs) e m stored room in
           let e1 = first-plus g k nm (length xs) e m stored room in
           let e2 = second-plus g k nm (length xs) e m stored room in
-          comes (grown-plus g k nm (length xs) e m stored room) tt
+          comes (grown-plus g k nm (length xs) e m stored room) (memos-plus g k nm (length xs) e m stored room) tt
           (internL-again {τ = τ} k c q xs (states σ) (record {
             state = omega arith;
             is = record { kind = kind-plus g k nm (length xs) e m stored room; list = ap₂ (words (m .words)) e1 e2 ∙ words-sets xs (σ .members .words) nm r };
@@ -169,5 +226,5 @@ module _ {N : ℕ} {L : Limits} {σ : Aut} (g : Good N L σ) (k : ℕ) (c : Rule
           inside = subst (λ (f : Form N). Ok f σ i) q (ok-as g k l (s .is .kind)) .inside
 
           found : Replays N L′ Some (onExprs (internL L′ k xs)) σ (given σ i)
-          found = comes (grown-refl σ) tt (internL-again k c q xs i s inside)
+          found = comes (grown-refl σ) (λ i w l m. refl) tt (internL-again k c q xs i s inside)
       go false t = deep (ltb (L .nesting) e)

@@ -10,10 +10,10 @@ use lib.ListN.{length, getD}
 use borrow.Author.Tests.{eqb-true, leb-true, le-leb}
 use Rattle.common.specs.Outcome.{if_then_else_}
 use Rattle.netkat.specs.Rules.{Rule, Rules, union, intersection}
-use Rattle.aut_steps.specs.Tables.{UNION, INTERSECT, TOP, kindOf, op1, op2, words, listOf, Limits, Aut}
+use Rattle.aut_steps.specs.Tables.{UNION, INTERSECT, TOP, words, Limits, Aut}
 use Rattle.aut_steps.specs.Constructors.{Within, within, beyond, thenWithin, opened, extend, openAll, Opened, list, top, long, thenOpen, openUnion, countOne, countAll, product}
 use Rattle.aut_steps.specs.Kinds.{Form, many, form}
-use Rattle.aut_steps.specs.ListLaws.{All, all-map, all-append}
+use Rattle.aut_steps.specs.ListLaws.{All, all-append}
 use Rattle.aut_steps.specs.Scratch.{all-word}
 use Rattle.aut_steps.specs.Good.{states, kind, first, second, members, Many, Ok, Good, ok-as}
 use Rattle.aut_steps.specs.UnionLaws.{opened-states}

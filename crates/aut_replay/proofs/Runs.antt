@@ -1,7 +1,6 @@
 -- How two runs are followed: past a `>>=`, into a test, on a part of the tables. The relation is closed under each.
 use mathlib.Core.Path.{_≡_, refl, sym, _∙_, ap, ap₂, subst}
 use mathlib.Core.Bool.{Bool, true, false}
-use mathlib.Core.List.{List}
 use Prim.Native.Nat.{ℕ, _+_, _*_, _≤_, _<_}
 use native.Mathlib.Omega.{arith}
 use native.Mathlib.Nat.{le-trans}
@@ -13,7 +12,7 @@ use Rattle.spp_steps.specs.Laws.{ext-refl, ext-trans, sppTheory}
 use Rattle.aut_steps.specs.Tables.{kindOf, op1, op2, nest, words, Limits, Aut, putNodes, onNodes, onStates, putStates}
 use Rattle.aut_steps.specs.Facts.{words-same}
 use Rattle.aut_steps.specs.Good.{states, kind, first, second, nesting, members, Grown, grown-refl, grown-trans, grown-nodes, Good}
-use Rattle.aut_steps.specs.Goes.{Gone, Goes, good-nodes}
+use Rattle.aut_steps.specs.Goes.{Goes, good-nodes}
 use Rattle.aut_steps.specs.Goes as Going
 use Rattle.aut_replay.specs.Replay.{Later, Again, Replays, stops, comes, In}
 
@@ -60,24 +59,28 @@ again-grown g r = record { same = λ υ w v. r .same υ (grown-later g w) v }
 
 -- ---- following two runs
 
+pub assoc : {S A B C : Type 0} (o : Outcome S A) (k : A → Step S B) (j : B → Step S C) → after (after o k) j ≡ after o (λ a σ. after (k a σ) j)
+assoc (refused number) k j = refl
+assoc (given σ a) k j = refl
+
 module _ {N : ℕ} {L : Limits} {A : Type 0} where
   -- what is given, and that it is given again
   pub replayed : {P : Aut → A → Type 0} {step : Step Aut A} {σ τ : Aut} {a : A} → Replays N L P step σ (given τ a) → P τ a × Again N L step τ a
-  replayed (comes g p r) = (p, r)
+  replayed (comes g m p r) = (p, r)
 
   pub replays-return : {P : Aut → A → Type 0} {σ : Aut} (a : A) → P σ a → Replays N L P (return a) σ (given σ a)
-  replays-return {σ = σ} a p = comes (grown-refl σ) p (record { same = λ υ w v. refl })
+  replays-return {σ = σ} a p = comes (grown-refl σ) (λ i w l m. refl) p (record { same = λ υ w v. refl })
 
   pub replays-map : {P Q : Aut → A → Type 0} {step : Step Aut A} {σ : Aut} {o : Outcome Aut A} → Replays N L P step σ o
       → ((τ : Aut) (a : A) → Grown σ τ → P τ a → Q τ a) → Replays N L Q step σ o
   replays-map stops f = stops
-  replays-map (comes {τ} {a} g p r) f = comes g (f τ a g p) r
+  replays-map (comes {τ} {a} g m p r) f = comes g m (f τ a g p) r
 
   -- a step that does the same, on all tables later than the first
   pub replays-as : {P : Aut → A → Type 0} {step other : Step Aut A} {σ : Aut} {o : Outcome Aut A}
       → ((υ : Aut) → Later σ υ → Good N L υ → other υ ≡ step υ) → Replays N L P step σ o → Replays N L P other σ o
   replays-as f stops = stops
-  replays-as f (comes g p r) = comes g p (record { same = λ υ w v. f υ (grown-later g w) v ∙ r .same υ w v })
+  replays-as f (comes g m p r) = comes g m p (record { same = λ υ w v. f υ (grown-later g w) v ∙ r .same υ w v })
 
   -- a first run that comes to the same
   pub replays-from : {P : Aut → A → Type 0} {step : Step Aut A} {σ : Aut} {o p : Outcome Aut A} → o ≡ p → Replays N L P step σ p → Replays N L P step σ o
@@ -86,17 +89,23 @@ module _ {N : ℕ} {L : Limits} {A : Type 0} where
   pub replays-bind : {B : Type 0} {P : Aut → A → Type 0} {Q : Aut → B → Type 0} {step : Step Aut A} {next : A → Step Aut B} {σ : Aut} {o : Outcome Aut A} {k : A → Step Aut B}
       → Replays N L P step σ o → ((τ : Aut) (a : A) → Grown σ τ → P τ a → Replays N L Q (next a) τ (k a τ)) → Replays N L Q (step >>= next) σ (after o k)
   replays-bind stops f = stops
-  replays-bind {B} {Q = Q} {step = step} {next = next} {σ = σ} {k = k} (comes {τ} {a} g p r) f = go (f τ a g p)
+  replays-bind {B} {Q = Q} {step = step} {next = next} {σ = σ} {k = k} (comes {τ} {a} g m p r) f = go (f τ a g p)
     where
       go : {o : Outcome Aut B} → Replays N L Q (next a) τ o → Replays N L Q (step >>= next) σ o
       go stops = stops
-      go (comes h q s) = comes (grown-trans g h) q (record { same = λ υ w v. ap (λ (o : Outcome Aut A). after o next) (r .same υ (grown-later h w) v) ∙ s .same υ w v })
+      go (comes h n q s) = comes (grown-trans g h) (λ i w l b. n i w l b ∙ m i w l b) q (record { same = λ υ w v. ap (λ (o : Outcome Aut A). after o next) (r .same υ (grown-later h w) v) ∙ s .same υ w v })
 
   -- a test on values
   pub replays-choose : {P : Aut → A → Type 0} {σ : Aut} (b : Bool) {s s′ : Step Aut A} {o o′ : Outcome Aut A}
       → (b ≡ true → Replays N L P s σ o) → (b ≡ false → Replays N L P s′ σ o′) → Replays N L P (λ υ. if b then s υ else s′ υ) σ (if b then o else o′)
   replays-choose true f h = f refl
   replays-choose false f h = h refl
+
+  -- .. between steps
+  pub replays-branch : {P : Aut → A → Type 0} {σ : Aut} (b : Bool) (m k m′ k′ : Step Aut A)
+      → (b ≡ true → Replays N L P m′ σ (m σ)) → (b ≡ false → Replays N L P k′ σ (k σ)) → Replays N L P (if b then m′ else k′) σ ((if b then m else k) σ)
+  replays-branch true m k m′ k′ f h = f refl
+  replays-branch false m k m′ k′ f h = h refl
 
   -- a test on the tables
   pub replays-test : {P : Aut → A → Type 0} {σ : Aut} (test : Aut → Bool) (s s′ : Step Aut A) {o o′ : Outcome Aut A} → ((υ : Aut) → Later σ υ → test υ ≡ test σ)
@@ -120,12 +129,17 @@ module _ {N : ℕ} {L : Limits} {A : Type 0} where
   -- with what is known of the first run
   pub replays-goes : {M : Limits} {P Q : Aut → A → Type 0} {step : Step Aut A} {σ : Aut} {o : Outcome Aut A} → Goes N M Q σ o → Replays N L P step σ o → Replays N L (In N M Q) step σ o
   replays-goes (Going.stops w g y) stops = stops
-  replays-goes (Going.comes r) (comes g p s) = comes g (r .good, r .holds) s
+  replays-goes (Going.comes r) (comes g m p s) = comes g m (r .good, r .holds) s
 
   pub replays-of : {M : Limits} {Q : Aut → A → Type 0} {step : Step Aut A} {σ : Aut} {o : Outcome Aut A} → Goes N M Q σ o
       → ((τ : Aut) (a : A) → Good N M τ → Q τ a → Again N L step τ a) → Replays N L (In N M Q) step σ o
   replays-of (Going.stops w g y) f = stops
-  replays-of (Going.comes {τ} {a} r) f = comes (r .grown) (r .good, r .holds) (f τ a (r .good) (r .holds))
+  replays-of (Going.comes {τ} {a} r) f = comes (r .grown) (r .memos) (r .good, r .holds) (f τ a (r .good) (r .holds))
+
+-- one step after another, of which the second goes on
+pub replays-assoc : {N : ℕ} {L : Limits} {A B C : Type 0} {P : Aut → A → Type 0} {Q : Aut → C → Type 0} {step : Step Aut A} (next : A → Step Aut B) (last : B → Step Aut C) {σ : Aut} {o : Outcome Aut A} {k : A → Step Aut C}
+    → Replays N L P step σ o → ((τ : Aut) (a : A) → Grown σ τ → P τ a → Replays N L Q (next a >>= last) τ (k a τ)) → Replays N L Q ((step >>= next) >>= last) σ (after o k)
+replays-assoc {step = step} next last r f = replays-as {step = step >>= λ a. next a >>= last} (λ υ w v. assoc (step υ) next last) (replays-bind r f)
 
 -- a step on some of the tables, and then a value made of its answer
 pub placed-then : {S A B : Type 0} (put : S → Aut → Aut) (σ : Aut) (o : Outcome S A) (f : A → B) → placed put σ (after o (λ a. return (f a))) ≡ after (placed put σ o) (λ a. return (f a))
@@ -148,5 +162,5 @@ nodes-replay {N} {L} {M} {A} {P} {σ} g c r = go r
     go : {o : Outcome Table A} → Gives (Runs.Good (sppTheory N) c P (σ .nodes)) o → Replays N L (In N M (λ τ a. (states τ ≡ states σ) × P (τ .nodes) a)) (onNodes c) σ (placed putNodes σ o)
     go refusal = stops
     go (gives {σ = t} h) =
-        comes (grown-nodes {σ = σ} (h .ext)) (good-nodes g (h .ext) (h .wf), (refl, h .holds))
+        comes (grown-nodes {σ = σ} (h .ext)) (λ i w l m. refl) (good-nodes g (h .ext) (h .wf), (refl, h .holds))
         (record { same = λ υ w v. ap (placed putNodes υ) (h .stable (υ .nodes) (w .nodes) (v .nodes)) })
