@@ -6,6 +6,7 @@ use mathlib.Core.Option.{Option, none, some}
 use Prim.Native.Nat.{ℕ, suc, _+_, _-_, _/_, _≤_, _<_}
 use native.Mathlib.Omega.{arith}
 use lib.ListN.{length, set, take, length-drop, length-set}
+use lib.Seq.{length-take-le}
 use Rattle.common.specs.Outcome.{Outcome, refused, given}
 use Rattle.common.specs.Runs.{table, placed}
 use Rattle.cache.specs.Cache.{notes-map}
@@ -18,6 +19,7 @@ use Rattle.line_steps.specs.LineLaws.{make-goes}
 use Rattle.delta_steps.specs.Delta.{store, putAut, onAut}
 use Rattle.query_steps.specs.Tables.{Tables, tables, putBase, onBase}
 use Rattle.query_steps.specs.Steps.{Ends, Steps, goes-ends}
+use Rattle.book_steps.specs.Answers.{nameOf}
 use Rattle.book_steps.specs.Reader as Reader
 use Rattle.book_steps.specs.Reader.{makes, asks, refuses}
 use Rattle.book_steps.specs.Run as Run
@@ -39,6 +41,7 @@ use Rattle.reader.specs.declared.Cursor.{Cursor}
 use Rattle.reader.specs.declared.Query.{Query}
 use Rattle.reader.specs.declared.Said.{Said}
 use Rattle.query_stage.specs.Layer.{Leaves, QueryReady, queryLayer, by-ends}
+use Rattle.writer.specs.Seen.{Put, put-take}
 use Rattle.book_query.specs.Contracts.{PreAsk, PostAsk}
 use Rattle.book_query.specs.declared.Setting.{Setting}
 use Rattle.book_query.specs.declared.Asked.{Asked}
@@ -89,6 +92,14 @@ module _ (config : Config) (k : ℕ) (l : line.Line) (c : Counts) (t st mem s : 
 
 -- ---- a query there
 
+-- bytes written into a place of their own, and lent on
+module _ {r : ℕ} {bs s s′ : List ℕ} (P : Put 0 bs r s s′) where
+  pub name-is : take r s′ ≡ bs
+  name-is = put-take P
+
+  pub name-length : r ≡ length (take r s′)
+  name-length = sym (length-take-le r s′ (omega (arith, P .room, P .wrote .len)))
+
 pub ask-room : {S : Setting} {m : Memory} {p : Place} {x : ℕ} → PreAskLine S m p x → WORK ≤ length (m .scratch)
 ask-room {m = m} P = room-of (m .scratch) (P .standing .ready .ready .room)
 
@@ -109,13 +120,14 @@ module _ (S : Setting) (m : Memory) (p : Place) (q : Query) (a x : ℕ) (P : Pre
     room = P .standing .written;
   }
 
-  module _ {r : Asked} {sp t st mem tr pend n out : List ℕ} (A : PostAsk S (queryOf q) (p .output) a x (tablesAt m (p .counts)) r (tablesAt (memory sp t st mem tr pend n out)) n (m .pending) pend (m .output) out) where
-    asked-work : (s′ : List ℕ) → work s′ ≡ n → PostAsk S (queryOf q) (p .output) a x (tablesAt m (p .counts)) r (tablesAt (memory sp t st mem tr pend s′ out)) (work s′) (m .pending) pend (m .output) out
-    asked-work s′ e = subst (λ (w : List ℕ). PostAsk S (queryOf q) (p .output) a x (tablesAt m (p .counts)) r (tablesAt (memory sp t st mem tr pend s′ out)) w (m .pending) pend (m .output) out) (sym e) A
+  module _ {r : Asked} {name sp t st mem tr pend n out : List ℕ} (A : PostAsk S (queryOf q) (p .output) name x (tablesAt m (p .counts)) r (tablesAt (memory sp t st mem tr pend n out)) n (m .pending) pend (m .output) out) (named : name ≡ nameOf a) where
+    asked-work : (s′ : List ℕ) → work s′ ≡ n → PostAsk S (queryOf q) (p .output) (nameOf a) x (tablesAt m (p .counts)) r (tablesAt (memory sp t st mem tr pend s′ out)) (work s′) (m .pending) pend (m .output) out
+    asked-work s′ e = subst (λ (w : List ℕ). PostAsk S (queryOf q) (p .output) (nameOf a) x (tablesAt m (p .counts)) r (tablesAt (memory sp t st mem tr pend s′ out)) w (m .pending) pend (m .output) out) (sym e)
+        (subst (λ (v : List ℕ). PostAsk S (queryOf q) (p .output) v x (tablesAt m (p .counts)) r (tablesAt (memory sp t st mem tr pend s′ out)) n (m .pending) pend (m .output) out) named A)
 
     pub asked-refused : {e : ℕ} → r ≡ asked.Refused e → PostAskLine S m p q a x (asked.Refused e) (memory sp t st mem tr pend (back (m .scratch) n) out)
     asked-refused {e} f = record {
-      asked = subst (λ (y : Asked). PostAsk S (queryOf q) (p .output) a x (tablesAt m (p .counts)) y (tablesAt (memory sp t st mem tr pend (back (m .scratch) n) out)) (work (back (m .scratch) n)) (m .pending) pend (m .output) out) f
+      asked = subst (λ (y : Asked). PostAsk S (queryOf q) (p .output) (nameOf a) x (tablesAt m (p .counts)) y (tablesAt (memory sp t st mem tr pend (back (m .scratch) n) out)) (work (back (m .scratch) n)) (m .pending) pend (m .output) out) f
           (asked-work (back (m .scratch) n) (back-work (m .scratch) n (ask-room P)));
       lines = tt;
     }
@@ -125,7 +137,7 @@ module _ (S : Setting) (m : Memory) (p : Place) (q : Query) (a x : ℕ) (P : Pre
     asked-told {d} {e} f len =
         let w : WORK ≤ length (m .scratch) = ask-room P in
         record {
-          asked = subst (λ (y : Asked). PostAsk S (queryOf q) (p .output) a x (tablesAt m (p .counts)) y (tablesAt (memory sp t st mem tr pend (set (back (m .scratch) n) (LINES + p .lines) 0) out)) (work (set (back (m .scratch) n) (LINES + p .lines) 0)) (m .pending) pend (m .output) out) f
+          asked = subst (λ (y : Asked). PostAsk S (queryOf q) (p .output) (nameOf a) x (tablesAt m (p .counts)) y (tablesAt (memory sp t st mem tr pend (set (back (m .scratch) n) (LINES + p .lines) 0) out)) (work (set (back (m .scratch) n) (LINES + p .lines) 0)) (m .pending) pend (m .output) out) f
               (asked-work (set (back (m .scratch) n) (LINES + p .lines) 0) (wrote-work (m .scratch) n w (p .lines) 0 (P .more)));
           lines = wrote-lines (m .scratch) n w (p .lines) 0 (P .more) len;
         }
@@ -204,8 +216,8 @@ module _ (S : Setting) (m : Memory) (p : Place) (Z : Standing S m p) (q : Query)
   query-pre h = record { standing = Z; has = h; more = more }
 
   module _ {r : Asked} {m′ : Memory} (A : PostAskLine S m p q a x r m′) where
-    asks-is : {y : Asked} → r ≡ y → PostAsk S (queryOf q) (p .output) a x (tablesAt m (p .counts)) y (tablesAt m′) (work (m′ .scratch)) (m .pending) (m′ .pending) (m .output) (m′ .output)
-    asks-is f = subst (λ (y : Asked). PostAsk S (queryOf q) (p .output) a x (tablesAt m (p .counts)) y (tablesAt m′) (work (m′ .scratch)) (m .pending) (m′ .pending) (m .output) (m′ .output)) f (A .asked)
+    asks-is : {y : Asked} → r ≡ y → PostAsk S (queryOf q) (p .output) (nameOf a) x (tablesAt m (p .counts)) y (tablesAt m′) (work (m′ .scratch)) (m .pending) (m′ .pending) (m .output) (m′ .output)
+    asks-is f = subst (λ (y : Asked). PostAsk S (queryOf q) (p .output) (nameOf a) x (tablesAt m (p .counts)) y (tablesAt m′) (work (m′ .scratch)) (m .pending) (m′ .pending) (m .output) (m′ .output)) f (A .asked)
 
     pub asks-refused : {e : ℕ} → r ≡ asked.Refused e → Stops e m m′ (perform (settingIn S m) (asks (queryOf q) a x) (placeOf m p))
     asks-refused f = record { is = asks-is f .is (linesOf (m .scratch) (p .lines)); output = asks-is f .then }

@@ -13,6 +13,7 @@ use Rattle.aut_steps.specs.Scratch.{Kept}
 use Rattle.query_steps.specs.Tables.{Tables}
 use Rattle.book_steps.specs.Reader as Reader
 use Rattle.book_steps.specs.Reader.{giving, tell, makes, asks, refuses, numbers}
+use Rattle.book_steps.specs.Answers.{nameOf}
 use Rattle.book_steps.specs.Run as Run
 use Rattle.book_steps.specs.Run.{place, perform, obey}
 use Rattle.aut.specs.Seen.{limitsOf}
@@ -232,7 +233,7 @@ AskedLine (asked.Told d e) k s s′ = linesOf s′ (suc k) ≡ linesOf s k ++ no
 AskedLine (asked.Refused e) k s s′ = Unit
 
 pub record PostAskLine (S : Setting) (m : Memory) (p : Place) (q : Query) (a x : ℕ) (r : Asked) (m′ : Memory) : Type 0 where
-  pub asked : PostAsk S (queryOf q) (p .output) a x (tablesAt m (p .counts)) r (tablesAt m′) (work (m′ .scratch)) (m .pending) (m′ .pending) (m .output) (m′ .output)
+  pub asked : PostAsk S (queryOf q) (p .output) (nameOf a) x (tablesAt m (p .counts)) r (tablesAt m′) (work (m′ .scratch)) (m .pending) (m′ .pending) (m .output) (m′ .output)
   pub lines : AskedLine r (p .lines) (m .scratch) (m′ .scratch)
 
 -- ---- a line

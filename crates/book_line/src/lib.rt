@@ -212,7 +212,7 @@ fn make_line(
     }
 }
 
-// a query, which cannot be named
+// a query of line a, whose name is its number; no later line can name the query
 fn ask_line(
     sp: &mut [u32],
     nodes: &mut [u32],
@@ -231,6 +231,8 @@ fn ask_line(
     requires { ⌜ PreAskLine setting (memory (now sp) (now nodes) (now states) (now members) (now transitions) (now pending) (now scratch) (now output)) place x ⌝ }
     ensures { λ r. ⌜ PostAskLine setting (memory (now (sp .entry)) (now (nodes .entry)) (now (states .entry)) (now (members .entry)) (now (transitions .entry)) (now (pending .entry)) (now (scratch .entry)) (now (output .entry))) place query a x r (memory (now (sp .exit)) (now (nodes .exit)) (now (states .exit)) (now (members .exit)) (now (transitions .exit)) (now (pending .exit)) (now (scratch .exit)) (now (output .exit))) ⌝ }
 {
+    let mut name = [0u8; 20];
+    let n = writer::put_decimal(&mut name, 0, a as u64);
     let at = WORK;
     let asked = book_query::ask(
         sp,
@@ -245,7 +247,7 @@ fn ask_line(
         setting,
         query,
         place.output,
-        a,
+        &name[..n],
         x,
     );
     match asked {

@@ -61,36 +61,36 @@ use Rattle.book_query.specs.Contracts.{settingOf, told, PrePairs, PostPr
 
 -- ---- the ends of a query
 
-pub ask-refused : (S : Setting) (q : Reader.Query) (pos line x : ℕ) (σ : Tables) (at : Counts → Tables) {s′ p p′ out : List ℕ} {n : ℕ} → query (settingOf S (length p / 2) (length out)) q line x σ ≡ refused n
-    → PostAsk S q pos line x σ (asked.Refused n) at s′ p p′ out out
-ask-refused S q pos line x σ at {p = p} {out = out} e = record { is = λ lines. ap (after-asking (settingOf S (length p / 2) (length out)) (place σ lines (take pos out))) e; then = refl }
+pub ask-refused : (S : Setting) (q : Reader.Query) (pos : ℕ) (name : List ℕ) (x : ℕ) (σ : Tables) (at : Counts → Tables) {s′ p p′ out : List ℕ} {n : ℕ} → query (settingOf S (length p / 2) (length out)) q name x σ ≡ refused n
+    → PostAsk S q pos name x σ (asked.Refused n) at s′ p p′ out out
+ask-refused S q pos name x σ at {p = p} {out = out} e = record { is = λ lines. ap (after-asking (settingOf S (length p / 2) (length out)) (place σ lines (take pos out))) e; then = refl }
 
 size : (pos : ℕ) (out bs : List ℕ) → pos ≤ length out → length (take pos out ++ bs) ≡ pos + length bs
 size pos out bs l = length-append (take pos out) bs ∙ ap (λ (k : ℕ). k + length bs) (length-take-le pos out l)
 
-module _ (S : Setting) (q : Reader.Query) (pos line x : ℕ) (σ : Tables) (p out : List ℕ) {τ : Tables} {bs : List ℕ} (e : query (settingOf S (length p / 2) (length out)) q line x σ ≡ given τ bs) where
+module _ (S : Setting) (q : Reader.Query) (pos : ℕ) (name : List ℕ) (x : ℕ) (σ : Tables) (p out : List ℕ) {τ : Tables} {bs : List ℕ} (e : query (settingOf S (length p / 2) (length out)) q name x σ ≡ given τ bs) where
   asking : (lines : List (Option ℕ)) {b : Bool} → leb (length (take pos out ++ bs)) (length out) ≡ b
-      → after-asking (settingOf S (length p / 2) (length out)) (place σ lines (take pos out)) (query (settingOf S (length p / 2) (length out)) q line x σ) ≡ (if b then given (place τ (lines ++ none ∷ []) (take pos out ++ bs)) 0 else refused 27)
+      → after-asking (settingOf S (length p / 2) (length out)) (place σ lines (take pos out)) (query (settingOf S (length p / 2) (length out)) q name x σ) ≡ (if b then given (place τ (lines ++ none ∷ []) (take pos out ++ bs)) 0 else refused 27)
   asking lines f =
       ap (after-asking (settingOf S (length p / 2) (length out)) (place σ lines (take pos out))) e
       ∙ ap (λ (b : Bool). if b then given (place τ (lines ++ none ∷ []) (take pos out ++ bs)) 0 else refused 27) f
 
-pub ask-full : (S : Setting) (q : Reader.Query) (pos line x : ℕ) (σ : Tables) (at : Counts → Tables) {s′ p p′ out : List ℕ} {τ : Tables} {bs : List ℕ} → query (settingOf S (length p / 2) (length out)) q line x σ ≡ given τ bs → pos ≤ length out
-    → {r : Answered} {out′ : List ℕ} → r ≡ answered.Full → Answers bs pos r out out′ → PostAsk S q pos line x σ (asked.Refused 27) at s′ p p′ out out′
-ask-full S q pos line x σ at {s′} {p} {p′} {out} {τ} {bs} e l {r} {out′} f a = go (subst (λ (v : Answered). Answers bs pos v out out′) f a)
+pub ask-full : (S : Setting) (q : Reader.Query) (pos : ℕ) (name : List ℕ) (x : ℕ) (σ : Tables) (at : Counts → Tables) {s′ p p′ out : List ℕ} {τ : Tables} {bs : List ℕ} → query (settingOf S (length p / 2) (length out)) q name x σ ≡ given τ bs → pos ≤ length out
+    → {r : Answered} {out′ : List ℕ} → r ≡ answered.Full → Answers bs pos r out out′ → PostAsk S q pos name x σ (asked.Refused 27) at s′ p p′ out out′
+ask-full S q pos name x σ at {s′} {p} {p′} {out} {τ} {bs} e l {r} {out′} f a = go (subst (λ (v : Answered). Answers bs pos v out out′) f a)
   where
-    go : (length out < pos + length bs) × (out′ ≡ out) → PostAsk S q pos line x σ (asked.Refused 27) at s′ p p′ out out′
-    go (m, w) = record { is = λ lines. asking S q pos line x σ p out e lines (lt-leb (length (take pos out ++ bs)) (length out) (omega (arith, size pos out bs l))); then = w }
+    go : (length out < pos + length bs) × (out′ ≡ out) → PostAsk S q pos name x σ (asked.Refused 27) at s′ p p′ out out′
+    go (m, w) = record { is = λ lines. asking S q pos name x σ p out e lines (lt-leb (length (take pos out ++ bs)) (length out) (omega (arith, size pos out bs l))); then = w }
 
-pub ask-told : (S : Setting) (q : Reader.Query) (pos line x : ℕ) (σ : Tables) (at : Counts → Tables) {s′ p p′ out : List ℕ} {d : Counts} {bs : List ℕ} → query (settingOf S (length p / 2) (length out)) q line x σ ≡ given (at d) bs → Later σ (at d)
-    → QueryReady (S .config .fields) (S .config .limits) (at d) s′ → Zeroed p′ → {r : Answered} {end : ℕ} {out′ : List ℕ} → r ≡ answered.At end → Answers bs pos r out out′ → PostAsk S q pos line x σ (asked.Told d end) at s′ p p′ out out′
-ask-told S q pos line x σ at {s′} {p} {p′} {out} {d} {bs} e w R z {r} {end} {out′} f a = go (subst (λ (v : Answered). Answers bs pos v out out′) f a)
+pub ask-told : (S : Setting) (q : Reader.Query) (pos : ℕ) (name : List ℕ) (x : ℕ) (σ : Tables) (at : Counts → Tables) {s′ p p′ out : List ℕ} {d : Counts} {bs : List ℕ} → query (settingOf S (length p / 2) (length out)) q name x σ ≡ given (at d) bs → Later σ (at d)
+    → QueryReady (S .config .fields) (S .config .limits) (at d) s′ → Zeroed p′ → {r : Answered} {end : ℕ} {out′ : List ℕ} → r ≡ answered.At end → Answers bs pos r out out′ → PostAsk S q pos name x σ (asked.Told d end) at s′ p p′ out out′
+ask-told S q pos name x σ at {s′} {p} {p′} {out} {d} {bs} e w R z {r} {end} {out′} f a = go (subst (λ (v : Answered). Answers bs pos v out out′) f a)
   where
-    go : Put pos bs end out out′ → PostAsk S q pos line x σ (asked.Told d end) at s′ p p′ out out′
+    go : Put pos bs end out out′ → PostAsk S q pos name x σ (asked.Told d end) at s′ p p′ out out′
     go u =
         let l : pos ≤ length out = omega (arith, u .behind, u .room) in
         record {
-          is = λ lines. asking S q pos line x σ p out e lines (le-leb (length (take pos out ++ bs)) (length out) (omega (arith, size pos out bs l, u .behind, u .room))) ∙ ap (λ (o : List ℕ). given (place (at d) (lines ++ none ∷ []) o) 0) (sym (put-take u));
+          is = λ lines. asking S q pos name x σ p out e lines (le-leb (length (take pos out ++ bs)) (length out) (omega (arith, size pos out bs l, u .behind, u .room))) ∙ ap (λ (o : List ℕ). given (place (at d) (lines ++ none ∷ []) o) 0) (sym (put-take u));
           then = record {
             later = w;
             ready = R;
@@ -106,44 +106,44 @@ ask-told S q pos line x σ at {s′} {p} {p′} {out} {d} {bs} e w R z {r} {end}
 abbrev Searches : (S : Setting) (x : ℕ) (σ : Tables) (c : Counts) (at : Counts → Tables) (s s′ p : List ℕ) → Searched → Type 0
 Searches S x σ c at s s′ p v = Post (queryLayer (S .config .fields) (S .config .limits)) 0 1088 (λ τ a. Unit) (is-empty (S .config .fields) (limitsOf (S .config .limits)) (length p / 2) (S .budget) x σ) σ c (Empty.searchedOf v) at s s′
 
-abbrev tells-empty : ℕ → Outcome Tables (Plain.Verdict × ℕ) → Outcome Tables (List ℕ)
-tells-empty line o = after o (λ v τ. given τ (emptyAnswer line (v .0) (v .1)))
+abbrev tells-empty : List ℕ → Outcome Tables (Plain.Verdict × ℕ) → Outcome Tables (List ℕ)
+tells-empty name o = after o (λ v τ. given τ (emptyAnswer name (v .0) (v .1)))
 
-pub empty-refused : {S : Setting} {pos line x : ℕ} {σ : Tables} {c : Counts} {at : Counts → Tables} {s s′ p p′ out : List ℕ} {r : Searched} → PostSearch (S .config .fields) (S .config .limits) (S .budget) x σ c r at s s′ p p′
-    → {n : ℕ} → r ≡ searched.Refused n → PostAsk S Reader.empty pos line x σ (asked.Refused n) at s′ p p′ out out
-empty-refused {S} {pos} {line} {x} {σ} {c} {at} {s} {s′} {p} P e = ask-refused S Reader.empty pos line x σ at (ap (tells-empty line) (subst (Searches S x σ c at s s′ p) e (P .post) .is))
+pub empty-refused : {S : Setting} {pos : ℕ} {name : List ℕ} {x : ℕ} {σ : Tables} {c : Counts} {at : Counts → Tables} {s s′ p p′ out : List ℕ} {r : Searched} → PostSearch (S .config .fields) (S .config .limits) (S .budget) x σ c r at s s′ p p′
+    → {n : ℕ} → r ≡ searched.Refused n → PostAsk S Reader.empty pos name x σ (asked.Refused n) at s′ p p′ out out
+empty-refused {S} {pos} {name} {x} {σ} {c} {at} {s} {s′} {p} P e = ask-refused S Reader.empty pos name x σ at (ap (tells-empty name) (subst (Searches S x σ c at s s′ p) e (P .post) .is))
 
-module _ (S : Setting) (line x : ℕ) (σ : Tables) (c : Counts) (at : Counts → Tables) {s s′ p p′ : List ℕ} {r : Searched} (P : PostSearch (S .config .fields) (S .config .limits) (S .budget) x σ c r at s s′ p p′)
+module _ (S : Setting) (name : List ℕ) (x : ℕ) (σ : Tables) (c : Counts) (at : Counts → Tables) {s s′ p p′ : List ℕ} {r : Searched} (P : PostSearch (S .config .fields) (S .config .limits) (S .budget) x σ c r at s s′ p p′)
     {v : empty-verdict.Verdict} {k : ℕ} {d : Counts} (e : r ≡ searched.Answer v k d) where
   empty-post : Searches S x σ c at s s′ p (searched.Answer v k d)
   empty-post = subst (Searches S x σ c at s s′ p) e (P .post)
 
-  empty-is : (out : List ℕ) (w : Verdict) → Writer.verdictOf w ≡ Empty.verdictOf v → query (settingOf S (length p / 2) (length out)) Reader.empty line x σ ≡ given (at d) (emptyAnswer line (Writer.verdictOf w) k)
-  empty-is out w f = ap (tells-empty line) (empty-post .is) ∙ ap (λ (v : Plain.Verdict). given (at d) (emptyAnswer line v k)) (sym f)
+  empty-is : (out : List ℕ) (w : Verdict) → Writer.verdictOf w ≡ Empty.verdictOf v → query (settingOf S (length p / 2) (length out)) Reader.empty name x σ ≡ given (at d) (emptyAnswer name (Writer.verdictOf w) k)
+  empty-is out w f = ap (tells-empty name) (empty-post .is) ∙ ap (λ (v : Plain.Verdict). given (at d) (emptyAnswer name v k)) (sym f)
 
-pub empty-full : {S : Setting} {pos line x : ℕ} {σ : Tables} {c : Counts} {at : Counts → Tables} {s s′ p p′ out : List ℕ} {r : Searched} → PostSearch (S .config .fields) (S .config .limits) (S .budget) x σ c r at s s′ p p′
+pub empty-full : {S : Setting} {pos : ℕ} {name : List ℕ} {x : ℕ} {σ : Tables} {c : Counts} {at : Counts → Tables} {s s′ p p′ out : List ℕ} {r : Searched} → PostSearch (S .config .fields) (S .config .limits) (S .budget) x σ c r at s s′ p p′
     → {v : empty-verdict.Verdict} {k : ℕ} {d : Counts} → r ≡ searched.Answer v k d → (w : Verdict) → Writer.verdictOf w ≡ Empty.verdictOf v → pos ≤ length out
-    → {t : Answered} {out′ : List ℕ} → t ≡ answered.Full → Answers (emptyAnswer line (Writer.verdictOf w) k) pos t out out′ → PostAsk S Reader.empty pos line x σ (asked.Refused 27) at s′ p p′ out out′
-empty-full {S} {pos} {line} {x} {σ} {c} {at} {out = out} P e w f l g a = ask-full S Reader.empty pos line x σ at (empty-is S line x σ c at P e out w f) l g a
+    → {t : Answered} {out′ : List ℕ} → t ≡ answered.Full → Answers (emptyAnswer name (Writer.verdictOf w) k) pos t out out′ → PostAsk S Reader.empty pos name x σ (asked.Refused 27) at s′ p p′ out out′
+empty-full {S} {pos} {name} {x} {σ} {c} {at} {out = out} P e w f l g a = ask-full S Reader.empty pos name x σ at (empty-is S name x σ c at P e out w f) l g a
 
-pub empty-told : {S : Setting} {pos line x : ℕ} {σ : Tables} {c : Counts} {at : Counts → Tables} {s s′ p p′ out : List ℕ} {r : Searched} → PostSearch (S .config .fields) (S .config .limits) (S .budget) x σ c r at s s′ p p′
+pub empty-told : {S : Setting} {pos : ℕ} {name : List ℕ} {x : ℕ} {σ : Tables} {c : Counts} {at : Counts → Tables} {s s′ p p′ out : List ℕ} {r : Searched} → PostSearch (S .config .fields) (S .config .limits) (S .budget) x σ c r at s s′ p p′
     → {v : empty-verdict.Verdict} {k : ℕ} {d : Counts} → r ≡ searched.Answer v k d → (w : Verdict) → Writer.verdictOf w ≡ Empty.verdictOf v
-    → {t : Answered} {end : ℕ} {out′ : List ℕ} → t ≡ answered.At end → Answers (emptyAnswer line (Writer.verdictOf w) k) pos t out out′ → PostAsk S Reader.empty pos line x σ (asked.Told d end) at s′ p p′ out out′
-empty-told {S} {pos} {line} {x} {σ} {c} {at} {p′ = p′} {out = out} P e w f g a =
-    let q = empty-post S line x σ c at P e in
-    ask-told S Reader.empty pos line x σ at (empty-is S line x σ c at P e out w f) (q .then .ext) (q .then .ready) (subst (λ (v : Searched). Empty.ZeroedBy v p′) e (P .pending)) g a
+    → {t : Answered} {end : ℕ} {out′ : List ℕ} → t ≡ answered.At end → Answers (emptyAnswer name (Writer.verdictOf w) k) pos t out out′ → PostAsk S Reader.empty pos name x σ (asked.Told d end) at s′ p p′ out out′
+empty-told {S} {pos} {name} {x} {σ} {c} {at} {p′ = p′} {out = out} P e w f g a =
+    let q = empty-post S name x σ c at P e in
+    ask-told S Reader.empty pos name x σ at (empty-is S name x σ c at P e out w f) (q .then .ext) (q .then .ready) (subst (λ (v : Searched). Empty.ZeroedBy v p′) e (P .pending)) g a
 
 -- ---- `live`
 
 abbrev LooksLive : (S : Setting) (x : ℕ) (σ : Tables) (c : Counts) (at : Counts → Tables) (s s′ p : List ℕ) → Lived → Type 0
 LooksLive S x σ c at s s′ p v = Post (queryLayer (S .config .fields) (S .config .limits)) 0 1088 (λ τ h. SpLaws.At (τ .sets) (S .config .fields) h) (live-packets (S .config .fields) (limitsOf (S .config .limits)) (length p / 2) x σ) σ c (Live.livedOf v) at s s′
 
-abbrev tells-live : (N line : ℕ) → Outcome Tables ℕ → Outcome Tables (List ℕ)
-tells-live N line o = after o (λ h τ. given τ (liveAnswer N line (Sp.size (τ .sets .words) N h)))
+abbrev tells-live : ℕ → List ℕ → Outcome Tables ℕ → Outcome Tables (List ℕ)
+tells-live N name o = after o (λ h τ. given τ (liveAnswer N name (Sp.size (τ .sets .words) N h)))
 
-pub live-refused : {S : Setting} {pos line x : ℕ} {σ : Tables} {c : Counts} {at : Counts → Tables} {s s′ p p′ out : List ℕ} {r : Lived} → PostLive (S .config .fields) (S .config .limits) x σ c r at s s′ p p′
-    → {n : ℕ} → r ≡ lived.Refused n → PostAsk S Reader.live pos line x σ (asked.Refused n) at s′ p p′ out out
-live-refused {S} {pos} {line} {x} {σ} {c} {at} {s} {s′} {p} P e = ask-refused S Reader.live pos line x σ at (ap (tells-live (S .config .fields) line) (subst (LooksLive S x σ c at s s′ p) e (P .post) .is))
+pub live-refused : {S : Setting} {pos : ℕ} {name : List ℕ} {x : ℕ} {σ : Tables} {c : Counts} {at : Counts → Tables} {s s′ p p′ out : List ℕ} {r : Lived} → PostLive (S .config .fields) (S .config .limits) x σ c r at s s′ p p′
+    → {n : ℕ} → r ≡ lived.Refused n → PostAsk S Reader.live pos name x σ (asked.Refused n) at s′ p p′ out out
+live-refused {S} {pos} {name} {x} {σ} {c} {at} {s} {s′} {p} P e = ask-refused S Reader.live pos name x σ at (ap (tells-live (S .config .fields) name) (subst (LooksLive S x σ c at s s′ p) e (P .post) .is))
 
 module _ (S : Setting) {x : ℕ} {σ : Tables} {c : Counts} {at : Counts → Tables} {s s′ p p′ : List ℕ} {r : Lived} (P : PostLive (S .config .fields) (S .config .limits) x σ c r at s s′ p p′) {h : SP} {d : Counts} (e : r ≡ lived.Live h d) where
   live-post : LooksLive S x σ c at s s′ p (lived.Live h d)
@@ -158,19 +158,19 @@ module _ (S : Setting) {x : ℕ} {σ : Tables} {c : Counts} {at : Counts → Tab
     pub live-most : k ≤ 2 ^ S .config .fields
     live-most = omega (arith, Z .is, size-most (at d .sets .words) (S .config .fields) (h .0))
 
-    live-is : (line : ℕ) (out : List ℕ) → query (settingOf S (length p / 2) (length out)) Reader.live line x σ ≡ given (at d) (liveAnswer (S .config .fields) line k)
-    live-is line out = ap (tells-live (S .config .fields) line) (live-post .is) ∙ ap (λ (n : ℕ). given (at d) (liveAnswer (S .config .fields) line n)) (sym (Z .is))
+    live-is : (name : List ℕ) (out : List ℕ) → query (settingOf S (length p / 2) (length out)) Reader.live name x σ ≡ given (at d) (liveAnswer (S .config .fields) name k)
+    live-is name out = ap (tells-live (S .config .fields) name) (live-post .is) ∙ ap (λ (n : ℕ). given (at d) (liveAnswer (S .config .fields) name n)) (sym (Z .is))
 
     live-noted : Leaves (S .config .fields) 0 0 (at d) s′ s″
     live-noted = record { below = λ i m. absurd (omega arith); above = λ i m k. Z .left .below i k; notes = notes-map (λ op x y r v. inr (inl (inl v))) (Z .left .notes) }
 
-    pub live-full : {pos line : ℕ} {out : List ℕ} → pos ≤ length out → {t : Answered} {out′ : List ℕ} → t ≡ answered.Full → Answers (liveAnswer (S .config .fields) line k) pos t out out′
-        → PostAsk S Reader.live pos line x σ (asked.Refused 27) at s″ p p′ out out′
-    live-full {pos} {line} {out} l f a = ask-full S Reader.live pos line x σ at (live-is line out) l f a
+    pub live-full : {pos : ℕ} {name : List ℕ} {out : List ℕ} → pos ≤ length out → {t : Answered} {out′ : List ℕ} → t ≡ answered.Full → Answers (liveAnswer (S .config .fields) name k) pos t out out′
+        → PostAsk S Reader.live pos name x σ (asked.Refused 27) at s″ p p′ out out′
+    live-full {pos} {name} {out} l f a = ask-full S Reader.live pos name x σ at (live-is name out) l f a
 
-    pub live-told : {pos line : ℕ} {out : List ℕ} → length s″ ≡ length s′ → {t : Answered} {end : ℕ} {out′ : List ℕ} → t ≡ answered.At end → Answers (liveAnswer (S .config .fields) line k) pos t out out′
-        → PostAsk S Reader.live pos line x σ (asked.Told d end) at s″ p p′ out out′
-    live-told {pos} {line} {out} len f a = ask-told S Reader.live pos line x σ at (live-is line out) (live-post .then .ext)
+    pub live-told : {pos : ℕ} {name : List ℕ} {out : List ℕ} → length s″ ≡ length s′ → {t : Answered} {end : ℕ} {out′ : List ℕ} → t ≡ answered.At end → Answers (liveAnswer (S .config .fields) name k) pos t out out′
+        → PostAsk S Reader.live pos name x σ (asked.Told d end) at s″ p p′ out out′
+    live-told {pos} {name} {out} len f a = ask-told S Reader.live pos name x σ at (live-is name out) (live-post .then .ext)
         (query-ready (live-post .then .ready) (later-refl (at d)) (live-post .then .ready .ordered) live-noted len) (subst (λ (v : Lived). Live.ZeroedBy v p′) e (P .pending)) f a
 
 -- ---- `pruned`
@@ -178,12 +178,12 @@ module _ (S : Setting) {x : ℕ} {σ : Tables} {c : Counts} {at : Counts → Tab
 abbrev Prunes : (S : Setting) (x : ℕ) (σ : Tables) (c : Counts) (at : Counts → Tables) (s s′ p : List ℕ) → Pruned → Type 0
 Prunes S x σ c at s s′ p v = Post (queryLayer (S .config .fields) (S .config .limits)) 0 1088 (PrunedAt (S .config .fields)) (delta-pruned (S .config .fields) (limitsOf (S .config .limits)) (length p / 2) x σ) σ c (Prune.prunedOf v s′) at s s′
 
-abbrev tells-pruned : (N line : ℕ) → Outcome Tables (List Edge) → Outcome Tables (List ℕ)
-tells-pruned N line o = after o (λ es τ. given τ (prunedAnswer line (told N (τ .base .aut .nodes) es)))
+abbrev tells-pruned : ℕ → List ℕ → Outcome Tables (List Edge) → Outcome Tables (List ℕ)
+tells-pruned N name o = after o (λ es τ. given τ (prunedAnswer name (told N (τ .base .aut .nodes) es)))
 
-pub pruned-refused : {S : Setting} {pos line x : ℕ} {σ : Tables} {c : Counts} {at : Counts → Tables} {s s′ p p′ out : List ℕ} {r : Pruned} → Prune.PostPruned (S .config .fields) (S .config .limits) x σ c r at s s′ p p′
-    → {n : ℕ} → r ≡ pruned.Refused n → PostAsk S Reader.pruned pos line x σ (asked.Refused n) at s′ p p′ out out
-pruned-refused {S} {pos} {line} {x} {σ} {c} {at} {s} {s′} {p} P e = ask-refused S Reader.pruned pos line x σ at (ap (tells-pruned (S .config .fields) line) (subst (Prunes S x σ c at s s′ p) e (P .post) .is))
+pub pruned-refused : {S : Setting} {pos : ℕ} {name : List ℕ} {x : ℕ} {σ : Tables} {c : Counts} {at : Counts → Tables} {s s′ p p′ out : List ℕ} {r : Pruned} → Prune.PostPruned (S .config .fields) (S .config .limits) x σ c r at s s′ p p′
+    → {n : ℕ} → r ≡ pruned.Refused n → PostAsk S Reader.pruned pos name x σ (asked.Refused n) at s′ p p′ out out
+pruned-refused {S} {pos} {name} {x} {σ} {c} {at} {s} {s′} {p} P e = ask-refused S Reader.pruned pos name x σ at (ap (tells-pruned (S .config .fields) name) (subst (Prunes S x σ c at s s′ p) e (P .post) .is))
 
 module _ (S : Setting) {x : ℕ} {σ : Tables} {c : Counts} {at : Counts → Tables} {s s′ p p′ : List ℕ} {r : Pruned} (P : Prune.PostPruned (S .config .fields) (S .config .limits) x σ c r at s s′ p p′) {m : ℕ} {d : Counts} (e : r ≡ pruned.List d m) where
   pruned-post : Prunes S x σ c at s s′ p (pruned.List d m)
@@ -201,28 +201,28 @@ module _ (S : Setting) {x : ℕ} {σ : Tables} {c : Counts} {at : Counts → Tab
         labels = λ i l. edge-at s′ RESULT m i l (pruned-post .then .holds .edges) .relation;
       }
 
-  module _ {pos line : ℕ} {t : Answered} {s″ out out′ : List ℕ} (Z : PostPruned (S .config .fields) (at d .base .aut .nodes) pos line m t s′ s″ out out′) where
-    pruned-is : query (settingOf S (length p / 2) (length out)) Reader.pruned line x σ ≡ given (at d) (prunedAnswer line (told (S .config .fields) (at d .base .aut .nodes) (edges s′ RESULT m)))
-    pruned-is = ap (tells-pruned (S .config .fields) line) (pruned-post .is)
+  module _ {pos : ℕ} {name : List ℕ} {t : Answered} {s″ out out′ : List ℕ} (Z : PostPruned (S .config .fields) (at d .base .aut .nodes) pos name m t s′ s″ out out′) where
+    pruned-is : query (settingOf S (length p / 2) (length out)) Reader.pruned name x σ ≡ given (at d) (prunedAnswer name (told (S .config .fields) (at d .base .aut .nodes) (edges s′ RESULT m)))
+    pruned-is = ap (tells-pruned (S .config .fields) name) (pruned-post .is)
 
     pruned-noted : Leaves (S .config .fields) 0 0 (at d) s′ s″
     pruned-noted = record { below = λ i m. absurd (omega arith); above = λ i m k. Z .left .below i k; notes = notes-map (λ op x y r v. inr (inr v)) (Z .left .notes) }
 
-    pub pruned-full : pos ≤ length out → t ≡ answered.Full → PostAsk S Reader.pruned pos line x σ (asked.Refused 27) at s″ p p′ out out′
-    pruned-full l f = ask-full S Reader.pruned pos line x σ at pruned-is l f (Z .answers)
+    pub pruned-full : pos ≤ length out → t ≡ answered.Full → PostAsk S Reader.pruned pos name x σ (asked.Refused 27) at s″ p p′ out out′
+    pruned-full l f = ask-full S Reader.pruned pos name x σ at pruned-is l f (Z .answers)
 
-    pub pruned-told : {end : ℕ} → length s″ ≡ length s′ → t ≡ answered.At end → PostAsk S Reader.pruned pos line x σ (asked.Told d end) at s″ p p′ out out′
-    pruned-told len f = ask-told S Reader.pruned pos line x σ at pruned-is (pruned-post .then .ext)
+    pub pruned-told : {end : ℕ} → length s″ ≡ length s′ → t ≡ answered.At end → PostAsk S Reader.pruned pos name x σ (asked.Told d end) at s″ p p′ out out′
+    pruned-told len f = ask-told S Reader.pruned pos name x σ at pruned-is (pruned-post .then .ext)
         (query-ready (pruned-post .then .ready) (later-refl (at d)) (pruned-post .then .ready .ordered) pruned-noted len) (subst (λ (v : Pruned). Prune.ZeroedBy v p′) e (P .pending)) f (Z .answers)
 
 -- ---- by the word
 
-module _ {S : Setting} {pos line x : ℕ} {σ : Tables} {r : Asked} {at : Counts → Tables} {s′ p p′ out out′ : List ℕ} {q : Query} where
-  pub as-empty : q ≡ queries.Empty → PostAsk S Reader.empty pos line x σ r at s′ p p′ out out′ → PostAsk S (queryOf q) pos line x σ r at s′ p p′ out out′
-  as-empty e P = subst (λ (w : Query). PostAsk S (queryOf w) pos line x σ r at s′ p p′ out out′) (sym e) P
+module _ {S : Setting} {pos : ℕ} {name : List ℕ} {x : ℕ} {σ : Tables} {r : Asked} {at : Counts → Tables} {s′ p p′ out out′ : List ℕ} {q : Query} where
+  pub as-empty : q ≡ queries.Empty → PostAsk S Reader.empty pos name x σ r at s′ p p′ out out′ → PostAsk S (queryOf q) pos name x σ r at s′ p p′ out out′
+  as-empty e P = subst (λ (w : Query). PostAsk S (queryOf w) pos name x σ r at s′ p p′ out out′) (sym e) P
 
-  pub as-live : q ≡ queries.Live → PostAsk S Reader.live pos line x σ r at s′ p p′ out out′ → PostAsk S (queryOf q) pos line x σ r at s′ p p′ out out′
-  as-live e P = subst (λ (w : Query). PostAsk S (queryOf w) pos line x σ r at s′ p p′ out out′) (sym e) P
+  pub as-live : q ≡ queries.Live → PostAsk S Reader.live pos name x σ r at s′ p p′ out out′ → PostAsk S (queryOf q) pos name x σ r at s′ p p′ out out′
+  as-live e P = subst (λ (w : Query). PostAsk S (queryOf w) pos name x σ r at s′ p p′ out out′) (sym e) P
 
-  pub as-pruned : q ≡ queries.Pruned → PostAsk S Reader.pruned pos line x σ r at s′ p p′ out out′ → PostAsk S (queryOf q) pos line x σ r at s′ p p′ out out′
-  as-pruned e P = subst (λ (w : Query). PostAsk S (queryOf w) pos line x σ r at s′ p p′ out out′) (sym e) P
+  pub as-pruned : q ≡ queries.Pruned → PostAsk S Reader.pruned pos name x σ r at s′ p p′ out out′ → PostAsk S (queryOf q) pos name x σ r at s′ p p′ out out′
+  as-pruned e P = subst (λ (w : Query). PostAsk S (queryOf w) pos name x σ r at s′ p p′ out out′) (sym e) P

@@ -156,7 +156,7 @@ module _ (N : ℕ) (t : Table) (m : ℕ) where
 
 -- ---- the whole answer
 
-module _ (N : ℕ) (t : Table) (at line m : ℕ) (s out : List ℕ) (p : PrePairs N t s m) where
+module _ (N : ℕ) (t : Table) (at : ℕ) (name : List ℕ) (m : ℕ) (s out : List ℕ) (p : PrePairs N t s m) where
   told-length : length (told N t (edges s RESULT m)) ≡ m
   told-length = sized (edges s RESULT m) ∙ edges-length s RESULT m
     where
@@ -164,23 +164,23 @@ module _ (N : ℕ) (t : Table) (at line m : ℕ) (s out : List ℕ) (p : PrePair
       sized [] = refl
       sized (e ∷ es) = ap suc (sized es)
 
-  head-is : prunedAnswer line (told N t (edges s RESULT m)) ≡ prunedHead line m ++ pairLines (told N t (edges s RESULT m))
-  head-is = ap (λ (k : ℕ). prunedHead line k ++ pairLines (told N t (edges s RESULT m))) told-length
+  head-is : prunedAnswer name (told N t (edges s RESULT m)) ≡ prunedHead name m ++ pairLines (told N t (edges s RESULT m))
+  head-is = ap (λ (k : ℕ). prunedHead name k ++ pairLines (told N t (edges s RESULT m))) told-length
 
-  module _ {h n : ℕ} {s′ : List ℕ} (H : (h ≡ length (prunedHead line m)) × (h ≤ 49)) (L : PostLength N t m n s s′) where
-    whole-size : length (prunedAnswer line (told N t (edges s RESULT m))) ≡ h + n
-    whole-size = ap length head-is ∙ omega (arith, length-append (prunedHead line m) (pairLines (told N t (edges s RESULT m))), H .0, L .is)
+  module _ {h n : ℕ} {s′ : List ℕ} (H : (h ≡ length (prunedHead name m)) × (h ≤ length name + 29)) (L : PostLength N t m n s s′) where
+    whole-size : length (prunedAnswer name (told N t (edges s RESULT m))) ≡ h + n
+    whole-size = ap length head-is ∙ omega (arith, length-append (prunedHead name m) (pairLines (told N t (edges s RESULT m))), H .0, L .is)
 
-    pub pruned-short : length out < at + (h + n) → PostPruned N t at line m answered.Full s s′ out out
+    pub pruned-short : length out < at + (h + n) → PostPruned N t at name m answered.Full s s′ out out
     pruned-short l = record { answers = (omega (arith, whole-size), refl); left = L .left }
 
-    module _ (room : at + (h + n) ≤ length out) {r : Answered} (out′ : List ℕ) (A : Answers (prunedHead line m) at r out out′) where
+    module _ (room : at + (h + n) ≤ length out) {r : Answered} (out′ : List ℕ) (A : Answers (prunedHead name m) at r out out′) where
       pub head-fits : r ≡ answered.Full → ⊥
-      head-fits f = let (a, b) = subst (λ (x : Answered). Answers (prunedHead line m) at x out out′) f A in omega (arith, H .0)
+      head-fits f = let (a, b) = subst (λ (x : Answered). Answers (prunedHead name m) at x out out′) f A in omega (arith, H .0)
 
       module _ {e : ℕ} (f : r ≡ answered.At e) (len : length s′ ≡ length s) where
-        head-put : Put at (prunedHead line m) e out out′
-        head-put = subst (λ (x : Answered). Answers (prunedHead line m) at x out out′) f A
+        head-put : Put at (prunedHead name m) e out out′
+        head-put = subst (λ (x : Answered). Answers (prunedHead name m) at x out out′) f A
 
         same : edges s′ RESULT m ≡ edges s RESULT m
         same = edges-noted N t m (p .most) (L .left)
@@ -191,7 +191,7 @@ module _ (N : ℕ) (t : Table) (at line m : ℕ) (s out : List ℕ) (p : PrePair
           fits = omega (arith, ap (λ (es : List Edge). length (pairLines (told N t es))) same, L .is, H .0, head-put .behind, head-put .wrote .len);
         }
 
-        pub pruned-whole : {e′ : ℕ} {s″ out″ : List ℕ} → PostPairs N t e m e′ s′ s″ out′ out″ → PostPruned N t at line m (answered.At e′) s s″ out out″
+        pub pruned-whole : {e′ : ℕ} {s″ out″ : List ℕ} → PostPairs N t e m e′ s′ s″ out′ out″ → PostPruned N t at name m (answered.At e′) s s″ out out″
         pruned-whole {e′} {s″} {out″} Q = record {
           answers = subst (λ (bs : List ℕ). Put at bs e′ out out″) (sym head-is)
               (put-append head-put (subst (λ (es : List Edge). Put e (pairLines (told N t es)) e′ out′ out″) same (Q .put)));

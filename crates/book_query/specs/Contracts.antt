@@ -66,8 +66,8 @@ pub record PostPairs (N : ℕ) (t : Table) (at m r : ℕ) (s s′ out out′ : L
   pub put : Put at (pairLines (told N t (edges s RESULT m))) r out out′
   pub left : NotesBehind (Own 17 17 (Counted t)) s s′
 
-pub record PostPruned (N : ℕ) (t : Table) (at line m : ℕ) (r : Answered) (s s′ out out′ : List ℕ) : Type 0 where
-  pub answers : Answers (prunedAnswer line (told N t (edges s RESULT m))) at r out out′
+pub record PostPruned (N : ℕ) (t : Table) (at : ℕ) (name : List ℕ) (m : ℕ) (r : Answered) (s s′ out out′ : List ℕ) : Type 0 where
+  pub answers : Answers (prunedAnswer name (told N t (edges s RESULT m))) at r out out′
   pub left : NotesBehind (Own 17 17 (Counted t)) s s′
 
 -- ---- a query
@@ -95,7 +95,7 @@ abbrev pub GoesBy : Setting → ℕ → Asked → Tables → (Counts → Tables)
 GoesBy S pos (asked.Told d e) σ at s′ p′ out out′ = Goes S pos e σ (at d) s′ p′ out out′
 GoesBy S pos (asked.Refused n) σ at s′ p′ out out′ = out′ ≡ out
 
--- the query of a line, whose state is x, has been done
-pub record PostAsk (S : Setting) (q : Reader.Query) (pos line x : ℕ) (σ : Tables) (r : Asked) (at : Counts → Tables) (s′ p p′ out out′ : List ℕ) : Type 0 where
-  pub is : (lines : List (Option ℕ)) → after-asking (settingOf S (length p / 2) (length out)) (place σ lines (take pos out)) (query (settingOf S (length p / 2) (length out)) q line x σ) ≡ askedOf r lines at out′
+-- the query of the line that is named so, whose state is x, has been done
+pub record PostAsk (S : Setting) (q : Reader.Query) (pos : ℕ) (name : List ℕ) (x : ℕ) (σ : Tables) (r : Asked) (at : Counts → Tables) (s′ p p′ out out′ : List ℕ) : Type 0 where
+  pub is : (lines : List (Option ℕ)) → after-asking (settingOf S (length p / 2) (length out)) (place σ lines (take pos out)) (query (settingOf S (length p / 2) (length out)) q name x σ) ≡ askedOf r lines at out′
   pub then : GoesBy S pos r σ at s′ p′ out out′

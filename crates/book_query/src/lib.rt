@@ -52,11 +52,11 @@ pub fn ask_empty(
     c: Counts,
     setting: Setting,
     at: usize,
-    line: usize,
+    name: &[u8],
     x: u32,
 ) -> Asked
     requires { ⌜ PreAsk setting (tablesOf (now sp) (now nodes) (now states) (now members) (now transitions) c) (now scratch) (now pending) (now output) at x ⌝ }
-    ensures { λ r. ⌜ PostAsk setting Reader.empty at line x (tablesOf (now (sp .entry)) (now (nodes .entry)) (now (states .entry)) (now (members .entry)) (now (transitions .entry)) c) r (tablesOf (now (sp .exit)) (now (nodes .exit)) (now (states .exit)) (now (members .exit)) (now (transitions .exit))) (now (scratch .exit)) (now (pending .entry)) (now (pending .exit)) (now (output .entry)) (now (output .exit)) ⌝ }
+    ensures { λ r. ⌜ PostAsk setting Reader.empty at (now (name .entry)) x (tablesOf (now (sp .entry)) (now (nodes .entry)) (now (states .entry)) (now (members .entry)) (now (transitions .entry)) c) r (tablesOf (now (sp .exit)) (now (nodes .exit)) (now (states .exit)) (now (members .exit)) (now (transitions .exit))) (now (scratch .exit)) (now (pending .entry)) (now (pending .exit)) (now (output .entry)) (now (output .exit)) ⌝ }
 {
     let config = setting.config;
     let searched = aut_empty::is_empty(
@@ -75,7 +75,7 @@ pub fn ask_empty(
     match searched {
         Searched::Refused(e) => Asked::Refused(e),
         Searched::Answer(v, k, d) => {
-            let told = writer::empty_answer(output, at, line, verdict_of(v), k);
+            let told = writer::empty_answer(output, at, name, verdict_of(v), k);
             match told {
                 Answered::Full => Asked::Refused(27),
                 Answered::At(end) => Asked::Told(d, end),
@@ -96,11 +96,11 @@ pub fn ask_live(
     c: Counts,
     setting: Setting,
     at: usize,
-    line: usize,
+    name: &[u8],
     x: u32,
 ) -> Asked
     requires { ⌜ PreAsk setting (tablesOf (now sp) (now nodes) (now states) (now members) (now transitions) c) (now scratch) (now pending) (now output) at x ⌝ }
-    ensures { λ r. ⌜ PostAsk setting Reader.live at line x (tablesOf (now (sp .entry)) (now (nodes .entry)) (now (states .entry)) (now (members .entry)) (now (transitions .entry)) c) r (tablesOf (now (sp .exit)) (now (nodes .exit)) (now (states .exit)) (now (members .exit)) (now (transitions .exit))) (now (scratch .exit)) (now (pending .entry)) (now (pending .exit)) (now (output .entry)) (now (output .exit)) ⌝ }
+    ensures { λ r. ⌜ PostAsk setting Reader.live at (now (name .entry)) x (tablesOf (now (sp .entry)) (now (nodes .entry)) (now (states .entry)) (now (members .entry)) (now (transitions .entry)) c) r (tablesOf (now (sp .exit)) (now (nodes .exit)) (now (states .exit)) (now (members .exit)) (now (transitions .exit))) (now (scratch .exit)) (now (pending .entry)) (now (pending .exit)) (now (output .entry)) (now (output .exit)) ⌝ }
 {
     let config = setting.config;
     let fields = config.fields;
@@ -120,7 +120,7 @@ pub fn ask_live(
         Lived::Refused(e) => Asked::Refused(e),
         Lived::Live(h, d) => {
             let k = aut_sets::set_size(sp, scratch, d, fields, h);
-            let told = writer::live_answer(output, at, fields, line, k);
+            let told = writer::live_answer(output, at, name, k, fields);
             match told {
                 Answered::Full => Asked::Refused(27),
                 Answered::At(end) => Asked::Told(d, end),
@@ -189,17 +189,17 @@ fn pruned_answer(
     c: Counts,
     fields: u32,
     at: usize,
-    line: usize,
+    name: &[u8],
     m: usize,
 ) -> Answered
     requires { ⌜ PrePairs fields (table (now nodes) (c .spp)) (now scratch) m × (at ≤ length (now output)) ⌝ }
-    ensures { λ r. ⌜ PostPruned fields (table (now (nodes .entry)) (c .spp)) at line m r (now (scratch .entry)) (now (scratch .exit)) (now (output .entry)) (now (output .exit)) ⌝ }
+    ensures { λ r. ⌜ PostPruned fields (table (now (nodes .entry)) (c .spp)) at (now (name .entry)) m r (now (scratch .entry)) (now (scratch .exit)) (now (output .entry)) (now (output .exit)) ⌝ }
 {
-    let n = writer::head_length(line, m) + pairs_length(nodes, scratch, c, fields, m);
+    let n = writer::head_length(name, m) + pairs_length(nodes, scratch, c, fields, m);
     if output.len() - at < n {
         return Answered::Full;
     }
-    let Answered::At(next) = writer::pruned_head(output, at, line, m) else {
+    let Answered::At(next) = writer::pruned_head(output, at, name, m) else {
         return Answered::Full;
     };
     let end = put_pairs(nodes, scratch, output, c, fields, next, m);
@@ -218,11 +218,11 @@ pub fn ask_pruned(
     c: Counts,
     setting: Setting,
     at: usize,
-    line: usize,
+    name: &[u8],
     x: u32,
 ) -> Asked
     requires { ⌜ PreAsk setting (tablesOf (now sp) (now nodes) (now states) (now members) (now transitions) c) (now scratch) (now pending) (now output) at x ⌝ }
-    ensures { λ r. ⌜ PostAsk setting Reader.pruned at line x (tablesOf (now (sp .entry)) (now (nodes .entry)) (now (states .entry)) (now (members .entry)) (now (transitions .entry)) c) r (tablesOf (now (sp .exit)) (now (nodes .exit)) (now (states .exit)) (now (members .exit)) (now (transitions .exit))) (now (scratch .exit)) (now (pending .entry)) (now (pending .exit)) (now (output .entry)) (now (output .exit)) ⌝ }
+    ensures { λ r. ⌜ PostAsk setting Reader.pruned at (now (name .entry)) x (tablesOf (now (sp .entry)) (now (nodes .entry)) (now (states .entry)) (now (members .entry)) (now (transitions .entry)) c) r (tablesOf (now (sp .exit)) (now (nodes .exit)) (now (states .exit)) (now (members .exit)) (now (transitions .exit))) (now (scratch .exit)) (now (pending .entry)) (now (pending .exit)) (now (output .entry)) (now (output .exit)) ⌝ }
 {
     let config = setting.config;
     let fields = config.fields;
@@ -241,7 +241,7 @@ pub fn ask_pruned(
     match pruned {
         Pruned::Refused(e) => Asked::Refused(e),
         Pruned::List(d, m) => {
-            let told = pruned_answer(nodes, scratch, output, d, fields, at, line, m);
+            let told = pruned_answer(nodes, scratch, output, d, fields, at, name, m);
             match told {
                 Answered::Full => Asked::Refused(27),
                 Answered::At(end) => Asked::Told(d, end),
@@ -250,7 +250,7 @@ pub fn ask_pruned(
     }
 }
 
-// the query of line `line`, whose state is x
+// the query of the line that is named so, whose state is x
 pub fn ask(
     sp: &mut [u32],
     nodes: &mut [u32],
@@ -264,11 +264,11 @@ pub fn ask(
     setting: Setting,
     query: Query,
     at: usize,
-    line: usize,
+    name: &[u8],
     x: u32,
 ) -> Asked
     requires { ⌜ PreAsk setting (tablesOf (now sp) (now nodes) (now states) (now members) (now transitions) c) (now scratch) (now pending) (now output) at x ⌝ }
-    ensures { λ r. ⌜ PostAsk setting (queryOf query) at line x (tablesOf (now (sp .entry)) (now (nodes .entry)) (now (states .entry)) (now (members .entry)) (now (transitions .entry)) c) r (tablesOf (now (sp .exit)) (now (nodes .exit)) (now (states .exit)) (now (members .exit)) (now (transitions .exit))) (now (scratch .exit)) (now (pending .entry)) (now (pending .exit)) (now (output .entry)) (now (output .exit)) ⌝ }
+    ensures { λ r. ⌜ PostAsk setting (queryOf query) at (now (name .entry)) x (tablesOf (now (sp .entry)) (now (nodes .entry)) (now (states .entry)) (now (members .entry)) (now (transitions .entry)) c) r (tablesOf (now (sp .exit)) (now (nodes .exit)) (now (states .exit)) (now (members .exit)) (now (transitions .exit))) (now (scratch .exit)) (now (pending .entry)) (now (pending .exit)) (now (output .entry)) (now (output .exit)) ⌝ }
 {
     match query {
         Query::Empty => ask_empty(
@@ -283,7 +283,7 @@ pub fn ask(
             c,
             setting,
             at,
-            line,
+            name,
             x,
         ),
         Query::Live => ask_live(
@@ -298,7 +298,7 @@ pub fn ask(
             c,
             setting,
             at,
-            line,
+            name,
             x,
         ),
         Query::Pruned => ask_pruned(
@@ -313,7 +313,7 @@ pub fn ask(
             c,
             setting,
             at,
-            line,
+            name,
             x,
         ),
     }

@@ -38,7 +38,7 @@ use Rattle.query_steps.specs.LiveLaws.{live-ends}
 use Rattle.query_steps.specs.PrunedLaws.{pruned-ends}
 use Rattle.book_steps.specs.Reader as Reader
 use Rattle.book_steps.specs.Reader.{Query, Said, Told, makes, asks, refuses, tell}
-use Rattle.book_steps.specs.Answers.{emptyAnswer, liveAnswer, prunedAnswer}
+use Rattle.book_steps.specs.Answers.{nameOf, emptyAnswer, liveAnswer, prunedAnswer}
 use Rattle.book_steps.specs.Run.{Lent, Setting, Place, place, after-making, after-asking, perform, obey}
 use Rattle.book_steps.proofs.Meaning as Meaning
 use Rattle.book_steps.specs.Meaning.{noted, Matched, Same}
@@ -142,7 +142,7 @@ module _ (S : Setting) (lent : Lent) where
     -- a query
     asked-lined : {A : Type 0} {P : Tables → A → Type 0} {q : Query} {a x : ℕ} {r : Rule N} (b : Outcome Tables A) (f : A → Tables → List ℕ) → tell N (p .lines) s ≡ asks q a x → tell N R s ≡ asks q a r
         → ((number : ℕ) → b ≡ refused number → QueryRefused S σ q x number)
-        → ((τ : Tables) (y : A) → b ≡ given τ y → P τ y → QuerySpec S σ a x r τ q (f y τ) × Ordered N (S .limits) τ × Later σ τ)
+        → ((τ : Tables) (y : A) → b ≡ given τ y → P τ y → QuerySpec S σ (nameOf a) x r τ q (f y τ) × Ordered N (S .limits) τ × Later σ τ)
         → Ends N (S .limits) (S .entries) P σ b → Lined c s (after-asking S p (after b (λ y τ. given τ (f y τ))))
     asked-lined {A} {P} {q} {a} {x} {r} b f t u bad good d = go b refl d
       where
@@ -150,7 +150,7 @@ module _ (S : Setting) (lent : Lent) where
         go (refused number) e (Steps.halts z) = stops (LineRefusal.asking reading t (bad number e) (asking-number (z .why)))
         go (given τ y) e (Steps.comes z) = fits (good τ y e z) (leb (length (p .output ++ f y τ)) (S .room)) refl
           where
-            fits : QuerySpec S σ a x r τ q (f y τ) × Ordered N (S .limits) τ × Later σ τ → (b : Bool) → leb (length (p .output ++ f y τ)) (S .room) ≡ b
+            fits : QuerySpec S σ (nameOf a) x r τ q (f y τ) × Ordered N (S .limits) τ × Later σ τ → (b : Bool) → leb (length (p .output ++ f y τ)) (S .room) ≡ b
                 → Lined c s (if b then given (place τ (p .lines ++ none ∷ []) (p .output ++ f y τ)) 0 else refused 27)
             fits (m, k, l) true e =
                 let z : Place = place τ (p .lines ++ none ∷ []) (p .output ++ f y τ) in
@@ -162,15 +162,15 @@ module _ (S : Setting) (lent : Lent) where
 
     query-lined : (q : Query) (a x : ℕ) (r : Rule N) → tell N (p .lines) s ≡ asks q a x → tell N R s ≡ asks q a r → Same N (σ .base .aut) x r → Lined c s (perform S (asks q a x) p)
     query-lined Reader.empty a x r t u y =
-        asked-lined (is-empty N (S .limits) (S .entries) (S .budget) x σ) (λ z τ. emptyAnswer a (z .0) (z .1)) t u (λ number e. e)
+        asked-lined (is-empty N (S .limits) (S .entries) (S .budget) x σ) (λ z τ. emptyAnswer (nameOf a) (z .0) (z .1)) t u (λ number e. e)
         (λ τ z e d. (QuerySpec.emptied e (search-spec S y d), d .ordered, gone-later (d .gone)))
         (search-ends (S .entries) (S .budget) x o (y .state))
     query-lined Reader.live a x r t u y =
-        asked-lined (live-packets N (S .limits) (S .entries) x σ) (λ l τ. liveAnswer N a (Sp.size (τ .sets .words) N l)) t u (λ number e. e)
+        asked-lined (live-packets N (S .limits) (S .entries) x σ) (λ l τ. liveAnswer N (nameOf a) (Sp.size (τ .sets .words) N l)) t u (λ number e. e)
         (λ τ l e d. (QuerySpec.lived e (live-spec S o y d), d .ordered, d .later))
         (live-ends (S .entries) o (y .state))
     query-lined Reader.pruned a x r t u y =
-        asked-lined (delta-pruned N (S .limits) (S .entries) x σ) (λ es τ. prunedAnswer a (told S τ es)) t u (λ number e. e)
+        asked-lined (delta-pruned N (S .limits) (S .entries) x σ) (λ es τ. prunedAnswer (nameOf a) (told S τ es)) t u (λ number e. e)
         (λ τ es e d. (QuerySpec.pruned e (pruned-spec S o y d), d .ordered, d .later))
         (pruned-ends (S .entries) o (y .state))
 

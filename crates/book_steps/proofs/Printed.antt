@@ -12,7 +12,7 @@ use Rattle.spp_steps.specs.Laws.{by-test}
 use Rattle.netkat.specs.Search.{Verdict, yes, no, spent}
 use Rattle.book_steps.specs.Text.{bytes, Cut, line, before, cut, onFirst, words, number, decimalBy, decimal}
 use Rattle.book_steps.proofs.TextLaws.{decimal-read}
-use Rattle.book_steps.specs.Answers.{say, verdictWord, share, emptyAnswer, liveAnswer}
+use Rattle.book_steps.specs.Answers.{say, verdictWord, share, nameOf, emptyAnswer, liveAnswer}
 use Rattle.book_steps.specs.RunSpec.{PrintedSpec}
 
 -- neither byte 10 nor a space
@@ -148,13 +148,13 @@ word-empty = (λ q. omega arith, λ q. omega arith, (λ q. omega arith, λ q. om
 word-live : Plain (bytes "live")
 word-live = (λ q. omega arith, λ q. omega arith, (λ q. omega arith, λ q. omega arith, (λ q. omega arith, λ q. omega arith, (λ q. omega arith, λ q. omega arith, tt))))
 
-pub empty-one : (a b c d : ℕ) (v w : Verdict) → a < 2 ^ 64 → b < 2 ^ 64 → c < 2 ^ 64 → d < 2 ^ 64 → emptyAnswer a v c ≡ emptyAnswer b w d → (a ≡ b) × (v ≡ w) × (c ≡ d)
+pub empty-one : (a b c d : ℕ) (v w : Verdict) → a < 2 ^ 64 → b < 2 ^ 64 → c < 2 ^ 64 → d < 2 ^ 64 → emptyAnswer (nameOf a) v c ≡ emptyAnswer (nameOf b) w d → (a ≡ b) × (v ≡ w) × (c ≡ d)
 empty-one a b c d v w la lb lc ld e =
     let (x, y, z) = four-same (say-words (bytes "empty") (bytes "empty") (decimal a ∷ verdictWord v ∷ decimal c ∷ []) (decimal b ∷ verdictWord w ∷ decimal d ∷ [])
     (word-empty, (number-plain a, (verdict-plain v, (number-plain c, tt)))) (word-empty, (number-plain b, (verdict-plain w, (number-plain d, tt)))) e) in
     (decimal-one a b la lb x, verdict-one v w y, decimal-one c d lc ld z)
 
-pub live-one : (N a b c d : ℕ) → a < 2 ^ 64 → b < 2 ^ 64 → c < 2 ^ 64 → d < 2 ^ 64 → liveAnswer N a c ≡ liveAnswer N b d → (a ≡ b) × (c ≡ d)
+pub live-one : (N a b c d : ℕ) → a < 2 ^ 64 → b < 2 ^ 64 → c < 2 ^ 64 → d < 2 ^ 64 → liveAnswer N (nameOf a) c ≡ liveAnswer N (nameOf b) d → (a ≡ b) × (c ≡ d)
 live-one N a b c d la lb lc ld e =
     let (x, y, z) = four-same (say-words (bytes "live") (bytes "live") (decimal a ∷ decimal c ∷ decimal (share c (2 ^ N)) ∷ []) (decimal b ∷ decimal d ∷ decimal (share d (2 ^ N)) ∷ [])
     (word-live, (number-plain a, (number-plain c, (number-plain (share c (2 ^ N)), tt)))) (word-live, (number-plain b, (number-plain d, (number-plain (share d (2 ^ N)), tt)))) e) in

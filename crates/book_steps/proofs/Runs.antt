@@ -34,7 +34,7 @@ use Rattle.query_steps.specs.LiveLaws.{live-goes}
 use Rattle.book_steps.specs.Text.{Cut, line, unended, cut, words}
 use Rattle.book_steps.specs.Reader as Reader
 use Rattle.book_steps.specs.Reader.{Query, Said, said, Told, tell}
-use Rattle.book_steps.specs.Answers.{emptyAnswer, liveAnswer, prunedAnswer}
+use Rattle.book_steps.specs.Answers.{nameOf, emptyAnswer, liveAnswer, prunedAnswer}
 use Rattle.book_steps.specs.Run as Run
 use Rattle.book_steps.specs.Run.{Lent, Setting, Place, place, after-making, after-asking, perform, obey, Ran, onward, with-line, run, Result, finish}
 use Rattle.book_steps.specs.Meaning.{noted}
@@ -95,33 +95,33 @@ module _ (S : Setting) where
   -- ---- lines as steps of the run
 
   -- a query that is answered
-  asked-is : {σ τ : Tables} {q : Query} {a x : ℕ} {r : Rule N} {answer : List ℕ} → QuerySpec S σ a x r τ q answer → Run.query S q a x σ ≡ given τ answer
-  asked-is {a = a} (QuerySpec.emptied e k) = ap (λ (o : Outcome Tables (Verdict × ℕ)). after o (λ r τ. given τ (emptyAnswer a (r .0) (r .1)))) e
-  asked-is {a = a} (QuerySpec.lived e k) = ap (λ (o : Outcome Tables ℕ). after o (λ l τ. given τ (liveAnswer N a (Sp.size (τ .sets .words) N l)))) e
-  asked-is {a = a} (QuerySpec.pruned e k) = ap (λ (o : Outcome Tables (List Edge)). after o (λ es τ. given τ (prunedAnswer a (told S τ es)))) e
+  asked-is : {σ τ : Tables} {q : Query} {name : List ℕ} {x : ℕ} {r : Rule N} {answer : List ℕ} → QuerySpec S σ name x r τ q answer → Run.query S q name x σ ≡ given τ answer
+  asked-is {name = name} (QuerySpec.emptied e k) = ap (λ (o : Outcome Tables (Verdict × ℕ)). after o (λ r τ. given τ (emptyAnswer name (r .0) (r .1)))) e
+  asked-is {name = name} (QuerySpec.lived e k) = ap (λ (o : Outcome Tables ℕ). after o (λ l τ. given τ (liveAnswer N name (Sp.size (τ .sets .words) N l)))) e
+  asked-is {name = name} (QuerySpec.pruned e k) = ap (λ (o : Outcome Tables (List Edge)). after o (λ es τ. given τ (prunedAnswer name (told S τ es)))) e
 
-  asked-not : (σ : Tables) (q : Query) (a x number : ℕ) → QueryRefused S σ q x number → Run.query S q a x σ ≡ refused number
-  asked-not σ Reader.empty a x number e = ap (λ (o : Outcome Tables (Verdict × ℕ)). after o (λ r τ. given τ (emptyAnswer a (r .0) (r .1)))) e
-  asked-not σ Reader.live a x number e = ap (λ (o : Outcome Tables ℕ). after o (λ l τ. given τ (liveAnswer N a (Sp.size (τ .sets .words) N l)))) e
-  asked-not σ Reader.pruned a x number e = ap (λ (o : Outcome Tables (List Edge)). after o (λ es τ. given τ (prunedAnswer a (told S τ es)))) e
+  asked-not : (σ : Tables) (q : Query) (name : List ℕ) (x number : ℕ) → QueryRefused S σ q x number → Run.query S q name x σ ≡ refused number
+  asked-not σ Reader.empty name x number e = ap (λ (o : Outcome Tables (Verdict × ℕ)). after o (λ r τ. given τ (emptyAnswer name (r .0) (r .1)))) e
+  asked-not σ Reader.live name x number e = ap (λ (o : Outcome Tables ℕ). after o (λ l τ. given τ (liveAnswer N name (Sp.size (τ .sets .words) N l)))) e
+  asked-not σ Reader.pruned name x number e = ap (λ (o : Outcome Tables (List Edge)). after o (λ es τ. given τ (prunedAnswer name (told S τ es)))) e
 
   -- what `empty` and `live` have printed
-  record Emptied (σ : Tables) (a x : ℕ) (τ : Tables) (answer : List ℕ) : Type 0 where
+  record Emptied (σ : Tables) (name : List ℕ) (x : ℕ) (τ : Tables) (answer : List ℕ) : Type 0 where
     verdict : Verdict
     count : ℕ
     came : is-empty N (S .limits) (S .entries) (S .budget) x σ ≡ given τ (verdict, count)
     within : count ≤ S .budget
-    printed : answer ≡ emptyAnswer a verdict count
+    printed : answer ≡ emptyAnswer name verdict count
 
-  emptied-of : {σ τ : Tables} {a x : ℕ} {r : Rule N} {answer : List ℕ} → QuerySpec S σ a x r τ Reader.empty answer → Emptied σ a x τ answer
+  emptied-of : {σ τ : Tables} {name : List ℕ} {x : ℕ} {r : Rule N} {answer : List ℕ} → QuerySpec S σ name x r τ Reader.empty answer → Emptied σ name x τ answer
   emptied-of (QuerySpec.emptied {v} {c} e k) = record { verdict = v; count = c; came = e; within = k .within; printed = refl }
 
-  record Lived (σ : Tables) (a x : ℕ) (τ : Tables) (answer : List ℕ) : Type 0 where
+  record Lived (σ : Tables) (name : List ℕ) (x : ℕ) (τ : Tables) (answer : List ℕ) : Type 0 where
     handle : ℕ
     came : live-packets N (S .limits) (S .entries) x σ ≡ given τ handle
-    printed : answer ≡ liveAnswer N a (Sp.size (τ .sets .words) N handle)
+    printed : answer ≡ liveAnswer N name (Sp.size (τ .sets .words) N handle)
 
-  lived-of : {σ τ : Tables} {a x : ℕ} {r : Rule N} {answer : List ℕ} → QuerySpec S σ a x r τ Reader.live answer → Lived σ a x τ answer
+  lived-of : {σ τ : Tables} {name : List ℕ} {x : ℕ} {r : Rule N} {answer : List ℕ} → QuerySpec S σ name x r τ Reader.live answer → Lived σ name x τ answer
   lived-of (QuerySpec.lived {l} e k) = record { handle = l; came = e; printed = refl }
 
   -- a line that is done
@@ -186,7 +186,7 @@ module _ (S : Setting) where
       go (LineRefusal.making {rest} {s} w t e m) =
           by rest (some s) w
           (ap (λ (t : Told ℕ). perform S t (c .place)) t ∙ ap (λ (o : Outcome Aut ℕ). after-making S (c .place) (placed putBase (c .place .tables) (placed putAut (c .place .tables .base) o))) e)
-      go (LineRefusal.asking {rest} {s} {q} {a} {x} {number} w t e m) = by rest (some s) w (ap (λ (t : Told ℕ). perform S t (c .place)) t ∙ ap (after-asking S (c .place)) (asked-not (c .place .tables) q a x number e))
+      go (LineRefusal.asking {rest} {s} {q} {a} {x} {number} w t e m) = by rest (some s) w (ap (λ (t : Told ℕ). perform S t (c .place)) t ∙ ap (after-asking S (c .place)) (asked-not (c .place .tables) q (nameOf a) x number e))
       go (LineRefusal.no-room {rest} {s} {τ = τ} {answer} w t u k f) =
           by rest (some s) w
           (ap (λ (t : Told ℕ). perform S t (c .place)) t ∙ ap (after-asking S (c .place)) (asked-is k)
@@ -285,7 +285,7 @@ module _ (S : Setting) where
     pub alike : {c d e : Point S} → InOrder S lent (c .place) (c .rules) → Steps S lent c d → Steps S lent c e → Alike S lent d e
     alike {d = d} {e} first way-d way-e a b x c m v r q τ υ ea eb es el lb ln la lc ld le u = go (emptied-of es) (lived-of el)
       where
-        go : Emptied (d .place .tables) a x τ (emptyAnswer a v c) → Lived (e .place .tables) b x υ (liveAnswer N b m) → (v ≡ yes) ↔ (m ≡ 0)
+        go : Emptied (d .place .tables) (nameOf a) x τ (emptyAnswer (nameOf a) v c) → Lived (e .place .tables) (nameOf b) x υ (liveAnswer N (nameOf b) m) → (v ≡ yes) ↔ (m ≡ 0)
         go s t =
             let half : 2 ^ N ≤ 2 ^ 63 = pow-mono {j = 63} (omega arith) in
             let small : Sp.size (υ .sets .words) N (t .handle) < 2 ^ 64 = omega (arith, SpSize.size-most (υ .sets .words) N (t .handle), half) in

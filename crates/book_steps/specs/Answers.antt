@@ -27,12 +27,17 @@ share count total = (2000 * count + total) / (2 * total)
 abbrev pub fieldsAnswer : ℕ → List ℕ
 fieldsAnswer N = say (bytes "fields" ∷ decimal N ∷ [])
 
-abbrev pub emptyAnswer : ℕ → Verdict → ℕ → List ℕ
-emptyAnswer line verdict count = say (bytes "empty" ∷ decimal line ∷ verdictWord verdict ∷ decimal count ∷ [])
+-- the name of a line, as an answer prints it: its number
+abbrev pub nameOf : ℕ → List ℕ
+nameOf line = decimal line
+
+-- the answers to queries take the bytes of the name
+abbrev pub emptyAnswer : (name : List ℕ) → Verdict → ℕ → List ℕ
+emptyAnswer name verdict count = say (bytes "empty" ∷ name ∷ verdictWord verdict ∷ decimal count ∷ [])
 
 -- of packets with N bits
-abbrev pub liveAnswer : ℕ → ℕ → ℕ → List ℕ
-liveAnswer N line count = say (bytes "live" ∷ decimal line ∷ decimal count ∷ decimal (share count (2 ^ N)) ∷ [])
+abbrev pub liveAnswer : ℕ → (name : List ℕ) → ℕ → List ℕ
+liveAnswer N name count = say (bytes "live" ∷ name ∷ decimal count ∷ decimal (share count (2 ^ N)) ∷ [])
 
 pub record Pairs : Type 0 where
   pub target : ℕ
@@ -42,8 +47,8 @@ unfoldable pub pairLines : List Pairs → List ℕ
 pairLines [] = []
 pairLines (p ∷ ps) = say (bytes "pair" ∷ decimal (p .target) ∷ decimal (p .number) ∷ []) ++ pairLines ps
 
-abbrev pub prunedAnswer : ℕ → List Pairs → List ℕ
-prunedAnswer line pairs = say (bytes "pruned" ∷ decimal line ∷ decimal (length pairs) ∷ []) ++ pairLines pairs
+abbrev pub prunedAnswer : (name : List ℕ) → List Pairs → List ℕ
+prunedAnswer name pairs = say (bytes "pruned" ∷ name ∷ decimal (length pairs) ∷ []) ++ pairLines pairs
 
 -- ---- the share is the nearest thousandth, of two that are equally near the larger
 

@@ -19,7 +19,7 @@ use Rattle.query_steps.specs.Live.{live-packets}
 use Rattle.query_steps.specs.Pruned.{delta-pruned}
 use Rattle.book_steps.specs.Text.{Cut, line, unended, cut, words}
 use Rattle.book_steps.specs.Reader.{Header, header, Query, empty, live, pruned, Said, said, Told, makes, asks, refuses, tell}
-use Rattle.book_steps.specs.Answers.{fieldsAnswer, emptyAnswer, liveAnswer, prunedAnswer}
+use Rattle.book_steps.specs.Answers.{nameOf, fieldsAnswer, emptyAnswer, liveAnswer, prunedAnswer}
 
 -- ---- what is lent: words of each table, bytes of the output
 
@@ -52,13 +52,13 @@ pub record Place : Type 0 where
 abbrev pub place : Tables → List (Option ℕ) → List ℕ → Place
 place σ lines out = record { tables = σ; lines = lines; output = out }
 
--- the answer to a query of line a, whose state is x
+-- the answer to a query of the line that is named so, whose state is x
 module _ (S : Setting) where
-  abbrev pub query : Query → ℕ → ℕ → Step Tables (List ℕ)
-  query empty a x = is-empty (S .fields) (S .limits) (S .entries) (S .budget) x >>= λ r. return (emptyAnswer a (r .0) (r .1))
-  query live a x = live-packets (S .fields) (S .limits) (S .entries) x >>= λ h σ. given σ (liveAnswer (S .fields) a (Sp.size (σ .sets .words) (S .fields) h))
-  query pruned a x = delta-pruned (S .fields) (S .limits) (S .entries) x >>= λ es σ.
-      given σ (prunedAnswer a (map (λ (e : Edge). record { target = e .target; number = Spp.size (σ .base .aut .nodes .words) (S .fields) (e .label) }) es))
+  abbrev pub query : Query → (name : List ℕ) → ℕ → Step Tables (List ℕ)
+  query empty name x = is-empty (S .fields) (S .limits) (S .entries) (S .budget) x >>= λ r. return (emptyAnswer name (r .0) (r .1))
+  query live name x = live-packets (S .fields) (S .limits) (S .entries) x >>= λ h σ. given σ (liveAnswer (S .fields) name (Sp.size (σ .sets .words) (S .fields) h))
+  query pruned name x = delta-pruned (S .fields) (S .limits) (S .entries) x >>= λ es σ.
+      given σ (prunedAnswer name (map (λ (e : Edge). record { target = e .target; number = Spp.size (σ .base .aut .nodes .words) (S .fields) (e .label) }) es))
 
   -- a line's step: a number that refuses it, or the next place
   abbrev pub after-making : Place → Outcome Tables ℕ → Outcome Place ℕ
@@ -74,7 +74,7 @@ module _ (S : Setting) where
   abbrev pub perform : Told ℕ → Place → Outcome Place ℕ
   perform (refuses e) p = refused e
   perform (makes l) p = after-making p (onBase (onAut (make (S .fields) (S .limits) l)) (p .tables))
-  perform (asks q a x) p = after-asking p (query q a x (p .tables))
+  perform (asks q a x) p = after-asking p (query q (nameOf a) x (p .tables))
 
   -- 3: the line is not of its form
   abbrev pub obey : Option Said → Place → Outcome Place ℕ

@@ -24,7 +24,7 @@ use Rattle.query_steps.specs.Pruned.{delta-pruned}
 use Rattle.book_steps.specs.Text.{line, unended, cut, words}
 use Rattle.book_steps.specs.Reader as Reader
 use Rattle.book_steps.specs.Reader.{Query, Said, said, makes, asks, tell}
-use Rattle.book_steps.specs.Answers.{emptyAnswer, liveAnswer, Pairs, prunedAnswer}
+use Rattle.book_steps.specs.Answers.{nameOf, emptyAnswer, liveAnswer, Pairs, prunedAnswer}
 use Rattle.book_steps.specs.Meaning.{Same}
 use Rattle.book_steps.specs.Conditions.{Misnamed, OutOfRange}
 use Rattle.book_steps.specs.Demands.{SearchSpec, LiveSpec, PrunedSpec, TablesSpec, InOrder}
@@ -70,15 +70,15 @@ module _ (S : Setting) where
   told τ es =
       map (λ (e : Edge). record { target = e .target; number = Spp.size (τ .base .aut .nodes .words) N (e .label) }) es
 
-  -- what a query of line a, whose state is x and rule r, has answered from the tables σ, leaving τ
-  pub data QuerySpec (σ : Tables) (a x : ℕ) (r : Rule N) (τ : Tables) : Query → List ℕ → Type 0 where
+  -- what a query of the line named so, whose state is x and rule r, has answered from the tables σ, leaving τ
+  pub data QuerySpec (σ : Tables) (name : List ℕ) (x : ℕ) (r : Rule N) (τ : Tables) : Query → List ℕ → Type 0 where
     emptied : {v : Verdict} {c : ℕ} → is-empty N (S .limits) (S .entries) (S .budget) x σ ≡ given τ (v, c)
-        → SearchSpec S σ x r v c → QuerySpec σ a x r τ Reader.empty (emptyAnswer a v c)
+        → SearchSpec S σ x r v c → QuerySpec σ name x r τ Reader.empty (emptyAnswer name v c)
     lived : {l : ℕ} → live-packets N (S .limits) (S .entries) x σ ≡ given τ l
         → LiveSpec S r (Sp.size (τ .sets .words) N l)
-        → QuerySpec σ a x r τ Reader.live (liveAnswer N a (Sp.size (τ .sets .words) N l))
+        → QuerySpec σ name x r τ Reader.live (liveAnswer N name (Sp.size (τ .sets .words) N l))
     pruned : {es : List Edge} → delta-pruned N (S .limits) (S .entries) x σ ≡ given τ es
-        → PrunedSpec S τ x r (told τ es) → QuerySpec σ a x r τ Reader.pruned (prunedAnswer a (told τ es))
+        → PrunedSpec S τ x r (told τ es) → QuerySpec σ name x r τ Reader.pruned (prunedAnswer name (told τ es))
 
   abbrev pub QueryRefused : Tables → Query → ℕ → ℕ → Type 0
   QueryRefused σ Reader.empty x number = is-empty N (S .limits) (S .entries) (S .budget) x σ ≡ refused number
@@ -94,7 +94,7 @@ module _ (S : Setting) where
         (place (putBase (putAut τ (p .tables .base)) (p .tables)) (p .lines ++ some x ∷ []) (p .output))
         (R ++ some (means (λ r. r) m) ∷ [])
     answered : {q : Query} {a x : ℕ} {r : Rule N} {τ : Tables} {answer : List ℕ} → tell N (p .lines) s ≡ asks q a x
-        → tell N R s ≡ asks q a r → QuerySpec (p .tables) a x r τ q answer → length (p .output ++ answer) ≤ S .room
+        → tell N R s ≡ asks q a r → QuerySpec (p .tables) (nameOf a) x r τ q answer → length (p .output ++ answer) ≤ S .room
         → LineSpec p R s (place τ (p .lines ++ none ∷ []) (p .output ++ answer)) (R ++ none ∷ [])
 
   -- Where a run stands: at most `left` instructions in the text, which begins with text line `line`; place; rules.
@@ -124,7 +124,7 @@ module _ (S : Setting) where
         → List·Memᴰ number (6 ∷ 7 ∷ 8 ∷ 9 ∷ 20 ∷ 21 ∷ 22 ∷ 23 ∷ 24 ∷ 25 ∷ []) → LineRefusal c number
     no-room : {rest : List ℕ} {s : Said} {q : Query} {a x : ℕ} {r : Rule N} {τ : Tables} {answer : List ℕ}
         → Reads c rest (some s) → tell N (c .place .lines) s ≡ asks q a x → tell N (c .rules) s ≡ asks q a r
-        → QuerySpec (c .place .tables) a x r τ q answer → S .room < length (c .place .output ++ answer)
+        → QuerySpec (c .place .tables) (nameOf a) x r τ q answer → S .room < length (c .place .output ++ answer)
         → LineRefusal c 27
 
   -- ---- the lines of a book
@@ -159,8 +159,8 @@ module _ (S : Setting) where
     abbrev pub Alike : Point → Point → Type 0
     Alike d e = (a b x c m : ℕ) (v : Verdict) (r q : Rule N) (τ υ : Tables)
         → getD (d .place .lines) a none ≡ some x → getD (e .place .lines) b none ≡ some x
-        → QuerySpec (d .place .tables) a x r τ Reader.empty (emptyAnswer a v c)
-        → QuerySpec (e .place .tables) b x q υ Reader.live (liveAnswer N b m)
+        → QuerySpec (d .place .tables) (nameOf a) x r τ Reader.empty (emptyAnswer (nameOf a) v c)
+        → QuerySpec (e .place .tables) (nameOf b) x q υ Reader.live (liveAnswer N (nameOf b) m)
         → S .budget < 2 ^ 64 → N < 64 → a < 2 ^ 64 → b < 2 ^ 64 → c < 2 ^ 64 → m < 2 ^ 64
         → ¬ (v ≡ spent) → (v ≡ yes) ↔ (m ≡ 0)
 
@@ -172,9 +172,9 @@ module _ (S : Setting) where
       pub linear : (d e : Point) → Steps c d → Steps c e → Steps d e ⊎ Steps e d
       pub alike : (d e : Point) → Steps c d → Steps c e → Alike d e
 
--- The bytes printed say which verdict and which numbers it was.
+-- The bytes printed say which line, which verdict and which numbers it was.
 pub record PrintedSpec : Type 0 where
   pub empty : (a b c d : ℕ) (v w : Verdict) → a < 2 ^ 64 → b < 2 ^ 64 → c < 2 ^ 64 → d < 2 ^ 64
-      → emptyAnswer a v c ≡ emptyAnswer b w d → (a ≡ b) × (v ≡ w) × (c ≡ d)
+      → emptyAnswer (nameOf a) v c ≡ emptyAnswer (nameOf b) w d → (a ≡ b) × (v ≡ w) × (c ≡ d)
   pub live : (N a b c d : ℕ) → a < 2 ^ 64 → b < 2 ^ 64 → c < 2 ^ 64 → d < 2 ^ 64
-      → liveAnswer N a c ≡ liveAnswer N b d → (a ≡ b) × (c ≡ d)
+      → liveAnswer N (nameOf a) c ≡ liveAnswer N (nameOf b) d → (a ≡ b) × (c ≡ d)

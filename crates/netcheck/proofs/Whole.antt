@@ -1,5 +1,5 @@
 -- What stands in the output and the closing line, and what is written for the whole of standard input.
-use mathlib.Core.Path.{_≡_, refl, sym, _∙_, ap}
+use mathlib.Core.Path.{_≡_, refl, sym, _∙_, ap, subst}
 use mathlib.Core.Bool.{Bool, true, false}
 use mathlib.Core.List.{List, [], _++_, append-nil}
 use Prim.Native.Nat.{ℕ, _≤_, _<_}
@@ -12,10 +12,14 @@ use Rattle.common.specs.Outcome.{if_then_else_}
 use Rattle.book_steps.specs.Claim as Claim
 use Rattle.book_steps.specs.Claim.{Slices, Lends}
 use Rattle.book_steps.specs.Run.{Lent, Result, outcome}
-use Rattle.book_steps.specs.Text.{bytes}
+use Rattle.book_steps.specs.Text.{bytes, decimal}
 use Rattle.book_steps.specs.Answers.{say}
 use Rattle.io.specs.Counts.{Counts}
-use Rattle.writer.specs.Seen.{Put, put-take}
+use Rattle.writer.specs.Seen.{Put, put-take, Answers}
+use Rattle.writer.specs.declared.Answered.{Answered}
+use Rattle.writer.specs.declared.Answered.the-variants as answered
+use Rattle.writer.proofs.Rights.{most-digits}
+use Rattle.writer.proofs.Lines.{length-three}
 use Rattle.netcheck_entry.specs.Outcome.{lentIn, Entered}
 use Rattle.netcheck_entry.specs.declared.Outcome.{Outcome}
 use Rattle.netcheck.specs.Output.{refusedLine, closing, tooLong, writes, Stands, Prepared}
@@ -25,6 +29,16 @@ counts : (n : ℕ) (s : List ℕ) → n ≤ length s → Counts n s
 counts n s l = (l, sym (length-take-le n s l))
 
 -- ---- the closing line
+
+-- 64 bytes hold it
+module _ (number line : ℕ) {r : Answered} {s s′ : List ℕ} (A : Answers (refusedLine number line) 0 r s s′) where
+  pub line-fits : 64 ≤ length s → r ≡ answered.Full → ⊥
+  line-fits l f =
+      let (a, b) = subst (λ (x : Answered). Answers (refusedLine number line) 0 x s s′) f A in
+      omega (arith, length-three (bytes "refused") (decimal number) (decimal line), most-digits number, most-digits line)
+
+  pub line-put : {e : ℕ} → r ≡ answered.At e → Put 0 (refusedLine number line) e s s′
+  line-put f = subst (λ (x : Answered). Answers (refusedLine number line) 0 x s s′) f A
 
 pub stands-put : {bs s s′ : List ℕ} {r : ℕ} → Put 0 bs r s s′ → Stands bs r s′
 stands-put {bs} {s} {s′} {r} p = record { counts = counts r s′ (omega (arith, p .room, p .wrote .len)); is = put-take p }

@@ -1,11 +1,10 @@
 // Reads a book on standard input, runs it, and writes the output, and after a refusal a line `refused`, number, text line. For a book over 4,096
 // bytes it writes only `too long`.
 use libc::STDOUT_FILENO;
-ghost use mathlib.Core.List.{[], _∷_, _++_};
-ghost use Prim.Native.Nat.{_+_, _≤_};
+use writer::Answered;
+ghost use Prim.Native.Nat.{_≤_};
 ghost use lib.ListN.{length};
 ghost use Rattle.book_steps.specs.Claim.{Lends, netcheckLent};
-ghost use Rattle.book_steps.specs.Text.{decimal};
 ghost use Rattle.writer.specs.Seen.{Put};
 ghost use Rattle.netcheck_entry.specs.Outcome.{slices};
 ghost use Rattle.netcheck.specs.Output.{refusedLine, closing as Output·closing, tooLong, Stands, Prepared};
@@ -18,60 +17,15 @@ pub struct Written {
 
 // ---- the closing line
 
-fn put(out: &mut [u8], at: usize, text: &[u8]) -> usize
-    requires { ⌜ at + length (now text) ≤ length (now out) ⌝ }
-    ensures { λ r. ⌜ Put at (now (text .entry)) r (now (out .entry)) (now (out .exit)) ⌝ }
-{
-    let mut i = 0;
-    while i < text.len() {
-        out[at + i] = text[i];
-        i += 1;
-    }
-    at + i
-}
-
-// digits from the right
-fn put_decimal(out: &mut [u8], at: usize, n: u64) -> usize
-    requires { ⌜ at + length (decimal n) ≤ length (now out) ⌝ }
-    ensures { λ r. ⌜ Put at (decimal n) r (now (out .entry)) (now (out .exit)) ⌝ }
-{
-    let k = writer::digits(n);
-    let mut m = n;
-    let mut i = k;
-    while 0 < i {
-        i -= 1;
-        out[at + i] = (48 + m % 10) as u8;
-        m = m / 10;
-    }
-    at + k
-}
-
-// a space and a number
-fn put_number(out: &mut [u8], at: usize, n: u64) -> usize
-    requires { ⌜ at + (length (decimal n) + 1) ≤ length (now out) ⌝ }
-    ensures { λ r. ⌜ Put at (32 ∷ decimal n) r (now (out .entry)) (now (out .exit)) ⌝ }
-{
-    out[at] = b' ';
-    put_decimal(out, at + 1, n)
-}
-
-// a space, a number and the line's end
-fn put_last(out: &mut [u8], at: usize, n: u64) -> usize
-    requires { ⌜ at + (length (decimal n) + 2) ≤ length (now out) ⌝ }
-    ensures { λ r. ⌜ Put at (32 ∷ decimal n ++ 10 ∷ []) r (now (out .entry)) (now (out .exit)) ⌝ }
-{
-    let end = put_number(out, at, n);
-    out[end] = 10;
-    end + 1
-}
-
 fn refused_line(out: &mut [u8], number: u32, line: u32) -> usize
     requires { ⌜ 64 ≤ length (now out) ⌝ }
     ensures { λ r. ⌜ Put 0 (refusedLine number line) r (now (out .entry)) (now (out .exit)) ⌝ }
 {
-    let a = put(out, 0, b"refused");
-    let b = put_number(out, a, number as u64);
-    put_last(out, b, line as u64)
+    let Answered::At(end) = writer::line_of_two(out, 0, b"refused", number as u64, line as u64)
+    else {
+        return 0;
+    };
+    end
 }
 
 fn closing_line(out: &mut [u8], number: u32, line: u32) -> usize
@@ -88,7 +42,7 @@ fn too_long(out: &mut [u8]) -> usize
     requires { ⌜ 64 ≤ length (now out) ⌝ }
     ensures { λ r. ⌜ Stands tooLong r (now (out .exit)) ⌝ }
 {
-    put(out, 0, b"too long\n")
+    writer::put(out, 0, b"too long\n")
 }
 
 // ---- a book

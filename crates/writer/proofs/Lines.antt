@@ -1,5 +1,5 @@
 -- Lines of two, three and four words: how long they are, and what stands in the output when their parts are written; and the share.
-use mathlib.Core.Path.{_≡_, _∙_, ap}
+use mathlib.Core.Path.{_≡_, refl, _∙_, ap}
 use mathlib.Core.List.{List, [], _∷_, _++_}
 use Prim.Native.Nat.{ℕ, _+_, _*_, _/_, _%_, _^_, _≤_, _<_}
 use native.Mathlib.Omega.{arith}
@@ -46,7 +46,11 @@ module _ {at x : ℕ} {s₀ s₁ : List ℕ} (t : List ℕ) (a : Put at t x s₀
     unfolding say
     said-four v d w e = put-append a (put-append b (put-append d e))
 
--- ---- the share
+-- ---- the share, and the total that it is of
+
+pub share-by : (count total : ℕ) → (2000 * count + total) / (2 * total) ≡ share count total
+unfolding share
+share-by count total = refl
 
 module _ (d : ℕ) (l : d ≤ 31) where
   pub total-most : 2 ^ d ≤ 2147483648
@@ -57,7 +61,3 @@ module _ (d : ℕ) (l : d ≤ 31) where
 
   pub total-is : (1 * 2 ^ d) % 18446744073709551616 ≡ 2 ^ d
   total-is = ap (λ (k : ℕ). k % 18446744073709551616) {y = 2 ^ d} (omega arith) ∙ mod-eq-of-lt (omega (arith, total-most))
-
-  pub share-by : (count t : ℕ) → t ≡ 2 ^ d → (2000 * count + t) / (2 * t) ≡ share count (2 ^ d)
-  unfolding share
-  share-by count t e = ap (λ (x : ℕ). (2000 * count + x) / (2 * x)) e

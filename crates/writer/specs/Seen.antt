@@ -41,14 +41,14 @@ verdictOf Spent = Search.spent
 
 -- ---- the lines of `pruned`
 
-abbrev pub prunedHead : ℕ → ℕ → List ℕ
-prunedHead line k = say (bytes "pruned" ∷ decimal line ∷ decimal k ∷ [])
+abbrev pub prunedHead : (name : List ℕ) → ℕ → List ℕ
+prunedHead name k = say (bytes "pruned" ∷ name ∷ decimal k ∷ [])
 
 abbrev pub pairLine : ℕ → ℕ → List ℕ
 pairLine target number = say (bytes "pair" ∷ decimal target ∷ decimal number ∷ [])
 
-pub pruned-is : (line : ℕ) (pairs : List Pairs) → prunedAnswer line pairs ≡ prunedHead line (length pairs) ++ pairLines pairs
-pruned-is line pairs = refl
+pub pruned-is : (name : List ℕ) (pairs : List Pairs) → prunedAnswer name pairs ≡ prunedHead name (length pairs) ++ pairLines pairs
+pruned-is name pairs = refl
 
 pub pairs-are : (p : Pairs) (ps : List Pairs) → pairLines (p ∷ ps) ≡ pairLine (p .target) (p .number) ++ pairLines ps
 unfolding pairLines

@@ -1,7 +1,7 @@
 // The lines of an answer, written into the output whole or not at all.
 ghost use mathlib.Core.Path.{_≡_};
 ghost use mathlib.Core.List.{[], _∷_, _++_};
-ghost use Prim.Native.Nat.{_+_, _≤_, _^_};
+ghost use Prim.Native.Nat.{_+_, _≤_, _<_, _^_};
 ghost use lib.ListN.{length};
 ghost use Rattle.book_steps.specs.Text.{decimal};
 ghost use Rattle.book_steps.specs.Answers as Told;
@@ -19,7 +19,7 @@ pub enum Verdict {
     Spent,
 }
 
-fn put(out: &mut [u8], at: usize, text: &[u8]) -> usize
+pub fn put(out: &mut [u8], at: usize, text: &[u8]) -> usize
     requires { ⌜ at + length (now text) ≤ length (now out) ⌝ }
     ensures { λ r. ⌜ Put at (now (text .entry)) r (now (out .entry)) (now (out .exit)) ⌝ }
 {
@@ -45,7 +45,7 @@ pub fn digits(n: u64) -> usize
 }
 
 // digits from the right
-fn put_decimal(out: &mut [u8], at: usize, n: u64) -> usize
+pub fn put_decimal(out: &mut [u8], at: usize, n: u64) -> usize
     requires { ⌜ at + length (decimal n) ≤ length (now out) ⌝ }
     ensures { λ r. ⌜ Put at (decimal n) r (now (out .entry)) (now (out .exit)) ⌝ }
 {
@@ -88,73 +88,94 @@ fn put_last(out: &mut [u8], at: usize, n: u64) -> usize
     end + 1
 }
 
-// a name and a number
-fn line_of_one(out: &mut [u8], at: usize, name: &[u8], a: u64) -> Answered
+// a word and a number
+fn line_of_one(out: &mut [u8], at: usize, word: &[u8], a: u64) -> Answered
     requires { ⌜ at ≤ length (now out) ⌝ }
-    ensures { λ r. ⌜ Answers (Told.say (now (name .entry) ∷ decimal a ∷ [])) at r (now (out .entry)) (now (out .exit)) ⌝ }
+    ensures { λ r. ⌜ Answers (Told.say (now (word .entry) ∷ decimal a ∷ [])) at r (now (out .entry)) (now (out .exit)) ⌝ }
 {
-    let n = name.len() + digits(a) + 2;
+    let n = word.len() + digits(a) + 2;
     if out.len() - at < n {
         return Answered::Full;
     }
-    let b = put(out, at, name);
+    let b = put(out, at, word);
     let e = put_last(out, b, a);
     Answered::At(e)
 }
 
-// a name and two numbers
-fn line_of_two(out: &mut [u8], at: usize, name: &[u8], a: u64, b: u64) -> Answered
+// a word and two numbers
+pub fn line_of_two(out: &mut [u8], at: usize, word: &[u8], a: u64, b: u64) -> Answered
     requires { ⌜ at ≤ length (now out) ⌝ }
-    ensures { λ r. ⌜ Answers (Told.say (now (name .entry) ∷ decimal a ∷ decimal b ∷ [])) at r (now (out .entry)) (now (out .exit)) ⌝ }
+    ensures { λ r. ⌜ Answers (Told.say (now (word .entry) ∷ decimal a ∷ decimal b ∷ [])) at r (now (out .entry)) (now (out .exit)) ⌝ }
 {
-    let n = name.len() + digits(a) + digits(b) + 3;
+    let n = word.len() + digits(a) + digits(b) + 3;
     if out.len() - at < n {
         return Answered::Full;
     }
-    let x = put(out, at, name);
+    let x = put(out, at, word);
     let y = put_number(out, x, a);
     let e = put_last(out, y, b);
     Answered::At(e)
 }
 
-// a name and three numbers
-fn line_of_three(out: &mut [u8], at: usize, name: &[u8], a: u64, b: u64, c: u64) -> Answered
-    requires { ⌜ at ≤ length (now out) ⌝ }
-    ensures { λ r. ⌜ Answers (Told.say (now (name .entry) ∷ decimal a ∷ decimal b ∷ decimal c ∷ [])) at r (now (out .entry)) (now (out .exit)) ⌝ }
+// a word, a name and a number
+fn line_of_name(out: &mut [u8], at: usize, word: &[u8], name: &[u8], a: u64) -> Answered
+    requires { ⌜ (at ≤ length (now out)) × (length (now word) ≤ 6) ⌝ }
+    ensures { λ r. ⌜ Answers (Told.say (now (word .entry) ∷ now (name .entry) ∷ decimal a ∷ [])) at r (now (out .entry)) (now (out .exit)) ⌝ }
 {
-    let n = name.len() + digits(a) + digits(b) + digits(c) + 4;
+    let n = word.len() + name.len() + digits(a) + 3;
     if out.len() - at < n {
         return Answered::Full;
     }
-    let x = put(out, at, name);
-    let y = put_number(out, x, a);
-    let z = put_number(out, y, b);
-    let e = put_last(out, z, c);
+    let x = put(out, at, word);
+    let y = put_word(out, x, name);
+    let e = put_last(out, y, a);
     Answered::At(e)
 }
 
-// a name, a number, a word and a number
-fn line_with_word(out: &mut [u8], at: usize, name: &[u8], a: u64, word: &[u8], b: u64) -> Answered
-    requires { ⌜ (at ≤ length (now out)) × (length (now word) ≤ 5) ⌝ }
-    ensures { λ r. ⌜ Answers (Told.say (now (name .entry) ∷ decimal a ∷ now (word .entry) ∷ decimal b ∷ [])) at r (now (out .entry)) (now (out .exit)) ⌝ }
+// a word, a name and two numbers
+fn line_of_three(out: &mut [u8], at: usize, word: &[u8], name: &[u8], a: u64, b: u64) -> Answered
+    requires { ⌜ (at ≤ length (now out)) × (length (now word) ≤ 6) ⌝ }
+    ensures { λ r. ⌜ Answers (Told.say (now (word .entry) ∷ now (name .entry) ∷ decimal a ∷ decimal b ∷ [])) at r (now (out .entry)) (now (out .exit)) ⌝ }
 {
-    let n = name.len() + digits(a) + word.len() + digits(b) + 4;
+    let n = word.len() + name.len() + digits(a) + digits(b) + 4;
     if out.len() - at < n {
         return Answered::Full;
     }
-    let x = put(out, at, name);
-    let y = put_number(out, x, a);
-    let z = put_word(out, y, word);
+    let x = put(out, at, word);
+    let y = put_word(out, x, name);
+    let z = put_number(out, y, a);
     let e = put_last(out, z, b);
     Answered::At(e)
 }
 
-// thousandths of all packets, the half rounded up
-pub fn share(count: u64, fields: u32) -> u64
-    requires { ⌜ (fields ≤ 31) × (count ≤ 2 ^ fields) ⌝ }
-    ensures { λ r. ⌜ r ≡ Told.share count (2 ^ fields) ⌝ }
+// a word, a name, a word and a number
+fn line_with_word(
+    out: &mut [u8],
+    at: usize,
+    word: &[u8],
+    name: &[u8],
+    said: &[u8],
+    a: u64,
+) -> Answered
+    requires { ⌜ (at ≤ length (now out)) × (length (now word) ≤ 6) × (length (now said) ≤ 5) ⌝ }
+    ensures { λ r. ⌜ Answers (Told.say (now (word .entry) ∷ now (name .entry) ∷ now (said .entry) ∷ decimal a ∷ [])) at r (now (out .entry)) (now (out .exit)) ⌝ }
 {
-    let total = 1u64 << fields;
+    let n = word.len() + name.len() + said.len() + digits(a) + 4;
+    if out.len() - at < n {
+        return Answered::Full;
+    }
+    let x = put(out, at, word);
+    let y = put_word(out, x, name);
+    let z = put_word(out, y, said);
+    let e = put_last(out, z, a);
+    Answered::At(e)
+}
+
+// thousandths of a total, the half rounded up; up to 2^53 nothing overflows
+pub fn share(count: u64, total: u64) -> u64
+    requires { ⌜ (0 < total) × (count ≤ total) × (total ≤ 2 ^ 53) ⌝ }
+    ensures { λ r. ⌜ r ≡ Told.share count total ⌝ }
+{
     (2000 * count + total) / (2 * total)
 }
 
@@ -168,34 +189,34 @@ pub fn fields_answer(out: &mut [u8], at: usize, fields: u32) -> Answered
 pub fn empty_answer(
     out: &mut [u8],
     at: usize,
-    line: usize,
+    name: &[u8],
     verdict: Verdict,
     count: u64,
 ) -> Answered
     requires { ⌜ at ≤ length (now out) ⌝ }
-    ensures { λ r. ⌜ Answers (Told.emptyAnswer line (verdictOf verdict) count) at r (now (out .entry)) (now (out .exit)) ⌝ }
+    ensures { λ r. ⌜ Answers (Told.emptyAnswer (now (name .entry)) (verdictOf verdict) count) at r (now (out .entry)) (now (out .exit)) ⌝ }
 {
     match verdict {
-        Verdict::Yes => line_with_word(out, at, b"empty", line as u64, b"yes", count),
-        Verdict::No => line_with_word(out, at, b"empty", line as u64, b"no", count),
-        Verdict::Spent => line_with_word(out, at, b"empty", line as u64, b"spent", count),
+        Verdict::Yes => line_with_word(out, at, b"empty", name, b"yes", count),
+        Verdict::No => line_with_word(out, at, b"empty", name, b"no", count),
+        Verdict::Spent => line_with_word(out, at, b"empty", name, b"spent", count),
     }
 }
 
-pub fn live_answer(out: &mut [u8], at: usize, fields: u32, line: usize, count: u64) -> Answered
+pub fn live_answer(out: &mut [u8], at: usize, name: &[u8], count: u64, fields: u32) -> Answered
     requires { ⌜ (at ≤ length (now out)) × (fields ≤ 31) × (count ≤ 2 ^ fields) ⌝ }
-    ensures { λ r. ⌜ Answers (Told.liveAnswer fields line count) at r (now (out .entry)) (now (out .exit)) ⌝ }
+    ensures { λ r. ⌜ Answers (Told.liveAnswer fields (now (name .entry)) count) at r (now (out .entry)) (now (out .exit)) ⌝ }
 {
-    let part = share(count, fields);
-    line_of_three(out, at, b"live", line as u64, count, part)
+    let part = share(count, 1u64 << fields);
+    line_of_three(out, at, b"live", name, count, part)
 }
 
 // the first line of `pruned`, for k transitions
-pub fn pruned_head(out: &mut [u8], at: usize, line: usize, k: usize) -> Answered
+pub fn pruned_head(out: &mut [u8], at: usize, name: &[u8], k: usize) -> Answered
     requires { ⌜ at ≤ length (now out) ⌝ }
-    ensures { λ r. ⌜ Answers (prunedHead line k) at r (now (out .entry)) (now (out .exit)) ⌝ }
+    ensures { λ r. ⌜ Answers (prunedHead (now (name .entry)) k) at r (now (out .entry)) (now (out .exit)) ⌝ }
 {
-    line_of_two(out, at, b"pruned", line as u64, k as u64)
+    line_of_name(out, at, b"pruned", name, k as u64)
 }
 
 // the line of one transition
@@ -207,10 +228,10 @@ pub fn pair_line(out: &mut [u8], at: usize, target: u32, number: u64) -> Answere
 }
 
 // how long these lines are: the whole of `pruned` has to fit before its first byte is written
-pub fn head_length(line: usize, k: usize) -> usize
-    ensures { λ r. ⌜ (r ≡ length (prunedHead line k)) × (r ≤ 49) ⌝ }
+pub fn head_length(name: &[u8], k: usize) -> usize
+    ensures { λ r. ⌜ (r ≡ length (prunedHead (now (name .entry)) k)) × (r ≤ length (now (name .entry)) + 29) ⌝ }
 {
-    9 + digits(line as u64) + digits(k as u64)
+    name.len() + digits(k as u64) + 9
 }
 
 pub fn pair_length(target: u32, number: u64) -> usize

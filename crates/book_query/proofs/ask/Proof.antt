@@ -15,7 +15,8 @@ enum-told c = search needs
 
 -- src/lib.rt:274:25
 ask-empty-requires : tie.Need-ask-empty-requires
-ask-empty-requires c κs = search needs
+ask-empty-requires c κs =
+    c .before .before .before .before .before .before .before .before .before .before .before .before .before .before .before .before .before .before .before .pre
 
 -- src/lib.rt:290:13
 enum-told-2 : tie.Need-enum-told-2
@@ -23,7 +24,8 @@ enum-told-2 c = search needs
 
 -- src/lib.rt:289:24
 ask-live-requires : tie.Need-ask-live-requires
-ask-live-requires c κs = search needs
+ask-live-requires c κs =
+    c .before .before .before .before .before .before .before .before .before .before .before .before .before .before .before .before .before .before .before .pre
 
 -- src/lib.rt:305:13
 enum-told-3 : tie.Need-enum-told-3
@@ -31,39 +33,48 @@ enum-told-3 c = search needs
 
 -- src/lib.rt:304:26
 ask-pruned-requires : tie.Need-ask-pruned-requires
-ask-pruned-requires c κs = search needs
+ask-pruned-requires c κs =
+    c .before .before .before .before .before .before .before .before .before .before .before .before .before .before .before .before .before .before .before .pre
 
 -- src/lib.rt:254:1
 same-length : tie.Need-same-length
-same-length c = search needs
+same-length c =
+    c .before .before .before .before .before .before .before .before .before .before .before .before .before .before .before .before .ask-empty .kept .0
 
 -- src/lib.rt:254:1
 same-length-2 : tie.Need-same-length-2
-same-length-2 c = search needs
+same-length-2 c =
+    c .before .before .before .before .before .before .before .before .before .before .before .before .before .before .before .before .ask-empty .kept .1 .0
 
 -- src/lib.rt:254:1
 same-length-3 : tie.Need-same-length-3
-same-length-3 c = search needs
+same-length-3 c =
+    c .before .before .before .before .before .before .before .before .before .before .before .before .before .before .before .before .ask-empty .kept .1 .1 .0
 
 -- src/lib.rt:254:1
 same-length-4 : tie.Need-same-length-4
-same-length-4 c = search needs
+same-length-4 c =
+    c .before .before .before .before .before .before .before .before .before .before .before .before .before .before .before .before .ask-empty .kept .1 .1 .1 .0
 
 -- src/lib.rt:254:1
 same-length-5 : tie.Need-same-length-5
-same-length-5 c = search needs
+same-length-5 c =
+    c .before .before .before .before .before .before .before .before .before .before .before .before .before .before .before .before .ask-empty .kept .1 .1 .1 .1 .0
 
 -- src/lib.rt:254:1
 same-length-6 : tie.Need-same-length-6
-same-length-6 c = search needs
+same-length-6 c =
+    c .before .before .before .before .before .before .before .before .before .before .before .before .before .before .before .before .ask-empty .kept .1 .1 .1 .1 .1 .0
 
 -- src/lib.rt:254:1
 same-length-7 : tie.Need-same-length-7
-same-length-7 c = search needs
+same-length-7 c =
+    c .before .before .before .before .before .before .before .before .before .before .before .before .before .before .before .before .ask-empty .kept .1 .1 .1 .1 .1 .1 .0
 
 -- src/lib.rt:254:1
 same-length-8 : tie.Need-same-length-8
-same-length-8 c = search needs
+same-length-8 c =
+    c .before .before .before .before .before .before .before .before .before .before .before .before .before .before .before .before .ask-empty .kept .1 .1 .1 .1 .1 .1 .1 .0
 
 -- src/lib.rt:254:1
 returns : tie.Need-returns
@@ -72,35 +83,43 @@ returns c =
 
 -- src/lib.rt:254:1
 same-length-9 : tie.Need-same-length-9
-same-length-9 c = search needs
+same-length-9 c =
+    c .before .before .before .before .before .before .before .before .before .before .before .before .before .before .before .before .ask-live .kept .0
 
 -- src/lib.rt:254:1
 same-length-10 : tie.Need-same-length-10
-same-length-10 c = search needs
+same-length-10 c =
+    c .before .before .before .before .before .before .before .before .before .before .before .before .before .before .before .before .ask-live .kept .1 .0
 
 -- src/lib.rt:254:1
 same-length-11 : tie.Need-same-length-11
-same-length-11 c = search needs
+same-length-11 c =
+    c .before .before .before .before .before .before .before .before .before .before .before .before .before .before .before .before .ask-live .kept .1 .1 .0
 
 -- src/lib.rt:254:1
 same-length-12 : tie.Need-same-length-12
-same-length-12 c = search needs
+same-length-12 c =
+    c .before .before .before .before .before .before .before .before .before .before .before .before .before .before .before .before .ask-live .kept .1 .1 .1 .0
 
 -- src/lib.rt:254:1
 same-length-13 : tie.Need-same-length-13
-same-length-13 c = search needs
+same-length-13 c =
+    c .before .before .before .before .before .before .before .before .before .before .before .before .before .before .before .before .ask-live .kept .1 .1 .1 .1 .0
 
 -- src/lib.rt:254:1
 same-length-14 : tie.Need-same-length-14
-same-length-14 c = search needs
+same-length-14 c =
+    c .before .before .before .before .before .before .before .before .before .before .before .before .before .before .before .before .ask-live .kept .1 .1 .1 .1 .1 .0
 
 -- src/lib.rt:254:1
 same-length-15 : tie.Need-same-length-15
-same-length-15 c = search needs
+same-length-15 c =
+    c .before .before .before .before .before .before .before .before .before .before .before .before .before .before .before .before .ask-live .kept .1 .1 .1 .1 .1 .1 .0
 
 -- src/lib.rt:254:1
 same-length-16 : tie.Need-same-length-16
-same-length-16 c = search needs
+same-length-16 c =
+    c .before .before .before .before .before .before .before .before .before .before .before .before .before .before .before .before .ask-live .kept .1 .1 .1 .1 .1 .1 .1 .0
 
 -- src/lib.rt:254:1
 returns-2 : tie.Need-returns-2
@@ -109,35 +128,43 @@ returns-2 c =
 
 -- src/lib.rt:254:1
 same-length-17 : tie.Need-same-length-17
-same-length-17 c = search needs
+same-length-17 c =
+    c .before .before .before .before .before .before .before .before .before .before .before .before .before .before .before .before .ask-pruned .kept .0
 
 -- src/lib.rt:254:1
 same-length-18 : tie.Need-same-length-18
-same-length-18 c = search needs
+same-length-18 c =
+    c .before .before .before .before .before .before .before .before .before .before .before .before .before .before .before .before .ask-pruned .kept .1 .0
 
 -- src/lib.rt:254:1
 same-length-19 : tie.Need-same-length-19
-same-length-19 c = search needs
+same-length-19 c =
+    c .before .before .before .before .before .before .before .before .before .before .before .before .before .before .before .before .ask-pruned .kept .1 .1 .0
 
 -- src/lib.rt:254:1
 same-length-20 : tie.Need-same-length-20
-same-length-20 c = search needs
+same-length-20 c =
+    c .before .before .before .before .before .before .before .before .before .before .before .before .before .before .before .before .ask-pruned .kept .1 .1 .1 .0
 
 -- src/lib.rt:254:1
 same-length-21 : tie.Need-same-length-21
-same-length-21 c = search needs
+same-length-21 c =
+    c .before .before .before .before .before .before .before .before .before .before .before .before .before .before .before .before .ask-pruned .kept .1 .1 .1 .1 .0
 
 -- src/lib.rt:254:1
 same-length-22 : tie.Need-same-length-22
-same-length-22 c = search needs
+same-length-22 c =
+    c .before .before .before .before .before .before .before .before .before .before .before .before .before .before .before .before .ask-pruned .kept .1 .1 .1 .1 .1 .0
 
 -- src/lib.rt:254:1
 same-length-23 : tie.Need-same-length-23
-same-length-23 c = search needs
+same-length-23 c =
+    c .before .before .before .before .before .before .before .before .before .before .before .before .before .before .before .before .ask-pruned .kept .1 .1 .1 .1 .1 .1 .0
 
 -- src/lib.rt:254:1
 same-length-24 : tie.Need-same-length-24
-same-length-24 c = search needs
+same-length-24 c =
+    c .before .before .before .before .before .before .before .before .before .before .before .before .before .before .before .before .ask-pruned .kept .1 .1 .1 .1 .1 .1 .1 .0
 
 -- src/lib.rt:254:1
 returns-3 : tie.Need-returns-3

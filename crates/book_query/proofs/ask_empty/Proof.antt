@@ -10,7 +10,8 @@ use Rattle.writer.proofs.empty_answer.Reads as empty-answer-reads
 
 -- src/lib.rt:62:9
 is-empty-requires : tie.Need-is-empty-requires
-is-empty-requires c κs = search needs
+is-empty-requires c κs =
+    c .before .before .before .before .before .before .before .before .before .before .before .before .before .before .before .before .before .pre .query
 
 -- src/lib.rt:76:27
 enum-known-searched : tie.Need-enum-known-searched
@@ -27,7 +28,7 @@ verdict-of-requires c κs = search needs
 -- src/lib.rt:78:17
 empty-answer-requires : tie.Need-empty-answer-requires
 empty-answer-requires c κs =
-    c .before .before .before .before .before .before .before .before .before .before .before .before .before .before .before .before .before .before .before .before .before .before .before .before .before .before .before .before .before .before .before .before .before .before .before .before .pre .room
+    c .before .before .before .before .before .before .before .before .before .before .before .before .before .before .before .before .before .before .before .before .before .before .before .before .before .before .before .before .before .before .before .before .before .before .before .before .before .pre .room
 
 -- src/lib.rt:80:35
 enum-told : tie.Need-enum-told
@@ -39,31 +40,38 @@ enum-known-told c = search needs
 
 -- src/lib.rt:43:1
 same-length : tie.Need-same-length
-same-length c = search needs
+same-length c =
+    c .before .before .before .before .before .before .before .before .before .before .before .before .before .before .before .before .before .is-empty .kept .0
 
 -- src/lib.rt:43:1
 same-length-2 : tie.Need-same-length-2
-same-length-2 c = search needs
+same-length-2 c =
+    c .before .before .before .before .before .before .before .before .before .before .before .before .before .before .before .before .before .is-empty .kept .1 .0
 
 -- src/lib.rt:43:1
 same-length-3 : tie.Need-same-length-3
-same-length-3 c = search needs
+same-length-3 c =
+    c .before .before .before .before .before .before .before .before .before .before .before .before .before .before .before .before .before .is-empty .kept .1 .1 .0
 
 -- src/lib.rt:43:1
 same-length-4 : tie.Need-same-length-4
-same-length-4 c = search needs
+same-length-4 c =
+    c .before .before .before .before .before .before .before .before .before .before .before .before .before .before .before .before .before .is-empty .kept .1 .1 .1 .0
 
 -- src/lib.rt:43:1
 same-length-5 : tie.Need-same-length-5
-same-length-5 c = search needs
+same-length-5 c =
+    c .before .before .before .before .before .before .before .before .before .before .before .before .before .before .before .before .before .is-empty .kept .1 .1 .1 .1 .0
 
 -- src/lib.rt:43:1
 same-length-6 : tie.Need-same-length-6
-same-length-6 c = search needs
+same-length-6 c =
+    c .before .before .before .before .before .before .before .before .before .before .before .before .before .before .before .before .before .is-empty .kept .1 .1 .1 .1 .1 .0
 
 -- src/lib.rt:43:1
 same-length-7 : tie.Need-same-length-7
-same-length-7 c = search needs
+same-length-7 c =
+    c .before .before .before .before .before .before .before .before .before .before .before .before .before .before .before .before .before .is-empty .kept .1 .1 .1 .1 .1 .1 .0
 
 -- src/lib.rt:43:1
 returns : tie.Need-returns
@@ -72,72 +80,88 @@ returns c =
 
 -- src/lib.rt:43:1
 same-length-8 : tie.Need-same-length-8
-same-length-8 c = search needs
+same-length-8 c =
+    c .before .before .before .before .before .before .before .before .before .before .before .before .before .before .before .before .before .before .before .before .before .before .before .before .is-empty .kept .0
 
 -- src/lib.rt:43:1
 same-length-9 : tie.Need-same-length-9
-same-length-9 c = search needs
+same-length-9 c =
+    c .before .before .before .before .before .before .before .before .before .before .before .before .before .before .before .before .before .before .before .before .before .before .before .before .is-empty .kept .1 .0
 
 -- src/lib.rt:43:1
 same-length-10 : tie.Need-same-length-10
-same-length-10 c = search needs
+same-length-10 c =
+    c .before .before .before .before .before .before .before .before .before .before .before .before .before .before .before .before .before .before .before .before .before .before .before .before .is-empty .kept .1 .1 .0
 
 -- src/lib.rt:43:1
 same-length-11 : tie.Need-same-length-11
-same-length-11 c = search needs
+same-length-11 c =
+    c .before .before .before .before .before .before .before .before .before .before .before .before .before .before .before .before .before .before .before .before .before .before .before .before .is-empty .kept .1 .1 .1 .0
 
 -- src/lib.rt:43:1
 same-length-12 : tie.Need-same-length-12
-same-length-12 c = search needs
+same-length-12 c =
+    c .before .before .before .before .before .before .before .before .before .before .before .before .before .before .before .before .before .before .before .before .before .before .before .before .is-empty .kept .1 .1 .1 .1 .0
 
 -- src/lib.rt:43:1
 same-length-13 : tie.Need-same-length-13
-same-length-13 c = search needs
+same-length-13 c =
+    c .before .before .before .before .before .before .before .before .before .before .before .before .before .before .before .before .before .before .before .before .before .before .before .before .is-empty .kept .1 .1 .1 .1 .1 .0
 
 -- src/lib.rt:43:1
 same-length-14 : tie.Need-same-length-14
-same-length-14 c = search needs
+same-length-14 c =
+    c .before .before .before .before .before .before .before .before .before .before .before .before .before .before .before .before .before .before .before .before .before .before .before .before .is-empty .kept .1 .1 .1 .1 .1 .1 .0
 
 -- src/lib.rt:43:1
 same-length-15 : tie.Need-same-length-15
-same-length-15 c = search needs
+same-length-15 c =
+    c .before .before .before .before .empty-answer .kept .0
 
 -- src/lib.rt:43:1
 returns-2 : tie.Need-returns-2
 returns-2 c =
-    join.empty-full (c .before .before .before .before .before .before .before .before .before .before .before .before .before .before .before .before .before .before .before .before .before .before .before .before .is-empty .ensures) (c .before .before .before .before .before .before .before .before .searched2 .given .1) (c .before .before .before .before .before .verdict-of .result) (c .before .before .before .before .before .verdict-of .ensures) (c .before .before .before .before .before .before .before .before .before .before .before .before .before .before .before .before .before .before .before .before .before .before .before .before .before .before .before .before .before .before .before .before .before .before .before .before .before .before .before .before .before .pre .room) (c .enum-told .given .1) (c .before .before .before .before .empty-answer .ensures)
+    join.empty-full (c .before .before .before .before .before .before .before .before .before .before .before .before .before .before .before .before .before .before .before .before .before .before .before .before .is-empty .ensures) (c .before .before .before .before .before .before .before .before .searched2 .given .1) (c .before .before .before .before .before .verdict-of .result) (c .before .before .before .before .before .verdict-of .ensures) (c .before .before .before .before .before .before .before .before .before .before .before .before .before .before .before .before .before .before .before .before .before .before .before .before .before .before .before .before .before .before .before .before .before .before .before .before .before .before .before .before .before .before .pre .room) (c .enum-told .given .1) (c .before .before .before .before .empty-answer .ensures)
 
 -- src/lib.rt:43:1
 same-length-16 : tie.Need-same-length-16
-same-length-16 c = search needs
+same-length-16 c =
+    c .before .before .before .before .before .before .before .before .before .before .before .before .before .before .before .before .before .before .before .before .before .before .before .before .before .is-empty .kept .0
 
 -- src/lib.rt:43:1
 same-length-17 : tie.Need-same-length-17
-same-length-17 c = search needs
+same-length-17 c =
+    c .before .before .before .before .before .before .before .before .before .before .before .before .before .before .before .before .before .before .before .before .before .before .before .before .before .is-empty .kept .1 .0
 
 -- src/lib.rt:43:1
 same-length-18 : tie.Need-same-length-18
-same-length-18 c = search needs
+same-length-18 c =
+    c .before .before .before .before .before .before .before .before .before .before .before .before .before .before .before .before .before .before .before .before .before .before .before .before .before .is-empty .kept .1 .1 .0
 
 -- src/lib.rt:43:1
 same-length-19 : tie.Need-same-length-19
-same-length-19 c = search needs
+same-length-19 c =
+    c .before .before .before .before .before .before .before .before .before .before .before .before .before .before .before .before .before .before .before .before .before .before .before .before .before .is-empty .kept .1 .1 .1 .0
 
 -- src/lib.rt:43:1
 same-length-20 : tie.Need-same-length-20
-same-length-20 c = search needs
+same-length-20 c =
+    c .before .before .before .before .before .before .before .before .before .before .before .before .before .before .before .before .before .before .before .before .before .before .before .before .before .is-empty .kept .1 .1 .1 .1 .0
 
 -- src/lib.rt:43:1
 same-length-21 : tie.Need-same-length-21
-same-length-21 c = search needs
+same-length-21 c =
+    c .before .before .before .before .before .before .before .before .before .before .before .before .before .before .before .before .before .before .before .before .before .before .before .before .before .is-empty .kept .1 .1 .1 .1 .1 .0
 
 -- src/lib.rt:43:1
 same-length-22 : tie.Need-same-length-22
-same-length-22 c = search needs
+same-length-22 c =
+    c .before .before .before .before .before .before .before .before .before .before .before .before .before .before .before .before .before .before .before .before .before .before .before .before .before .is-empty .kept .1 .1 .1 .1 .1 .1 .0
 
 -- src/lib.rt:43:1
 same-length-23 : tie.Need-same-length-23
-same-length-23 c = search needs
+same-length-23 c =
+    c .before .before .before .before .before .empty-answer .kept .0
 
 -- src/lib.rt:43:1
 returns-3 : tie.Need-returns-3

@@ -1,3 +1,4 @@
+use mathlib.Core.Path.{_∙_}
 use Rattle.book_query.proofs.Join as join
 use borrow.Author.Needs.{needs}
 use Rattle.book_query.proofs.ask_live.Statement.{statement}
@@ -10,7 +11,8 @@ use Rattle.writer.proofs.live_answer.Reads as live-answer-reads
 
 -- src/lib.rt:107:9
 live-packets-requires : tie.Need-live-packets-requires
-live-packets-requires c κs = search needs
+live-packets-requires c κs =
+    c .before .before .before .before .before .before .before .before .before .before .before .before .before .before .before .before .before .pre .query
 
 -- src/lib.rt:120:24
 enum-known-lived : tie.Need-enum-known-lived
@@ -23,12 +25,12 @@ enum-known-lived-2 c = search needs
 -- src/lib.rt:122:17
 set-size-requires : tie.Need-set-size-requires
 set-size-requires c κs =
-    join.live-ready (c .before .before .before .before .before .before .before .before .before .before .before .before .before .before .before .before .before .before .before .before .before .before .before .before .before .before .before .before .before .before .before .before .before .before .before .before .args .setting) (c .before .before .before .before .before .before .before .before .before .before .before .before .before .before .before .before .before .before .before .live-packets .ensures) (c .before .before .before .lived2 .given .1)
+    join.live-ready (c .before .before .before .before .before .before .before .before .before .before .before .before .before .before .before .before .before .before .before .before .before .before .before .before .before .before .before .before .before .before .before .before .before .before .before .before .before .args .setting) (c .before .before .before .before .before .before .before .before .before .before .before .before .before .before .before .before .before .before .before .live-packets .ensures) (c .before .before .before .lived2 .given .1)
 
 -- src/lib.rt:123:17
 live-answer-requires : tie.Need-live-answer-requires
 live-answer-requires c κs =
-    (c .before .before .before .before .before .before .before .before .before .before .before .before .before .before .before .before .before .before .before .before .before .before .before .before .before .before .before .before .before .before .before .before .before .before .before .before .before .before .before .before .pre .room, c .before .before .before .before .before .before .before .before .before .before .before .before .before .before .before .before .before .before .before .before .before .before .before .before .before .before .before .before .before .before .before .before .before .before .before .before .before .before .before .before .pre .query .ready .ready .few, join.live-most (c .before .before .before .before .before .before .before .before .before .before .before .before .before .before .before .before .before .before .before .before .before .before .before .before .before .before .before .before .before .before .before .before .before .before .before .before .before .before .before .before .args .setting) (c .before .before .before .before .before .before .before .before .before .before .before .before .before .before .before .before .before .before .before .before .before .before .before .live-packets .ensures) (c .before .before .before .before .before .before .before .lived2 .given .1) (c .before .before .before .set-size .ensures))
+    (c .before .before .before .before .before .before .before .before .before .before .before .before .before .before .before .before .before .before .before .before .before .before .before .before .before .before .before .before .before .before .before .before .before .before .before .before .before .before .before .before .before .pre .room, c .before .before .before .before .before .before .before .before .before .before .before .before .before .before .before .before .before .before .before .before .before .before .before .before .before .before .before .before .before .before .before .before .before .before .before .before .before .before .before .before .before .pre .query .ready .ready .few, join.live-most (c .before .before .before .before .before .before .before .before .before .before .before .before .before .before .before .before .before .before .before .before .before .before .before .before .before .before .before .before .before .before .before .before .before .before .before .before .before .before .before .before .before .args .setting) (c .before .before .before .before .before .before .before .before .before .before .before .before .before .before .before .before .before .before .before .before .before .before .before .live-packets .ensures) (c .before .before .before .before .before .before .before .lived2 .given .1) (c .before .before .before .set-size .ensures))
 
 -- src/lib.rt:125:35
 enum-told : tie.Need-enum-told
@@ -40,31 +42,38 @@ enum-known-told c = search needs
 
 -- src/lib.rt:87:1
 same-length : tie.Need-same-length
-same-length c = search needs
+same-length c =
+    c .before .before .before .before .before .before .before .before .before .before .before .before .before .before .before .before .before .live-packets .kept .0
 
 -- src/lib.rt:87:1
 same-length-2 : tie.Need-same-length-2
-same-length-2 c = search needs
+same-length-2 c =
+    c .before .before .before .before .before .before .before .before .before .before .before .before .before .before .before .before .before .live-packets .kept .1 .0
 
 -- src/lib.rt:87:1
 same-length-3 : tie.Need-same-length-3
-same-length-3 c = search needs
+same-length-3 c =
+    c .before .before .before .before .before .before .before .before .before .before .before .before .before .before .before .before .before .live-packets .kept .1 .1 .0
 
 -- src/lib.rt:87:1
 same-length-4 : tie.Need-same-length-4
-same-length-4 c = search needs
+same-length-4 c =
+    c .before .before .before .before .before .before .before .before .before .before .before .before .before .before .before .before .before .live-packets .kept .1 .1 .1 .0
 
 -- src/lib.rt:87:1
 same-length-5 : tie.Need-same-length-5
-same-length-5 c = search needs
+same-length-5 c =
+    c .before .before .before .before .before .before .before .before .before .before .before .before .before .before .before .before .before .live-packets .kept .1 .1 .1 .1 .0
 
 -- src/lib.rt:87:1
 same-length-6 : tie.Need-same-length-6
-same-length-6 c = search needs
+same-length-6 c =
+    c .before .before .before .before .before .before .before .before .before .before .before .before .before .before .before .before .before .live-packets .kept .1 .1 .1 .1 .1 .0
 
 -- src/lib.rt:87:1
 same-length-7 : tie.Need-same-length-7
-same-length-7 c = search needs
+same-length-7 c =
+    c .before .before .before .before .before .before .before .before .before .before .before .before .before .before .before .before .before .live-packets .kept .1 .1 .1 .1 .1 .1 .0
 
 -- src/lib.rt:87:1
 returns : tie.Need-returns
@@ -73,72 +82,88 @@ returns c =
 
 -- src/lib.rt:87:1
 same-length-8 : tie.Need-same-length-8
-same-length-8 c = search needs
+same-length-8 c =
+    c .before .before .before .before .before .before .before .before .before .before .before .before .before .before .before .before .before .before .before .before .before .before .before .before .before .before .before .before .live-packets .kept .0
 
 -- src/lib.rt:87:1
 same-length-9 : tie.Need-same-length-9
-same-length-9 c = search needs
+same-length-9 c =
+    c .before .before .before .before .before .before .before .before .before .before .before .before .before .before .before .before .before .before .before .before .before .before .before .before .before .before .before .before .live-packets .kept .1 .0
 
 -- src/lib.rt:87:1
 same-length-10 : tie.Need-same-length-10
-same-length-10 c = search needs
+same-length-10 c =
+    c .before .before .before .before .before .before .before .before .before .before .before .before .before .before .before .before .before .before .before .before .before .before .before .before .before .before .before .before .live-packets .kept .1 .1 .0
 
 -- src/lib.rt:87:1
 same-length-11 : tie.Need-same-length-11
-same-length-11 c = search needs
+same-length-11 c =
+    c .before .before .before .before .before .before .before .before .before .before .before .before .before .before .before .before .before .before .before .before .before .before .before .before .before .before .before .before .live-packets .kept .1 .1 .1 .0
 
 -- src/lib.rt:87:1
 same-length-12 : tie.Need-same-length-12
-same-length-12 c = search needs
+same-length-12 c =
+    c .before .before .before .before .before .before .before .before .before .before .before .before .before .before .before .before .before .before .before .before .before .before .before .before .before .before .before .before .live-packets .kept .1 .1 .1 .1 .0
 
 -- src/lib.rt:87:1
 same-length-13 : tie.Need-same-length-13
-same-length-13 c = search needs
+same-length-13 c =
+    c .before .before .before .before .before .before .before .before .before .before .before .before .before .before .before .before .before .before .before .before .before .before .before .before .before .before .before .before .live-packets .kept .1 .1 .1 .1 .1 .0
 
 -- src/lib.rt:87:1
 same-length-14 : tie.Need-same-length-14
-same-length-14 c = search needs
+same-length-14 c =
+    c .before .before .before .before .before .before .before .before .set-size .kept .1 .0 ∙ c .before .before .before .before .before .before .before .before .before .before .before .before .before .before .before .before .before .before .before .before .before .before .before .before .before .before .before .before .live-packets .kept .1 .1 .1 .1 .1 .1 .0
 
 -- src/lib.rt:87:1
 same-length-15 : tie.Need-same-length-15
-same-length-15 c = search needs
+same-length-15 c =
+    c .before .before .before .before .live-answer .kept .0
 
 -- src/lib.rt:87:1
 returns-2 : tie.Need-returns-2
 returns-2 c =
-    join.live-full _ (c .before .before .before .before .before .before .before .before .before .before .before .before .before .before .before .before .before .before .before .before .before .before .before .before .before .before .before .before .live-packets .ensures) (c .before .before .before .before .before .before .before .before .before .before .before .before .lived2 .given .1) (c .before .before .before .before .before .before .before .before .set-size .ensures) (c .before .before .before .before .before .before .before .before .before .before .before .before .before .before .before .before .before .before .before .before .before .before .before .before .before .before .before .before .before .before .before .before .before .before .before .before .before .before .before .before .before .before .before .before .before .pre .room) (c .enum-told .given .1) (c .before .before .before .before .live-answer .ensures)
+    join.live-full _ (c .before .before .before .before .before .before .before .before .before .before .before .before .before .before .before .before .before .before .before .before .before .before .before .before .before .before .before .before .live-packets .ensures) (c .before .before .before .before .before .before .before .before .before .before .before .before .lived2 .given .1) (c .before .before .before .before .before .before .before .before .set-size .ensures) (c .before .before .before .before .before .before .before .before .before .before .before .before .before .before .before .before .before .before .before .before .before .before .before .before .before .before .before .before .before .before .before .before .before .before .before .before .before .before .before .before .before .before .before .before .before .before .pre .room) (c .enum-told .given .1) (c .before .before .before .before .live-answer .ensures)
 
 -- src/lib.rt:87:1
 same-length-16 : tie.Need-same-length-16
-same-length-16 c = search needs
+same-length-16 c =
+    c .before .before .before .before .before .before .before .before .before .before .before .before .before .before .before .before .before .before .before .before .before .before .before .before .before .before .before .before .before .live-packets .kept .0
 
 -- src/lib.rt:87:1
 same-length-17 : tie.Need-same-length-17
-same-length-17 c = search needs
+same-length-17 c =
+    c .before .before .before .before .before .before .before .before .before .before .before .before .before .before .before .before .before .before .before .before .before .before .before .before .before .before .before .before .before .live-packets .kept .1 .0
 
 -- src/lib.rt:87:1
 same-length-18 : tie.Need-same-length-18
-same-length-18 c = search needs
+same-length-18 c =
+    c .before .before .before .before .before .before .before .before .before .before .before .before .before .before .before .before .before .before .before .before .before .before .before .before .before .before .before .before .before .live-packets .kept .1 .1 .0
 
 -- src/lib.rt:87:1
 same-length-19 : tie.Need-same-length-19
-same-length-19 c = search needs
+same-length-19 c =
+    c .before .before .before .before .before .before .before .before .before .before .before .before .before .before .before .before .before .before .before .before .before .before .before .before .before .before .before .before .before .live-packets .kept .1 .1 .1 .0
 
 -- src/lib.rt:87:1
 same-length-20 : tie.Need-same-length-20
-same-length-20 c = search needs
+same-length-20 c =
+    c .before .before .before .before .before .before .before .before .before .before .before .before .before .before .before .before .before .before .before .before .before .before .before .before .before .before .before .before .before .live-packets .kept .1 .1 .1 .1 .0
 
 -- src/lib.rt:87:1
 same-length-21 : tie.Need-same-length-21
-same-length-21 c = search needs
+same-length-21 c =
+    c .before .before .before .before .before .before .before .before .before .before .before .before .before .before .before .before .before .before .before .before .before .before .before .before .before .before .before .before .before .live-packets .kept .1 .1 .1 .1 .1 .0
 
 -- src/lib.rt:87:1
 same-length-22 : tie.Need-same-length-22
-same-length-22 c = search needs
+same-length-22 c =
+    c .before .before .before .before .before .before .before .before .before .set-size .kept .1 .0 ∙ c .before .before .before .before .before .before .before .before .before .before .before .before .before .before .before .before .before .before .before .before .before .before .before .before .before .before .before .before .before .live-packets .kept .1 .1 .1 .1 .1 .1 .0
 
 -- src/lib.rt:87:1
 same-length-23 : tie.Need-same-length-23
-same-length-23 c = search needs
+same-length-23 c =
+    c .before .before .before .before .before .live-answer .kept .0
 
 -- src/lib.rt:87:1
 returns-3 : tie.Need-returns-3

@@ -1,3 +1,4 @@
+use mathlib.Core.Path.{_∙_}
 use Rattle.book_query.proofs.Join as join
 use borrow.Author.Needs.{needs}
 use Rattle.book_query.proofs.ask_pruned.Statement.{statement}
@@ -9,7 +10,8 @@ use Rattle.book_query.proofs.pruned_answer.Reads as pruned-answer-reads
 
 -- src/lib.rt:229:9
 delta-pruned-requires : tie.Need-delta-pruned-requires
-delta-pruned-requires c κs = search needs
+delta-pruned-requires c κs =
+    c .before .before .before .before .before .before .before .before .before .before .before .before .before .before .before .before .before .pre .query
 
 -- src/lib.rt:242:25
 enum-known-pruned : tie.Need-enum-known-pruned
@@ -22,7 +24,7 @@ enum-known-pruned-2 c = search needs
 -- src/lib.rt:244:17
 pruned-answer-requires : tie.Need-pruned-answer-requires
 pruned-answer-requires c κs =
-    (join.pairs-ready (c .before .before .before .before .before .before .before .before .before .before .before .before .before .before .before .before .before .before .before .before .before .before .before .before .before .before .before .before .before .before .before .before .before .before .before .before .before .args .setting) (c .before .before .before .before .before .before .before .before .before .before .before .before .before .before .before .before .before .before .before .before .delta-pruned .ensures) (c .before .before .before .before .pruned2 .given .1), c .before .before .before .before .before .before .before .before .before .before .before .before .before .before .before .before .before .before .before .before .before .before .before .before .before .before .before .before .before .before .before .before .before .before .before .before .before .pre .room)
+    (join.pairs-ready (c .before .before .before .before .before .before .before .before .before .before .before .before .before .before .before .before .before .before .before .before .before .before .before .before .before .before .before .before .before .before .before .before .before .before .before .before .before .before .args .setting) (c .before .before .before .before .before .before .before .before .before .before .before .before .before .before .before .before .before .before .before .before .delta-pruned .ensures) (c .before .before .before .before .pruned2 .given .1), c .before .before .before .before .before .before .before .before .before .before .before .before .before .before .before .before .before .before .before .before .before .before .before .before .before .before .before .before .before .before .before .before .before .before .before .before .before .before .pre .room)
 
 -- src/lib.rt:246:35
 enum-told : tie.Need-enum-told
@@ -34,31 +36,38 @@ enum-known-told c = search needs
 
 -- src/lib.rt:209:1
 same-length : tie.Need-same-length
-same-length c = search needs
+same-length c =
+    c .before .before .before .before .before .before .before .before .before .before .before .before .before .before .before .before .before .delta-pruned .kept .0
 
 -- src/lib.rt:209:1
 same-length-2 : tie.Need-same-length-2
-same-length-2 c = search needs
+same-length-2 c =
+    c .before .before .before .before .before .before .before .before .before .before .before .before .before .before .before .before .before .delta-pruned .kept .1 .0
 
 -- src/lib.rt:209:1
 same-length-3 : tie.Need-same-length-3
-same-length-3 c = search needs
+same-length-3 c =
+    c .before .before .before .before .before .before .before .before .before .before .before .before .before .before .before .before .before .delta-pruned .kept .1 .1 .0
 
 -- src/lib.rt:209:1
 same-length-4 : tie.Need-same-length-4
-same-length-4 c = search needs
+same-length-4 c =
+    c .before .before .before .before .before .before .before .before .before .before .before .before .before .before .before .before .before .delta-pruned .kept .1 .1 .1 .0
 
 -- src/lib.rt:209:1
 same-length-5 : tie.Need-same-length-5
-same-length-5 c = search needs
+same-length-5 c =
+    c .before .before .before .before .before .before .before .before .before .before .before .before .before .before .before .before .before .delta-pruned .kept .1 .1 .1 .1 .0
 
 -- src/lib.rt:209:1
 same-length-6 : tie.Need-same-length-6
-same-length-6 c = search needs
+same-length-6 c =
+    c .before .before .before .before .before .before .before .before .before .before .before .before .before .before .before .before .before .delta-pruned .kept .1 .1 .1 .1 .1 .0
 
 -- src/lib.rt:209:1
 same-length-7 : tie.Need-same-length-7
-same-length-7 c = search needs
+same-length-7 c =
+    c .before .before .before .before .before .before .before .before .before .before .before .before .before .before .before .before .before .delta-pruned .kept .1 .1 .1 .1 .1 .1 .0
 
 -- src/lib.rt:209:1
 returns : tie.Need-returns
@@ -67,72 +76,88 @@ returns c =
 
 -- src/lib.rt:209:1
 same-length-8 : tie.Need-same-length-8
-same-length-8 c = search needs
+same-length-8 c =
+    c .before .before .before .before .before .before .before .before .before .before .before .before .before .before .before .before .before .before .before .before .before .before .before .before .before .before .before .delta-pruned .kept .0
 
 -- src/lib.rt:209:1
 same-length-9 : tie.Need-same-length-9
-same-length-9 c = search needs
+same-length-9 c =
+    c .before .before .before .before .before .before .before .before .before .before .before .before .before .before .before .before .before .before .before .before .before .before .before .before .before .before .before .delta-pruned .kept .1 .0
 
 -- src/lib.rt:209:1
 same-length-10 : tie.Need-same-length-10
-same-length-10 c = search needs
+same-length-10 c =
+    c .before .before .before .before .before .before .before .before .before .before .before .before .before .before .before .before .before .before .before .before .before .before .before .before .before .before .before .delta-pruned .kept .1 .1 .0
 
 -- src/lib.rt:209:1
 same-length-11 : tie.Need-same-length-11
-same-length-11 c = search needs
+same-length-11 c =
+    c .before .before .before .before .before .before .before .before .before .before .before .before .before .before .before .before .before .before .before .before .before .before .before .before .before .before .before .delta-pruned .kept .1 .1 .1 .0
 
 -- src/lib.rt:209:1
 same-length-12 : tie.Need-same-length-12
-same-length-12 c = search needs
+same-length-12 c =
+    c .before .before .before .before .before .before .before .before .before .before .before .before .before .before .before .before .before .before .before .before .before .before .before .before .before .before .before .delta-pruned .kept .1 .1 .1 .1 .0
 
 -- src/lib.rt:209:1
 same-length-13 : tie.Need-same-length-13
-same-length-13 c = search needs
+same-length-13 c =
+    c .before .before .before .before .before .before .before .before .before .before .before .before .before .before .before .before .before .before .before .before .before .before .before .before .before .before .before .delta-pruned .kept .1 .1 .1 .1 .1 .0
 
 -- src/lib.rt:209:1
 same-length-14 : tie.Need-same-length-14
-same-length-14 c = search needs
+same-length-14 c =
+    c .before .before .before .before .before .before .pruned-answer .kept .1 .0 ∙ c .before .before .before .before .before .before .before .before .before .before .before .before .before .before .before .before .before .before .before .before .before .before .before .before .before .before .before .delta-pruned .kept .1 .1 .1 .1 .1 .1 .0
 
 -- src/lib.rt:209:1
 same-length-15 : tie.Need-same-length-15
-same-length-15 c = search needs
+same-length-15 c =
+    c .before .before .before .before .before .before .pruned-answer .kept .1 .1 .0
 
 -- src/lib.rt:209:1
 returns-2 : tie.Need-returns-2
 returns-2 c =
-    join.pruned-full _ (c .before .before .before .before .before .before .before .before .before .before .before .before .before .before .before .before .before .before .before .before .before .before .before .before .before .before .before .delta-pruned .ensures) (c .before .before .before .before .before .before .before .before .before .before .before .pruned2 .given .1) (c .before .before .before .before .before .before .pruned-answer .ensures) (c .before .before .before .before .before .before .before .before .before .before .before .before .before .before .before .before .before .before .before .before .before .before .before .before .before .before .before .before .before .before .before .before .before .before .before .before .before .before .before .before .before .before .before .before .pre .room) (c .enum-told .given .1)
+    join.pruned-full _ (c .before .before .before .before .before .before .before .before .before .before .before .before .before .before .before .before .before .before .before .before .before .before .before .before .before .before .before .delta-pruned .ensures) (c .before .before .before .before .before .before .before .before .before .before .before .pruned2 .given .1) (c .before .before .before .before .before .before .pruned-answer .ensures) (c .before .before .before .before .before .before .before .before .before .before .before .before .before .before .before .before .before .before .before .before .before .before .before .before .before .before .before .before .before .before .before .before .before .before .before .before .before .before .before .before .before .before .before .before .before .pre .room) (c .enum-told .given .1)
 
 -- src/lib.rt:209:1
 same-length-16 : tie.Need-same-length-16
-same-length-16 c = search needs
+same-length-16 c =
+    c .before .before .before .before .before .before .before .before .before .before .before .before .before .before .before .before .before .before .before .before .before .before .before .before .before .before .before .before .delta-pruned .kept .0
 
 -- src/lib.rt:209:1
 same-length-17 : tie.Need-same-length-17
-same-length-17 c = search needs
+same-length-17 c =
+    c .before .before .before .before .before .before .before .before .before .before .before .before .before .before .before .before .before .before .before .before .before .before .before .before .before .before .before .before .delta-pruned .kept .1 .0
 
 -- src/lib.rt:209:1
 same-length-18 : tie.Need-same-length-18
-same-length-18 c = search needs
+same-length-18 c =
+    c .before .before .before .before .before .before .before .before .before .before .before .before .before .before .before .before .before .before .before .before .before .before .before .before .before .before .before .before .delta-pruned .kept .1 .1 .0
 
 -- src/lib.rt:209:1
 same-length-19 : tie.Need-same-length-19
-same-length-19 c = search needs
+same-length-19 c =
+    c .before .before .before .before .before .before .before .before .before .before .before .before .before .before .before .before .before .before .before .before .before .before .before .before .before .before .before .before .delta-pruned .kept .1 .1 .1 .0
 
 -- src/lib.rt:209:1
 same-length-20 : tie.Need-same-length-20
-same-length-20 c = search needs
+same-length-20 c =
+    c .before .before .before .before .before .before .before .before .before .before .before .before .before .before .before .before .before .before .before .before .before .before .before .before .before .before .before .before .delta-pruned .kept .1 .1 .1 .1 .0
 
 -- src/lib.rt:209:1
 same-length-21 : tie.Need-same-length-21
-same-length-21 c = search needs
+same-length-21 c =
+    c .before .before .before .before .before .before .before .before .before .before .before .before .before .before .before .before .before .before .before .before .before .before .before .before .before .before .before .before .delta-pruned .kept .1 .1 .1 .1 .1 .0
 
 -- src/lib.rt:209:1
 same-length-22 : tie.Need-same-length-22
-same-length-22 c = search needs
+same-length-22 c =
+    c .before .before .before .before .before .before .before .pruned-answer .kept .1 .0 ∙ c .before .before .before .before .before .before .before .before .before .before .before .before .before .before .before .before .before .before .before .before .before .before .before .before .before .before .before .before .delta-pruned .kept .1 .1 .1 .1 .1 .1 .0
 
 -- src/lib.rt:209:1
 same-length-23 : tie.Need-same-length-23
-same-length-23 c = search needs
+same-length-23 c =
+    c .before .before .before .before .before .before .before .pruned-answer .kept .1 .1 .0
 
 -- src/lib.rt:209:1
 returns-3 : tie.Need-returns-3

@@ -17,28 +17,33 @@ head-length-requires c κs = search needs
 
 -- src/lib.rt:198:44
 pairs-length-requires : tie.Need-pairs-length-requires
-pairs-length-requires c κs = search needs
+pairs-length-requires c κs =
+    c .before .before .before .before .before .before .pre .0
 
 -- src/lib.rt:198:13
 add-n : tie.Need-add-n
-add-n c = search needs
+add-n c =
+    omega (arith, c .before .before .before .before .before .before .before .before .before .good .1 .1 .1 .1 .1 .1 .0 .1, c .before .before .before .before .head-length .ensures .1, c .before .before .pairs-length .ensures .most, c .before .before .before .before .before .before .before .before .before .pre .0 .most)
 
 -- src/lib.rt:199:8
 sub-if1 : tie.Need-sub-if1
-sub-if1 c = search needs
+sub-if1 c =
+    c .before .before .before .before .before .before .before .before .before .pre .1
 
 -- src/lib.rt:200:9
 same-length : tie.Need-same-length
-same-length c = search needs
+same-length c =
+    c .before .before .before .pairs-length .kept .1 .0
 
 -- src/lib.rt:200:9
 returns : tie.Need-returns
 returns c =
-    pairs.pruned-short _ _ _ _ _ _ _ (c .before .before .before .before .before .before .before .before .before .pre .0) (c .before .before .before .before .before .head-length .ensures) (c .before .before .before .pairs-length .ensures) (omega (arith, c .before .before .before .before .before .before .before .before .before .pre .1, c .if1 .taken))
+    pairs.pruned-short _ _ _ _ _ _ _ (c .before .before .before .before .before .before .before .before .before .before .pre .0) (c .before .before .before .before .before .head-length .ensures) (c .before .before .before .pairs-length .ensures) (omega (arith, c .before .before .before .before .before .before .before .before .before .before .pre .1, c .if1 .taken))
 
 -- src/lib.rt:202:30
 pruned-head-requires : tie.Need-pruned-head-requires
-pruned-head-requires c κs = search needs
+pruned-head-requires c κs =
+    c .before .before .before .before .before .before .before .before .before .before .before .pre .1
 
 -- src/lib.rt:202:22
 enum-known-next : tie.Need-enum-known-next
@@ -50,34 +55,38 @@ enum-told c = search needs
 
 -- src/lib.rt:203:9
 same-length-2 : tie.Need-same-length-2
-same-length-2 c = search needs
+same-length-2 c =
+    c .before .before .before .before .before .before .before .before .before .pairs-length .kept .1 .0
 
 -- src/lib.rt:203:9
 same-length-3 : tie.Need-same-length-3
-same-length-3 c = search needs
+same-length-3 c =
+    c .before .before .before .before .pruned-head .kept .0
 
 -- src/lib.rt:203:9
 returns-2 : tie.Need-returns-2
 returns-2 c =
-    absurd (pairs.head-fits _ _ _ _ _ _ _ (c .before .before .before .before .before .before .before .before .before .before .before .before .before .before .before .pre .0) (c .before .before .before .before .before .before .before .before .before .before .before .head-length .ensures) (c .before .before .before .before .before .before .before .before .before .pairs-length .ensures) (omega (arith, c .before .before .before .before .before .before .before .before .before .before .before .before .before .before .before .pre .1, c .before .before .before .before .before .before .if1 .left)) _ (c .before .before .before .before .pruned-head .ensures) (c .enum-told .given .1))
+    absurd (pairs.head-fits _ _ _ _ _ _ _ (c .before .before .before .before .before .before .before .before .before .before .before .before .before .before .before .before .pre .0) (c .before .before .before .before .before .before .before .before .before .before .before .head-length .ensures) (c .before .before .before .before .before .before .before .before .before .pairs-length .ensures) (omega (arith, c .before .before .before .before .before .before .before .before .before .before .before .before .before .before .before .before .pre .1, c .before .before .before .before .before .before .if1 .left)) _ (c .before .before .before .before .pruned-head .ensures) (c .enum-told .given .1))
 
 -- src/lib.rt:205:9
 put-pairs-requires : tie.Need-put-pairs-requires
 put-pairs-requires c κs =
-    pairs.pairs-fit _ _ _ _ _ _ _ (c .before .before .before .before .before .before .before .before .before .before .before .before .before .before .before .before .before .before .pre .0) (c .before .before .before .before .before .before .before .before .before .before .before .before .before .before .head-length .ensures) (c .before .before .before .before .before .before .before .before .before .before .before .before .pairs-length .ensures) (omega (arith, c .before .before .before .before .before .before .before .before .before .before .before .before .before .before .before .before .before .before .pre .1, c .before .before .before .before .before .before .before .before .before .if1 .left)) _ (c .before .before .before .before .before .before .before .pruned-head .ensures) (c .before .before .before .next .given .1) (c .before .before .before .before .before .before .before .before .before .before .before .before .pairs-length .kept .1 .0)
+    pairs.pairs-fit _ _ _ _ _ _ _ (c .before .before .before .before .before .before .before .before .before .before .before .before .before .before .before .before .before .before .before .pre .0) (c .before .before .before .before .before .before .before .before .before .before .before .before .before .before .head-length .ensures) (c .before .before .before .before .before .before .before .before .before .before .before .before .pairs-length .ensures) (omega (arith, c .before .before .before .before .before .before .before .before .before .before .before .before .before .before .before .before .before .before .before .pre .1, c .before .before .before .before .before .before .before .before .before .if1 .left)) _ (c .before .before .before .before .before .before .before .pruned-head .ensures) (c .before .before .before .next .given .1) (c .before .before .before .before .before .before .before .before .before .before .before .before .pairs-length .kept .1 .0)
 
 -- src/lib.rt:185:1
 same-length-4 : tie.Need-same-length-4
-same-length-4 c = search needs
+same-length-4 c =
+    c .before .before .before .before .put-pairs .kept .1 .0 ∙ c .before .before .before .before .before .before .before .before .before .before .before .before .before .before .before .before .before .pairs-length .kept .1 .0
 
 -- src/lib.rt:185:1
 same-length-5 : tie.Need-same-length-5
-same-length-5 c = search needs
+same-length-5 c =
+    c .before .before .before .before .put-pairs .kept .1 .1 .0 ∙ c .before .before .before .before .before .before .before .before .before .before .before .before .pruned-head .kept .0
 
 -- src/lib.rt:185:1
 returns-3 : tie.Need-returns-3
 returns-3 c =
-    pairs.pruned-whole _ _ _ _ _ _ _ (c .before .before .before .before .before .before .before .before .before .before .before .before .before .before .before .before .before .before .before .before .before .before .before .pre .0) (c .before .before .before .before .before .before .before .before .before .before .before .before .before .before .before .before .before .before .before .head-length .ensures) (c .before .before .before .before .before .before .before .before .before .before .before .before .before .before .before .before .before .pairs-length .ensures) (omega (arith, c .before .before .before .before .before .before .before .before .before .before .before .before .before .before .before .before .before .before .before .before .before .before .before .pre .1, c .before .before .before .before .before .before .before .before .before .before .before .before .before .before .if1 .left)) _ (c .before .before .before .before .before .before .before .before .before .before .before .before .pruned-head .ensures) (c .before .before .before .before .before .before .before .before .next .given .1) (c .before .before .before .before .before .before .before .before .before .before .before .before .before .before .before .before .before .pairs-length .kept .1 .0) (c .before .before .before .before .put-pairs .ensures)
+    pairs.pruned-whole _ _ _ _ _ _ _ (c .before .before .before .before .before .before .before .before .before .before .before .before .before .before .before .before .before .before .before .before .before .before .before .before .pre .0) (c .before .before .before .before .before .before .before .before .before .before .before .before .before .before .before .before .before .before .before .head-length .ensures) (c .before .before .before .before .before .before .before .before .before .before .before .before .before .before .before .before .before .pairs-length .ensures) (omega (arith, c .before .before .before .before .before .before .before .before .before .before .before .before .before .before .before .before .before .before .before .before .before .before .before .before .pre .1, c .before .before .before .before .before .before .before .before .before .before .before .before .before .before .if1 .left)) _ (c .before .before .before .before .before .before .before .before .before .before .before .before .pruned-head .ensures) (c .before .before .before .before .before .before .before .before .next .given .1) (c .before .before .before .before .before .before .before .before .before .before .before .before .before .before .before .before .before .pairs-length .kept .1 .0) (c .before .before .before .before .put-pairs .ensures)
 
 pub pruned-answer-spec : {M : Type 1} → statement M
 pruned-answer-spec =

@@ -1,39 +1,43 @@
-use native.Mathlib.Omega.{arith}
-use Rattle.book_steps.specs.Text.{bytes, decimal}
-use Rattle.writer.proofs.Rights.{most-digits}
-use Rattle.writer.proofs.Lines as lines
+use Rattle.netcheck.proofs.Whole.{line-fits, line-put}
 use borrow.Author.Needs.{needs}
 use Rattle.netcheck.proofs.refused_line.Statement.{statement}
 use Rattle.netcheck.proofs.refused_line.Tie as tie
 
-slice-aggregate-put : tie.Need-slice-aggregate-put
-slice-aggregate-put c = search needs
+slice-aggregate-line-of-two : tie.Need-slice-aggregate-line-of-two
+slice-aggregate-line-of-two c = search needs
 
-put-requires : tie.Need-put-requires
-put-requires c κs = search needs
+line-of-two-requires : tie.Need-line-of-two-requires
+line-of-two-requires c κs = search needs
 
-put-number-requires : tie.Need-put-number-requires
-put-number-requires c κs =
-    omega (arith, c .before .before .before .put .ensures .behind, c .before .before .before .put .ensures .wrote .len, most-digits (c .before .before .before .before .before .before .before .args .number), c .before .before .before .before .before .before .before .pre)
+enum-known-end : tie.Need-enum-known-end
+enum-known-end c = search needs
 
-put-last-requires : tie.Need-put-last-requires
-put-last-requires c κs =
-    omega (arith, c .before .before .before .before .before .before .before .put .ensures .behind, c .before .before .before .before .before .before .before .put .ensures .wrote .len, c .before .before .before .put-number .ensures .behind, c .before .before .before .put-number .ensures .wrote .len, most-digits (c .before .before .before .before .before .before .before .before .before .before .before .args .number), most-digits (c .before .before .before .before .before .before .before .before .before .before .before .args .line), c .before .before .before .before .before .before .before .before .before .before .before .pre)
+enum-told : tie.Need-enum-told
+enum-told c = search needs
 
 same-length : tie.Need-same-length
 same-length c = search needs
 
 returns : tie.Need-returns
 returns c =
-    lines.said-three (bytes "refused") (c .before .before .before .before .before .before .before .before .before .before .put .ensures) (decimal (c .before .before .before .before .before .before .before .before .before .before .before .before .before .before .args .number)) (c .before .before .before .before .before .before .put-number .ensures) (decimal (c .before .before .before .before .before .before .before .before .before .before .before .before .before .before .args .line)) (c .before .before .put-last .ensures)
+    let g = c .before .before .before .before .before .before .before .before .args in absurd (line-fits (g .number) (g .line) (c .before .before .before .before .line-of-two .ensures) (c .before .before .before .before .before .before .before .before .pre) (c .enum-told .given .1))
+
+same-length-2 : tie.Need-same-length-2
+same-length-2 c = search needs
+
+returns-2 : tie.Need-returns-2
+returns-2 c =
+    let g = c .before .before .before .before .before .before .before .before .before .args in line-put (g .number) (g .line) (c .before .before .before .before .before .line-of-two .ensures) (c .before .end .given .1)
 
 pub refused-line-spec : {M : Type 1} → statement M
 refused-line-spec =
     tie.close
     (tie.spec
-    slice-aggregate-put
-    put-requires
-    put-number-requires
-    put-last-requires
+    slice-aggregate-line-of-two
+    line-of-two-requires
+    enum-known-end
+    enum-told
     same-length
-    returns)
+    returns
+    same-length-2
+    returns-2)

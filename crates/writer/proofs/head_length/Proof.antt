@@ -9,32 +9,27 @@ use Rattle.writer.proofs.head_length.Reads as reads
 use Rattle.writer.proofs.head_length.Lts as lts
 use Rattle.writer.proofs.digits.Reads as digits-reads
 
--- src/lib.rt:220:9
+-- src/lib.rt:227:18
 digits-requires : tie.Need-digits-requires
 digits-requires c κs = search needs
 
--- src/lib.rt:220:5
+-- src/lib.rt:227:5
 add-result : tie.Need-add-result
 add-result c =
-    omega (arith, c .digits .ensures, most-digits (c .before .args .line))
+    omega (arith, c .before .before .good .0 .1, c .digits .ensures, most-digits (c .before .before .args .k))
 
--- src/lib.rt:220:31
-digits-requires-2 : tie.Need-digits-requires-2
-digits-requires-2 c κs = search needs
-
--- src/lib.rt:220:5
+-- src/lib.rt:227:5
 add-result-2 : tie.Need-add-result-2
 add-result-2 c =
-    omega (arith, c .before .digits .ensures, c .digits2 .ensures, most-digits (c .before .before .args .line), most-digits (c .before .before .args .k))
+    omega (arith, c .before .before .good .0 .1, c .digits .ensures, most-digits (c .before .before .args .k))
 
--- src/lib.rt:217:1
+-- src/lib.rt:224:1
 returns : tie.Need-returns
 returns c =
     let g = c .before .before .args in (
-      omega (arith, c .before .digits .ensures, c .digits2 .ensures, lines.length-three (bytes "pruned") (decimal (g .line)) (decimal (g .k))),
-      omega (arith, c .before .digits .ensures, c .digits2 .ensures, most-digits (g .line), most-digits (g .k)),
+      omega (arith, c .digits .ensures, lines.length-three (bytes "pruned") (g .name .now) (decimal (g .k))),
+      omega (arith, c .digits .ensures, most-digits (g .k)),
     )
 
 pub head-length-spec : {M : Type 1} → statement M
-head-length-spec =
-    tie.close (tie.spec digits-requires add-result digits-requires-2 add-result-2 returns)
+head-length-spec = tie.close (tie.spec digits-requires add-result add-result-2 returns)

@@ -35,7 +35,7 @@ sub-if1 c =
 -- src/lib.rt:98:9
 returns : tie.Need-returns
 returns c =
-    let g = c .before .before .before .before .args in (omega (arith, c .before .before .before .before .pre, c .if1 .taken, c .before .digits .ensures, lines.length-two (g .name .now) (decimal (g .a))), refl)
+    let g = c .before .before .before .before .args in (omega (arith, c .before .before .before .before .pre, c .if1 .taken, c .before .digits .ensures, lines.length-two (g .word .now) (decimal (g .a))), refl)
 
 -- src/lib.rt:100:9
 put-requires : tie.Need-put-requires
@@ -55,7 +55,7 @@ same-length c =
 -- src/lib.rt:92:1
 returns-2 : tie.Need-returns-2
 returns-2 c =
-    let g = c .before .before .before .before .before .before .before .before .before .before .before .before .args in lines.said-two (g .name .now) (c .before .before .before .before .before .before .put .ensures) (decimal (g .a)) (c .before .before .put-last .ensures)
+    let g = c .before .before .before .before .before .before .before .before .before .before .before .before .args in lines.said-two (g .word .now) (c .before .before .before .before .before .before .put .ensures) (decimal (g .a)) (c .before .before .put-last .ensures)
 
 pub line-of-one-spec : {M : Type 1} → statement M
 line-of-one-spec =

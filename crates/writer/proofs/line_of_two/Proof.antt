@@ -46,7 +46,7 @@ sub-if1 c =
 -- src/lib.rt:112:9
 returns : tie.Need-returns
 returns c =
-    let g = c .before .before .before .before .before .args in (omega (arith, c .before .before .before .before .before .pre, c .if1 .taken, c .before .before .digits .ensures, c .before .digits2 .ensures, lines.length-three (g .name .now) (decimal (g .a)) (decimal (g .b))), refl)
+    let g = c .before .before .before .before .before .args in (omega (arith, c .before .before .before .before .before .pre, c .if1 .taken, c .before .before .digits .ensures, c .before .digits2 .ensures, lines.length-three (g .word .now) (decimal (g .a)) (decimal (g .b))), refl)
 
 -- src/lib.rt:114:9
 put-requires : tie.Need-put-requires
@@ -71,7 +71,7 @@ same-length c =
 -- src/lib.rt:106:1
 returns-2 : tie.Need-returns-2
 returns-2 c =
-    let g = c .before .before .before .before .before .before .before .before .before .before .before .before .before .before .before .before .before .args in lines.said-three (g .name .now) (c .before .before .before .before .before .before .before .before .before .before .put .ensures) (decimal (g .a)) (c .before .before .before .before .before .before .put-number .ensures) (decimal (g .b)) (c .before .before .put-last .ensures)
+    let g = c .before .before .before .before .before .before .before .before .before .before .before .before .before .before .before .before .before .args in lines.said-three (g .word .now) (c .before .before .before .before .before .before .before .before .before .before .put .ensures) (decimal (g .a)) (c .before .before .before .before .before .before .put-number .ensures) (decimal (g .b)) (c .before .before .put-last .ensures)
 
 pub line-of-two-spec : {M : Type 1} → statement M
 line-of-two-spec =
