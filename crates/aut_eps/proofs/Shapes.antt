@@ -16,7 +16,7 @@ use Rattle.delta_steps.specs.EpsilonReads.{operandsOf, combineBy}
 use Rattle.delta_steps.specs.EpsilonDown.{Known}
 use Rattle.aut_operands.specs.declared.Part.the-variants as part
 use Rattle.aut_operands.specs.declared.Shape.{Shape}
-use Rattle.aut_operands.specs.declared.Shape.the-variants.{Many, Both, First, Second, Alone}
+use Rattle.aut_operands.specs.declared.Shape.the-variants.{Many, Both, First, Second}
 use Rattle.aut_operands.specs.Contracts.{shapeOf, Inside}
 use Rattle.aut_operands.proofs.Shapes.{operandsIn, ManyOnly, Shaped, by-kind, shaped}
 use Rattle.aut_eps.specs.Seen.{combineIn}

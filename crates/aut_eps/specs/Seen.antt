@@ -1,6 +1,6 @@
 -- 01, "Lent tables": state word 4 is epsilon + 1. What the answers of epsilon's parts say in the words of its step, what is left of scratch, and what is asked.
 use mathlib.Core.Path.{_≡_}
-use mathlib.Core.List.{List, [], _∷_}
+use mathlib.Core.List.{List}
 use Prim.Native.Nat.{ℕ, _+_, _*_, _≤_, _<_}
 use lib.Dec.{eqb}
 use lib.ListN.{length, set}

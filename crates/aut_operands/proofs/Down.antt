@@ -14,7 +14,7 @@ use Rattle.aut_steps.specs.Tables.{UNION, INTERSECT, nest, Limits, Aut}
 use Rattle.aut_steps.specs.Kinds.{form}
 use Rattle.aut_steps.specs.ListLaws.{All, all-map}
 use Rattle.aut_steps.specs.Good.{states, kind, Good, ok-as}
-use Rattle.delta_steps.specs.EpsilonDown.{Known, First, this, later, first-of, first-open, Way, bottom, down}
+use Rattle.delta_steps.specs.EpsilonDown.{First, this, later, first-of, first-open, Way, bottom, down}
 use Rattle.aut_operands.specs.declared.Part.{Part}
 use Rattle.aut_operands.specs.declared.Part.the-variants as part
 use Rattle.aut_operands.specs.Contracts.{operandsOf, Inside, Worked, NotYet, Told, Looks, Next, none, some, Descends}

@@ -18,7 +18,7 @@ use Rattle.aut_operands.specs.declared.Part.{Part}
 use Rattle.aut_operands.specs.declared.Part.the-variants as part
 use Rattle.aut_operands.specs.declared.Shape.{Shape}
 use Rattle.aut_operands.specs.declared.Shape.the-variants.{Many, Both, First, Second, Alone}
-use Rattle.aut_operands.specs.Contracts.{untilShape, shapeOf, operandsBy, operandsOf, Inside, Worked, NotYet, Told}
+use Rattle.aut_operands.specs.Contracts.{untilShape, shapeOf, operandsBy, operandsOf, Inside, Told}
 
 -- ---- shapes
 

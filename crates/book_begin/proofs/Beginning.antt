@@ -6,8 +6,8 @@ use mathlib.Core.List.{List, []}
 use mathlib.Core.Option.{Option}
 use Prim.Native.Nat.{ℕ, _+_, _*_, _≤_}
 use native.Mathlib.Omega.{arith}
-use lib.Dec.{ltb, leb}
-use lib.ListN.{length, getD, take, length-drop, length-replicate}
+use lib.Dec.{leb}
+use lib.ListN.{length, take, length-drop, length-replicate}
 use lib.Seq.{getD-drop}
 use borrow.Author.Tests.{le-ltb, le-leb, lt-leb}
 use Rattle.common.specs.Outcome.{Outcome, refused, given, if_then_else_}

@@ -3,10 +3,10 @@ use mathlib.Core.Path.{_≡_, refl, sym, _∙_, ap, ap₂, subst}
 use mathlib.Core.Bool.{Bool}
 use mathlib.Core.List.{List, []}
 use mathlib.Core.Option.{Option}
-use Prim.Native.Nat.{ℕ, zero, _+_, _-_, _≤_, _<_}
+use Prim.Native.Nat.{ℕ, _+_, _-_, _≤_, _<_}
 use native.Mathlib.Omega.{arith}
 use lib.Dec.{ltb}
-use lib.ListN.{length, getD, take, drop}
+use lib.ListN.{length, take, drop}
 use lib.Seq.{length-take-le, getD-take}
 use borrow.Author.Tests.{lt-ltb, le-ltb}
 use Rattle.common.specs.Outcome.{refused, if_then_else_}
@@ -31,7 +31,7 @@ use Rattle.book_line.specs.Contracts.{Memory, memory, Standing}
 use Rattle.book_begin.specs.declared.Header.{Header}
 use Rattle.book_begin.specs.declared.Begun.{Begun}
 use Rattle.book_begin.specs.declared.Begun.the-variants as begun
-use Rattle.book_begin.specs.Contracts.{TablesZeroed, WorkZeroed, headerOf, settingFor, PreBegin, fresh, begunOf, Wrote, Begins as Started, BeginsBy as StartedBy, PostBegin}
+use Rattle.book_begin.specs.Contracts.{TablesZeroed, WorkZeroed, headerOf, settingFor, PreBegin, fresh, begunOf, Wrote, BeginsBy as StartedBy, PostBegin}
 use Rattle.book_begin.proofs.Zero.{zeroed-own}
 use Rattle.book_run.specs.declared.Went.{Went}
 use Rattle.book_run.specs.declared.Went.the-variants as went

@@ -2,10 +2,9 @@
 -- and the number, line and length of what is returned.
 use mathlib.Core.Path.{_≡_}
 use mathlib.Core.List.{List}
-use Prim.Native.Nat.{ℕ, zero, suc, _+_, _/_, _≤_, _<_}
+use Prim.Native.Nat.{ℕ, suc, _+_, _/_, _≤_, _<_}
 use lib.ListN.{length, getD, take, drop}
 use Rattle.book_steps.specs.Text.{cut}
-use Rattle.book_steps.specs.Reader as Reader
 use Rattle.book_steps.specs.Run as Run
 use Rattle.book_steps.specs.Run.{Lent, with-line, answered, stopped, Result, success, refusal, outcome}
 use Rattle.book_steps.specs.Claim.{Slices}

@@ -42,7 +42,7 @@ loop-less c =
 -- src/lib.rt:61:5
 loop-again : tie.Need-loop-again Inv-loop μ-loop
 loop-again c =
-    zero.clear-again (c .before .loop .inv) (c .loop-test .taken)
+    zero.clear-again (c .before .loop .inv) (omega (arith, c .loop-test .taken))
 
 -- src/lib.rt:57:1
 same-length : tie.Need-same-length Inv-loop μ-loop
@@ -52,7 +52,7 @@ same-length c =
 -- src/lib.rt:57:1
 returns : tie.Need-returns Inv-loop μ-loop
 returns c =
-    zero.clear-end (c .before .loop .inv) (c .loop-test .left)
+    zero.clear-end (c .before .loop .inv) (omega (arith, c .loop-test .left))
 
 pub clear-spec : {M : Type 1} → statement M
 clear-spec =

@@ -2,8 +2,6 @@ use Rattle.book_run.proofs.Whole as whole
 use borrow.Author.Needs.{needs}
 use Rattle.book_run.proofs.finish.Statement.{statement}
 use Rattle.book_run.proofs.finish.Tie as tie
-use Rattle.book_run.proofs.finish.Reads as reads
-use Rattle.book_run.proofs.finish.Lts as lts
 
 clear-work-requires : tie.Need-clear-work-requires
 clear-work-requires c κs = search needs

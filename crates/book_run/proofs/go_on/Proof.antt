@@ -5,9 +5,6 @@ use Rattle.book_line.specs.Contracts.{memory}
 use Rattle.book_run.proofs.Lines as lines
 use Rattle.book_run.proofs.go_on.Statement.{statement}
 use Rattle.book_run.proofs.go_on.Tie as tie
-use Rattle.book_run.proofs.go_on.Reads as reads
-use Rattle.book_run.proofs.go_on.Lts as lts
-use Rattle.book_run.proofs.turn.Reads as turn-reads
 
 abbrev Inv-loop : tie.InvT-loop
 Inv-loop book sp₀ nodes₀ states₀ members₀ transitions₀ pending₀ scratch₀ output₀ setting from first instructions place₀ at₀ line₀ left₀ sp nodes states members transitions pending scratch output place at line left =

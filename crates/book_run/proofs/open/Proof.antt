@@ -1,12 +1,9 @@
-use mathlib.Core.Path.{_∙_}
 use native.Mathlib.Omega.{arith}
 use Rattle.book_line.specs.Contracts.{memory}
 use Rattle.book_run.proofs.Whole as whole
 use borrow.Author.Needs.{needs}
 use Rattle.book_run.proofs.open.Statement.{statement}
 use Rattle.book_run.proofs.open.Tie as tie
-use Rattle.book_run.proofs.open.Reads as reads
-use Rattle.book_run.proofs.open.Lts as lts
 
 returns : tie.Need-returns
 returns c =

@@ -4,8 +4,6 @@ use Rattle.book_run.proofs.Whole as whole
 use borrow.Author.Needs.{needs}
 use Rattle.book_run.proofs.run.Statement.{statement}
 use Rattle.book_run.proofs.run.Tie as tie
-use Rattle.book_run.proofs.run.Reads as reads
-use Rattle.book_run.proofs.run.Lts as lts
 
 clear-tables-requires : tie.Need-clear-tables-requires
 clear-tables-requires c κs = search needs

@@ -1,11 +1,8 @@
 use mathlib.Core.Path.{_∙_}
-use Rattle.book_line.specs.Contracts.{memory}
 use Rattle.book_run.proofs.Whole as whole
 use borrow.Author.Needs.{needs}
 use Rattle.book_run.proofs.started.Statement.{statement}
 use Rattle.book_run.proofs.started.Tie as tie
-use Rattle.book_run.proofs.started.Reads as reads
-use Rattle.book_run.proofs.started.Lts as lts
 
 begin-requires : tie.Need-begin-requires
 begin-requires c κs =

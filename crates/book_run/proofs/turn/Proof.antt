@@ -1,14 +1,9 @@
-use mathlib.Core.Path.{_∙_}
 use native.Mathlib.Omega.{arith}
 use Rattle.book_line.specs.Contracts.{memory}
 use Rattle.book_run.proofs.Lines as lines
 use borrow.Author.Needs.{needs}
 use Rattle.book_run.proofs.turn.Statement.{statement}
 use Rattle.book_run.proofs.turn.Tie as tie
-use Rattle.book_run.proofs.turn.Reads as reads
-use Rattle.book_run.proofs.turn.Lts as lts
-use Rattle.book_line.proofs.obey.Reads as obey-reads
-use Rattle.reader.proofs.line_at.Reads as line-at-reads
 
 -- src/lib.rt:157:24
 line-at-requires : tie.Need-line-at-requires

@@ -5,9 +5,6 @@ use Rattle.delta_keep.proofs.Keeping as keeping
 use borrow.Author.Needs.{needs}
 use Rattle.delta_keep.proofs.keep_list.Statement.{statement}
 use Rattle.delta_keep.proofs.keep_list.Tie as tie
-use Rattle.delta_keep.proofs.keep_list.Reads as reads
-use Rattle.delta_keep.proofs.keep_list.Lts as lts
-use Rattle.aut.proofs.copy.Reads as copy-reads
 
 -- src/lib.rt:20:15
 add-end : tie.Need-add-end
