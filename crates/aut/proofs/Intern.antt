@@ -14,7 +14,7 @@ use Rattle.aut_steps.specs.Tables.{kindOf, op1, nest, words, stateCap, memberCa
 use Rattle.aut_steps.specs.Intern.{seek, same2, sameL, put, intern0, intern1, intern2, nestL, store, putL, internL}
 use Rattle.aut_steps.specs.Relations.{zeroAt}
 use Rattle.aut_steps.specs.Constructors.{mk-spp, mk-complement}
-use Rattle.aut_steps.specs.Facts.{words-length}
+use Rattle.aut_steps.proofs.Facts.{words-length}
 
 -- ---- push
 

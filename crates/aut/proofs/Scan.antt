@@ -12,8 +12,8 @@ use Rattle.common.specs.Outcome.{if_then_else_}
 use Rattle.aut_steps.specs.Tables.{kindOf, op1, op2, nest, words}
 use Rattle.aut_steps.specs.Intern.{seek, same2, sameAt, sameL, nestL}
 use Rattle.aut_steps.specs.ListLaws.{All}
-use Rattle.aut_steps.specs.Facts.{words-length, same2-is, sameL-is}
-use Rattle.aut_steps.specs.Scratch.{words-on, words-done}
+use Rattle.aut_steps.proofs.Facts.{words-length, same2-is, sameL-is}
+use Rattle.aut_steps.proofs.Scratch.{words-on, words-done}
 use Rattle.aut.specs.declared.Counts.{Counts}
 use Rattle.aut.specs.Seen.{From, Ready1, Ready2, ListReady, aboveL}
 

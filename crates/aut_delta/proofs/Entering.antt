@@ -17,23 +17,25 @@ use Rattle.aut_steps.specs.Relations as Rel
 use Rattle.aut_steps.specs.Tables.{SEQUENCE, STAR, op1, Aut, putNodes, onNodes}
 use Rattle.aut_steps.specs.Kinds.{form}
 use Rattle.aut_steps.specs.Good.{Good}
-use Rattle.aut_steps.specs.StateLaws.{nodes-goes}
+use Rattle.aut_steps.proofs.StateLaws.{nodes-goes}
 use Rattle.delta_steps.specs.Epsilon.{epsilon}
 use Rattle.delta_steps.specs.Delta.{Store, putAut, onAut}
-use Rattle.delta_steps.specs.Operands.{below-one, below-two}
-use Rattle.delta_steps.specs.Labels.{star-makes}
-use Rattle.delta_steps.specs.Stored.{went-trans}
+use Rattle.delta_steps.proofs.Operands.{below-one, below-two}
+use Rattle.delta_steps.proofs.Labels.{star-makes}
+use Rattle.delta_steps.proofs.Stored.{went-trans}
 use Rattle.delta_steps.specs.DeltaReads.{quit, enterWith, enter}
 use Rattle.aut.specs.declared.Counts.{Counts}
 use Rattle.aut.specs.declared.Limits.{Limits}
-use Rattle.aut_rel.specs.Behind.{left-trans}
+use Rattle.aut_rel.proofs.Behind.{left-trans}
 use Rattle.aut_rel.specs.Seen.{autOf, RelateReady, Relates, Ready}
 use Rattle.aut_rel.proofs.Order.{backed-of}
 use Rattle.aut_mk.specs.Seen.{taskOf}
 use Rattle.aut_mk.specs.declared.Task.the-variants as task
 use Rattle.aut_eps.specs.Seen.{seenEpsilon, After, AfterBy, Works}
-use Rattle.aut_stage.specs.OnNodes.{withNodes, relation-given}
-use Rattle.delta_stage.specs.OnStore.{storeOf, storeLayer, aut-given, epsilon-given}
+use Rattle.aut_stage.specs.OnNodes.{withNodes}
+use Rattle.aut_stage.proofs.OnNodes.{relation-given}
+use Rattle.delta_stage.specs.OnStore.{storeOf, storeLayer}
+use Rattle.delta_stage.proofs.OnStore.{aut-given, epsilon-given}
 use Rattle.aut_delta.specs.declared.Entered.{Entered}
 use Rattle.aut_delta.specs.declared.Entered.the-variants as entered
 use Rattle.aut_operands.proofs.Shapes.{kind-word}

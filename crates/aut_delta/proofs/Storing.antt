@@ -6,39 +6,46 @@ use Prim.Native.Nat.{ℕ, _+_, _<_}
 use native.Mathlib.Omega.{arith}
 use lib.ListN.{length}
 use Rattle.common.specs.Outcome.{Outcome, refused, given, after, if_then_else_}
-use Rattle.common.specs.Follow.{refused≢given}
+use Rattle.common.proofs.Follow.{refused≢given}
 use Rattle.common.specs.Runs.{Table}
 use Rattle.netkat.specs.ListSteps.{Edge}
 use Rattle.aut_steps.specs.Tables.{Limits, Aut}
-use Rattle.aut_steps.specs.ListLaws.{All, all-map}
-use Rattle.aut_steps.specs.Good.{states, kind-grown, first-grown, state-grown}
+use Rattle.aut_steps.specs.ListLaws.{All}
+use Rattle.aut_steps.proofs.ListLaws.{all-map}
+use Rattle.aut_steps.specs.Good.{states}
+use Rattle.aut_steps.proofs.Good.{kind-grown, first-grown, state-grown}
 use Rattle.st_steps.specs.Edges.{edges}
 use Rattle.st_steps.specs.ListGoes.{ListAt}
 use Rattle.delta_steps.specs.Delta.{Store, store, roomT, append, keepList, delta}
-use Rattle.delta_steps.specs.Agree.{Agree, agree-came}
-use Rattle.delta_steps.specs.Noted.{written}
+use Rattle.delta_steps.proofs.Agree.{Agree, agree-came}
+use Rattle.delta_steps.proofs.Noted.{written}
 use Rattle.delta_steps.specs.Worked.{Worked}
-use Rattle.delta_steps.specs.Stored.{edges-length}
-use Rattle.delta_steps.specs.EpsilonReads.{workAll, given-store}
+use Rattle.delta_steps.proofs.Stored.{edges-length}
+use Rattle.delta_steps.specs.EpsilonReads.{workAll}
+use Rattle.delta_steps.proofs.EpsilonReads.{given-store}
 use Rattle.delta_steps.specs.EpsilonDown.{Known}
-use Rattle.delta_steps.specs.DeltaRuns.{Halted, Deltaed}
-use Rattle.delta_steps.specs.DeltaLaws.{delta-goes}
-use Rattle.delta_steps.specs.DeltaReads.{listOperands, enter, together, finishList, list-operands-below, delta-stored, delta-works}
-use Rattle.delta_steps.specs.DeltaDown.{Has, Entered, enter-gives, enter-count, enter-went, same-list-operands}
+use Rattle.delta_steps.proofs.DeltaRuns.{Halted, Deltaed}
+use Rattle.delta_steps.proofs.DeltaLaws.{delta-goes}
+use Rattle.delta_steps.specs.DeltaReads.{listOperands, enter}
+use Rattle.delta_steps.proofs.DeltaReads.{together, finishList, list-operands-below, delta-stored, delta-works}
+use Rattle.delta_steps.specs.DeltaDown.{Has}
+use Rattle.delta_steps.proofs.DeltaDown.{Entered, enter-gives, enter-count, enter-went, same-list-operands}
 use Rattle.aut.specs.Seen.{limitsOf}
 use Rattle.aut.specs.declared.Counts.{Counts}
 use Rattle.aut.specs.declared.Limits.{Limits as Bounds}
 use Rattle.aut_rel.specs.Behind.{Left}
 use Rattle.aut_rel.specs.Seen.{autOf}
 use Rattle.aut_rel.proofs.Order.{in-table}
-use Rattle.aut_stage.specs.Stage.{gave, Post, Stage, all-of, begin, instead, next, stuck}
-use Rattle.aut_stage.specs.OnAut.{autLayer, ready-left}
+use Rattle.aut_stage.specs.Stage.{gave, Post, Stage}
+use Rattle.aut_stage.proofs.Stage.{all-of, begin, instead, next, stuck}
+use Rattle.aut_stage.proofs.OnAut.{autLayer, ready-left}
 use Rattle.aut_stage.specs.OnNodes.{withNodes}
 use Rattle.st.specs.Seen.{RESULT}
 use Rattle.st.specs.declared.Listed.{Listed}
 use Rattle.st.specs.declared.Listed.the-variants as listed
 use Rattle.st_stage.specs.Readings.{listOf, GivesList}
-use Rattle.delta_stage.specs.OnStore.{storeOf, storeLayer, aut-given, aut-refused}
+use Rattle.delta_stage.specs.OnStore.{storeOf, storeLayer}
+use Rattle.delta_stage.proofs.OnStore.{aut-given, aut-refused}
 use Rattle.delta_kinds.specs.Contracts.{PreTogether, togetherOf}
 use Rattle.delta_keep.specs.Contracts.{PreKeep, seenKept, SameSets, PostKeep}
 use Rattle.delta_keep.specs.declared.Kept.{Kept}

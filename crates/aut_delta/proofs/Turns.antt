@@ -7,21 +7,26 @@ use lib.ListN.{length, getD, drop}
 use Rattle.common.specs.Outcome.{Outcome, refused, given, Step, after}
 use Rattle.aut_steps.specs.Tables.{nest, Limits}
 use Rattle.aut_steps.specs.ListLaws.{All}
-use Rattle.aut_steps.specs.Good.{states, nesting, nesting-grown, state-grown}
+use Rattle.aut_steps.specs.Good.{states, nesting}
+use Rattle.aut_steps.proofs.Good.{nesting-grown, state-grown}
 use Rattle.delta_steps.specs.Delta.{countOf, Store, delta}
-use Rattle.delta_steps.specs.Operands.{Below}
+use Rattle.delta_steps.proofs.Operands.{Below}
 use Rattle.delta_steps.specs.Worked.{Worked, Stored}
 use Rattle.delta_steps.specs.Stored.{Went}
-use Rattle.delta_steps.specs.EpsilonReads.{given-store}
-use Rattle.delta_steps.specs.EpsilonDown.{First, first-of, opens}
-use Rattle.delta_steps.specs.DeltaReads.{listOperands, list-operands-below, delta-stored}
-use Rattle.delta_steps.specs.DeltaDown.{Has, HasNot, ListWay, bottom, down, same-list-operands, enters, list-way-state, delta-down, enters-rest, has-more}
+use Rattle.delta_steps.proofs.EpsilonReads.{given-store}
+use Rattle.delta_steps.specs.EpsilonDown.{First}
+use Rattle.delta_steps.proofs.EpsilonDown.{first-of, opens}
+use Rattle.delta_steps.specs.DeltaReads.{listOperands}
+use Rattle.delta_steps.proofs.DeltaReads.{list-operands-below, delta-stored}
+use Rattle.delta_steps.specs.DeltaDown.{Has, HasNot, ListWay, bottom, down, enters}
+use Rattle.delta_steps.proofs.DeltaDown.{same-list-operands, list-way-state, delta-down, enters-rest, has-more}
 use Rattle.aut.specs.Seen.{limitsOf}
 use Rattle.aut.specs.declared.Counts.{Counts}
 use Rattle.aut.specs.declared.Limits.{Limits as Bounds}
 use Rattle.aut_rel.proofs.Order.{in-table}
-use Rattle.aut_stage.specs.Stage as Stages
-use Rattle.aut_stage.specs.Stage.{Post, Stage, Inside, all-of, instead, next, stuck}
+use Rattle.aut_stage.proofs.Stage as Stages
+use Rattle.aut_stage.specs.Stage.{Post, Stage}
+use Rattle.aut_stage.proofs.Stage.{Inside, all-of, instead, next, stuck}
 use Rattle.aut_stage.specs.OnNodes.{withNodes}
 use Rattle.delta_stage.specs.OnStore.{storeOf, storeLayer}
 use Rattle.aut_delta.specs.declared.Down.{Down}

@@ -9,17 +9,22 @@ use lib.Dec.{eqb, ltb}
 use lib.ListN.{length, drop}
 use borrow.Author.Tests.{eqb-true, eqb-false, ltb-true, ltb-false}
 use Rattle.common.specs.Outcome.{Outcome, refused, given, after}
-use Rattle.spp_steps.specs.Laws.{by-test}
+use Rattle.spp_steps.proofs.Laws.{by-test}
 use Rattle.aut_steps.specs.Tables.{nest, Limits}
-use Rattle.aut_steps.specs.ListLaws.{All, all-map}
+use Rattle.aut_steps.specs.ListLaws.{All}
+use Rattle.aut_steps.proofs.ListLaws.{all-map}
 use Rattle.aut_steps.specs.Good.{states, nesting}
 use Rattle.delta_steps.specs.Delta.{countOf, Store}
-use Rattle.delta_steps.specs.Operands.{Below}
+use Rattle.delta_steps.proofs.Operands.{Below}
 use Rattle.delta_steps.specs.Worked.{Worked}
-use Rattle.delta_steps.specs.EpsilonReads.{workAll, given-store}
-use Rattle.delta_steps.specs.EpsilonDown.{First, this, later, first-of, first-open}
-use Rattle.delta_steps.specs.DeltaReads.{listOperands, enter, list-operands-below}
-use Rattle.delta_steps.specs.DeltaDown.{Has, HasNot, ListWay, bottom, down, enter-gives, enter-count, same-list-operands, enters}
+use Rattle.delta_steps.specs.EpsilonReads.{workAll}
+use Rattle.delta_steps.proofs.EpsilonReads.{given-store}
+use Rattle.delta_steps.specs.EpsilonDown.{First, this, later}
+use Rattle.delta_steps.proofs.EpsilonDown.{first-of, first-open}
+use Rattle.delta_steps.specs.DeltaReads.{listOperands, enter}
+use Rattle.delta_steps.proofs.DeltaReads.{list-operands-below}
+use Rattle.delta_steps.specs.DeltaDown.{Has, HasNot, ListWay, bottom, down, enters}
+use Rattle.delta_steps.proofs.DeltaDown.{enter-gives, enter-count, same-list-operands}
 use Rattle.aut.specs.declared.Counts.{Counts}
 use Rattle.aut.specs.declared.Limits.{Limits as Bounds}
 use Rattle.aut_rel.proofs.Order.{in-table}

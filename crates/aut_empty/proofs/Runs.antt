@@ -14,15 +14,18 @@ use Rattle.netkat.specs.Handles as Handles
 use Rattle.netkat.specs.Handles.{Entry}
 use Rattle.sp_steps.specs.Model as Sp
 use Rattle.sp_steps.specs.Laws as SpLaws
-use Rattle.spp_steps.specs.Laws.{by-test, false-true}
+use Rattle.sp_steps.proofs.Laws as SpLawsProofs
+use Rattle.spp_steps.proofs.Laws.{by-test, false-true}
 use Rattle.query_steps.specs.Tables.{Tables}
 use Rattle.query_steps.specs.Search.{capacity, machine, is-empty}
-use Rattle.query_stage.specs.Layer.{tablesOf, queryLayer, PreQuery}
+use Rattle.query_stage.specs.Layer.{tablesOf, PreQuery}
+use Rattle.query_stage.proofs.Layer.{queryLayer}
 use Rattle.aut.specs.Seen.{limitsOf}
 use Rattle.aut.specs.declared.Counts.{Counts}
 use Rattle.aut.specs.declared.Limits.{Limits}
-use Rattle.aut_stage.specs.Stage.{seen, gave, Post, Stage, begin, next, stuck, instead, finish, done, all-of}
-use Rattle.aut_free.specs.Clear.{AtRest}
+use Rattle.aut_stage.specs.Stage.{seen, gave, Post, Stage}
+use Rattle.aut_stage.proofs.Stage.{begin, next, stuck, instead, finish, done, all-of}
+use Rattle.aut_free.proofs.Clear.{AtRest}
 use Rattle.aut_free.proofs.Clearing.{is-clear}
 use Rattle.aut_free.proofs.Free.{clear-tables-rest}
 use Rattle.query_calls.specs.Working.{clearOf, Working}
@@ -182,7 +185,7 @@ module _ {N : ℕ} {l : Limits} {sp t st mem tr s p : List ℕ} {c : Counts} {x 
     P = subst (λ (b : Bool). Puts b p 0 x h p1) (not-false b b-is) Q
 
     at-one : SpLaws.At (table sp (c .sp)) N h
-    at-one = subst (SpLaws.At (table sp (c .sp)) N) (sym one-is) (SpLaws.den-one (W .ready .ordered .sets) N (omega arith) .at)
+    at-one = subst (SpLaws.At (table sp (c .sp)) N) (sym one-is) (SpLawsProofs.den-one (W .ready .ordered .sets) N (omega arith) .at)
 
     abbrev q : List ℕ
     q = set (set p (2 * 0) x) (2 * 0 + 1) h
@@ -191,7 +194,7 @@ module _ {N : ℕ} {l : Limits} {sp t st mem tr s p : List ℕ} {c : Counts} {x 
     seeking = record {
       working = W;
       stack = stack-put p 0 x h (fits-in p 0 (P .0)) (record { entries = λ e m. absurd (no-entry e m); room = omega arith; idle = λ j i. R .pending j }) (R .has) at-one;
-      seen = λ y. subst (λ (f : ℕ → ℕ). SpLaws.At (table sp (c .sp)) N (f y)) (sym none) (SpLaws.zero-at (W .ready .ordered .sets) N (omega arith));
+      seen = λ y. subst (λ (f : ℕ → ℕ). SpLaws.At (table sp (c .sp)) N (f y)) (sym none) (SpLawsProofs.zero-at (W .ready .ordered .sets) N (omega arith));
       spare = λ y w i j. R .ready .resting y w (omega arith) j;
     }
       where

@@ -5,7 +5,8 @@ use lib.ListN.{length}
 use Rattle.netkat.specs.Search as Plain
 use Rattle.query_steps.specs.Tables.{Tables}
 use Rattle.query_steps.specs.Search.{is-empty}
-use Rattle.query_stage.specs.Layer.{Zeroed, queryLayer}
+use Rattle.query_stage.specs.Layer.{Zeroed}
+use Rattle.query_stage.proofs.Layer.{queryLayer}
 use Rattle.aut.specs.Seen.{limitsOf}
 use Rattle.aut.specs.declared.Counts.{Counts}
 use Rattle.aut.specs.declared.Limits.{Limits}

@@ -13,26 +13,31 @@ use Rattle.netkat.specs.Handles as Handles
 use Rattle.netkat.specs.Handles.{Entry, goes, found}
 use Rattle.sp_steps.specs.Model as Sp
 use Rattle.sp_steps.specs.Laws as SpLaws
+use Rattle.sp_steps.proofs.Laws as SpLawsProofs
 use Rattle.sp.specs.declared.SP.{SP}
 use Rattle.sp.specs.declared.Made as sets
 use Rattle.spp_steps.specs.ImageModel as Images
 use Rattle.spp.specs.declared.SPP.{SPP}
 use Rattle.spp.specs.declared.Made as relations
-use Rattle.aut_steps.specs.Good.{state-grown}
+use Rattle.aut_steps.proofs.Good.{state-grown}
 use Rattle.delta_steps.specs.Epsilon.{epsilon}
 use Rattle.delta_steps.specs.Delta.{onAut}
-use Rattle.query_steps.specs.Tables.{Tables, diagrams, onSets, onBase, Later, later-trans}
+use Rattle.query_steps.specs.Tables.{Tables, diagrams, onSets, onBase, Later}
+use Rattle.query_steps.proofs.Tables.{later-trans}
 use Rattle.query_steps.specs.Search.{machine}
-use Rattle.query_stage.specs.Layer.{tablesOf, queryLayer}
+use Rattle.query_stage.specs.Layer.{tablesOf}
+use Rattle.query_stage.proofs.Layer.{queryLayer}
 use Rattle.aut.specs.Seen.{limitsOf}
 use Rattle.aut.specs.declared.Counts.{Counts}
 use Rattle.aut.specs.declared.Limits.{Limits}
 use Rattle.aut_rel.specs.Seen.{autOf}
 use Rattle.aut_eps.specs.Seen.{Asks, Works}
-use Rattle.aut_stage.specs.Stage.{seen, Stage, begin, next, stuck, instead, done, all-of}
+use Rattle.aut_stage.specs.Stage.{seen, Stage}
+use Rattle.aut_stage.proofs.Stage.{begin, next, stuck, instead, done, all-of}
 use Rattle.aut_stage.specs.OnNodes.{withNodes}
 use Rattle.aut_sets.specs.Contracts.{PreSets, PostSets, PreLead, PostHas}
-use Rattle.query_calls.specs.Working.{clearOf, Working, Ran, withSets, SetIn, RelIn}
+use Rattle.query_calls.specs.Working.{clearOf, Working}
+use Rattle.query_calls.proofs.Working.{Ran, withSets, SetIn, RelIn}
 use Rattle.query_calls.proofs.Works.{prepared, asks-epsilon, clear-written, working-written}
 use Rattle.query_calls.proofs.Calls.{asks-sets, asks-lead, sets-refused, union-given, has-given, epsilon-ran, epsilon-stuck}
 use Rattle.aut_empty_walk.specs.declared.Walked.{Walked}
@@ -116,7 +121,7 @@ module _ {N : ℕ} {l : Limits} {sp t st mem tr p s : List ℕ} {c : Counts} {n 
             stage2 = next (queryLayer N l) 0 1088 (ended .post) (none-of 1088) (looks (h .0)) stage1
 
             at-fresh : SpLaws.At (table sp1 k1) N fresh
-            at-fresh = SpLaws.at-ext (later2 .sets) N fresh (R .at)
+            at-fresh = SpLawsProofs.at-ext (later2 .sets) N fresh (R .at)
 
             pub has-asks : PreLead N (diagrams (clearOf sp1 t2 st2 mem tr c2)) s2 fresh (g .0)
             has-asks = asks-lead t2 st2 mem tr c2 (ended .working) (g .0) (ended .post .then .holds) fresh at-fresh
@@ -181,8 +186,8 @@ module _ {N : ℕ} {l : Limits} {sp t st mem tr p s : List ℕ} {c : Counts} {n 
                   at5 y = go (eqb x y)
                     where
                       go : (b : Bool) → SpLaws.At (table sp4 (d .sp)) N (if b then h .0 else seenIn N st y)
-                      go true = SpLaws.at-ext (later4 .sets) N (h .0) (SpLaws.at-ext (ended .post .then .ext .sets) N (h .0) (united .post .then .holds))
-                      go false = SpLaws.at-ext (later4 .sets) N (seenIn N st y) (SpLaws.at-ext (later2 .sets) N (seenIn N st y) (R .seeking .seen y))
+                      go true = SpLawsProofs.at-ext (later4 .sets) N (h .0) (SpLawsProofs.at-ext (ended .post .then .ext .sets) N (h .0) (united .post .then .holds))
+                      go false = SpLawsProofs.at-ext (later4 .sets) N (seenIn N st y) (SpLawsProofs.at-ext (later2 .sets) N (seenIn N st y) (R .seeking .seen y))
 
                   pub expand-goes : PostExpand N l c n x fresh (turned.Goes d m) sp t st mem tr p s sp4 t4 st5 mem4 tr4 p4 s4
                   expand-goes = record {

@@ -9,7 +9,8 @@ use Rattle.netkat.specs.Handles.{goes, found}
 use Rattle.sp_steps.specs.Laws as SpLaws
 use Rattle.aut_steps.specs.Tables.{Limits as StepLimits}
 use Rattle.query_steps.specs.Search.{machine}
-use Rattle.query_stage.specs.Layer.{tablesOf, queryLayer}
+use Rattle.query_stage.specs.Layer.{tablesOf}
+use Rattle.query_stage.proofs.Layer.{queryLayer}
 use Rattle.aut.specs.Seen.{limitsOf}
 use Rattle.aut.specs.declared.Counts.{Counts}
 use Rattle.aut.specs.declared.Limits.{Limits}

@@ -11,17 +11,21 @@ use Rattle.netkat.specs.Handles as Handles
 use Rattle.netkat.specs.Handles.{Entry, goes}
 use Rattle.sp_steps.specs.Model as Sp
 use Rattle.sp_steps.specs.Laws as SpLaws
+use Rattle.sp_steps.proofs.Laws as SpLawsProofs
 use Rattle.sp.specs.declared.SP.{SP}
 use Rattle.sp.specs.declared.Made as sets
 use Rattle.query_steps.specs.Tables.{Tables, onSets}
 use Rattle.query_steps.specs.Search.{machine}
-use Rattle.query_stage.specs.Layer.{tablesOf, queryLayer}
+use Rattle.query_stage.specs.Layer.{tablesOf}
+use Rattle.query_stage.proofs.Layer.{queryLayer}
 use Rattle.aut.specs.Seen.{limitsOf}
 use Rattle.aut.specs.declared.Counts.{Counts}
 use Rattle.aut.specs.declared.Limits.{Limits}
-use Rattle.aut_stage.specs.Stage.{seen, Post, Stage, begin, next, stuck, instead, finish, done, all-of}
+use Rattle.aut_stage.specs.Stage.{seen, Post, Stage}
+use Rattle.aut_stage.proofs.Stage.{begin, next, stuck, instead, finish, done, all-of}
 use Rattle.aut_sets.specs.Contracts.{PreSets, PostSets}
-use Rattle.query_calls.specs.Working.{clearOf, Working, Ran, withSets, SetIn}
+use Rattle.query_calls.specs.Working.{clearOf, Working}
+use Rattle.query_calls.proofs.Working.{Ran, withSets, SetIn}
 use Rattle.query_calls.proofs.Works.{prepared}
 use Rattle.query_calls.proofs.Calls.{asks-sets, sets-refused, difference-given}
 use Rattle.aut_empty_pair.specs.declared.Turned.{Turned}
@@ -86,7 +90,7 @@ module _ {N : ℕ} {l : Limits} {sp t st mem tr p s : List ℕ} {c : Counts} {n 
         seeking = record {
           working = minus .working;
           stack = stack-later (minus .post .then .ext) (stack-pop (R .seeking .stack) (R .some));
-          seen = λ y. SpLaws.at-ext (minus .post .then .ext .sets) N (seenIn N st y) (R .seeking .seen y);
+          seen = λ y. SpLawsProofs.at-ext (minus .post .then .ext .sets) N (seenIn N st y) (R .seeking .seen y);
           spare = R .seeking .spare;
         }
 

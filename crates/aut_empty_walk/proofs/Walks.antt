@@ -13,25 +13,28 @@ use Rattle.netkat.specs.ListSteps.{Edge, edge}
 use Rattle.netkat.specs.Handles as Handles
 use Rattle.netkat.specs.Handles.{Entry}
 use Rattle.sp_steps.specs.Model as Sp
-use Rattle.sp_steps.specs.Laws as SpLaws
+use Rattle.sp_steps.proofs.Laws as SpLaws
 use Rattle.sp.specs.declared.SP.{SP}
 use Rattle.sp.specs.declared.Made as sets
-use Rattle.spp_steps.specs.Laws.{at-ext, by-test}
+use Rattle.spp_steps.proofs.Laws.{at-ext, by-test}
 use Rattle.spp_steps.specs.ImageModel as Images
 use Rattle.spp_steps.specs.ImageModel.{stores}
-use Rattle.aut_steps.specs.Good.{state-grown}
+use Rattle.aut_steps.proofs.Good.{state-grown}
 use Rattle.st_steps.specs.Edges.{edges}
 use Rattle.delta_steps.specs.Delta.{startOf, countOf, listAt}
 use Rattle.delta_stage.specs.OnStore.{storeOf}
 use Rattle.query_steps.specs.Tables.{Tables, makingSets}
 use Rattle.query_steps.specs.Search.{capacity, link, machine}
-use Rattle.query_stage.specs.Layer.{tablesOf, queryLayer}
+use Rattle.query_stage.specs.Layer.{tablesOf}
+use Rattle.query_stage.proofs.Layer.{queryLayer}
 use Rattle.aut.specs.Seen.{limitsOf}
 use Rattle.aut.specs.declared.Counts.{Counts}
 use Rattle.aut.specs.declared.Limits.{Limits}
-use Rattle.aut_stage.specs.Stage.{seen, Stage, begin, next, stuck, instead, done, all-of}
+use Rattle.aut_stage.specs.Stage.{seen, Stage}
+use Rattle.aut_stage.proofs.Stage.{begin, next, stuck, instead, done, all-of}
 use Rattle.aut_sets.specs.Contracts.{PostImage}
-use Rattle.query_calls.specs.Working.{clearOf, Working, Ran, withSets, SetIn, EdgeIn}
+use Rattle.query_calls.specs.Working.{clearOf, Working, EdgeIn}
+use Rattle.query_calls.proofs.Working.{Ran, withSets, SetIn}
 use Rattle.query_calls.proofs.Works.{prepared}
 use Rattle.query_calls.proofs.Calls.{asks-lead, images-refused, push-given}
 use Rattle.aut_empty_walk.specs.declared.Walked.{Walked}

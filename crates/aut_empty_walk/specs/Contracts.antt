@@ -16,7 +16,8 @@ use Rattle.delta_steps.specs.Delta.{listAt}
 use Rattle.delta_stage.specs.OnStore.{storeOf}
 use Rattle.query_steps.specs.Tables.{Tables, makingSets}
 use Rattle.query_steps.specs.Search.{link, machine}
-use Rattle.query_stage.specs.Layer.{tablesOf, queryLayer}
+use Rattle.query_stage.specs.Layer.{tablesOf}
+use Rattle.query_stage.proofs.Layer.{queryLayer}
 use Rattle.aut.specs.Seen.{limitsOf}
 use Rattle.aut.specs.declared.Counts.{Counts}
 use Rattle.aut.specs.declared.Limits.{Limits}

@@ -14,8 +14,10 @@ use Rattle.common.specs.Runs.{Table}
 use Rattle.netkat.specs.Handles.{Entry}
 use Rattle.sp_steps.specs.Model as Sp
 use Rattle.sp_steps.specs.Laws as SpLaws
-use Rattle.spp_steps.specs.Laws.{by-test}
-use Rattle.aut_steps.specs.Good.{states, state-grown}
+use Rattle.sp_steps.proofs.Laws as SpLawsProofs
+use Rattle.spp_steps.proofs.Laws.{by-test}
+use Rattle.aut_steps.specs.Good.{states}
+use Rattle.aut_steps.proofs.Good.{state-grown}
 use Rattle.query_steps.specs.Tables.{Tables, Later}
 use Rattle.query_steps.specs.Search.{capacity}
 use Rattle.query_steps.specs.SearchEnds.{Pending, Entries}
@@ -77,7 +79,7 @@ module _ (p : List ℕ) (n t h : ℕ) (l : 2 * n + 1 < length p) where
   }
 
 pub entries-later : {N : ℕ} {σ τ : Tables} {es : List (Entry ℕ)} → Later σ τ → Entries N σ es → Entries N τ es
-entries-later {N} w f e m = record { known = state-grown (w .grown) (f e m .known); at = SpLaws.at-ext (w .sets) N (e .packets) (f e m .at) }
+entries-later {N} w f e m = record { known = state-grown (w .grown) (f e m .known); at = SpLawsProofs.at-ext (w .sets) N (e .packets) (f e m .at) }
 
 pub stack-later : {N : ℕ} {σ τ : Tables} {p : List ℕ} {n : ℕ} → Later σ τ → Stack N σ p n → Stack N τ p n
 stack-later {N} {σ} {τ} {p} {n} w S = record { entries = entries-later {es = entriesOf p n} w (S .entries); room = S .room; idle = S .idle }

@@ -19,7 +19,7 @@ use Rattle.aut_operands.specs.declared.Shape.{Shape}
 use Rattle.aut_operands.specs.declared.Shape.the-variants.{Many, Both, First, Second}
 use Rattle.aut_operands.specs.Contracts.{shapeOf, Inside}
 use Rattle.aut_operands.proofs.Shapes.{operandsIn, ManyOnly, Shaped, by-kind, shaped}
-use Rattle.aut_eps.specs.Seen.{combineIn}
+use Rattle.aut_eps.proofs.Seen.{combineIn}
 
 -- ---- look and value
 

@@ -9,23 +9,25 @@ use lib.ListN.{length, getD}
 use borrow.Author.Tests.{eq-eqb, ne-eqb}
 use Rattle.common.specs.Packets.{Relation}
 use Rattle.common.specs.Outcome.{Outcome, given, Step, after, Gives, refusal, gives, if_then_else_}
-use Rattle.common.specs.Follow.{given-of}
+use Rattle.common.proofs.Follow.{given-of}
 use Rattle.common.specs.Runs.{Table}
 use Rattle.spp_steps.specs.Model as Spp
-use Rattle.spp_steps.specs.Laws.{Wf, Ext, At, ext-refl, ext-trans, at-ext, at-below, den-mem, den-zero, den-one, den-top}
-use Rattle.spp_steps.specs.Apply.{apply-exact}
+use Rattle.spp_steps.specs.Laws.{Wf, Ext, At}
+use Rattle.spp_steps.proofs.Laws.{ext-refl, ext-trans, at-ext, at-below, den-mem, den-zero, den-one, den-top}
+use Rattle.spp_steps.proofs.Apply.{apply-exact}
 use Rattle.spp.specs.declared.Made.{Made}
 use Rattle.aut_steps.specs.Relations as Rel
-use Rattle.aut_steps.specs.RelationLaws as RelationLaws
-use Rattle.aut_steps.specs.RelationLaws.{Makes, lacks, makes}
+use Rattle.aut_steps.proofs.RelationLaws as RelationLaws
+use Rattle.aut_steps.proofs.RelationLaws.{Makes, lacks, makes}
 use Rattle.aut_steps.specs.Tables.{UNION, XOR, DIFFERENCE, COMPLEMENT, TOP, kindOf, op1, op2, words}
 use Rattle.aut_steps.specs.ListLaws.{All}
 use Rattle.aut_steps.specs.Constructors.{each}
-use Rattle.aut_steps.specs.Scratch.{words-on, words-done, from-0, all-word}
+use Rattle.aut_steps.proofs.Scratch.{words-on, words-done, from-0, all-word}
 use Rattle.delta_steps.specs.Epsilon.{valueOf}
 use Rattle.delta_steps.specs.EpsilonReads.{uniteValues, meetValues, combineOn}
-use Rattle.delta_steps.specs.Labels.{complement-makes}
-use Rattle.aut_rel.specs.Behind.{Left, Backed, left-refl, left-trans, backed-left}
+use Rattle.delta_steps.proofs.Labels.{complement-makes}
+use Rattle.aut_rel.specs.Behind.{Left, Backed}
+use Rattle.aut_rel.proofs.Behind.{left-refl, left-trans, backed-left}
 use Rattle.aut_rel.specs.Seen.{RelateReady, Relates}
 use Rattle.aut_rel.proofs.Each.{Grows, Keeps, makes-gives, each-gives}
 use Rattle.aut_operands.specs.declared.Part.the-variants as part
@@ -33,7 +35,8 @@ use Rattle.aut_operands.specs.declared.Shape.{Shape}
 use Rattle.aut_operands.specs.declared.Shape.the-variants.{Many, Both, First, Second, Alone}
 use Rattle.aut_operands.specs.Contracts.{shapeOf}
 use Rattle.aut_operands.proofs.Shapes.{operandsIn}
-use Rattle.aut_eps.specs.Seen.{ValueAt, manyBy, bothBy, firstBy, aloneBy, combineIn, EachReady, ManyReady, ValuesReady, CombineReady}
+use Rattle.aut_eps.specs.Seen.{ValueAt, manyBy, bothBy, firstBy, aloneBy, EachReady, ManyReady, ValuesReady, CombineReady}
+use Rattle.aut_eps.proofs.Seen.{combineIn}
 use Rattle.aut_eps.proofs.Shapes.{combine-is, operands-are, list-inside}
 
 -- values as they were read

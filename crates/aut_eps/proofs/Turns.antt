@@ -7,28 +7,35 @@ use lib.Dec.{eqb}
 use lib.ListN.{length, length-append}
 use borrow.Author.Tests.{eqb-true, eqb-false}
 use Rattle.common.specs.Outcome.{Outcome, given, after}
-use Rattle.common.specs.Follow.{given-of}
+use Rattle.common.proofs.Follow.{given-of}
 use Rattle.common.specs.Runs.{Table, table, placed}
-use Rattle.spp_steps.specs.Laws.{by-test}
+use Rattle.spp_steps.proofs.Laws.{by-test}
 use Rattle.spp.specs.declared.Made.{Made}
 use Rattle.spp.specs.declared.SPP as Spp
 use Rattle.spp.specs.declared.Made.the-variants.{Node, Full}
 use Rattle.aut_steps.specs.Tables.{UNION, INTERSECT, nest, Limits, Aut, aut, putNodes}
-use Rattle.aut_steps.specs.Facts.{words-length}
-use Rattle.aut_steps.specs.ListLaws.{All, all-map, all-with}
-use Rattle.aut_steps.specs.Good.{states, kind, first, second, members, kind-grown, nesting-grown, state-grown, Good}
+use Rattle.aut_steps.proofs.Facts.{words-length}
+use Rattle.aut_steps.specs.ListLaws.{All}
+use Rattle.aut_steps.proofs.ListLaws.{all-map, all-with}
+use Rattle.aut_steps.specs.Good.{states, kind, first, second, members, Good}
+use Rattle.aut_steps.proofs.Good.{kind-grown, nesting-grown, state-grown}
 use Rattle.delta_steps.specs.Epsilon.{epsilonOf, setWord, keepEpsilon, epsilon}
-use Rattle.delta_steps.specs.Agree.{Agree, agree-came}
-use Rattle.delta_steps.specs.Noted.{Noted, noted-refl, noted-trans, noted-grown, noted-good}
+use Rattle.delta_steps.proofs.Agree.{Agree, agree-came}
+use Rattle.delta_steps.specs.Noted.{Noted}
+use Rattle.delta_steps.proofs.Noted.{noted-refl, noted-trans, noted-grown, noted-good}
 use Rattle.delta_steps.specs.Worked.{Epsilons, Valued}
 use Rattle.delta_steps.specs.EpsilonLaws as Laws
-use Rattle.delta_steps.specs.EpsilonLaws.{Stopped, Epsiloned, epsilon-goes}
-use Rattle.delta_steps.specs.EpsilonReads.{operandsOf, combineOn, operands-below}
-use Rattle.delta_steps.specs.EpsilonDown.{Known, Open, Way, way-end, way-state, way-lower, known-of, epsilon-known, known-means, bottom-run, open-still, same-above, stuck-above, opens, opens-fewer}
+use Rattle.delta_steps.specs.EpsilonLaws.{Epsiloned}
+use Rattle.delta_steps.proofs.EpsilonLaws.{Stopped, epsilon-goes}
+use Rattle.delta_steps.specs.EpsilonReads.{operandsOf, combineOn}
+use Rattle.delta_steps.proofs.EpsilonReads.{operands-below}
+use Rattle.delta_steps.specs.EpsilonDown.{Known, Open, Way}
+use Rattle.delta_steps.proofs.EpsilonDown.{way-end, way-state, way-lower, known-of, epsilon-known, known-means, bottom-run, open-still, same-above, stuck-above, opens, opens-fewer}
 use Rattle.aut.specs.Seen.{limitsOf}
 use Rattle.aut.specs.declared.Counts.{Counts}
 use Rattle.aut.specs.declared.Limits.{Limits as Bounds}
-use Rattle.aut_rel.specs.Behind.{Left, Backed, left-refl, left-trans}
+use Rattle.aut_rel.specs.Behind.{Left, Backed}
+use Rattle.aut_rel.proofs.Behind.{left-refl, left-trans}
 use Rattle.aut_rel.specs.Seen.{autOf, MadeLeft, Ready}
 use Rattle.aut_rel.proofs.Order.{in-table, backed-of, ready-after}
 use Rattle.aut_eps.specs.declared.Kept.{Kept}

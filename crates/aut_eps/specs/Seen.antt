@@ -26,8 +26,6 @@ use Rattle.aut.specs.declared.Limits.{Limits}
 use Rattle.aut_rel.specs.Behind.{Backed}
 use Rattle.aut_rel.specs.Seen.{autOf, MadeLeft, Ready}
 use Rattle.aut_operands.specs.Contracts.{Inside}
-use Rattle.aut_operands.specs.declared.Shape.{Shape}
-use Rattle.aut_operands.specs.declared.Shape.the-variants.{Many, Both, First, Second, Alone}
 use Rattle.aut_eps.specs.declared.Kept.{Kept}
 use Rattle.aut_eps.specs.declared.Kept.the-variants.{Handle, Nothing}
 
@@ -58,13 +56,6 @@ module _ (N kind : ℕ) where
 
   abbrev pub aloneBy : ℕ
   aloneBy = if eqb kind TOP then Rel.topAt N else Rel.zeroAt N
-
-abbrev pub combineIn : ℕ → Shape → ℕ → (ℕ → ℕ) → List ℕ → ℕ → ℕ → Step Table ℕ
-combineIn N Many kind v ys a b t = manyBy N kind v ys t
-combineIn N Both kind v ys a b t = bothBy N kind (v a) (v b) t
-combineIn N First kind v ys a b t = firstBy N kind (v a) t
-combineIn N Second kind v ys a b t = given t (v b)
-combineIn N Alone kind v ys a b t = given t (aloneBy N kind)
 
 pub record EachReady (N : ℕ) (t : Table) (st mem s : List ℕ) (h from k : ℕ) : Type 0 where
   pub backed : Backed N t s

@@ -9,8 +9,9 @@ use lib.ListN.{length, getD, set, length-set}
 use lib.Seq.{ext-getD, getD-set-other}
 use borrow.Author.Tests.{le-leb, lt-leb, leb-true, leb-false}
 use Rattle.common.specs.Outcome.{if_then_else_}
-use Rattle.spp_steps.specs.Laws.{by-test}
-use Rattle.aut_free.specs.Clear.{Beyond, writing, restFrom, clearFrom, clear, AtRest}
+use Rattle.spp_steps.proofs.Laws.{by-test}
+use Rattle.aut_free.specs.Clear.{restFrom, clearFrom, clear}
+use Rattle.aut_free.proofs.Clear.{Beyond, writing, AtRest}
 use Rattle.aut_free.proofs.Words.{set-both}
 
 -- ---- words by state

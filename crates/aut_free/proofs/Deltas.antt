@@ -14,7 +14,7 @@ use Rattle.st_steps.specs.Operations.{ops, complement}
 use Rattle.st_steps.specs.Edges.{edges}
 use Rattle.delta_steps.specs.Epsilon.{setWord, keepEpsilon, uniteAll, meetAll, meetFirst, epsilon-by-kind, epsilon-with, epsilon-by, epsilon}
 use Rattle.delta_steps.specs.Delta.{Store, store, putAut, onAut, roomT, append, listAt, keepList, unionAll, intersectAll, intersectFirst, sequenceList, starList, untilList, dupList, topList, delta-by-kind, delta-with, delta-by, delta}
-use Rattle.aut_free.specs.Alike.{AlikeAut, AlikeStore, AlikeRuns, stops, comes, Respects}
+use Rattle.aut_free.proofs.Alike.{AlikeAut, AlikeStore, AlikeRuns, stops, comes, Respects}
 use Rattle.aut_free.proofs.Runs.{alike-placed, alike-given, alike-if, along, reading, returns, bind, eachOf-respects}
 use Rattle.aut_free.proofs.Words.{kinds, firsts, seconds, nests, epsilons, starts, counts, alike-word}
 use Rattle.aut_free.proofs.Constructors.{on-nodes, on-states, mk-spp-free, mk-top-free, mk-until-free}

@@ -10,7 +10,7 @@ use borrow.Author.Tests.{ltb-true, ltb-false}
 use Rattle.common.specs.Outcome.{Outcome, refused, given, Step}
 use Rattle.common.specs.Runs.{Table, table, placed}
 use Rattle.netkat.specs.ListSteps.{Edge}
-use Rattle.spp_steps.specs.Laws.{by-test}
+use Rattle.spp_steps.proofs.Laws.{by-test}
 use Rattle.spp_steps.specs.ImageModel.{Stores}
 use Rattle.aut_steps.specs.Tables.{Limits, Aut, aut, putStates}
 use Rattle.line_steps.specs.Lines.{Line, make}
@@ -18,8 +18,9 @@ use Rattle.delta_steps.specs.Epsilon.{setWord, epsilon}
 use Rattle.delta_steps.specs.Delta.{Store, store, onAut, listAt, delta}
 use Rattle.query_steps.specs.Tables.{Tables, diagrams, putSets, putBase, putRelations, onSets, onBase, makingSets, makingRelations, liveOf}
 use Rattle.query_steps.specs.Live.{keepIn, keepLives}
-use Rattle.aut_free.specs.Alike.{Framed, AlikeWords, AlikeAut, AlikeStore, AlikeRuns, stops, comes}
-use Rattle.aut_free.specs.Clear.{inAut, inStore, inTables, cleared, Beyond, writing, clear, clearAut, clearStore, clearTables, AtRest}
+use Rattle.aut_free.proofs.Alike.{Framed, AlikeWords, AlikeAut, AlikeStore, AlikeRuns, stops, comes}
+use Rattle.aut_free.specs.Clear.{inAut, inStore, inTables, clear, clearTables}
+use Rattle.aut_free.proofs.Clear.{cleared, Beyond, writing, clearAut, clearStore, AtRest}
 use Rattle.aut_free.proofs.Constructors.{make-free}
 use Rattle.aut_free.proofs.Deltas.{epsilon-alike, on-aut, listAt-same, delta-alike}
 use Rattle.aut_free.proofs.Clearing.{same-words, clear-kept, clear-rest, clear-set, clear-live, clear-beyond, writing-beyond}

@@ -9,7 +9,7 @@ use Rattle.common.specs.Outcome.{Outcome, given, if_then_else_}
 use Rattle.common.specs.Runs.{Table, table}
 use Rattle.aut_steps.specs.Tables.{nest, Limits, stateCap, roomS, roomM, put4, Exprs, exprs}
 use Rattle.aut_steps.specs.Intern.{seek, same2, sameAt, sameL, put, intern0, intern1, intern2, nestL, store, putL, internL}
-use Rattle.aut_free.specs.Alike.{AlikeWords, AlikeStates, AlikeExprs, AlikeRuns, stops, comes, Respects}
+use Rattle.aut_free.proofs.Alike.{AlikeWords, AlikeStates, AlikeExprs, AlikeRuns, stops, comes, Respects}
 use Rattle.aut_free.proofs.Runs.{alike-placed, alike-given, alike-if}
 use Rattle.aut_free.proofs.Words.{kinds, firsts, seconds, nests, alike-put4}
 

@@ -8,7 +8,7 @@ use Rattle.netkat.specs.ListSteps.{Edge, edge, Operations, leadsTo, unite, ente
 use Rattle.aut_steps.specs.Relations as Rel
 use Rattle.aut_steps.specs.Tables.{Limits}
 use Rattle.st_steps.specs.Operations.{ops, complement}
-use Rattle.aut_free.specs.Alike.{AlikeAut, stops, Respects}
+use Rattle.aut_free.proofs.Alike.{AlikeAut, stops, Respects}
 use Rattle.aut_free.proofs.Runs.{returns, test, bind}
 use Rattle.aut_free.proofs.Constructors.{on-nodes, on-states, mk-spp-free, mk-top-free, mk-union-free, mk-intersect-free, mk-difference-free, mk-complement-free, mk-sequence-free}
 

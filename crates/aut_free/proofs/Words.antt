@@ -7,12 +7,12 @@ use lib.Dec.{eqb, ltb}
 use lib.ListN.{length, getD, set, length-set}
 use lib.Seq.{getD-set-same, getD-set-other, set-out}
 use borrow.Author.Tests.{eqb-true, eqb-false, ltb-true, ltb-false}
-use Rattle.spp_steps.specs.Laws.{by-test}
+use Rattle.spp_steps.proofs.Laws.{by-test}
 use Rattle.common.specs.Runs.{Table}
 use Rattle.aut_steps.specs.Tables.{kindOf, op1, op2, nest, put4}
 use Rattle.delta_steps.specs.Epsilon.{epsilonOf, setWord}
 use Rattle.delta_steps.specs.Delta.{startOf, countOf}
-use Rattle.aut_free.specs.Alike.{Framed, AlikeWords, AlikeStates}
+use Rattle.aut_free.proofs.Alike.{Framed, AlikeWords, AlikeStates}
 
 -- ---- reading
 

@@ -13,11 +13,14 @@ use Rattle.common.specs.Runs.{Table, table}
 use Rattle.aut_steps.specs.Tables.{INTERSECT, op1, words, Aut}
 use Rattle.aut_steps.specs.Relations as Rel
 use Rattle.aut_steps.specs.ListLaws.{All}
-use Rattle.aut_steps.specs.Facts.{words-length, words-sets}
-use Rattle.aut_steps.specs.Scratch.{Kept, kept-sets}
-use Rattle.aut_steps.specs.Good.{states, Grown, grown-refl, Good}
-use Rattle.aut_steps.specs.Goes.{Gone, Goes, came}
-use Rattle.aut_steps.specs.Products.{counted}
+use Rattle.aut_steps.proofs.Facts.{words-length, words-sets}
+use Rattle.aut_steps.specs.Scratch.{Kept}
+use Rattle.aut_steps.proofs.Scratch.{kept-sets}
+use Rattle.aut_steps.specs.Good.{states, Grown, Good}
+use Rattle.aut_steps.proofs.Good.{grown-refl}
+use Rattle.aut_steps.specs.Goes.{Gone}
+use Rattle.aut_steps.proofs.Goes.{Goes, came}
+use Rattle.aut_steps.proofs.Products.{counted}
 use Rattle.aut_steps.specs.Constructors as C
 use Rattle.aut_steps.specs.Constructors.{Within, within, beyond, sizes, openAll, countAll, mk-union-n, relations, spp-of}
 use Rattle.aut.specs.declared.Counts.{Counts}
@@ -31,7 +34,8 @@ use Rattle.aut_lists.specs.declared.Counted.{Counted}
 use Rattle.aut_lists.specs.declared.Counted.the-variants as number
 use Rattle.aut_lists.specs.declared.Listed.{Listed}
 use Rattle.aut_lists.specs.declared.Listed.the-variants as listed
-use Rattle.aut_rel.specs.Behind.{LISTS, Left, left-any, left-wide, left-trans, left-kept, kept-left}
+use Rattle.aut_rel.specs.Behind.{LISTS, Left}
+use Rattle.aut_rel.proofs.Behind.{left-any, left-wide, left-trans, left-kept, kept-left}
 use Rattle.aut_rel.specs.Seen.{autOf, seenAut, Beside, LeftBy, Ready, Does, DoesSpp}
 use Rattle.aut_rel.proofs.Join.{beside-more}
 use Rattle.aut_rel.proofs.Order as order
@@ -103,7 +107,7 @@ module _ (N : ℕ) (l : Bounds) (t st mem s : List ℕ) (c : Counts) (k : ℕ) (
             where
               left-by : (r : State) → mk-union-n N (limitsOf l) (words s2 128 n) (autOf t2 st2 mem2 d) ≡ seenAut r t3 st3 mem3 → LeftBy N 256 320 r t3 s2 s3 → LeftBy N 128 448 r t3 s s3
               left-by (state.Is j e) q v =
-                  let g = came (subst (Goes N (limitsOf l) _ (autOf t2 st2 mem2 d)) q (Rattle.aut_steps.specs.UnionLaws.mk-union-n-goes (gone .good) (words s2 128 n) (gone .results))) in
+                  let g = came (subst (Goes N (limitsOf l) _ (autOf t2 st2 mem2 d)) q (Rattle.aut_steps.proofs.UnionLaws.mk-union-n-goes (gone .good) (words s2 128 n) (gone .results))) in
                   left-trans (g .grown .nodes) left-2 (left-wide v (omega arith) (omega arith))
               left-by (state.Refused e) q v = tt
 

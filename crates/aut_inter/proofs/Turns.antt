@@ -6,16 +6,20 @@ use native.Mathlib.Omega.{arith}
 use lib.ListN.{length, getD, set, length-set}
 use Rattle.common.specs.Outcome.{Outcome, refused, given, Step, after}
 use Rattle.common.specs.Runs.{Table, table}
-use Rattle.spp_steps.specs.Laws.{ext-refl}
+use Rattle.spp_steps.proofs.Laws.{ext-refl}
 use Rattle.aut_steps.specs.Tables.{words, Limits, Aut}
-use Rattle.aut_steps.specs.ListLaws.{All, all-append, all-map}
-use Rattle.aut_steps.specs.Facts.{words-length}
-use Rattle.aut_steps.specs.Scratch.{Kept, kept-sets, words-append, words-below}
-use Rattle.aut_steps.specs.Good.{states, Grown, grown-refl, grown-trans, states-grown, state-grown, Good}
-use Rattle.aut_steps.specs.Goes.{Gone, Goes, came}
-use Rattle.aut_steps.specs.Meaning.{Is, HoldsAll}
-use Rattle.aut_steps.specs.Products.{product-states, sizes-grown}
-use Rattle.aut_steps.specs.IntersectLaws.{mk-intersect-n-base-goes}
+use Rattle.aut_steps.specs.ListLaws.{All}
+use Rattle.aut_steps.proofs.ListLaws.{all-append, all-map}
+use Rattle.aut_steps.proofs.Facts.{words-length}
+use Rattle.aut_steps.specs.Scratch.{Kept}
+use Rattle.aut_steps.proofs.Scratch.{kept-sets, words-append, words-below}
+use Rattle.aut_steps.specs.Good.{states, Grown, Good}
+use Rattle.aut_steps.proofs.Good.{grown-refl, grown-trans, states-grown, state-grown}
+use Rattle.aut_steps.specs.Goes.{Gone}
+use Rattle.aut_steps.proofs.Goes.{Goes, came}
+use Rattle.aut_steps.proofs.Meaning.{Is, HoldsAll}
+use Rattle.aut_steps.proofs.Products.{product-states, sizes-grown}
+use Rattle.aut_steps.proofs.IntersectLaws.{mk-intersect-n-base-goes}
 use Rattle.aut_steps.specs.Constructors as C
 use Rattle.aut_steps.specs.Constructors.{product, sizes, mk-intersect-n-base}
 use Rattle.aut.specs.declared.Counts.{Counts}
@@ -24,7 +28,8 @@ use Rattle.aut.specs.declared.State.{State}
 use Rattle.aut.specs.declared.State.the-variants as state
 use Rattle.aut.specs.Seen.{limitsOf}
 use Rattle.aut_lists.specs.Seen.{ProductReady, Products}
-use Rattle.aut_rel.specs.Behind.{LISTS, Left, left-refl, left-wide, left-trans, left-kept, kept-left, words-before}
+use Rattle.aut_rel.specs.Behind.{LISTS, Left}
+use Rattle.aut_rel.proofs.Behind.{left-refl, left-wide, left-trans, left-kept, kept-left, words-before}
 use Rattle.aut_rel.specs.Seen.{autOf, seenAut, Beside, LeftBy, Ready, Does}
 use Rattle.aut_rel.proofs.Order as order
 use Rattle.aut_rel.proofs.Order.{ready-after}

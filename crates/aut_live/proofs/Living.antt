@@ -10,31 +10,34 @@ use lib.ListN.{length, getD, set, length-set}
 use lib.Seq.{getD-set-same, getD-set-other, set-out}
 use borrow.Author.Tests.{eqb-true, eqb-false, ltb-true, ltb-false, lt-ltb, le-ltb}
 use Rattle.common.specs.Outcome.{Outcome, refused, given, Step, return, after, if_then_else_}
-use Rattle.common.specs.Follow.{given-of}
+use Rattle.common.proofs.Follow.{given-of}
 use Rattle.common.specs.Runs.{Table, table}
 use Rattle.sp_steps.specs.Model as Sp
 use Rattle.sp_steps.specs.Laws as SpLaws
-use Rattle.spp_steps.specs.Laws.{by-test}
+use Rattle.spp_steps.proofs.Laws.{by-test}
 use Rattle.aut_steps.specs.Good.{states}
 use Rattle.aut_steps.specs.Tables.{putStates}
 use Rattle.delta_steps.specs.Epsilon.{setWord}
 use Rattle.delta_steps.specs.Delta.{store}
 use Rattle.query_steps.specs.Tables.{Tables, putBase, liveOf}
 use Rattle.query_steps.specs.Search.{capacity}
-use Rattle.query_steps.specs.Steps.{ends-gives}
+use Rattle.query_steps.proofs.Steps.{ends-gives}
 use Rattle.query_steps.specs.Live as M
 use Rattle.query_steps.specs.Live.{Found, found, work, takes, keepIn, keepLives, live-sets, live-anew, live-packets}
-use Rattle.query_steps.specs.ExploreLaws as Explores
-use Rattle.query_steps.specs.ExploreLaws.{explore-ends}
-use Rattle.query_steps.specs.SettleLaws as Settles
-use Rattle.query_steps.specs.LiveLaws as LiveLaws
-use Rattle.query_steps.specs.LiveLaws.{live-goes}
-use Rattle.query_stage.specs.Layer.{Zeroed, tablesOf, Leaves, query-ready, queryLayer, PreQuery}
+use Rattle.query_steps.proofs.ExploreLaws as Explores
+use Rattle.query_steps.proofs.ExploreLaws.{explore-ends}
+use Rattle.query_steps.proofs.SettleLaws as Settles
+use Rattle.query_steps.proofs.LiveLaws as LiveLaws
+use Rattle.query_steps.proofs.LiveLaws.{live-goes}
+use Rattle.query_stage.specs.Layer.{Zeroed, tablesOf, PreQuery}
+use Rattle.query_stage.proofs.Layer.{Leaves, query-ready, queryLayer}
 use Rattle.aut.specs.Seen.{limitsOf}
 use Rattle.aut.specs.declared.Counts.{Counts}
 use Rattle.aut.specs.declared.Limits.{Limits}
-use Rattle.aut_stage.specs.Stage.{Stage, begin, next, instead, done, all-of}
-use Rattle.aut_free.specs.Clear.{clear, clearTables, AtRest}
+use Rattle.aut_stage.specs.Stage.{Stage}
+use Rattle.aut_stage.proofs.Stage.{begin, next, instead, done, all-of}
+use Rattle.aut_free.specs.Clear.{clear, clearTables}
+use Rattle.aut_free.proofs.Clear.{AtRest}
 use Rattle.aut_free.proofs.Clearing.{clear-rest, is-clear}
 use Rattle.aut_free.proofs.Free.{clear-keepLives}
 use Rattle.query_calls.specs.Working.{clearOf}

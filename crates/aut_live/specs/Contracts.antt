@@ -7,7 +7,8 @@ use Rattle.common.specs.Outcome.{refused}
 use Rattle.sp_steps.specs.Laws as SpLaws
 use Rattle.query_steps.specs.Tables.{Tables}
 use Rattle.query_steps.specs.Live.{found, live-sets, live-packets}
-use Rattle.query_stage.specs.Layer.{Zeroed, queryLayer}
+use Rattle.query_stage.specs.Layer.{Zeroed}
+use Rattle.query_stage.proofs.Layer.{queryLayer}
 use Rattle.aut.specs.Seen.{limitsOf}
 use Rattle.aut.specs.declared.Counts.{Counts}
 use Rattle.aut.specs.declared.Limits.{Limits}

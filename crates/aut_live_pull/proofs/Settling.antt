@@ -15,9 +15,11 @@ use Rattle.netkat.specs.Lists.{State, Transition}
 use Rattle.netkat.specs.ListSteps.{Edge, Are}
 use Rattle.sp_steps.specs.Model as Sp
 use Rattle.sp_steps.specs.Laws as SpLaws
+use Rattle.sp_steps.proofs.Laws as SpLawsProofs
 use Rattle.sp.specs.declared.SP.{SP}
 use Rattle.sp.specs.declared.Made as sets
-use Rattle.spp_steps.specs.Laws.{At, by-test}
+use Rattle.spp_steps.specs.Laws.{At}
+use Rattle.spp_steps.proofs.Laws.{by-test}
 use Rattle.spp_steps.specs.ImageModel as Images
 use Rattle.aut_steps.specs.Tables as Aut
 use Rattle.st_steps.specs.Edges.{edges}
@@ -27,15 +29,18 @@ use Rattle.query_steps.specs.Tables.{Tables, diagrams, onSets, makingSets}
 use Rattle.query_steps.specs.Search.{capacity}
 use Rattle.query_steps.specs.Live as M
 use Rattle.query_steps.specs.Live.{liveAt, work, labelTo}
-use Rattle.query_stage.specs.Layer.{tablesOf, queryLayer}
+use Rattle.query_stage.specs.Layer.{tablesOf}
+use Rattle.query_stage.proofs.Layer.{queryLayer}
 use Rattle.aut.specs.Seen.{limitsOf}
 use Rattle.aut.specs.declared.Counts.{Counts}
 use Rattle.aut.specs.declared.Limits.{Limits}
-use Rattle.aut_stage.specs.Stage.{Stage, begin, next, instead, done, all-of}
+use Rattle.aut_stage.specs.Stage.{Stage}
+use Rattle.aut_stage.proofs.Stage.{begin, next, instead, done, all-of}
 use Rattle.aut_sets.specs.Contracts.{PreSets, PostSets, PreLead, PostImage}
 use Rattle.aut_free.specs.Clear.{clear, clearTables}
 use Rattle.aut_free.proofs.Clearing.{clear-kept}
-use Rattle.query_calls.specs.Working.{clearOf, Working, Ran, withSets, SetIn}
+use Rattle.query_calls.specs.Working.{clearOf, Working}
+use Rattle.query_calls.proofs.Working.{Ran, withSets, SetIn}
 use Rattle.query_calls.proofs.Calls.{asks-lead, asks-sets, pull-given, images-refused, union-given, sets-refused}
 use Rattle.query_calls.proofs.Works.{clear-written, working-written}
 use Rattle.aut_live_words.specs.declared.Room.{Room}
@@ -149,7 +154,7 @@ module _ (sp t st mem tr : List ℕ) (c : Counts) {N : ℕ} {l : Limits} {s p : 
     held-sets = record {
       working = W;
       marked = H .marked;
-      sets = λ x k. SpLaws.at-ext e N (workOf st x - 1) (H .sets x k);
+      sets = λ x k. SpLawsProofs.at-ext e N (workOf st x - 1) (H .sets x k);
       rest = H .rest;
       todo = H .todo;
       after = H .after;

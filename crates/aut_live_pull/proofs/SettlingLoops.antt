@@ -9,27 +9,30 @@ use lib.ListN.{length, getD, set, length-set}
 use lib.Seq.{getD-set-same, getD-set-other}
 use borrow.Author.Tests.{eqb-true, eqb-false, ltb-true, ltb-false, lt-ltb}
 use Rattle.common.specs.Packets.{Set, packets, any}
-use Rattle.common.specs.PacketLaws.{any-of}
+use Rattle.common.proofs.PacketLaws.{any-of}
 use Rattle.common.specs.Outcome.{Outcome, refused, given, after}
-use Rattle.netkat.specs.Laws.Live.{amount}
-use Rattle.netkat.specs.Laws.Tally.{tally, total}
+use Rattle.netkat.proofs.Laws.Live.{amount}
+use Rattle.netkat.proofs.Laws.Tally.{tally, total}
 use Rattle.sp_steps.specs.Model as Sp
-use Rattle.spp_steps.specs.Laws.{by-test}
+use Rattle.spp_steps.proofs.Laws.{by-test}
 use Rattle.aut_steps.specs.Tables as Aut
 use Rattle.delta_steps.specs.Delta.{countOf, Store}
 use Rattle.delta_steps.specs.Worked.{Worked}
 use Rattle.query_steps.specs.Tables.{Tables}
 use Rattle.query_steps.specs.Search.{capacity}
-use Rattle.query_steps.specs.Steps.{Ends, comes}
+use Rattle.query_steps.proofs.Steps.{Ends, comes}
 use Rattle.query_steps.specs.Live as M
 use Rattle.query_steps.specs.Live.{Work, work, takes}
-use Rattle.query_steps.specs.ExploreLaws.{any-mem, Linked}
-use Rattle.query_steps.specs.SettleLaws.{reached, stepsTo, Pulls, PullsFrom, all-ends, none-left, take-next, settle-more}
-use Rattle.query_stage.specs.Layer.{tablesOf, queryLayer}
+use Rattle.query_steps.specs.ExploreLaws.{Linked}
+use Rattle.query_steps.proofs.ExploreLaws.{any-mem}
+use Rattle.query_steps.proofs.SettleLaws.{reached, stepsTo, Pulls, PullsFrom, all-ends, none-left, take-next, settle-more}
+use Rattle.query_stage.specs.Layer.{tablesOf}
+use Rattle.query_stage.proofs.Layer.{queryLayer}
 use Rattle.aut.specs.Seen.{limitsOf}
 use Rattle.aut.specs.declared.Counts.{Counts}
 use Rattle.aut.specs.declared.Limits.{Limits}
-use Rattle.aut_stage.specs.Stage.{Stage, begin, next, instead, done, all-of}
+use Rattle.aut_stage.specs.Stage.{Stage}
+use Rattle.aut_stage.proofs.Stage.{begin, next, instead, done, all-of}
 use Rattle.aut_free.specs.Clear.{clearTables}
 use Rattle.query_calls.specs.Working.{clearOf}
 use Rattle.aut_live_words.specs.declared.Walked.{Walked}

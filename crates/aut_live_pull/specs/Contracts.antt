@@ -9,8 +9,9 @@ use Rattle.query_steps.specs.Tables.{Tables}
 use Rattle.query_steps.specs.Live as M
 use Rattle.query_steps.specs.Live.{work, takes}
 use Rattle.query_steps.specs.ExploreLaws.{Linked}
-use Rattle.query_steps.specs.SettleLaws.{Pulls}
-use Rattle.query_stage.specs.Layer.{tablesOf, queryLayer}
+use Rattle.query_steps.proofs.SettleLaws.{Pulls}
+use Rattle.query_stage.specs.Layer.{tablesOf}
+use Rattle.query_stage.proofs.Layer.{queryLayer}
 use Rattle.aut.specs.Seen.{limitsOf}
 use Rattle.aut.specs.declared.Counts.{Counts}
 use Rattle.aut.specs.declared.Limits.{Limits}

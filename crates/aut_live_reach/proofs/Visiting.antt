@@ -18,7 +18,7 @@ use Rattle.spp_steps.specs.ImageModel.{stores}
 use Rattle.spp.specs.declared.SPP.{SPP}
 use Rattle.spp.specs.declared.Made as relations
 use Rattle.st_steps.specs.Edges.{edges}
-use Rattle.st_steps.specs.Places.{edgeAt}
+use Rattle.st_steps.proofs.Places.{edgeAt}
 use Rattle.delta_steps.specs.Epsilon.{epsilon}
 use Rattle.delta_steps.specs.Delta.{onAut, startOf, countOf, listAt, delta}
 use Rattle.delta_stage.specs.OnStore.{storeOf}
@@ -26,13 +26,15 @@ use Rattle.query_steps.specs.Tables.{Tables, onBase, makingSets}
 use Rattle.query_steps.specs.Search.{capacity}
 use Rattle.query_steps.specs.Live as M
 use Rattle.query_steps.specs.Live.{Visit, found, liveAt}
-use Rattle.query_stage.specs.Layer.{tablesOf, queryLayer}
+use Rattle.query_stage.specs.Layer.{tablesOf}
+use Rattle.query_stage.proofs.Layer.{queryLayer}
 use Rattle.aut.specs.Seen.{limitsOf}
 use Rattle.aut.specs.declared.Counts.{Counts}
 use Rattle.aut.specs.declared.Limits.{Limits}
 use Rattle.aut_rel.specs.Seen.{autOf}
 use Rattle.aut_eps.specs.Seen.{Asks, Works}
-use Rattle.aut_stage.specs.Stage.{Stage, begin, next, instead, done, all-of}
+use Rattle.aut_stage.specs.Stage.{Stage}
+use Rattle.aut_stage.proofs.Stage.{begin, next, instead, done, all-of}
 use Rattle.aut_stage.specs.OnNodes.{withNodes}
 use Rattle.aut_sets.specs.Contracts.{PreImage, PostImage}
 use Rattle.aut_delta.specs.Contracts.{PreDelta, PostDelta}
@@ -40,7 +42,8 @@ use Rattle.aut_delta.specs.declared.Worked.{Worked}
 use Rattle.aut_delta.specs.declared.Worked.the-variants as worked
 use Rattle.aut_free.specs.Clear.{clear, clearTables}
 use Rattle.aut_free.proofs.Clearing.{clear-kept}
-use Rattle.query_calls.specs.Working.{clearOf, Ran, withSets, SetIn, RelIn, ListIn}
+use Rattle.query_calls.specs.Working.{clearOf, ListIn}
+use Rattle.query_calls.proofs.Working.{Ran, withSets, SetIn, RelIn}
 use Rattle.query_calls.proofs.Works.{prepared, asks-epsilon, clear-written}
 use Rattle.query_calls.proofs.Calls.{asks-image, bwd-given, images-refused, epsilon-ran, epsilon-stuck, delta-ran, delta-stuck}
 use Rattle.aut_live_words.specs.declared.Room.{Room}

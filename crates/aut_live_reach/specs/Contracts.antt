@@ -8,7 +8,7 @@ use Rattle.query_steps.specs.Tables.{Tables}
 use Rattle.query_steps.specs.Search.{capacity}
 use Rattle.query_steps.specs.Live as M
 use Rattle.query_steps.specs.Live.{liveAt, found}
-use Rattle.query_stage.specs.Layer.{queryLayer}
+use Rattle.query_stage.proofs.Layer.{queryLayer}
 use Rattle.aut.specs.Seen.{limitsOf}
 use Rattle.aut.specs.declared.Counts.{Counts}
 use Rattle.aut.specs.declared.Limits.{Limits}

@@ -10,26 +10,29 @@ use lib.ListN.{length, getD, set, length-set}
 use lib.Seq.{getD-set-same, getD-set-other}
 use borrow.Author.Tests.{eqb-true, eqb-false, ltb-true, ltb-false, lt-ltb, le-ltb}
 use Rattle.common.specs.Packets.{any}
-use Rattle.common.specs.PacketLaws.{any-of}
+use Rattle.common.proofs.PacketLaws.{any-of}
 use Rattle.common.specs.Outcome.{refused, given, if_then_else_}
 use Rattle.common.specs.Runs.{table}
 use Rattle.netkat.specs.ListSteps.{Edge}
 use Rattle.sp_steps.specs.Model as Sp
 use Rattle.sp_steps.specs.Laws as SpLaws
-use Rattle.spp_steps.specs.Laws.{by-test}
-use Rattle.st_steps.specs.Places.{putEdge, put-length}
+use Rattle.sp_steps.proofs.Laws as SpLawsProofs
+use Rattle.spp_steps.proofs.Laws.{by-test}
+use Rattle.st_steps.specs.Places.{putEdge}
+use Rattle.st_steps.proofs.Places.{put-length}
 use Rattle.aut_steps.specs.Good.{states}
 use Rattle.query_steps.specs.Tables.{Tables}
 use Rattle.query_steps.specs.Search.{capacity}
 use Rattle.query_steps.specs.Live as M
 use Rattle.query_steps.specs.Live.{liveAt}
-use Rattle.query_steps.specs.ExploreLaws.{any-mem}
+use Rattle.query_steps.proofs.ExploreLaws.{any-mem}
 use Rattle.query_stage.specs.Layer.{tablesOf}
 use Rattle.aut.specs.declared.Counts.{Counts}
 use Rattle.aut.specs.declared.Limits.{Limits}
 use Rattle.aut_free.specs.Clear.{clear}
 use Rattle.aut_free.proofs.Clearing.{clear-set, clear-length}
-use Rattle.query_calls.specs.Working.{Working, Unwritten}
+use Rattle.query_calls.specs.Working.{Working}
+use Rattle.query_calls.proofs.Working.{Unwritten}
 use Rattle.query_calls.proofs.Works.{working-written}
 use Rattle.aut_live_words.specs.declared.Room.the-variants as room
 use Rattle.aut_live_words.specs.Work.{workOf, liveBy, seconds, Held, Doubled, Reaches, there, new, full, Enqueues, none, one, over}
@@ -110,7 +113,7 @@ module _ {N : ℕ} {l : Limits} {σ τ : Tables} {s s′ p : List ℕ} {n m : �
   held-ran H W e u = record {
     working = W;
     marked = λ x. H .marked x ∙ ap (ltb 0) (sym (work-unwritten σ τ u x));
-    sets = λ x a. subst (λ (w : ℕ). SpLaws.At (τ .sets) N (w - 1)) (sym (work-unwritten σ τ u x)) (SpLaws.at-ext e N (workOf (σ .base .aut .states .words) x - 1) (H .sets x (omega (arith, work-unwritten σ τ u x))));
+    sets = λ x a. subst (λ (w : ℕ). SpLaws.At (τ .sets) N (w - 1)) (sym (work-unwritten σ τ u x)) (SpLawsProofs.at-ext e N (workOf (σ .base .aut .states .words) x - 1) (H .sets x (omega (arith, work-unwritten σ τ u x))));
     rest = λ x w a b c. u x w a b ∙ H .rest x w a b c;
     todo = H .todo;
     after = H .after;
@@ -247,7 +250,7 @@ module _ {N : ℕ} {l : Limits} {sp t mem tr : List ℕ} {c : Counts} {s : List 
     held = record {
       working = working-written sp t st mem tr c y 9 (Sp.zeroAt N + 1) (omega arith) (omega arith) k (H .working);
       marked = λ x. ap (any (eqb x)) (seconds-new p n y f) ∙ any-behind (eqb x) (seconds p 0 n) y ∙ marked-set H y (Sp.zeroAt N) k x;
-      sets = sets-set H y (Sp.zeroAt N) k (SpLaws.zero-at (H .working .ready .ordered .sets) N (omega arith));
+      sets = sets-set H y (Sp.zeroAt N) k (SpLawsProofs.zero-at (H .working .ready .ordered .sets) N (omega arith));
       rest = rest-set H y (Sp.zeroAt N + 1);
       todo = λ i u. put-other p n y y (2 * i) (λ q. omega arith) (λ q. omega arith) ∙ H .todo i (omega arith);
       after = λ i u. put-other p n y y (2 * i + 1) (λ q. omega arith) (λ q. omega arith) ∙ H .after i (omega arith);

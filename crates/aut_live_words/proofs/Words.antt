@@ -9,9 +9,10 @@ use lib.Seq.{getD-set-same, getD-set-other}
 use borrow.Author.Tests.{eqb-true, eqb-false}
 use Rattle.netkat.specs.ListSteps.{Edge}
 use Rattle.sp_steps.specs.Model as Sp
-use Rattle.spp_steps.specs.Laws.{by-test}
+use Rattle.spp_steps.proofs.Laws.{by-test}
 use Rattle.st_steps.specs.Edges.{edges}
-use Rattle.st_steps.specs.Places.{edgeAt, putEdge, edges-on, edges-done, seekEdge, seekTarget}
+use Rattle.st_steps.specs.Places.{putEdge, seekEdge, seekTarget}
+use Rattle.st_steps.proofs.Places.{edgeAt, edges-on, edges-done}
 use Rattle.delta_steps.specs.Delta.{startOf, countOf}
 use Rattle.query_steps.specs.Search.{capacity}
 use Rattle.aut_live_words.specs.declared.Room.{Room}

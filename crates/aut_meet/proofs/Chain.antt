@@ -6,16 +6,18 @@ use Prim.Native.Nat.{ℕ, zero, suc, _+_, _*_, _-_, _≤_, _<_}
 use native.Mathlib.Omega.{arith}
 use lib.ListN.{length, getD}
 use Rattle.common.specs.Outcome.{Outcome, refused, given, Step, after}
-use Rattle.common.specs.Follow.{given-of}
+use Rattle.common.proofs.Follow.{given-of}
 use Rattle.common.specs.Runs.{Table, table, placed}
-use Rattle.spp_steps.specs.Laws.{ext-refl, den-top}
+use Rattle.spp_steps.proofs.Laws.{ext-refl, den-top}
 use Rattle.spp.specs.declared.SPP as Spp
 use Rattle.aut_steps.specs.Tables.{INTERSECT, words, Aut, aut, putNodes}
 use Rattle.aut_steps.specs.Relations as Rel
-use Rattle.aut_steps.specs.ListLaws.{All, all-map, all-sorted}
+use Rattle.aut_steps.specs.ListLaws.{All}
+use Rattle.aut_steps.proofs.ListLaws.{all-map, all-sorted}
 use Rattle.aut_steps.specs.Lists.{sorted}
-use Rattle.aut_steps.specs.Good.{Good, grown-refl}
-use Rattle.aut_steps.specs.Goes.{good-nodes}
+use Rattle.aut_steps.specs.Good.{Good}
+use Rattle.aut_steps.proofs.Good.{grown-refl}
+use Rattle.aut_steps.proofs.Goes.{good-nodes}
 use Rattle.aut_steps.specs.Constructors as C
 use Rattle.aut_steps.specs.Constructors.{met, each, meetOne, meetFinish, Within, within, beyond, openAll, meetOpened}
 use Rattle.aut.specs.declared.Counts.{Counts}
@@ -26,7 +28,8 @@ use Rattle.aut.specs.Seen.{limitsOf}
 use Rattle.aut_lists.specs.Seen.{OpenReady, Extends, listedOf, listedMost, SortReady, Sorts}
 use Rattle.aut_lists.specs.declared.Listed.{Listed}
 use Rattle.aut_lists.specs.declared.Listed.the-variants as listed
-use Rattle.aut_rel.specs.Behind.{LISTS, Left, left-wide, left-trans, left-kept, kept-left}
+use Rattle.aut_rel.specs.Behind.{LISTS, Left}
+use Rattle.aut_rel.proofs.Behind.{left-wide, left-trans, left-kept, kept-left}
 use Rattle.aut_rel.specs.Seen.{autOf, seenAut, Beside, SameNodes, LeftBy, Ready, Does}
 use Rattle.aut_rel.proofs.Join.{same-left, beside-more}
 use Rattle.aut_rel.proofs.Order as order

@@ -8,20 +8,25 @@ use lib.Dec.{eqb}
 use lib.ListN.{length, getD, set, length-set}
 use borrow.Author.Tests.{eq-eqb, ne-eqb, eqb-true}
 use Rattle.common.specs.Outcome.{Outcome, refused, given, Step, return, after, _>>=_, Gives, gives, if_then_else_}
-use Rattle.common.specs.Follow.{call, branch}
+use Rattle.common.proofs.Follow.{call, branch}
 use Rattle.common.specs.Runs.{Table, table, placed}
-use Rattle.spp_steps.specs.Laws.{Wf, At, ext-refl, at-ext, den-mem}
+use Rattle.spp_steps.specs.Laws.{Wf, At}
+use Rattle.spp_steps.proofs.Laws.{ext-refl, at-ext, den-mem}
 use Rattle.spp.specs.declared.SPP as Spp
 use Rattle.aut_steps.specs.Tables.{SPP, TOP, INTERSECT, kindOf, op1, words, Limits, Aut, aut, exprs, Exprs, putStates, putExprs, onStates, onExprs}
 use Rattle.aut_steps.specs.Relations as Rel
-use Rattle.aut_steps.specs.RelationLaws.{intersect-made}
-use Rattle.aut_steps.specs.ListLaws.{All, all-append}
-use Rattle.aut_steps.specs.Facts.{words-length}
-use Rattle.aut_steps.specs.Scratch.{Kept, kept-refl, kept-sets, words-append}
+use Rattle.aut_steps.proofs.RelationLaws.{intersect-made}
+use Rattle.aut_steps.specs.ListLaws.{All}
+use Rattle.aut_steps.proofs.ListLaws.{all-append}
+use Rattle.aut_steps.proofs.Facts.{words-length}
+use Rattle.aut_steps.specs.Scratch.{Kept}
+use Rattle.aut_steps.proofs.Scratch.{kept-refl, kept-sets, words-append}
 use Rattle.aut_steps.specs.Intern.{internL}
-use Rattle.aut_steps.specs.Good.{states, states-grown, Good}
-use Rattle.aut_steps.specs.Goes.{Gone, Goes, came, goes-return, placed-map}
-use Rattle.aut_steps.specs.StateLaws.{mk-spp-goes}
+use Rattle.aut_steps.specs.Good.{states, Good}
+use Rattle.aut_steps.proofs.Good.{states-grown}
+use Rattle.aut_steps.specs.Goes.{Gone}
+use Rattle.aut_steps.proofs.Goes.{Goes, came, goes-return, placed-map}
+use Rattle.aut_steps.proofs.StateLaws.{mk-spp-goes}
 use Rattle.aut_steps.specs.Constructors as C
 use Rattle.aut_steps.specs.Constructors.{met, each, meetOne, addLast, meetFinish, mk-spp, mk-top}
 use Rattle.aut.specs.declared.Counts.{Counts}
@@ -30,7 +35,8 @@ use Rattle.aut.specs.declared.State.{State}
 use Rattle.aut.specs.declared.State.the-variants.{Is, Refused}
 use Rattle.aut.specs.Seen as Put
 use Rattle.aut.specs.Seen.{limitsOf, Interned, seenState, ListReady}
-use Rattle.aut_rel.specs.Behind.{LISTS, Left, left-refl, left-any, left-kept, words-behind}
+use Rattle.aut_rel.specs.Behind.{LISTS, Left}
+use Rattle.aut_rel.proofs.Behind.{left-refl, left-any, left-kept, words-behind}
 use Rattle.aut_rel.specs.Seen.{RelAt, autOf, seenAut, Beside, SameNodes}
 use Rattle.aut_rel.proofs.Order as order
 use Rattle.aut_rel.proofs.Each.{Grows, Keeps, makes-gives}

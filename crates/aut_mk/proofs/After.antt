@@ -6,7 +6,8 @@ use lib.ListN.{length}
 use Rattle.common.specs.Outcome.{Step}
 use Rattle.common.specs.Runs.{table}
 use Rattle.aut_steps.specs.Tables.{Limits, Aut}
-use Rattle.aut_steps.specs.Goes.{Gone, Goes, came}
+use Rattle.aut_steps.specs.Goes.{Gone}
+use Rattle.aut_steps.proofs.Goes.{Goes, came}
 use Rattle.aut.specs.Seen.{limitsOf}
 use Rattle.aut.specs.declared.Counts.{Counts}
 use Rattle.aut.specs.declared.Limits.{Limits as Bounds}

@@ -11,7 +11,8 @@ use Rattle.aut_steps.specs.Relations as Rel
 use Rattle.aut_steps.specs.Tables.{SEQUENCE, kindOf, op1, op2, nest, Limits, Aut}
 use Rattle.aut_steps.specs.Kinds.{form}
 use Rattle.aut_steps.specs.Constructors.{is-relation, sequence-with, sequence-by}
-use Rattle.aut_steps.specs.Good.{states, Grown, Two, Good, ok-as, kind-grown, second-grown}
+use Rattle.aut_steps.specs.Good.{states, Grown, Two, Good}
+use Rattle.aut_steps.proofs.Good.{ok-as, kind-grown, second-grown}
 use Rattle.aut_rel.proofs.Order.{in-table}
 use Rattle.aut_mk.specs.Seen.{Chain, top, below, Nested, Walks, Ends, Links}
 

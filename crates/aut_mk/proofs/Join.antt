@@ -12,7 +12,7 @@ use Rattle.aut_steps.specs.Relations as Rel
 use Rattle.aut_steps.specs.Tables.{SPP, XOR, DIFFERENCE, SEQUENCE, STAR, TOP, kindOf, op1, Limits, Aut, putStates, onStates}
 use Rattle.aut_steps.specs.Intern.{intern1, intern2}
 use Rattle.aut_steps.specs.Constructors.{relations, spp-of, mk-spp, mk-top, mk-xor, mk-difference, mk-star}
-use Rattle.aut_steps.specs.StateLaws as StateLaws
+use Rattle.aut_steps.proofs.StateLaws as StateLaws
 use Rattle.aut.specs.Seen.{seenPut, Fits, Ready1, Ready2}
 use Rattle.aut.specs.declared.Counts.{Counts}
 use Rattle.aut.specs.declared.Limits.{Limits as Bounds}
@@ -23,7 +23,8 @@ use Rattle.cache.specs.Cache.{Sound}
 use Rattle.spp.specs.Seen.{seen, Asked, Noted, Answer}
 use Rattle.spp.specs.declared.Made.{Made}
 use Rattle.spp.specs.declared.Made.the-variants.{Node, Full}
-use Rattle.aut_rel.specs.Behind.{LISTS, Readable, left-refl, lent, lent-is, back, left-back}
+use Rattle.aut_rel.specs.Behind.{LISTS, Readable}
+use Rattle.aut_rel.proofs.Behind.{left-refl, lent, lent-is, back, left-back}
 use Rattle.aut_rel.specs.Seen.{autOf, MadeLeft, RelateReady, Relates, Places, SppReady, DoesSpp}
 use Rattle.aut_rel.proofs.Join.{same-left}
 use Rattle.aut_rel.proofs.Order.{fits, in-table, ready-star, ready-xor, ready-difference, ready-sequence, spp-ready}

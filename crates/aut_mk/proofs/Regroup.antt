@@ -11,17 +11,20 @@ use Rattle.spp_steps.specs.Laws.{Ext}
 use Rattle.aut_steps.specs.Tables.{SEQUENCE, kindOf, op1, op2, nest, Limits, Aut}
 use Rattle.aut_steps.specs.Kinds.{form}
 use Rattle.aut_steps.specs.Constructors.{sequence-with, sequence-by, mk-sequence}
-use Rattle.aut_steps.specs.Good.{Two, Grown, ok-as, grown-refl, grown-trans, kind-grown, first-grown, second-grown, nesting-grown, state-grown}
-use Rattle.aut_steps.specs.Goes.{Gone, Goes}
-use Rattle.aut_steps.specs.Meaning as Meaning
+use Rattle.aut_steps.specs.Good.{Two, Grown}
+use Rattle.aut_steps.proofs.Good.{ok-as, grown-refl, grown-trans, kind-grown, first-grown, second-grown, nesting-grown, state-grown}
+use Rattle.aut_steps.specs.Goes.{Gone}
+use Rattle.aut_steps.proofs.Goes.{Goes}
+use Rattle.aut_steps.proofs.Meaning as Meaning
 use Rattle.aut_steps.specs.Meaning.{Holds}
-use Rattle.aut_steps.specs.SequenceLaws.{mk-sequence-goes}
+use Rattle.aut_steps.proofs.SequenceLaws.{mk-sequence-goes}
 use Rattle.aut.specs.Seen.{limitsOf}
 use Rattle.aut.specs.declared.Counts.{Counts}
 use Rattle.aut.specs.declared.Limits.{Limits as Bounds}
 use Rattle.aut.specs.declared.State.{State}
 use Rattle.aut.specs.declared.State.the-variants.{Is, Refused}
-use Rattle.aut_rel.specs.Behind.{Left, left-refl, left-trans}
+use Rattle.aut_rel.specs.Behind.{Left}
+use Rattle.aut_rel.proofs.Behind.{left-refl, left-trans}
 use Rattle.aut_rel.specs.Seen.{autOf, seenAut, Beside, LeftBy, Ready}
 use Rattle.aut_rel.proofs.Join.{beside-more}
 use Rattle.aut_mk.specs.declared.Known.{Known}

@@ -8,7 +8,7 @@ use lib.ListN.{getD}
 use borrow.Author.Tests.{eq-eqb, ne-eqb, eqb-true}
 use Rattle.aut_steps.specs.Relations as Rel
 use Rattle.aut_steps.specs.Tables.{SPP, SEQUENCE, TOP, kindOf, op1, op2}
-use Rattle.aut_steps.specs.Facts.{and-true}
+use Rattle.aut_steps.proofs.Facts.{and-true}
 use Rattle.aut_steps.specs.Constructors.{relations, is-relation, sequence-with}
 use Rattle.aut_mk.specs.declared.Known.the-variants.{Relations, First, Second, Zero, Top, New}
 use Rattle.aut_mk.specs.declared.Way.the-variants.{Regroup, Step}

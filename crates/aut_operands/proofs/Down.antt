@@ -9,12 +9,15 @@ use lib.Dec.{eqb}
 use lib.ListN.{length, getD, drop, drop-of-length-le}
 use lib.Seq.{drop-cons}
 use borrow.Author.Tests.{eqb-true, eqb-false}
-use Rattle.spp_steps.specs.Laws.{by-test}
+use Rattle.spp_steps.proofs.Laws.{by-test}
 use Rattle.aut_steps.specs.Tables.{UNION, INTERSECT, nest, Limits, Aut}
 use Rattle.aut_steps.specs.Kinds.{form}
-use Rattle.aut_steps.specs.ListLaws.{All, all-map}
-use Rattle.aut_steps.specs.Good.{states, kind, Good, ok-as}
-use Rattle.delta_steps.specs.EpsilonDown.{First, this, later, first-of, first-open, Way, bottom, down}
+use Rattle.aut_steps.specs.ListLaws.{All}
+use Rattle.aut_steps.proofs.ListLaws.{all-map}
+use Rattle.aut_steps.specs.Good.{states, kind, Good}
+use Rattle.aut_steps.proofs.Good.{ok-as}
+use Rattle.delta_steps.specs.EpsilonDown.{First, this, later, Way, bottom, down}
+use Rattle.delta_steps.proofs.EpsilonDown.{first-of, first-open}
 use Rattle.aut_operands.specs.declared.Part.{Part}
 use Rattle.aut_operands.specs.declared.Part.the-variants as part
 use Rattle.aut_operands.specs.Contracts.{operandsOf, Inside, Worked, NotYet, Told, Looks, Next, none, some, Descends}

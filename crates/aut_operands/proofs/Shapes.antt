@@ -7,9 +7,9 @@ use native.Mathlib.Omega.{arith}
 use lib.Dec.{eqb}
 use lib.ListN.{length, getD}
 use borrow.Author.Tests.{eqb-true, eqb-false, ne-eqb}
-use Rattle.spp_steps.specs.Apply.{by-if}
+use Rattle.spp_steps.proofs.Apply.{by-if}
 use Rattle.aut_steps.specs.Tables.{SPP, UNION, INTERSECT, XOR, DIFFERENCE, COMPLEMENT, SEQUENCE, STAR, UNTIL, kindOf, op1, op2, words}
-use Rattle.aut_steps.specs.Facts.{words-length}
+use Rattle.aut_steps.proofs.Facts.{words-length}
 use Rattle.delta_steps.specs.Epsilon.{epsilonOf}
 use Rattle.delta_steps.specs.Delta.{countOf}
 use Rattle.delta_steps.specs.EpsilonReads.{operandsWith}

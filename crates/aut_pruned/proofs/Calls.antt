@@ -7,13 +7,15 @@ use native.Mathlib.Omega.{arith}
 use lib.ListN.{length}
 use Rattle.common.specs.Outcome.{refused, given}
 use Rattle.common.specs.Runs.{table, placed}
-use Rattle.cache.specs.Cache.{sound-map, notes-map}
+use Rattle.cache.proofs.Cache.{sound-map, notes-map}
 use Rattle.sp_steps.specs.Model as Sp
 use Rattle.sp_steps.specs.Laws as SpLaws
-use Rattle.spp_steps.specs.Laws.{At, Den, den-mem}
+use Rattle.sp_steps.proofs.Laws as SpLawsProofs
+use Rattle.spp_steps.specs.Laws.{At, Den}
+use Rattle.spp_steps.proofs.Laws.{den-mem}
 use Rattle.spp_steps.specs.ImageModel as Images
 use Rattle.spp_steps.specs.ImageModel.{stores}
-use Rattle.spp_steps.specs.Images.{ifwd-exact}
+use Rattle.spp_steps.proofs.Images.{ifwd-exact}
 use Rattle.spp.specs.Seen as Spp
 use Rattle.spp.specs.declared.SPP.{SPP}
 use Rattle.spp.specs.declared.Made.{Made}
@@ -22,14 +24,16 @@ use Rattle.spp_img2.specs.Seen.{lifted}
 use Rattle.aut_steps.specs.Relations as Rel
 use Rattle.aut_steps.specs.Tables.{putNodes, onNodes}
 use Rattle.aut_steps.specs.Good.{states}
-use Rattle.aut_steps.specs.StateLaws.{nodes-goes}
-use Rattle.delta_steps.specs.Labels.{intersect-makes}
+use Rattle.aut_steps.proofs.StateLaws.{nodes-goes}
+use Rattle.delta_steps.proofs.Labels.{intersect-makes}
 use Rattle.delta_steps.specs.Delta.{putAut, onAut, listAt, delta}
 use Rattle.delta_steps.specs.Worked.{Stored}
 use Rattle.delta_stage.specs.OnStore.{storeOf}
-use Rattle.query_steps.specs.Tables.{Tables, diagrams, both-wf, putBase, putRelations, onBase, makingRelations}
-use Rattle.query_steps.specs.Steps.{Ends, Steps, ends-map, relations-step, goes-ends, delta-ends}
-use Rattle.query_stage.specs.Layer.{tablesOf, Leaves, QueryReady, queryLayer, by-ends}
+use Rattle.query_steps.specs.Tables.{Tables, diagrams, putBase, putRelations, onBase, makingRelations}
+use Rattle.query_steps.proofs.Tables.{both-wf}
+use Rattle.query_steps.proofs.Steps.{Ends, Steps, ends-map, relations-step, goes-ends, delta-ends}
+use Rattle.query_stage.specs.Layer.{tablesOf, QueryReady}
+use Rattle.query_stage.proofs.Layer.{Leaves, queryLayer, by-ends}
 use Rattle.aut.specs.Seen.{limitsOf}
 use Rattle.aut.specs.declared.Counts.{Counts}
 use Rattle.aut.specs.declared.Limits.{Limits}
@@ -62,7 +66,7 @@ module _ {N : ℕ} {l : Limits} {sp t st mem tr : List ℕ} {c : Counts} {s : Li
 
     lift-ends : Ends N (limitsOf l) 0 (Steps N (limitsOf l) (λ τ h. At (τ .base .aut .nodes) N h) σ) σ (makingRelations (Images.ifwd N a) σ)
     lift-ends = ends-map (λ τ h v. record { gone = v .gone; ordered = v .ordered; holds = v .holds .at })
-        (relations-step (R .ordered) (λ u v. Den u N v (λ p q. Sp.mem sp N a q)) (ifwd-exact N N (diagrams σ) a (Sp.mem sp N a) (both-wf (R .ordered)) (SpLaws.den-mem at)))
+        (relations-step (R .ordered) (λ u v. Den u N v (λ p q. Sp.mem sp N a q)) (ifwd-exact N N (diagrams σ) a (Sp.mem sp N a) (both-wf (R .ordered)) (SpLawsProofs.den-mem at)))
 
     module _ {r : Made} {t′ s′ : List ℕ} (A : PostLift N (Images.ifwd N a) (stores (table sp (c .sp)) (table t (c .spp))) r t′ s s′) where
       pub lift-given : {h : SPP} {n : ℕ} → r ≡ Node h n → length s′ ≡ length s

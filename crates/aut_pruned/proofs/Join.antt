@@ -5,22 +5,25 @@ use Prim.Native.Nat.{ℕ, _/_, _<_}
 use native.Mathlib.Omega.{arith}
 use lib.ListN.{length}
 use Rattle.common.specs.Outcome.{after}
-use Rattle.common.specs.Follow.{given-of}
+use Rattle.common.proofs.Follow.{given-of}
 use Rattle.sp.specs.declared.SP.{SP}
-use Rattle.aut_steps.specs.Good.{states, state-grown}
+use Rattle.aut_steps.specs.Good.{states}
+use Rattle.aut_steps.proofs.Good.{state-grown}
 use Rattle.delta_steps.specs.Delta.{delta, listAt}
 use Rattle.delta_steps.specs.Worked.{Stored}
 use Rattle.delta_stage.specs.OnStore.{storeOf}
 use Rattle.query_steps.specs.Tables.{Tables, onBase}
 use Rattle.query_steps.specs.Live.{live-packets}
-use Rattle.query_steps.specs.LiveLaws as LiveLaws
-use Rattle.query_steps.specs.LiveLaws.{live-goes}
+use Rattle.query_steps.proofs.LiveLaws as LiveLaws
+use Rattle.query_steps.proofs.LiveLaws.{live-goes}
 use Rattle.query_steps.specs.Pruned.{prune, delta-pruned}
-use Rattle.query_stage.specs.Layer.{tablesOf, queryLayer, PreQuery}
+use Rattle.query_stage.specs.Layer.{tablesOf, PreQuery}
+use Rattle.query_stage.proofs.Layer.{queryLayer}
 use Rattle.aut.specs.Seen.{limitsOf}
 use Rattle.aut.specs.declared.Counts.{Counts}
 use Rattle.aut.specs.declared.Limits.{Limits}
-use Rattle.aut_stage.specs.Stage.{gave, Post, Stage, begin, next, stuck, finish, all-of}
+use Rattle.aut_stage.specs.Stage.{gave, Post, Stage}
+use Rattle.aut_stage.proofs.Stage.{begin, next, stuck, finish, all-of}
 use Rattle.aut_delta.specs.Contracts.{PreDelta, PostDelta}
 use Rattle.aut_delta.specs.declared.Worked.{Worked}
 use Rattle.aut_delta.specs.declared.Worked.the-variants as worked

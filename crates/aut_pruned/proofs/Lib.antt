@@ -1,3 +1,4 @@
+pub mod Onto
 pub mod Calls
 pub mod Turns
 pub mod Join

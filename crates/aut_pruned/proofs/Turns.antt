@@ -11,7 +11,8 @@ use Rattle.common.specs.Outcome.{after, if_then_else_}
 use Rattle.common.specs.Runs.{table}
 use Rattle.netkat.specs.ListSteps.{Edge, edge}
 use Rattle.sp_steps.specs.Laws as SpLaws
-use Rattle.spp_steps.specs.Laws.{At, at-ext}
+use Rattle.spp_steps.specs.Laws.{At}
+use Rattle.spp_steps.proofs.Laws.{at-ext}
 use Rattle.spp_steps.specs.ImageModel as Images
 use Rattle.spp_steps.specs.ImageModel.{stores}
 use Rattle.spp.specs.declared.SPP.{SPP}
@@ -19,23 +20,28 @@ use Rattle.spp.specs.declared.Made.{Made}
 use Rattle.spp.specs.declared.Made.the-variants.{Node, Full}
 use Rattle.aut_steps.specs.Relations as Rel
 use Rattle.aut_steps.specs.Tables.{Aut, onNodes}
-use Rattle.aut_steps.specs.Scratch.{kept-refl, kept-wide}
-use Rattle.st_steps.specs.Edges.{edges, EdgeAt, EdgesAt, none, also, edges-grown}
-use Rattle.st_steps.specs.Places.{edgeAt, putEdge, put-kept, edges-length, edges-same, edges-on, edges-done, edges-snoc, edge-at}
+use Rattle.aut_steps.proofs.Scratch.{kept-refl, kept-wide}
+use Rattle.st_steps.specs.Edges.{edges, EdgeAt, EdgesAt, none, also}
+use Rattle.st_steps.proofs.Edges.{edges-grown}
+use Rattle.st_steps.specs.Places.{putEdge}
+use Rattle.st_steps.proofs.Places.{edgeAt, put-kept, edges-length, edges-same, edges-on, edges-done, edges-snoc, edge-at}
 use Rattle.delta_steps.specs.Delta.{onAut, startOf, countOf, listAt}
-use Rattle.delta_steps.specs.ListGoes.{list-at}
+use Rattle.delta_steps.proofs.ListGoes.{list-at}
 use Rattle.query_steps.specs.Tables.{Tables, liveOf, onBase, makingRelations}
 use Rattle.query_steps.specs.Pruned as M
-use Rattle.query_stage.specs.Layer.{tablesOf, QueryReady, queryLayer}
+use Rattle.query_stage.specs.Layer.{tablesOf, QueryReady}
+use Rattle.query_stage.proofs.Layer.{queryLayer}
 use Rattle.aut.specs.Seen.{limitsOf}
 use Rattle.aut.specs.declared.Counts.{Counts}
 use Rattle.aut.specs.declared.Limits.{Limits}
 use Rattle.aut_rel.specs.Seen.{RelateReady, Relates}
-use Rattle.aut_stage.specs.Stage.{gave, Post, Stage, Turned, begin, next, stuck, instead, wrote, finish, done, all-of}
+use Rattle.aut_stage.specs.Stage.{gave, Post, Stage}
+use Rattle.aut_stage.proofs.Stage.{Turned, begin, next, stuck, instead, wrote, finish, done, all-of}
 use Rattle.aut_stage.specs.OnNodes.{withNodes}
 use Rattle.aut_sets.specs.Contracts.{PreLift, PostLift}
 use Rattle.st.specs.Seen.{RESULT}
-use Rattle.aut_pruned.specs.Onto.{behind, pruneOnto, prune-is}
+use Rattle.aut_pruned.specs.Onto.{behind}
+use Rattle.aut_pruned.proofs.Onto.{pruneOnto, prune-is}
 use Rattle.aut_pruned.specs.Contracts.{cutOf, PreViable, PostViable, PreKeep, PostKeep, Pruning, PostPrune}
 use Rattle.aut_pruned.specs.declared.Pruned.the-variants as pruned
 use Rattle.aut_pruned.proofs.Calls.{lift-ready, lift-given, lift-refused, relate-ready, meet-given, meet-refused}

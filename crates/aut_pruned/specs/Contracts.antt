@@ -16,7 +16,8 @@ use Rattle.delta_steps.specs.Delta.{listAt}
 use Rattle.query_steps.specs.Tables.{Tables, liveOf}
 use Rattle.query_steps.specs.Pruned as M
 use Rattle.query_steps.specs.Pruned.{delta-pruned}
-use Rattle.query_stage.specs.Layer.{tablesOf, QueryReady, Zeroed, queryLayer}
+use Rattle.query_stage.specs.Layer.{tablesOf, QueryReady, Zeroed}
+use Rattle.query_stage.proofs.Layer.{queryLayer}
 use Rattle.aut.specs.Seen.{limitsOf}
 use Rattle.aut.specs.declared.Counts.{Counts}
 use Rattle.aut.specs.declared.Limits.{Limits}

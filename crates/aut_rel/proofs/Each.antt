@@ -5,16 +5,19 @@ use Prim.Native.Nat.{ℕ, zero, suc, _+_, _-_, _*_, _≤_, _<_}
 use native.Mathlib.Omega.{arith}
 use lib.ListN.{length, getD}
 use Rattle.common.specs.Outcome.{Outcome, refused, given, Step, after, Gives, refusal, gives}
-use Rattle.common.specs.Follow.{given-of}
+use Rattle.common.proofs.Follow.{given-of}
 use Rattle.common.specs.Runs.{Table, table}
-use Rattle.spp_steps.specs.Laws.{Wf, Ext, ext-refl, ext-trans}
+use Rattle.spp_steps.specs.Laws.{Wf, Ext}
+use Rattle.spp_steps.proofs.Laws.{ext-refl, ext-trans}
 use Rattle.aut_steps.specs.Tables.{words}
-use Rattle.aut_steps.specs.ListLaws.{All, all-map}
+use Rattle.aut_steps.specs.ListLaws.{All}
+use Rattle.aut_steps.proofs.ListLaws.{all-map}
 use Rattle.common.specs.Packets.{Relation}
-use Rattle.aut_steps.specs.RelationLaws.{Made, Makes, lacks, makes}
+use Rattle.aut_steps.proofs.RelationLaws.{Made, Makes, lacks, makes}
 use Rattle.aut_steps.specs.Constructors.{each}
-use Rattle.aut_steps.specs.Scratch.{words-on, words-done, from-0, all-word}
-use Rattle.aut_rel.specs.Behind.{LISTS, Left, Backed, left-refl, left-trans, left-wide, backed-left}
+use Rattle.aut_steps.proofs.Scratch.{words-on, words-done, from-0, all-word}
+use Rattle.aut_rel.specs.Behind.{LISTS, Left, Backed}
+use Rattle.aut_rel.proofs.Behind.{left-refl, left-trans, left-wide, backed-left}
 
 -- what an operation on relations makes
 pub makes-gives : {N : ℕ} {R : Relation N} {t : Table} {o : Outcome Table ℕ} → Makes N R t o → Gives (Made N R t) o

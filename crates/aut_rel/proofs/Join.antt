@@ -19,7 +19,8 @@ use Rattle.aut.specs.declared.State.the-variants.{Is, Refused}
 use Rattle.spp.specs.Seen.{seen, Noted}
 use Rattle.spp.specs.declared.Made.{Made}
 use Rattle.spp.specs.declared.Made.the-variants.{Node, Full}
-use Rattle.aut_rel.specs.Behind.{LISTS, Left, lent, back, left-back}
+use Rattle.aut_rel.specs.Behind.{LISTS, Left}
+use Rattle.aut_rel.proofs.Behind.{lent, back, left-back}
 use Rattle.aut_rel.specs.Seen.{autOf, seenAut, Beside, LeftBy, SameNodes, MadeLeft, Places}
 
 -- both_relations

@@ -9,9 +9,10 @@ use Rattle.common.specs.Outcome.{if_then_else_}
 use Rattle.netkat.specs.Rules.{union, intersection}
 use Rattle.aut_steps.specs.Tables.{UNION, INTERSECT, TOP, kindOf, Limits, Aut}
 use Rattle.aut_steps.specs.Kinds.{form}
-use Rattle.aut_steps.specs.ListLaws.{All, all-append}
+use Rattle.aut_steps.specs.ListLaws.{All}
+use Rattle.aut_steps.proofs.ListLaws.{all-append}
 use Rattle.aut_steps.specs.Good.{states, kind, Good}
-use Rattle.aut_steps.specs.UnionLaws.{Extended, fits, passes, extended, opened-states}
+use Rattle.aut_steps.proofs.UnionLaws.{Extended, fits, passes, extended, opened-states}
 use Rattle.aut_steps.specs.Constructors.{Within, within, beyond, thenWithin, Opened, list, top, long, thenOpen, opened, extend, openAll, openUnion}
 
 abbrev pub AllOpen : (ℕ → Type 0) → Opened → Type 0

@@ -7,24 +7,29 @@ use Prim.Native.Nat.{ℕ, zero, suc, _+_, _*_, _≤_, _<_}
 use native.Mathlib.Omega.{arith}
 use lib.ListN.{length, getD}
 use Rattle.common.specs.Outcome.{Outcome, refused, given, Gives}
-use Rattle.common.specs.Follow.{given-of}
+use Rattle.common.proofs.Follow.{given-of}
 use Rattle.common.specs.Runs.{Table, table}
 use Rattle.netkat.specs.Rules.{Rule, xor, difference, complement, sequence, star, until}
-use Rattle.spp_steps.specs.Laws.{Wf, Ext, At, at-ext}
+use Rattle.spp_steps.specs.Laws.{Wf, Ext, At}
+use Rattle.spp_steps.proofs.Laws.{at-ext}
 use Rattle.aut_steps.specs.Tables.{SPP, UNION, INTERSECT, XOR, DIFFERENCE, COMPLEMENT, SEQUENCE, STAR, UNTIL, kindOf, op1, op2, words, Limits, Aut, stateCap}
 use Rattle.aut_steps.specs.Kinds.{Form, one, two, form}
-use Rattle.aut_steps.specs.ListLaws.{All, all-map}
-use Rattle.aut_steps.specs.Products.{union-size}
-use Rattle.aut_steps.specs.Good.{states, kind, first, second, Ok, ok-as, Grown, Good}
-use Rattle.aut_steps.specs.Goes.{Gone, Goes}
-use Rattle.aut_steps.specs.StateLaws as StateLaws
+use Rattle.aut_steps.specs.ListLaws.{All}
+use Rattle.aut_steps.proofs.ListLaws.{all-map}
+use Rattle.aut_steps.proofs.Products.{union-size}
+use Rattle.aut_steps.specs.Good.{states, kind, first, second, Ok, Grown, Good}
+use Rattle.aut_steps.proofs.Good.{ok-as}
+use Rattle.aut_steps.specs.Goes.{Gone}
+use Rattle.aut_steps.proofs.Goes.{Goes}
+use Rattle.aut_steps.proofs.StateLaws as StateLaws
 use Rattle.aut.specs.declared.Counts.{Counts}
 use Rattle.aut.specs.declared.Limits.{Limits as Bounds}
 use Rattle.aut.specs.declared.State.{State}
 use Rattle.aut.specs.declared.State.the-variants.{Is, Refused}
 use Rattle.aut.specs.Seen.{limitsOf, Fits, Ready1, Ready2, ListIn, Below, AddReady, ListReady}
 use Rattle.aut_lists.specs.Seen.{OpenAt, ProductAt}
-use Rattle.aut_rel.specs.Behind.{LISTS, Left, Backed, backed-left}
+use Rattle.aut_rel.specs.Behind.{LISTS, Left, Backed}
+use Rattle.aut_rel.proofs.Behind.{backed-left}
 use Rattle.aut_rel.specs.Seen.{autOf, seenAut, LeftBy, Ready, RelAt, SppReady}
 
 module _ {N : ℕ} {L : Limits} {σ : Aut} (g : Good N L σ) where

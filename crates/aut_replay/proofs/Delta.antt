@@ -9,33 +9,41 @@ use lib.Dec.{eqb, ltb}
 use lib.ListN.{length, getD}
 use borrow.Author.Tests.{eqb-true, eqb-false, ltb-true, ltb-false}
 use Rattle.common.specs.Outcome.{Outcome, refused, given, Step, return, after, _>>=_, if_then_else_}
-use Rattle.common.specs.Follow.{given-of, given-same, refused≢given}
+use Rattle.common.proofs.Follow.{given-of, given-same, refused≢given}
 use Rattle.common.specs.Runs.{Table, placed}
 use Rattle.netkat.specs.Rules.{sequence, star, until, next}
 use Rattle.netkat.specs.ListSteps.{Edge}
-use Rattle.spp_steps.specs.Laws.{Ext, ext-refl, At, by-test}
+use Rattle.spp_steps.specs.Laws.{Ext, At}
+use Rattle.spp_steps.proofs.Laws.{ext-refl, by-test}
 use Rattle.aut_steps.specs.Relations as Rel
 use Rattle.aut_steps.specs.Tables.{SEQUENCE, STAR, NEXT, UNTIL, Limits, Aut, putNodes, onNodes}
 use Rattle.aut_steps.specs.Kinds.{form}
-use Rattle.aut_steps.specs.ListLaws.{All, all-map, all-with}
-use Rattle.aut_steps.specs.StateLaws as StateLaws
-use Rattle.aut_steps.specs.Good.{states, kind, first, second, nesting, members, ExtM, extm-refl, Grown, grown-nodes, kind-grown, first-grown, nesting-grown, state-grown, Good}
+use Rattle.aut_steps.specs.ListLaws.{All}
+use Rattle.aut_steps.proofs.ListLaws.{all-map, all-with}
+use Rattle.aut_steps.proofs.StateLaws as StateLaws
+use Rattle.aut_steps.specs.Good.{states, kind, first, second, nesting, members, ExtM, Grown, Good}
+use Rattle.aut_steps.proofs.Good.{extm-refl, grown-nodes, kind-grown, first-grown, nesting-grown, state-grown}
 use Rattle.st_steps.specs.Edges.{edges}
 use Rattle.st_steps.specs.ListGoes.{ListAt}
-use Rattle.delta_steps.specs.ListGoes.{list-at}
+use Rattle.delta_steps.proofs.ListGoes.{list-at}
 use Rattle.delta_steps.specs.Epsilon.{epsilonOf, epsilon}
 use Rattle.delta_steps.specs.Delta.{startOf, countOf, Store, store, putAut, roomT, append, listAt, keepList, delta}
-use Rattle.delta_steps.specs.Agree.{agree-given}
+use Rattle.delta_steps.proofs.Agree.{agree-given}
 use Rattle.delta_steps.specs.Fits.{Since}
-use Rattle.delta_steps.specs.Noted.{Noted, noted-grown, written, written-other, written-count}
-use Rattle.delta_steps.specs.Worked.{Valued, handle, memo, valued-reads, Worked, Stored, worked-since}
-use Rattle.delta_steps.specs.Operands.{below-one, below-two}
+use Rattle.delta_steps.specs.Noted.{Noted}
+use Rattle.delta_steps.proofs.Noted.{noted-grown, written, written-other, written-count}
+use Rattle.delta_steps.specs.Worked.{Valued, handle, memo, Worked, Stored}
+use Rattle.delta_steps.proofs.Worked.{valued-reads, worked-since}
+use Rattle.delta_steps.proofs.Operands.{below-one, below-two}
 use Rattle.delta_steps.specs.EpsilonLaws.{Ready, Epsiloned}
-use Rattle.delta_steps.specs.EpsilonReads.{workAll, given-store}
-use Rattle.delta_steps.specs.Stored.{Went, went-refl, went-trans, went-since, went-noted, stored-went, edges-length, keeping, keeping-stored, keeping-went}
-use Rattle.delta_steps.specs.DeltaRuns.{Deltaed}
-use Rattle.delta_steps.specs.DeltaLaws.{delta-goes}
-use Rattle.delta_steps.specs.DeltaReads.{listOperands, quit, enterWith, enter, together, finishList, list-operands-below, entered, entered-went, entered-worked, star-noted, star-went, star-worked, star-again, delta-stored, delta-works}
+use Rattle.delta_steps.specs.EpsilonReads.{workAll}
+use Rattle.delta_steps.proofs.EpsilonReads.{given-store}
+use Rattle.delta_steps.specs.Stored.{Went}
+use Rattle.delta_steps.proofs.Stored.{went-refl, went-trans, went-since, went-noted, stored-went, edges-length, keeping, keeping-stored, keeping-went}
+use Rattle.delta_steps.proofs.DeltaRuns.{Deltaed}
+use Rattle.delta_steps.proofs.DeltaLaws.{delta-goes}
+use Rattle.delta_steps.specs.DeltaReads.{listOperands, quit, enterWith, enter}
+use Rattle.delta_steps.proofs.DeltaReads.{together, finishList, list-operands-below, entered, entered-went, entered-worked, star-noted, star-went, star-worked, star-again, delta-stored, delta-works}
 use Rattle.aut_replay.specs.Replay.{Later, Wider, Again, Replays, stops, comes, In, values, HasEpsilon, Settled, EpsilonDone, listFrom, ListKept, SettledLists, Written, DeltaDone, lacks, gives, DeltaAgain}
 use Rattle.aut_replay.proofs.Runs.{later-refl, grown-later, again-grown, kind-later, first-later}
 use Rattle.aut_replay.proofs.Values.{star-runs}

@@ -8,20 +8,27 @@ use lib.Dec.{eqb, ltb}
 use lib.ListN.{getD}
 use borrow.Author.Tests.{eqb-true, eqb-false, ltb-true, ltb-false}
 use Rattle.common.specs.Outcome.{Outcome, refused, given, Step, after, Gives, gives, refusal}
-use Rattle.common.specs.Follow.{given-same, refused≢given}
+use Rattle.common.proofs.Follow.{given-same, refused≢given}
 use Rattle.common.specs.Runs as Runs
 use Rattle.common.specs.Runs.{Table, placed}
-use Rattle.spp_steps.specs.Laws.{Ext, At, sppTheory, by-test}
+use Rattle.spp_steps.specs.Laws.{Ext, At}
+use Rattle.spp_steps.proofs.Laws.{sppTheory, by-test}
 use Rattle.aut_steps.specs.Tables.{SPP, nest, Limits, Aut, putNodes}
-use Rattle.aut_steps.specs.ListLaws.{All, all-map, all-with}
-use Rattle.aut_steps.specs.Good.{states, kind, first, second, nesting, members, Grown, grown-trans, grown-nodes, kind-grown, first-grown, state-grown, Good}
+use Rattle.aut_steps.specs.ListLaws.{All}
+use Rattle.aut_steps.proofs.ListLaws.{all-map, all-with}
+use Rattle.aut_steps.specs.Good.{states, kind, first, second, nesting, members, Grown, Good}
+use Rattle.aut_steps.proofs.Good.{grown-trans, grown-nodes, kind-grown, first-grown, state-grown}
 use Rattle.aut_steps.specs.Goes.{Memos}
 use Rattle.delta_steps.specs.Epsilon.{epsilonOf, keepEpsilon, epsilon}
-use Rattle.delta_steps.specs.Agree.{agree-given}
-use Rattle.delta_steps.specs.Noted.{Noted, noted-refl, noted-trans, noted-grown, noted-word, written, written-other, written-here, written-grown, written-count}
-use Rattle.delta_steps.specs.Worked.{Valued, handle, memo, valued-noted, valued-reads}
-use Rattle.delta_steps.specs.EpsilonLaws.{Ready, Epsiloned, epsilon-goes}
-use Rattle.delta_steps.specs.EpsilonReads.{operandsOf, workAll, combineBy, combineAt, given-store, operands-below, worked-out, epsilon-spp, epsilon-kept, epsilon-works}
+use Rattle.delta_steps.proofs.Agree.{agree-given}
+use Rattle.delta_steps.specs.Noted.{Noted}
+use Rattle.delta_steps.proofs.Noted.{noted-refl, noted-trans, noted-grown, noted-word, written, written-other, written-here, written-grown, written-count}
+use Rattle.delta_steps.specs.Worked.{Valued, handle, memo}
+use Rattle.delta_steps.proofs.Worked.{valued-noted, valued-reads}
+use Rattle.delta_steps.specs.EpsilonLaws.{Ready, Epsiloned}
+use Rattle.delta_steps.proofs.EpsilonLaws.{epsilon-goes}
+use Rattle.delta_steps.specs.EpsilonReads.{operandsOf, workAll, combineBy}
+use Rattle.delta_steps.proofs.EpsilonReads.{combineAt, given-store, operands-below, worked-out, epsilon-spp, epsilon-kept, epsilon-works}
 use Rattle.aut_replay.specs.Replay.{Later, Again, values, HasEpsilon, epsilonFrom, EpsilonKept, Settled, EpsilonDone, EpsilonAgain}
 use Rattle.aut_replay.proofs.Runs.{later-refl, grown-later, again-grown, kind-later, first-later}
 use Rattle.aut_replay.proofs.Values.{combine-as, combine-runs, operands-later, from-later}

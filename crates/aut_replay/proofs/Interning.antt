@@ -11,14 +11,15 @@ use borrow.Author.Tests.{ltb-true, ltb-false, lt-ltb}
 use Rattle.common.specs.Outcome.{Outcome, refused, given, Step, if_then_else_}
 use Rattle.common.specs.Runs.{Table, table, placed}
 use Rattle.netkat.specs.Rules.{Rule, Rules}
-use Rattle.spp_steps.specs.Laws.{by-test}
+use Rattle.spp_steps.proofs.Laws.{by-test}
 use Rattle.aut_steps.specs.Tables.{op1, op2, nest, words, Limits, roomS, roomM, put4, exprs, Aut, putStates, putExprs, onStates, onExprs}
 use Rattle.aut_steps.specs.Intern.{seek, same2, sameL, put, intern0, intern1, intern2, nestL, store, putL, internL}
 use Rattle.aut_steps.specs.Kinds.{Form, leaf, constant, one, two, many, nothing, form, operandsBy}
-use Rattle.aut_steps.specs.Facts.{seek-hit, seek-miss, Is2, same2-is, is-same2, IsL, sameL-is, is-sameL, sets-below, sets-above, words-sets, room-state, room-members}
-use Rattle.aut_steps.specs.Good.{states, kind, ExtM, extm-refl, grown-refl, Ok, Good, ok-as, operands}
-use Rattle.aut_steps.specs.Goes.{plus, grown-plus, memos-plus, kind-plus, first-plus, second-plus}
-use Rattle.aut_steps.specs.InternLaws.{State2, StateL}
+use Rattle.aut_steps.proofs.Facts.{seek-hit, seek-miss, Is2, same2-is, is-same2, IsL, sameL-is, is-sameL, sets-below, sets-above, words-sets, room-state, room-members}
+use Rattle.aut_steps.specs.Good.{states, kind, ExtM, Ok, Good, operands}
+use Rattle.aut_steps.proofs.Good.{extm-refl, grown-refl, ok-as}
+use Rattle.aut_steps.proofs.Goes.{plus, grown-plus, memos-plus, kind-plus, first-plus, second-plus}
+use Rattle.aut_steps.proofs.InternLaws.{State2, StateL}
 use Rattle.aut_replay.specs.Replay.{Later, Again, Replays, stops, comes}
 use Rattle.aut_replay.proofs.Runs.{kind-later, first-later, second-later, members-later}
 

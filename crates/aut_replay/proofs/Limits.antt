@@ -20,7 +20,7 @@ use Rattle.aut_steps.specs.Constructors.{Within, within, beyond, thenWithin, op
 use Rattle.st_steps.specs.Operations.{ops, complement}
 use Rattle.delta_steps.specs.Epsilon.{eachOf, epsilon}
 use Rattle.delta_steps.specs.Delta.{countOf, Store, putAut, onAut, keepList, unionAll, intersectAll, intersectFirst, sequenceList, starList, untilList, dupList, topList, delta-by-kind, delta-with, delta-by, delta}
-use Rattle.spp_steps.specs.Laws.{false-true}
+use Rattle.spp_steps.proofs.Laws.{false-true}
 use Rattle.aut_replay.specs.Replay as Replay
 use Rattle.aut_replay.specs.Replay.{Wider, Call, called, ListCall, listed}
 use Rattle.aut_replay.specs.Limits as Of

@@ -13,10 +13,13 @@ use Rattle.netkat.specs.ListSteps.{Edge, edge, leadsTo, unite, enter, enterIn, 
 use Rattle.spp_steps.specs.Model as Spp
 use Rattle.aut_steps.specs.Relations as Rel
 use Rattle.aut_steps.specs.Tables.{Limits, Aut}
-use Rattle.aut_steps.specs.Good.{Grown, grown-refl, grown-trans, state-grown, Good}
+use Rattle.aut_steps.specs.Good.{Grown, Good}
+use Rattle.aut_steps.proofs.Good.{grown-refl, grown-trans, state-grown}
 use Rattle.st_steps.specs.Operations.{ops}
-use Rattle.st_steps.specs.Edges.{EdgeAt, EdgesAt, none, also, first-at, rest-at, edge-grown, edges-grown}
-use Rattle.st_steps.specs.ListGoes.{ListAt, Label, State, list-grown, list-empty, label-grown, relation-of, zero-label, enterIn-goes, SumAt}
+use Rattle.st_steps.specs.Edges.{EdgeAt, EdgesAt, none, also}
+use Rattle.st_steps.proofs.Edges.{first-at, rest-at, edge-grown, edges-grown}
+use Rattle.st_steps.specs.ListGoes.{ListAt, Label, State, SumAt}
+use Rattle.st_steps.proofs.ListGoes.{list-grown, list-empty, label-grown, relation-of, zero-label, enterIn-goes}
 use Rattle.aut_replay.specs.Replay.{Wider, Replays, stops, In}
 use Rattle.aut_replay.proofs.Runs.{replays-return, replays-map, replays-as, assoc, replays-bind, replays-assoc, replays-branch, replays-goes}
 use Rattle.aut_replay.proofs.Constructors.{apply-replay, sequence-replay, complement-replay, zero-replay, mk-top-replay, mk-union-replay, mk-intersect-replay, mk-difference-replay, mk-complement-replay, mk-sequence-replay}

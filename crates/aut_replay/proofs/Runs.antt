@@ -7,13 +7,15 @@ use native.Mathlib.Nat.{le-trans}
 use lib.ListN.{getD}
 use Rattle.common.specs.Outcome.{Outcome, refused, given, Step, return, after, _>>=_, Gives, gives, refusal, if_then_else_}
 use Rattle.common.specs.Runs as Runs
+use Rattle.common.proofs.Runs as RunsLaws
 use Rattle.common.specs.Runs.{Table, placed}
-use Rattle.spp_steps.specs.Laws.{ext-refl, ext-trans, sppTheory}
+use Rattle.spp_steps.proofs.Laws.{ext-refl, ext-trans, sppTheory}
 use Rattle.aut_steps.specs.Tables.{kindOf, op1, op2, nest, words, Limits, Aut, putNodes, onNodes, onStates, putStates}
-use Rattle.aut_steps.specs.Facts.{words-same}
-use Rattle.aut_steps.specs.Good.{states, kind, first, second, nesting, members, Grown, grown-refl, grown-trans, grown-nodes, Good}
-use Rattle.aut_steps.specs.Goes.{Goes, good-nodes}
-use Rattle.aut_steps.specs.Goes as Going
+use Rattle.aut_steps.proofs.Facts.{words-same}
+use Rattle.aut_steps.specs.Good.{states, kind, first, second, nesting, members, Grown, Good}
+use Rattle.aut_steps.proofs.Good.{grown-refl, grown-trans, grown-nodes}
+use Rattle.aut_steps.proofs.Goes.{Goes, good-nodes}
+use Rattle.aut_steps.proofs.Goes as Going
 use Rattle.aut_replay.specs.Replay.{Later, Again, Replays, stops, comes, In}
 
 -- ---- later tables
@@ -155,7 +157,7 @@ states-then {σ = σ} c d f r h =
 -- ---- relation nodes
 
 -- relations replay: they are stable
-pub nodes-replay : {N : ℕ} {L M : Limits} {A : Type 0} {P : Table → A → Type 0} {σ : Aut} → Good N M σ → (c : Step Table A) → Runs.Runs (sppTheory N) c P (σ .nodes)
+pub nodes-replay : {N : ℕ} {L M : Limits} {A : Type 0} {P : Table → A → Type 0} {σ : Aut} → Good N M σ → (c : Step Table A) → RunsLaws.Runs (sppTheory N) c P (σ .nodes)
     → Replays N L (In N M (λ τ a. (states τ ≡ states σ) × P (τ .nodes) a)) (onNodes c) σ (onNodes c σ)
 nodes-replay {N} {L} {M} {A} {P} {σ} g c r = go r
   where

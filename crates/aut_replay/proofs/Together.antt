@@ -9,16 +9,19 @@ use borrow.Author.Tests.{eqb-true}
 use Rattle.common.specs.Outcome.{Step, _>>=_, if_then_else_}
 use Rattle.netkat.specs.Rules.{union, intersection}
 use Rattle.netkat.specs.ListSteps.{Edge, st-xor, st-difference, st-complement}
-use Rattle.spp_steps.specs.Laws.{den-one, den-top}
+use Rattle.spp_steps.proofs.Laws.{den-one, den-top}
 use Rattle.aut_steps.specs.Relations as Rel
 use Rattle.aut_steps.specs.Tables.{SPP, UNION, INTERSECT, XOR, DIFFERENCE, COMPLEMENT, SEQUENCE, STAR, DUP, NEXT, UNTIL, Limits, Aut, onNodes}
 use Rattle.aut_steps.specs.Kinds.{form}
 use Rattle.aut_steps.specs.ListLaws.{All}
-use Rattle.aut_steps.specs.Good.{states, kind, first, second, members, Grown, grown-trans, state-grown, Good}
+use Rattle.aut_steps.specs.Good.{states, kind, first, second, members, Grown, Good}
+use Rattle.aut_steps.proofs.Good.{grown-trans, state-grown}
 use Rattle.st_steps.specs.Operations.{ops}
-use Rattle.st_steps.specs.Edges.{EdgesAt, edges-grown}
-use Rattle.st_steps.specs.ListGoes.{ListAt, Label, State, list-grown, list-empty, label-grown}
-use Rattle.delta_steps.specs.ListGoes.{ListsAt, empties, with-list}
+use Rattle.st_steps.specs.Edges.{EdgesAt}
+use Rattle.st_steps.proofs.Edges.{edges-grown}
+use Rattle.st_steps.specs.ListGoes.{ListAt, Label, State}
+use Rattle.st_steps.proofs.ListGoes.{list-grown, list-empty, label-grown}
+use Rattle.delta_steps.proofs.ListGoes.{ListsAt, empties, with-list}
 use Rattle.delta_steps.specs.Delta.{unionAll, intersectAll, intersectFirst, sequenceList, starList, untilList, dupList, topList}
 use Rattle.delta_steps.specs.DeltaReads.{listOperandsWith, togetherWith}
 use Rattle.aut_replay.specs.Replay.{Later, Wider, Replays, In, listFrom}

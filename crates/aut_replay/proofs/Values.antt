@@ -7,18 +7,21 @@ use native.Mathlib.Omega.{arith}
 use lib.Dec.{eqb}
 use borrow.Author.Tests.{eqb-true}
 use Rattle.common.specs.Outcome.{given, Step, _>>=_, if_then_else_}
-use Rattle.common.specs.Runs as Runs
-use Rattle.common.specs.Runs.{Table, placed, runs-bind, runs-return, runs-map}
+use Rattle.common.proofs.Runs as Runs
+use Rattle.common.specs.Runs.{Table, placed}
+use Rattle.common.proofs.Runs.{runs-bind, runs-return, runs-map}
 use Rattle.netkat.specs.Rules.{union, intersection}
 use Rattle.spp_steps.specs.Model as Spp
-use Rattle.spp_steps.specs.Laws.{Wf, At, at-ext, den-mem, den-zero, den-one, den-top, sppTheory}
-use Rattle.spp_steps.specs.Sequence.{sequence-exact}
-use Rattle.spp_steps.specs.Star.{star-exact}
+use Rattle.spp_steps.specs.Laws.{Wf, At}
+use Rattle.spp_steps.proofs.Laws.{at-ext, den-mem, den-zero, den-one, den-top, sppTheory}
+use Rattle.spp_steps.proofs.Sequence.{sequence-exact}
+use Rattle.spp_steps.proofs.Star.{star-exact}
 use Rattle.aut_steps.specs.Relations as Rel
 use Rattle.aut_steps.specs.Tables.{UNION, INTERSECT, XOR, DIFFERENCE, COMPLEMENT, SEQUENCE, STAR, UNTIL, TOP, Limits, Aut, putNodes}
 use Rattle.aut_steps.specs.Constructors.{each}
 use Rattle.aut_steps.specs.Kinds.{form}
-use Rattle.aut_steps.specs.ListLaws.{All, all-map}
+use Rattle.aut_steps.specs.ListLaws.{All}
+use Rattle.aut_steps.proofs.ListLaws.{all-map}
 use Rattle.aut_steps.specs.Good.{states, kind, members, Good}
 use Rattle.st_steps.specs.Operations as Ops
 use Rattle.delta_steps.specs.EpsilonReads.{operandsWith, operandsOf, uniteValues, meetValues, combineBy}

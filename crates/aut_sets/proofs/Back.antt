@@ -6,7 +6,8 @@ use native.Mathlib.Omega.{arith}
 use lib.ListN.{length, take, drop, length-drop, drop-of-length-le, List·getD-append}
 use lib.Seq.{getD-take, drop-at, length-take-le}
 use Rattle.common.specs.Runs.{Table}
-use Rattle.cache.specs.Cache.{Valid, Of, Sound, Notes, sound-map}
+use Rattle.cache.specs.Cache.{Valid, Of, Sound, Notes}
+use Rattle.cache.proofs.Cache.{sound-map}
 use Rattle.sp.specs.Seen as Sets
 use Rattle.sp.specs.declared.Made as sets
 use Rattle.spp.specs.declared.Made as relations
@@ -14,7 +15,8 @@ use Rattle.spp_steps.specs.ImageModel.{Stores}
 use Rattle.spp_img.specs.Reuse.{Held, Kept}
 use Rattle.spp_img.specs.Seen as Img
 use Rattle.spp_img2.specs.Seen as Lifts
-use Rattle.aut_rel.specs.Behind.{LISTS, cached, lent, back, lent-is}
+use Rattle.aut_rel.specs.Behind.{LISTS, cached}
+use Rattle.aut_rel.proofs.Behind.{lent, back, lent-is}
 use Rattle.aut_sets.specs.Contracts.{NotesBehind, SetNotes, ImageNotes, LiftNotes}
 
 pub notes-back : {P : Valid} (s m : List ℕ) → LISTS ≤ length s → Notes P (lent s) m → NotesBehind P s (back s m)

@@ -12,9 +12,10 @@ use lib.Seq.{getD-drop}
 use borrow.Author.Tests.{le-ltb, le-leb, lt-leb}
 use Rattle.common.specs.Outcome.{Outcome, refused, given, if_then_else_}
 use Rattle.common.specs.Runs.{Table, table}
-use Rattle.cache.specs.Cache.{Sound, sound-zero, sound-map}
+use Rattle.cache.specs.Cache.{Sound}
+use Rattle.cache.proofs.Cache.{sound-zero, sound-map}
 use Rattle.sp_steps.specs.Model as Sp
-use Rattle.sp_steps.specs.Reuse.{valid-not, code-range}
+use Rattle.sp_steps.proofs.Reuse.{valid-not, code-range}
 use Rattle.sp.specs.Seen as Sets
 use Rattle.sp.specs.declared.Made as sets
 use Rattle.sp.specs.declared.Made.the-variants as set-made
@@ -26,7 +27,8 @@ use Rattle.spp.specs.declared.Started.the-variants as started
 use Rattle.spp.specs.declared.Constants.{Constants}
 use Rattle.aut_steps.specs.Tables.{aut}
 use Rattle.delta_steps.specs.Delta.{store}
-use Rattle.query_steps.specs.Tables.{Tables, tables, Ordered, begun-ordered}
+use Rattle.query_steps.specs.Tables.{Tables, tables, Ordered}
+use Rattle.query_steps.proofs.Tables.{begun-ordered}
 use Rattle.aut.specs.Seen.{limitsOf}
 use Rattle.aut.specs.declared.Counts.{Counts}
 use Rattle.aut_rel.specs.Behind.{LISTS, cached}
@@ -34,7 +36,8 @@ use Rattle.query_stage.specs.Layer.{Readable}
 use Rattle.book_steps.specs.Answers.{fieldsAnswer}
 use Rattle.book_steps.specs.Run as Run
 use Rattle.book_steps.specs.Run.{Lent, zeroed, place}
-use Rattle.writer.specs.Seen.{Put, Answers, put-take}
+use Rattle.writer.specs.Seen.{Put, Answers}
+use Rattle.writer.proofs.Seen.{put-take}
 use Rattle.writer.specs.declared.Answered.{Answered}
 use Rattle.writer.specs.declared.Answered.the-variants as answered
 use Rattle.book_line.specs.declared.Place.{Place}

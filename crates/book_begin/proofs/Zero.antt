@@ -9,7 +9,7 @@ use lib.Dec.{ltb}
 use lib.ListN.{length, getD, set, length-set, length-replicate, getD-replicate, List·getD-eq-default}
 use lib.Seq.{ext-getD, getD-set-same, getD-set-other}
 use borrow.Author.Tests.{ltb-true, ltb-false}
-use Rattle.spp_steps.specs.Laws.{by-test}
+use Rattle.spp_steps.proofs.Laws.{by-test}
 use Rattle.book_steps.specs.Run.{zeroed}
 use Rattle.query_stage.specs.Layer.{Zeroed}
 

@@ -9,16 +9,17 @@ use lib.ListN.{length, set, take, length-drop, length-set}
 use lib.Seq.{length-take-le}
 use Rattle.common.specs.Outcome.{Outcome, refused, given}
 use Rattle.common.specs.Runs.{table, placed}
-use Rattle.cache.specs.Cache.{notes-map}
+use Rattle.cache.proofs.Cache.{notes-map}
 use Rattle.netkat.specs.Rules.{In}
 use Rattle.aut_steps.specs.Tables.{Aut}
 use Rattle.aut_steps.specs.Good.{states}
-use Rattle.aut_steps.specs.Meaning.{rule, Is}
+use Rattle.aut_steps.specs.Meaning.{rule}
+use Rattle.aut_steps.proofs.Meaning.{Is}
 use Rattle.line_steps.specs.Lines as Lines
-use Rattle.line_steps.specs.LineLaws.{make-goes}
+use Rattle.line_steps.proofs.LineLaws.{make-goes}
 use Rattle.delta_steps.specs.Delta.{store, putAut, onAut}
 use Rattle.query_steps.specs.Tables.{Tables, tables, putBase, onBase}
-use Rattle.query_steps.specs.Steps.{Ends, Steps, goes-ends}
+use Rattle.query_steps.proofs.Steps.{Ends, Steps, goes-ends}
 use Rattle.book_steps.specs.Answers.{nameOf}
 use Rattle.book_steps.specs.Reader as Reader
 use Rattle.book_steps.specs.Reader.{makes, asks, refuses}
@@ -40,8 +41,10 @@ use Rattle.reader.specs.Seen.{rest, queryOf, Says}
 use Rattle.reader.specs.declared.Cursor.{Cursor}
 use Rattle.reader.specs.declared.Query.{Query}
 use Rattle.reader.specs.declared.Said.{Said}
-use Rattle.query_stage.specs.Layer.{Leaves, QueryReady, queryLayer, by-ends}
-use Rattle.writer.specs.Seen.{Put, put-take}
+use Rattle.query_stage.specs.Layer.{QueryReady}
+use Rattle.query_stage.proofs.Layer.{Leaves, queryLayer, by-ends}
+use Rattle.writer.specs.Seen.{Put}
+use Rattle.writer.proofs.Seen.{put-take}
 use Rattle.book_query.specs.Contracts.{PreAsk, PostAsk}
 use Rattle.book_query.specs.declared.Setting.{Setting}
 use Rattle.book_query.specs.declared.Asked.{Asked}

@@ -7,12 +7,14 @@ use Prim.Native.Nat.{ℕ, _+_, _-_, _≤_, _<_}
 use native.Mathlib.Omega.{arith}
 use lib.Dec.{ltb}
 use borrow.Author.Tests.{ltb-true, ltb-false}
-use Rattle.spp_steps.specs.Laws.{by-test}
+use Rattle.spp_steps.proofs.Laws.{by-test}
 use lib.ListN.{length, getD, set, drop, length-append, length-drop}
 use lib.Seq.{drop-set-add}
 use Rattle.aut_steps.specs.Tables.{words}
-use Rattle.aut_steps.specs.ListLaws.{All, all-append}
-use Rattle.aut_steps.specs.Scratch.{Kept, kept-refl, kept-trans, kept-sets, words-append}
+use Rattle.aut_steps.specs.ListLaws.{All}
+use Rattle.aut_steps.proofs.ListLaws.{all-append}
+use Rattle.aut_steps.specs.Scratch.{Kept}
+use Rattle.aut_steps.proofs.Scratch.{kept-refl, kept-trans, kept-sets, words-append}
 use Rattle.book_steps.specs.Reader as Reader
 use Rattle.book_steps.specs.Reader.{given, giving, numbers, refuses}
 use Rattle.reader.specs.Seen.{rest, behind, bad, taken, TakesNumber, counted}

@@ -13,7 +13,7 @@ use Rattle.common.specs.Runs.{placed}
 use Rattle.aut_steps.specs.Tables.{Limits, Aut, words}
 use Rattle.aut_steps.specs.ListLaws.{All}
 use Rattle.aut_steps.specs.Constructors.{mk-union-n, mk-intersect-n}
-use Rattle.aut_steps.specs.Scratch.{kept-refl}
+use Rattle.aut_steps.proofs.Scratch.{kept-refl}
 use Rattle.line_steps.specs.Lines as Lines
 use Rattle.delta_steps.specs.Delta.{putAut}
 use Rattle.query_steps.specs.Tables.{putBase}

@@ -11,16 +11,17 @@ use lib.ListN.{length, take, length-append}
 use lib.Seq.{length-take-le}
 use borrow.Author.Tests.{le-leb, lt-leb}
 use Rattle.common.specs.Outcome.{Outcome, refused, given, after, if_then_else_}
-use Rattle.cache.specs.Cache.{sound-map, notes-map}
+use Rattle.cache.proofs.Cache.{sound-map, notes-map}
 use Rattle.netkat.specs.ListSteps.{Edge}
 use Rattle.netkat.specs.Search as Plain
 use Rattle.sp_steps.specs.Model as Sp
-use Rattle.sp_steps.specs.Size.{size-most}
+use Rattle.sp_steps.proofs.Size.{size-most}
 use Rattle.sp_steps.specs.Laws as SpLaws
 use Rattle.st_steps.specs.Edges.{edges}
-use Rattle.st_steps.specs.Places.{edge-at, edges-length}
+use Rattle.st_steps.proofs.Places.{edge-at, edges-length}
 use Rattle.st.specs.Seen.{RESULT}
-use Rattle.query_steps.specs.Tables.{Tables, Later, later-refl}
+use Rattle.query_steps.specs.Tables.{Tables, Later}
+use Rattle.query_steps.proofs.Tables.{later-refl}
 use Rattle.query_steps.specs.Search.{is-empty}
 use Rattle.query_steps.specs.Live.{live-packets}
 use Rattle.query_steps.specs.Pruned.{delta-pruned}
@@ -31,7 +32,8 @@ use Rattle.aut.specs.Seen.{limitsOf}
 use Rattle.aut.specs.declared.Counts.{Counts}
 use Rattle.aut_stage.specs.Stage.{Post}
 use Rattle.aut_sets.specs.Contracts.{PreSet, PostSize}
-use Rattle.query_stage.specs.Layer.{Leaves, QueryReady, query-ready, queryLayer, Zeroed}
+use Rattle.query_stage.specs.Layer.{QueryReady, Zeroed}
+use Rattle.query_stage.proofs.Layer.{Leaves, query-ready, queryLayer}
 use Rattle.aut_empty.specs.Contracts as Empty
 use Rattle.aut_empty.specs.Contracts.{PostSearch}
 use Rattle.aut_empty.specs.declared.Verdict as empty-verdict
@@ -46,7 +48,8 @@ use Rattle.aut_pruned.specs.Contracts.{PrunedAt}
 use Rattle.aut_pruned.specs.declared.Pruned.{Pruned}
 use Rattle.aut_pruned.specs.declared.Pruned.the-variants as pruned
 use Rattle.sp.specs.declared.SP.{SP}
-use Rattle.writer.specs.Seen.{Put, put-take, Answers}
+use Rattle.writer.specs.Seen.{Put, Answers}
+use Rattle.writer.proofs.Seen.{put-take}
 use Rattle.writer.specs.Seen as Writer
 use Rattle.writer.specs.declared.Verdict.{Verdict}
 use Rattle.writer.specs.declared.Answered.{Answered}

@@ -5,17 +5,19 @@ use Prim.Native.Nat.{ℕ, suc, _+_, _*_, _-_, _≤_, _<_}
 use native.Mathlib.Omega.{arith}
 use lib.ListN.{length, getD, length-append}
 use Rattle.common.specs.Runs.{Table}
-use Rattle.cache.specs.Cache.{Valid, Own, notes-refl, notes-trans, sound-own}
+use Rattle.cache.specs.Cache.{Valid, Own}
+use Rattle.cache.proofs.Cache.{notes-refl, notes-trans, sound-own}
 use Rattle.netkat.specs.ListSteps.{Edge}
 use Rattle.spp_steps.specs.Model as Spp
 use Rattle.spp_steps.specs.Laws.{At}
 use Rattle.spp_img.specs.Reuse.{Counted}
 use Rattle.st_steps.specs.Edges.{edges}
-use Rattle.st_steps.specs.Places.{edges-on, edges-done, edges-same, edges-length}
+use Rattle.st_steps.proofs.Places.{edges-on, edges-done, edges-same, edges-length}
 use Rattle.st.specs.Seen.{RESULT}
 use Rattle.book_steps.specs.Answers.{pairLines, prunedAnswer}
 use Rattle.aut_sets.specs.Contracts.{NotesBehind}
-use Rattle.writer.specs.Seen.{Put, Answers, pairLine, prunedHead, put-append, pairs-are}
+use Rattle.writer.specs.Seen.{Put, Answers, pairLine, prunedHead}
+use Rattle.writer.proofs.Seen.{put-append, pairs-are}
 use Rattle.writer.specs.declared.Answered.{Answered}
 use Rattle.writer.specs.declared.Answered.the-variants as answered
 use Rattle.book_query.specs.Contracts.{told, PrePairs, PostNumber, PostLength, PrePut, PostPairs, PostPruned}

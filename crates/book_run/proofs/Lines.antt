@@ -23,7 +23,8 @@ use Rattle.book_run.specs.declared.Turned.the-variants as turned
 use Rattle.book_run.specs.declared.Went.{Went}
 use Rattle.book_run.specs.declared.Went.the-variants as went
 use Rattle.book_begin.specs.Contracts.{Wrote}
-use Rattle.book_run.specs.Contracts.{SameLengths, lending, PreTurn, PostTurn, PreGo, wentOf, PostGo}
+use Rattle.book_run.specs.Contracts.{lending, PreTurn, PostTurn, PreGo, wentOf, PostGo}
+use Rattle.book_run.proofs.Contracts.{SameLengths}
 
 -- ---- one line
 

@@ -37,7 +37,8 @@ use Rattle.book_run.specs.declared.Went.{Went}
 use Rattle.book_run.specs.declared.Went.the-variants as went
 use Rattle.book_run.specs.declared.Ran.{Ran}
 use Rattle.book_run.specs.declared.Ran.the-variants as ran
-use Rattle.book_run.specs.Contracts.{lengthsOf, SameLengths, PreGo, wentOf, writtenBy, PostGo, Empty, resultOf, PreStarted, PostStarted, PostOpen, ranOf, SameTables, TablesBy, PostFinish, numberOf, textLineOf, lengthOf, slices}
+use Rattle.book_run.specs.Contracts.{lengthsOf, PreGo, wentOf, writtenBy, PostGo, Empty, resultOf, PreStarted, PostStarted, PostOpen, ranOf, SameTables, TablesBy, PostFinish, numberOf, textLineOf, lengthOf, slices}
+use Rattle.book_run.proofs.Contracts.{SameLengths}
 
 -- ---- the constants, and the lines
 

@@ -8,24 +8,25 @@ use lib.Dec.{ltb}
 use lib.ListN.{length}
 use borrow.Author.Tests.{ltb-true, ltb-false}
 use Rattle.common.specs.Outcome.{given}
-use Rattle.common.specs.Follow.{given-same}
+use Rattle.common.proofs.Follow.{given-same}
 use Rattle.netkat.specs.Rules.{Rule}
 use Rattle.netkat.specs.Lists.{State, Transition}
 use Rattle.netkat.specs.ListSteps.{Edge, Are}
 use Rattle.netkat.specs.Search.{Verdict, yes, no, spent}
 use Rattle.sp_steps.specs.Model as Sp
-use Rattle.sp_steps.specs.Size as SpSize
-use Rattle.spp_steps.specs.Laws.{by-test}
-use Rattle.spp_steps.specs.Size as SppSize
+use Rattle.sp_steps.proofs.Size as SpSize
+use Rattle.spp_steps.proofs.Laws.{by-test}
+use Rattle.spp_steps.proofs.Size as SppSize
 use Rattle.aut_steps.specs.Tables.{Limits, Aut}
-use Rattle.aut_steps.specs.Goes.{Why}
-use Rattle.delta_steps.specs.DeltaRuns.{listing, no-transitions}
+use Rattle.aut_steps.proofs.Goes.{Why}
+use Rattle.delta_steps.proofs.DeltaRuns.{listing, no-transitions}
 use Rattle.delta_steps.specs.Fits.{tables as readings}
-use Rattle.query_steps.specs.Tables.{Tables, is-live-same, Ordered}
-use Rattle.query_steps.specs.Steps.{WhyQuery, no-packet-node, working, no-entry}
-use Rattle.query_steps.specs.SearchLaws.{Searched}
-use Rattle.query_steps.specs.LiveLaws.{Lived}
-use Rattle.query_steps.specs.PrunedLaws.{PrunedTo}
+use Rattle.query_steps.specs.Tables.{Tables, Ordered}
+use Rattle.query_steps.proofs.Tables.{is-live-same}
+use Rattle.query_steps.proofs.Steps.{WhyQuery, no-packet-node, working, no-entry}
+use Rattle.query_steps.proofs.SearchLaws.{Searched}
+use Rattle.query_steps.proofs.LiveLaws.{Lived}
+use Rattle.query_steps.proofs.PrunedLaws.{PrunedTo}
 use Rattle.book_steps.specs.Answers.{Pairs}
 use Rattle.book_steps.specs.Run.{Setting}
 use Rattle.book_steps.specs.Meaning.{Same}

@@ -10,16 +10,17 @@ use lib.Dec.{ltb, leb}
 use lib.ListN.{length, getD, replicate, length-replicate}
 use borrow.Author.Tests.{ltb-true, ltb-false, leb-true, leb-false, le-leb, lt-ltb}
 use Rattle.common.specs.Outcome.{Outcome, refused, given, if_then_else_}
-use Rattle.common.specs.Follow.{given-of}
+use Rattle.common.proofs.Follow.{given-of}
 use Rattle.common.specs.Runs.{Table, table}
 use Rattle.sp_steps.specs.Model as Sp
-use Rattle.sp_steps.specs.Start as SpStart
+use Rattle.sp_steps.proofs.Start as SpStart
 use Rattle.spp_steps.specs.Model as Spp
-use Rattle.spp_steps.specs.Laws.{by-test}
-use Rattle.spp_steps.specs.Begin as SppBegin
+use Rattle.spp_steps.proofs.Laws.{by-test}
+use Rattle.spp_steps.proofs.Begin as SppBegin
 use Rattle.aut_steps.specs.Tables.{aut}
 use Rattle.delta_steps.specs.Delta.{store}
-use Rattle.query_steps.specs.Tables.{tables, begun-ordered}
+use Rattle.query_steps.specs.Tables.{tables}
+use Rattle.query_steps.proofs.Tables.{begun-ordered}
 use Rattle.book_steps.specs.Text.{Cut, line, unended, cut, words}
 use Rattle.book_steps.specs.Reader.{Header, header}
 use Rattle.book_steps.specs.Answers.{fieldsAnswer}

@@ -17,22 +17,24 @@ use Rattle.netkat.specs.Handles as Handles
 use Rattle.netkat.specs.Handles.{Entry}
 use Rattle.sp_steps.specs.Model as Sp
 use Rattle.sp_steps.specs.Make as SpMake
+use Rattle.sp_steps.proofs.Make as SpMakeLaws
 use Rattle.sp_steps.specs.Word.{flip}
 use Rattle.spp_steps.specs.Model as Spp
 use Rattle.spp_steps.specs.Make as SppMake
-use Rattle.spp_steps.specs.Laws.{by-test}
+use Rattle.spp_steps.proofs.Make as SppMakeLaws
+use Rattle.spp_steps.proofs.Laws.{by-test}
 use Rattle.aut_steps.specs.Tables.{UNION, INTERSECT, TOP, kindOf, op2, nest, Limits, roomS, roomM, put4, Exprs, exprs, Aut, putStates, onStates}
 use Rattle.aut_steps.specs.Intern as Intern
 use Rattle.aut_steps.specs.Intern.{seek, same2, sameL, nestL, put, putL, intern1, intern2, internL}
-use Rattle.aut_steps.specs.Facts.{seek-hit, seek-miss}
+use Rattle.aut_steps.proofs.Facts.{seek-hit, seek-miss}
 use Rattle.aut_steps.specs.Constructors as C
-use Rattle.aut_steps.specs.Products.{counted as products-counted}
+use Rattle.aut_steps.proofs.Products.{counted as products-counted}
 use Rattle.st_steps.specs.Operations.{ops}
 use Rattle.st_steps.specs.Edges.{edges}
 use Rattle.delta_steps.specs.Delta.{startOf, countOf, Store, store, roomT, append, listAt, keepList}
 use Rattle.delta_steps.specs.Epsilon.{setWord}
-use Rattle.delta_steps.specs.Noted.{written, written-here, written-other, written-length}
-use Rattle.delta_steps.specs.Stored.{edges-sets, room-transitions}
+use Rattle.delta_steps.proofs.Noted.{written, written-here, written-other, written-length}
+use Rattle.delta_steps.proofs.Stored.{edges-sets, room-transitions}
 use Rattle.query_steps.specs.Tables.{Tables}
 use Rattle.query_steps.specs.Search.{machine, capacity}
 use Rattle.query_steps.specs.Live.{liveAt, Found, found, Work, work, enqueue, enlarge, live-sets, explore, settled}
@@ -149,19 +151,19 @@ stored x es σ τ l e = go (roomT (σ .transitions) (length es)) refl e
 no-set : (x y : ℕ) (t : Table) → (Sp.mk x y t ≡ refused 20) ↔ (SpMake.Missing t (flip (x % 2) x) (flip (x % 2) y) × Lacks 2 16777216 t 1)
 unfolding Sp.room
 no-set x y t = (
-  λ e. let z = SpMake.mk-refused x y t 20 e .1 in (z .missing, one-more (t .count) (length (t .words) / 2) 16777216 .0 (z .no-room)),
-  λ (m, l). SpMake.mk-short x y t (record { missing = m; no-room = one-more (t .count) (length (t .words) / 2) 16777216 .1 l }),
+  λ e. let z = SpMakeLaws.mk-refused x y t 20 e .1 in (z .missing, one-more (t .count) (length (t .words) / 2) 16777216 .0 (z .no-room)),
+  λ (m, l). SpMakeLaws.mk-short x y t (record { missing = m; no-room = one-more (t .count) (length (t .words) / 2) 16777216 .1 l }),
 )
 
 no-relation : (X : Spp.Quad) (t : Table) → (Spp.mk X t ≡ refused 21) ↔ (SppMake.Missing X t × Lacks 4 16777216 t 1)
 unfolding Spp.room
 no-relation X t = (
-  λ e. go (subst (SppMake.Ways X t) e (SppMake.ways X t)),
-  λ (m, l). SppMake.mk-short X t (record { missing = m; no-room = one-more (t .count) (length (t .words) / 4) 16777216 .1 l }),
+  λ e. go (subst (SppMakeLaws.Ways X t) e (SppMakeLaws.ways X t)),
+  λ (m, l). SppMakeLaws.mk-short X t (record { missing = m; no-room = one-more (t .count) (length (t .words) / 4) 16777216 .1 l }),
 )
   where
-    go : SppMake.Ways X t (refused 21) → SppMake.Missing X t × Lacks 4 16777216 t 1
-    go (SppMake.short z) = (z .missing, one-more (t .count) (length (t .words) / 4) 16777216 .0 (z .no-room))
+    go : SppMakeLaws.Ways X t (refused 21) → SppMake.Missing X t × Lacks 4 16777216 t 1
+    go (SppMakeLaws.short z) = (z .missing, one-more (t .count) (length (t .words) / 4) 16777216 .0 (z .no-room))
 
 -- ---- 8
 

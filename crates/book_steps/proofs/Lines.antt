@@ -15,33 +15,36 @@ use Rattle.netkat.specs.Rules.{Rule, In}
 use Rattle.netkat.specs.Lists.{State, Transition, Ascending, IsDelta}
 use Rattle.sp_steps.specs.Model as Sp
 use Rattle.aut_steps.specs.Tables.{Aut}
-use Rattle.aut_steps.specs.Languages.{_then_}
+use Rattle.aut_steps.proofs.Languages.{_then_}
 use Rattle.aut_steps.specs.Good.{states}
-use Rattle.aut_steps.specs.Goes as Goes
-use Rattle.aut_steps.specs.Goes.{Goes}
-use Rattle.aut_steps.specs.Meaning.{rule, Holds, Is}
+use Rattle.aut_steps.proofs.Goes as Goes
+use Rattle.aut_steps.proofs.Goes.{Goes}
+use Rattle.aut_steps.specs.Meaning.{rule, Holds}
+use Rattle.aut_steps.proofs.Meaning.{Is}
 use Rattle.line_steps.specs.Lines.{Line, means, make}
-use Rattle.line_steps.specs.LineLaws.{make-goes}
+use Rattle.line_steps.proofs.LineLaws.{make-goes}
 use Rattle.delta_steps.specs.Delta.{putAut}
 use Rattle.delta_steps.specs.Fits.{Since}
-use Rattle.delta_steps.specs.Worked.{worked-since}
-use Rattle.delta_steps.specs.Stored.{went-since}
-use Rattle.query_steps.specs.Tables.{Tables, putBase, Ordered, Later, gone-later}
+use Rattle.delta_steps.proofs.Worked.{worked-since}
+use Rattle.delta_steps.proofs.Stored.{went-since}
+use Rattle.query_steps.specs.Tables.{Tables, putBase, Ordered, Later}
+use Rattle.query_steps.proofs.Tables.{gone-later}
 use Rattle.query_steps.specs.Search.{is-empty}
 use Rattle.query_steps.specs.Live.{live-packets}
 use Rattle.query_steps.specs.Pruned.{delta-pruned}
-use Rattle.query_steps.specs.Steps as Steps
-use Rattle.query_steps.specs.Steps.{Ends, gone-base, ordered-base}
-use Rattle.query_steps.specs.SettleLaws.{decodes}
-use Rattle.query_steps.specs.SearchEnds.{search-ends}
-use Rattle.query_steps.specs.LiveLaws.{live-ends}
-use Rattle.query_steps.specs.PrunedLaws.{pruned-ends}
+use Rattle.query_steps.proofs.Steps as Steps
+use Rattle.query_steps.proofs.Steps.{Ends, gone-base, ordered-base}
+use Rattle.query_steps.proofs.SettleLaws.{decodes}
+use Rattle.query_steps.proofs.SearchEnds.{search-ends}
+use Rattle.query_steps.proofs.LiveLaws.{live-ends}
+use Rattle.query_steps.proofs.PrunedLaws.{pruned-ends}
 use Rattle.book_steps.specs.Reader as Reader
 use Rattle.book_steps.specs.Reader.{Query, Said, Told, makes, asks, refuses, tell}
 use Rattle.book_steps.specs.Answers.{nameOf, emptyAnswer, liveAnswer, prunedAnswer}
 use Rattle.book_steps.specs.Run.{Lent, Setting, Place, place, after-making, after-asking, perform, obey}
 use Rattle.book_steps.proofs.Meaning as Meaning
-use Rattle.book_steps.specs.Meaning.{noted, Matched, Same}
+use Rattle.book_steps.specs.Meaning.{Matched, Same}
+use Rattle.book_steps.proofs.MeaningLaws.{noted}
 use Rattle.book_steps.proofs.Meaning.{both, neither, matched-more, matched-grown, LineAlike, tell-alike, alike-asked, alike-means}
 use Rattle.book_steps.specs.Demands.{TableSpec, RoomSpec, StateSpec, TablesSpec, InOrder}
 use Rattle.book_steps.specs.RunSpec.{told, QuerySpec, QueryRefused, LineSpec, made, answered, Point, Reads, LineRefusal}

@@ -8,7 +8,7 @@ use lib.Dec.{eqb, ltb}
 use lib.ListN.{length}
 use borrow.Author.Tests.{ltb-true, lt-ltb, eqb-true, eq-eqb}
 use Rattle.common.specs.Outcome.{if_then_else_}
-use Rattle.spp_steps.specs.Laws.{by-test}
+use Rattle.spp_steps.proofs.Laws.{by-test}
 use Rattle.book_steps.specs.Text.{bytes, decimal}
 use Rattle.book_steps.specs.Answers.{say}
 use Rattle.book_steps.specs.Run.{Result, outcome}

@@ -8,7 +8,7 @@ use Prim.Native.Nat.{ℕ, zero, suc, _+_, _*_, _/_, _%_, _^_, _≤_, _<_}
 use lib.Dec.{eqb, ltb}
 use borrow.Author.Tests.{eqb-true}
 use Rattle.common.specs.Outcome.{if_then_else_}
-use Rattle.spp_steps.specs.Laws.{by-test}
+use Rattle.spp_steps.proofs.Laws.{by-test}
 use Rattle.netkat.specs.Search.{Verdict, yes, no, spent}
 use Rattle.book_steps.specs.Text.{bytes, Cut, line, before, cut, onFirst, words, number, decimalBy, decimal}
 use Rattle.book_steps.proofs.TextLaws.{decimal-read}

@@ -12,7 +12,7 @@ use lib.Pow.{pow-mono}
 use borrow.Author.Tests.{leb-true, le-leb}
 use Rattle.common.specs.Packets.{packets, any, Set, inhabited}
 use Rattle.common.specs.Outcome.{Outcome, refused, given, after, if_then_else_}
-use Rattle.common.specs.Follow.{given-of, given-same}
+use Rattle.common.proofs.Follow.{given-of, given-same}
 use Rattle.common.specs.Runs.{placed}
 use Rattle.netkat.specs.Rules.{Rule}
 use Rattle.netkat.specs.ListSteps.{Edge}
@@ -20,24 +20,28 @@ use Rattle.netkat.specs.Search.{Verdict, yes, spent}
 use Rattle.netkat.specs.Live.{IsLive}
 use Rattle.sp_steps.specs.Model as Sp
 use Rattle.sp_steps.specs.Size as SpSize
-use Rattle.spp_steps.specs.Laws.{by-test}
+use Rattle.sp_steps.proofs.Size as SpSizeLaws
+use Rattle.spp_steps.proofs.Laws.{by-test}
 use Rattle.aut_steps.specs.Tables.{Aut}
-use Rattle.aut_steps.specs.Languages.{_≈_, ≈-sym}
+use Rattle.aut_steps.specs.Languages.{_≈_}
+use Rattle.aut_steps.proofs.Languages.{≈-sym}
 use Rattle.aut_steps.specs.Good.{states}
-use Rattle.aut_steps.specs.Meaning.{Holds, holds-grown}
+use Rattle.aut_steps.specs.Meaning.{Holds}
+use Rattle.aut_steps.proofs.Meaning.{holds-grown}
 use Rattle.delta_steps.specs.Delta.{putAut}
-use Rattle.query_steps.specs.Tables.{Tables, putBase, is-live-same, Ordered, Later, later-refl, later-trans}
+use Rattle.query_steps.specs.Tables.{Tables, putBase, Ordered, Later}
+use Rattle.query_steps.proofs.Tables.{is-live-same, later-refl, later-trans}
 use Rattle.query_steps.specs.Search.{is-empty}
 use Rattle.query_steps.specs.Live.{live-packets}
-use Rattle.query_steps.specs.SearchLaws.{search-goes}
-use Rattle.query_steps.specs.LiveLaws.{live-goes}
+use Rattle.query_steps.proofs.SearchLaws.{search-goes}
+use Rattle.query_steps.proofs.LiveLaws.{live-goes}
 use Rattle.book_steps.specs.Text.{Cut, line, unended, cut, words}
 use Rattle.book_steps.specs.Reader as Reader
 use Rattle.book_steps.specs.Reader.{Query, Said, said, Told, tell}
 use Rattle.book_steps.specs.Answers.{nameOf, emptyAnswer, liveAnswer, prunedAnswer}
 use Rattle.book_steps.specs.Run as Run
 use Rattle.book_steps.specs.Run.{Lent, Setting, Place, place, after-making, after-asking, perform, obey, Ran, onward, with-line, run, Result, finish}
-use Rattle.book_steps.specs.Meaning.{noted}
+use Rattle.book_steps.proofs.MeaningLaws.{noted}
 use Rattle.book_steps.proofs.Meaning.{Both, both, matched-at}
 use Rattle.book_steps.specs.Demands.{InOrder}
 use Rattle.book_steps.specs.RunSpec.{told, Refused, Answered, QuerySpec, QueryRefused, LineSpec, made, answered, Point, Reads, LineRefusal, LineStep, Steps, here, on, Final, RunSpec, Alike, RunClaim}
@@ -279,7 +283,7 @@ module _ (S : Setting) where
         let live : IsLive (f .set .set) (Holds N (d .place .tables .base .aut) x) = is-live-same same (is-live-same (holds-grown (j .ordered .worked .good) (f .later .grown) m) (f .set .is)) in
         let g = z .demanded .live-alike (f .set .set) live u in
         let o = number-none (f .set .set) in
-        let w : Sp.size (υ .sets .words) N l ≡ SpSize.number (f .set .set) = SpSize.size-den (f .set .den) in
+        let w : Sp.size (υ .sets .words) N l ≡ SpSize.number (f .set .set) = SpSizeLaws.size-den (f .set .den) in
         (λ q. w ∙ o .1 (g .0 q), λ q. g .1 (o .0 (sym w ∙ q)))
 
     pub alike : {c d e : Point S} → InOrder S lent (c .place) (c .rules) → Steps S lent c d → Steps S lent c e → Alike S lent d e
@@ -288,7 +292,7 @@ module _ (S : Setting) where
         go : Emptied (d .place .tables) (nameOf a) x τ (emptyAnswer (nameOf a) v c) → Lived (e .place .tables) (nameOf b) x υ (liveAnswer N (nameOf b) m) → (v ≡ yes) ↔ (m ≡ 0)
         go s t =
             let half : 2 ^ N ≤ 2 ^ 63 = pow-mono {j = 63} (omega arith) in
-            let small : Sp.size (υ .sets .words) N (t .handle) < 2 ^ 64 = omega (arith, SpSize.size-most (υ .sets .words) N (t .handle), half) in
+            let small : Sp.size (υ .sets .words) N (t .handle) < 2 ^ 64 = omega (arith, SpSizeLaws.size-most (υ .sets .words) N (t .handle), half) in
             let (x1, v-is, x2) = empty-one a a c (s .count) v (s .verdict) la la ld (omega (arith, s .within)) (s .printed) in
             let (x3, m-is) = live-one N b b m (Sp.size (υ .sets .words) N (t .handle)) lc lc le small (t .printed) in
             let z = alike-steps first way-d way-e a b x (s .count) (t .handle) (s .verdict) τ υ ea eb (s .came) (t .came) (λ w. u (v-is ∙ w)) in

@@ -1,13 +1,10 @@
 -- 01, "The book and its answers": the lines of an answer. `fields`: N. `empty`: the line named, verdict (yes, no, spent), pairs taken. `live`: line, live packets, and their
 -- share of 2^N in thousandths, the half rounded up. `pruned`: line, number of transitions; each `pair`: target state number, packet pairs in the label.
-use mathlib.Core.Path.{_≡_, refl, _∙_}
 use mathlib.Core.List.{List, [], _∷_, _++_}
-use Prim.Native.Nat.{ℕ, suc, _+_, _*_, _/_, _^_, _≤_, _<_}
-use native.Mathlib.Nat.{mul-div-le, lt-mul-div-succ}
-use native.Mathlib.Omega.{arith}
+use Prim.Native.Nat.{ℕ, _+_, _*_, _/_, _^_}
 use lib.ListN.{length}
 use Rattle.netkat.specs.Search.{Verdict, yes, no, spent}
-use Rattle.book_steps.specs.Text.{bytes, decimalBy, decimal}
+use Rattle.book_steps.specs.Text.{bytes, decimal}
 
 -- words with single spaces between them, and byte 10
 unfoldable pub say : List (List ℕ) → List ℕ
@@ -49,18 +46,3 @@ pairLines (p ∷ ps) = say (bytes "pair" ∷ decimal (p .target) ∷ decimal (p 
 
 abbrev pub prunedAnswer : (name : List ℕ) → List Pairs → List ℕ
 prunedAnswer name pairs = say (bytes "pruned" ∷ name ∷ decimal (length pairs) ∷ []) ++ pairLines pairs
-
--- ---- the share is the nearest thousandth, of two that are equally near the larger
-
-pub share-is : (count total : ℕ) → 0 < total
-    → (2 * total * share count total ≤ 2000 * count + total) × (2000 * count + total < 2 * total * (share count total + 1))
-unfolding share
-share-is count total l = (mul-div-le (2000 * count + total) (2 * total), lt-mul-div-succ (2000 * count + total) (omega arith))
-
-pub sixteenth : share 1 16 ≡ 63
-unfolding share
-sixteenth = refl
-
-pub thirty-second : share 1 32 ≡ 31
-unfolding share
-thirty-second = refl

@@ -1,6 +1,6 @@
 -- What a book means, by its text alone: each constructor line a rule, by the rules of the lines that it names. And when
 -- the states of its lines hold the strings of these rules.
-use mathlib.Core.List.{List, [], _∷_, _++_}
+use mathlib.Core.List.{List, [], _∷_}
 use mathlib.Core.Option.{Option, none, some}
 use Prim.Native.Nat.{ℕ, _<_}
 use Rattle.netkat.specs.Rules.{Rule, In}
@@ -8,15 +8,6 @@ use Rattle.aut_steps.specs.Tables.{Aut}
 use Rattle.aut_steps.specs.Languages.{_≈_}
 use Rattle.aut_steps.specs.Good.{states}
 use Rattle.aut_steps.specs.Meaning.{Holds}
-use Rattle.line_steps.specs.Lines.{means}
-use Rattle.book_steps.specs.Reader as Reader
-use Rattle.book_steps.specs.Reader.{Told}
-
--- what a line that is not refused adds: a constructor line its rule, a query nothing
-abbrev pub noted : {N : ℕ} → List (Option (Rule N)) → Told (Rule N) → List (Option (Rule N))
-noted R (Reader.makes l) = R ++ some (means (λ r. r) l) ∷ []
-noted R (Reader.asks q a r) = R ++ none ∷ []
-noted R (Reader.refuses e) = R
 
 -- ---- states and rules, line by line
 

@@ -1,2 +1,1 @@
 -- Books with their whole outcomes, computed from the definition.
-pub mod Vectors

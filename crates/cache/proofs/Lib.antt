@@ -1,1 +1,3 @@
+pub mod Cache
+pub mod Stage
 pub mod Written

@@ -13,7 +13,7 @@ use Rattle.common.specs.Runs.{table}
 use Rattle.netkat.specs.ListSteps.{Edge}
 use Rattle.aut_steps.specs.Tables.{words, aut}
 use Rattle.st_steps.specs.Edges.{edges, flat}
-use Rattle.st_steps.specs.Places.{edges-length}
+use Rattle.st_steps.proofs.Places.{edges-length}
 use Rattle.delta_steps.specs.Epsilon.{setWord}
 use Rattle.delta_steps.specs.Delta.{store, transitionCap, roomT, append, keepList}
 use Rattle.delta_stage.specs.OnStore.{storeOf}

@@ -12,14 +12,16 @@ use Rattle.spp.specs.declared.SPP.{SPP as Handle}
 use Rattle.spp.specs.declared.Made.{Made}
 use Rattle.spp.specs.declared.Made.the-variants.{Node, Full}
 use Rattle.aut_steps.specs.Relations as Rel
-use Rattle.aut_steps.specs.RelationLaws.{star-made}
+use Rattle.aut_steps.proofs.RelationLaws.{star-made}
 use Rattle.aut_steps.specs.Tables.{SPP, UNION, INTERSECT, XOR, DIFFERENCE, COMPLEMENT, SEQUENCE, STAR, DUP, NEXT, UNTIL, TOP, kindOf, op1, op2, words, Aut, onNodes}
-use Rattle.aut_steps.specs.Good.{state-grown}
-use Rattle.aut_steps.specs.Goes.{goes-map}
-use Rattle.aut_steps.specs.StateLaws.{nodes-goes}
+use Rattle.aut_steps.proofs.Good.{state-grown}
+use Rattle.aut_steps.proofs.Goes.{goes-map}
+use Rattle.aut_steps.proofs.StateLaws.{nodes-goes}
 use Rattle.st_steps.specs.Operations.{ops}
-use Rattle.st_steps.specs.Edges.{edges, edges-grown}
-use Rattle.st_steps.specs.ListGoes.{ListAt, Label, list-empty}
+use Rattle.st_steps.specs.Edges.{edges}
+use Rattle.st_steps.proofs.Edges.{edges-grown}
+use Rattle.st_steps.specs.ListGoes.{ListAt, Label}
+use Rattle.st_steps.proofs.ListGoes.{list-empty}
 use Rattle.delta_steps.specs.Epsilon.{valueOf}
 use Rattle.delta_steps.specs.Delta.{listAt, unionAll, intersectFirst, sequenceList, starList, untilList, dupList, topList}
 use Rattle.delta_steps.specs.DeltaReads.{togetherWith}
@@ -29,9 +31,11 @@ use Rattle.aut.specs.declared.Counts.{Counts}
 use Rattle.aut.specs.declared.Limits.{Limits}
 use Rattle.aut_rel.specs.Seen.{autOf, Relates, RelateReady}
 use Rattle.aut_rel.proofs.Order.{backed-of}
-use Rattle.aut_stage.specs.Stage.{gave, Post, Stage, Inside, begin, next, stuck, finish, done, all-of}
-use Rattle.aut_stage.specs.OnAut.{autLayer}
-use Rattle.aut_stage.specs.OnNodes.{withNodes, relation-given, relation-refused}
+use Rattle.aut_stage.specs.Stage.{gave, Post, Stage}
+use Rattle.aut_stage.proofs.Stage.{Inside, begin, next, stuck, finish, done, all-of}
+use Rattle.aut_stage.proofs.OnAut.{autLayer}
+use Rattle.aut_stage.specs.OnNodes.{withNodes}
+use Rattle.aut_stage.proofs.OnNodes.{relation-given, relation-refused}
 use Rattle.st.specs.declared.Listed.{Listed}
 use Rattle.st.specs.declared.Listed.the-variants as listed
 use Rattle.st.specs.Seen.{DoesList}
@@ -40,7 +44,8 @@ use Rattle.st_ops.specs.Seen.{OneReady, TwoReady}
 use Rattle.st_ops.proofs.Join.{none-at}
 use Rattle.st_more.specs.Seen.{StoredReady}
 use Rattle.st_not.specs.Seen as Not
-use Rattle.st_stage.specs.Readings.{listOf, GivesList, of-list}
+use Rattle.st_stage.specs.Readings.{listOf, GivesList}
+use Rattle.st_stage.proofs.Readings.{of-list}
 use Rattle.delta_stage.specs.OnStore.{storeOf}
 use Rattle.delta_many.specs.Contracts.{listsAt}
 use Rattle.delta_lists.specs.Seen.{SequenceReady, StarReady, UntilReady, AloneReady, Anything, StateAt, GivesAlone}

@@ -8,20 +8,24 @@ use lib.Dec.{eqb}
 use lib.ListN.{length, getD, length-append}
 use borrow.Author.Tests.{eqb-true, eqb-false, ne-eqb}
 use Rattle.netkat.specs.Rules.{next}
-use Rattle.spp_steps.specs.Laws.{by-test}
+use Rattle.spp_steps.proofs.Laws.{by-test}
 use Rattle.aut_steps.specs.Tables.{SPP, UNION, INTERSECT, XOR, DIFFERENCE, COMPLEMENT, SEQUENCE, STAR, DUP, NEXT, UNTIL, TOP, kindOf, op1, op2, words}
 use Rattle.aut_steps.specs.Kinds.{form}
-use Rattle.aut_steps.specs.Facts.{words-length}
-use Rattle.aut_steps.specs.ListLaws.{All, all-map, all-with}
-use Rattle.aut_steps.specs.Good.{Good, ok-as}
+use Rattle.aut_steps.proofs.Facts.{words-length}
+use Rattle.aut_steps.specs.ListLaws.{All}
+use Rattle.aut_steps.proofs.ListLaws.{all-map, all-with}
+use Rattle.aut_steps.specs.Good.{Good}
+use Rattle.aut_steps.proofs.Good.{ok-as}
 use Rattle.st_steps.specs.Edges.{edges}
 use Rattle.st_steps.specs.ListGoes.{Label}
 use Rattle.delta_steps.specs.Epsilon.{valueOf}
 use Rattle.delta_steps.specs.Delta.{startOf, countOf, Store, listAt}
-use Rattle.delta_steps.specs.DeltaReads.{listOperandsWith, listOperands, list-operands-below}
-use Rattle.delta_steps.specs.EpsilonDown.{Known, known-means}
-use Rattle.delta_steps.specs.ListGoes.{list-at}
-use Rattle.delta_steps.specs.Operands.{below-one, last-kind, no-kind}
+use Rattle.delta_steps.specs.DeltaReads.{listOperandsWith, listOperands}
+use Rattle.delta_steps.proofs.DeltaReads.{list-operands-below}
+use Rattle.delta_steps.specs.EpsilonDown.{Known}
+use Rattle.delta_steps.proofs.EpsilonDown.{known-means}
+use Rattle.delta_steps.proofs.ListGoes.{list-at}
+use Rattle.delta_steps.proofs.Operands.{below-one, last-kind, no-kind}
 use Rattle.delta_steps.specs.Worked.{Lists, Held}
 use Rattle.aut.specs.Seen.{limitsOf}
 use Rattle.aut.specs.declared.Counts.{Counts}

@@ -10,18 +10,21 @@ use Rattle.common.specs.Outcome.{given, Step, return, after, _>>=_, if_then_els
 use Rattle.common.specs.Runs.{Table, table}
 use Rattle.netkat.specs.ListSteps as St
 use Rattle.netkat.specs.ListSteps.{Edge, edge}
-use Rattle.spp_steps.specs.Laws.{den-one, den-top}
+use Rattle.spp_steps.proofs.Laws.{den-one, den-top}
 use Rattle.aut_steps.specs.Tables as T
 use Rattle.aut_steps.specs.Tables.{Aut, onStates}
 use Rattle.aut_steps.specs.Relations as Rel
 use Rattle.aut_steps.specs.Constructors.{mk-spp, mk-top}
 use Rattle.aut_steps.specs.Good.{Good}
-use Rattle.aut_steps.specs.Goes.{Goes, goes-map}
-use Rattle.aut_steps.specs.StateLaws.{mk-spp-goes, mk-top-goes}
+use Rattle.aut_steps.proofs.Goes.{Goes, goes-map}
+use Rattle.aut_steps.proofs.StateLaws.{mk-spp-goes, mk-top-goes}
 use Rattle.st_steps.specs.Operations.{ops}
-use Rattle.st_steps.specs.Edges.{edges, EdgeAt, none, also, edge-grown}
-use Rattle.st_steps.specs.Places.{putEdge, edges-one, put-length, put-kept, put-edge}
-use Rattle.st_steps.specs.ListGoes.{ListAt, State, Label, list-empty, zero-state-goes}
+use Rattle.st_steps.specs.Edges.{edges, EdgeAt, none, also}
+use Rattle.st_steps.proofs.Edges.{edge-grown}
+use Rattle.st_steps.specs.Places.{putEdge}
+use Rattle.st_steps.proofs.Places.{edges-one, put-length, put-kept, put-edge}
+use Rattle.st_steps.specs.ListGoes.{ListAt, State, Label}
+use Rattle.st_steps.proofs.ListGoes.{list-empty, zero-state-goes}
 use Rattle.delta_steps.specs.Delta.{dupList, topList}
 use Rattle.aut.specs.Seen.{limitsOf, seenPut}
 use Rattle.aut.specs.declared.Counts.{Counts}
@@ -34,9 +37,10 @@ use Rattle.st.specs.declared.Listed.{Listed}
 use Rattle.st.specs.declared.Listed.the-variants as listed
 use Rattle.st.specs.Seen.{RESULT}
 use Rattle.st_ops.proofs.Join.{none-at}
-use Rattle.aut_stage.specs.Stage.{gave, Post, Stage, Inside, begin, next, stuck, wrote, instead, finish, done, all-of}
-use Rattle.aut_stage.specs.OnAut.{autLayer}
-use Rattle.aut_stage.specs.OnNodes.{state-given, state-refused}
+use Rattle.aut_stage.specs.Stage.{gave, Post, Stage}
+use Rattle.aut_stage.proofs.Stage.{Inside, begin, next, stuck, wrote, instead, finish, done, all-of}
+use Rattle.aut_stage.proofs.OnAut.{autLayer}
+use Rattle.aut_stage.proofs.OnNodes.{state-given, state-refused}
 use Rattle.st_stage.specs.Readings.{listOf, GivesList}
 use Rattle.delta_lists.specs.Seen.{AloneReady, Anything, StateAt, EdgeAlone, GivesAlone}
 

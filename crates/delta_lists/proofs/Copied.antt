@@ -19,9 +19,11 @@ use Rattle.st.specs.declared.Listed.the-variants as listed
 use Rattle.st.specs.Seen.{RESULT}
 use Rattle.st.proofs.Join.{list-few}
 use Rattle.st_edges.specs.Seen.{Wrote, CopyReady}
-use Rattle.st_source.specs.Seen.{scratched, Walked}
-use Rattle.aut_stage.specs.Stage.{refusal, Post, Stage, Inside, next, stuck, wrote, instead}
-use Rattle.aut_stage.specs.OnAut.{autLayer}
+use Rattle.st_source.specs.Seen.{Walked}
+use Rattle.st_source.proofs.Seen.{scratched}
+use Rattle.aut_stage.specs.Stage.{refusal, Post, Stage}
+use Rattle.aut_stage.proofs.Stage.{Inside, next, stuck, wrote, instead}
+use Rattle.aut_stage.proofs.OnAut.{autLayer}
 use Rattle.st_stage.specs.Readings.{GivesList}
 
 -- place, by record

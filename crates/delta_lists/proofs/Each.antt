@@ -17,7 +17,8 @@ use Rattle.st.specs.Seen.{RESULT, DoesList}
 use Rattle.st_source.specs.declared.Source.{Source}
 use Rattle.st_each.specs.Seen.{EachReady}
 use Rattle.st_ops.proofs.Join.{none-ready, none-at, does-as}
-use Rattle.st_stage.specs.Readings.{GivesList, of-list}
+use Rattle.st_stage.specs.Readings.{GivesList}
+use Rattle.st_stage.proofs.Readings.{of-list}
 use Rattle.delta_lists.specs.Seen.{ToReady, BehindReady}
 
 module _ {N : ℕ} {l : Limits} {σ : Aut} {tr s : List ℕ} {x : Source} where

@@ -6,8 +6,9 @@ use Rattle.netkat.specs.ListSteps as St
 use Rattle.aut_steps.specs.Tables.{Aut}
 use Rattle.aut_steps.specs.Good.{Grown}
 use Rattle.st_steps.specs.Operations.{ops}
-use Rattle.st_steps.specs.Edges.{edges, edges-grown}
-use Rattle.st_steps.specs.ListGoes.{label-grown}
+use Rattle.st_steps.specs.Edges.{edges}
+use Rattle.st_steps.proofs.Edges.{edges-grown}
+use Rattle.st_steps.proofs.ListGoes.{label-grown}
 use Rattle.delta_steps.specs.Delta.{sequenceList}
 use Rattle.aut.specs.Seen.{limitsOf}
 use Rattle.aut.specs.declared.Counts.{Counts}
@@ -17,7 +18,8 @@ use Rattle.st.specs.declared.Listed.{Listed}
 use Rattle.st.specs.Seen.{DoesList}
 use Rattle.st_source.specs.Seen.{stored}
 use Rattle.st_more.proofs.Join.{Joins}
-use Rattle.st_stage.specs.Readings.{GivesList, to-list}
+use Rattle.st_stage.specs.Readings.{GivesList}
+use Rattle.st_stage.proofs.Readings.{to-list}
 use Rattle.delta_lists.specs.Seen.{BehindReady, SequenceReady}
 
 module _ {N : ℕ} {l : Limits} {σ : Aut} {tr s : List ℕ} {y ε a k b j : ℕ} (W : SequenceReady N l σ tr s y ε a k b j) where

@@ -9,7 +9,7 @@ use Rattle.netkat.specs.ListSteps.{Edge}
 use Rattle.aut_steps.specs.Tables.{Aut}
 use Rattle.st_steps.specs.Operations.{ops}
 use Rattle.st_steps.specs.Edges.{edges}
-use Rattle.st_steps.specs.ListGoes.{label-grown}
+use Rattle.st_steps.proofs.ListGoes.{label-grown}
 use Rattle.delta_steps.specs.Delta.{starList}
 use Rattle.aut.specs.Seen.{limitsOf}
 use Rattle.aut.specs.declared.Counts.{Counts}
@@ -19,9 +19,10 @@ use Rattle.st.specs.declared.Listed.{Listed}
 use Rattle.st.specs.declared.Listed.the-variants as listed
 use Rattle.st.specs.Seen.{RESULT}
 use Rattle.st_edges.specs.Seen.{Wrote, CopyReady}
-use Rattle.st_source.specs.Seen.{scratched}
-use Rattle.aut_stage.specs.Stage.{Stage, begin, finish}
-use Rattle.aut_stage.specs.OnAut.{autLayer}
+use Rattle.st_source.proofs.Seen.{scratched}
+use Rattle.aut_stage.specs.Stage.{Stage}
+use Rattle.aut_stage.proofs.Stage.{begin, finish}
+use Rattle.aut_stage.proofs.OnAut.{autLayer}
 use Rattle.st_stage.specs.Readings.{listOf, GivesList}
 use Rattle.delta_lists.specs.Seen.{StarReady, BehindReady}
 use Rattle.delta_lists.proofs.Copied as copied

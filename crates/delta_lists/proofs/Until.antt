@@ -10,10 +10,11 @@ use Rattle.netkat.specs.ListSteps as St
 use Rattle.netkat.specs.ListSteps.{Edge}
 use Rattle.aut_steps.specs.Tables.{UNTIL, Aut, onStates}
 use Rattle.aut_steps.specs.Constructors.{mk-until}
-use Rattle.aut_steps.specs.Goes.{goes-map}
-use Rattle.aut_steps.specs.StateLaws.{mk-until-goes}
+use Rattle.aut_steps.proofs.Goes.{goes-map}
+use Rattle.aut_steps.proofs.StateLaws.{mk-until-goes}
 use Rattle.st_steps.specs.Operations.{ops}
-use Rattle.st_steps.specs.Edges.{edges, edges-grown}
+use Rattle.st_steps.specs.Edges.{edges}
+use Rattle.st_steps.proofs.Edges.{edges-grown}
 use Rattle.st_steps.specs.ListGoes.{State}
 use Rattle.delta_steps.specs.Delta.{untilList}
 use Rattle.aut.specs.Seen.{limitsOf, seenPut, Ready2}
@@ -28,12 +29,15 @@ use Rattle.st.specs.declared.Listed.{Listed}
 use Rattle.st.specs.declared.Listed.the-variants as listed
 use Rattle.st.specs.Seen.{RESULT, DoesList}
 use Rattle.st_edges.specs.Seen.{Wrote, CopyReady}
-use Rattle.st_source.specs.Seen.{stored, scratched}
+use Rattle.st_source.specs.Seen.{stored}
+use Rattle.st_source.proofs.Seen.{scratched}
 use Rattle.st_ops.specs.Seen.{TwoReady}
-use Rattle.aut_stage.specs.Stage.{gave, Post, Stage, Inside, begin, next, stuck, finish}
-use Rattle.aut_stage.specs.OnAut.{autLayer}
-use Rattle.aut_stage.specs.OnNodes.{state-given, state-refused}
-use Rattle.st_stage.specs.Readings.{listOf, GivesList, of-list}
+use Rattle.aut_stage.specs.Stage.{gave, Post, Stage}
+use Rattle.aut_stage.proofs.Stage.{Inside, begin, next, stuck, finish}
+use Rattle.aut_stage.proofs.OnAut.{autLayer}
+use Rattle.aut_stage.proofs.OnNodes.{state-given, state-refused}
+use Rattle.st_stage.specs.Readings.{listOf, GivesList}
+use Rattle.st_stage.proofs.Readings.{of-list}
 use Rattle.delta_lists.specs.Seen.{ToReady, UntilReady}
 use Rattle.delta_lists.proofs.Copied as copied
 

@@ -12,15 +12,19 @@ use Rattle.netkat.specs.ListSteps.{Edge}
 use Rattle.aut_steps.specs.Tables as T
 use Rattle.aut_steps.specs.Tables.{Aut, words}
 use Rattle.aut_steps.specs.ListLaws.{All}
-use Rattle.aut_steps.specs.Scratch.{words-on, words-done, from-0, all-word}
-use Rattle.aut_steps.specs.Good.{states, state-grown}
+use Rattle.aut_steps.proofs.Scratch.{words-on, words-done, from-0, all-word}
+use Rattle.aut_steps.specs.Good.{states}
+use Rattle.aut_steps.proofs.Good.{state-grown}
 use Rattle.st_steps.specs.Edges.{edges, EdgesAt}
-use Rattle.st_steps.specs.ListGoes.{ListAt, list-empty}
+use Rattle.st_steps.specs.ListGoes.{ListAt}
+use Rattle.st_steps.proofs.ListGoes.{list-empty}
 use Rattle.delta_steps.specs.Delta.{Store, store, listAt, unionAll, intersectAll, intersectFirst}
 use Rattle.delta_steps.specs.DeltaDown.{Has}
 use Rattle.delta_steps.specs.Fits.{Since}
-use Rattle.delta_steps.specs.Worked.{Worked, worked-since, same-list}
-use Rattle.delta_steps.specs.Stored.{Went, went-since}
+use Rattle.delta_steps.specs.Worked.{Worked}
+use Rattle.delta_steps.proofs.Worked.{worked-since, same-list}
+use Rattle.delta_steps.specs.Stored.{Went}
+use Rattle.delta_steps.proofs.Stored.{went-since}
 use Rattle.delta_stage.specs.OnStore.{storeOf}
 use Rattle.aut.specs.Seen.{limitsOf}
 use Rattle.aut.specs.declared.Counts.{Counts}
@@ -31,11 +35,14 @@ use Rattle.st.specs.declared.Listed.the-variants as listed
 use Rattle.st.specs.Seen.{RESULT, DoesList}
 use Rattle.st.proofs.Join.{list-few}
 use Rattle.st_edges.specs.Seen.{Wrote, CopyReady}
-use Rattle.st_source.specs.Seen.{stored, scratched}
+use Rattle.st_source.specs.Seen.{stored}
+use Rattle.st_source.proofs.Seen.{scratched}
 use Rattle.st_ops.specs.Seen.{TwoReady}
-use Rattle.aut_stage.specs.Stage.{Stage, Inside, Folds, Turned, begin, stuck, wrote, instead, finish, done, turn, over, again, all-of}
-use Rattle.aut_stage.specs.OnAut.{autLayer}
-use Rattle.st_stage.specs.Readings.{listOf, GivesList, of-list}
+use Rattle.aut_stage.specs.Stage.{Stage}
+use Rattle.aut_stage.proofs.Stage.{Inside, Folds, Turned, begin, stuck, wrote, instead, finish, done, turn, over, again, all-of}
+use Rattle.aut_stage.proofs.OnAut.{autLayer}
+use Rattle.st_stage.specs.Readings.{listOf, GivesList}
+use Rattle.st_stage.proofs.Readings.{of-list}
 use Rattle.delta_many.specs.declared.Join.{Join}
 use Rattle.delta_many.specs.declared.Join.the-variants as join
 use Rattle.delta_many.specs.declared.Span.{Span}

@@ -7,16 +7,16 @@ use lib.ListN.{length, getD}
 use lib.Seq.{sets}
 use Rattle.netkat.specs.ListSteps.{Edge}
 use Rattle.aut_steps.specs.Tables.{words}
-use Rattle.aut_steps.specs.Facts.{words-length}
-use Rattle.aut_steps.specs.Scratch.{kept-sets}
+use Rattle.aut_steps.proofs.Facts.{words-length}
+use Rattle.aut_steps.proofs.Scratch.{kept-sets}
 use Rattle.aut_steps.specs.Good.{states}
 use Rattle.st_steps.specs.Edges.{edges, flat, EdgesAt}
 use Rattle.st_steps.specs.ListGoes.{ListAt}
-use Rattle.st_steps.specs.Places.{edges-length}
+use Rattle.st_steps.proofs.Places.{edges-length}
 use Rattle.delta_steps.specs.Delta.{Store, listAt}
 use Rattle.delta_steps.specs.DeltaDown.{Has}
-use Rattle.delta_steps.specs.ListGoes.{list-at}
-use Rattle.delta_steps.specs.Stored.{edges-sets}
+use Rattle.delta_steps.proofs.ListGoes.{list-at}
+use Rattle.delta_steps.proofs.Stored.{edges-sets}
 use Rattle.delta_stage.specs.OnStore.{Prepared}
 use Rattle.aut.specs.Seen.{limitsOf}
 use Rattle.aut.specs.declared.Limits.{Limits}

@@ -9,17 +9,19 @@ use Rattle.common.specs.Runs.{Table, table}
 use Rattle.spp.specs.Seen.{FieldAsked}
 use Rattle.aut_steps.specs.Tables.{COMPLEMENT, UNTIL, Aut, onStates}
 use Rattle.aut_steps.specs.Constructors.{spp-of, mk-spp}
-use Rattle.aut_steps.specs.Goes.{Goes, came}
+use Rattle.aut_steps.proofs.Goes.{Goes, came}
 use Rattle.netkat.specs.Rules.{In}
-use Rattle.aut_steps.specs.Meaning.{rule, Is}
+use Rattle.aut_steps.specs.Meaning.{rule}
+use Rattle.aut_steps.proofs.Meaning.{Is}
 use Rattle.line_steps.specs.Lines as M
-use Rattle.line_steps.specs.LineLaws.{make-goes}
+use Rattle.line_steps.proofs.LineLaws.{make-goes}
 use Rattle.aut.specs.Seen.{limitsOf, Fits, Ready1, Ready2}
 use Rattle.aut.specs.declared.Counts.{Counts}
 use Rattle.aut.specs.declared.Limits.{Limits}
 use Rattle.aut.specs.declared.State.{State}
 use Rattle.aut.specs.declared.State.the-variants as state
-use Rattle.aut_rel.specs.Behind.{LISTS, left-refl, left-any, left-wide}
+use Rattle.aut_rel.specs.Behind.{LISTS}
+use Rattle.aut_rel.proofs.Behind.{left-refl, left-any, left-wide}
 use Rattle.aut_rel.specs.Seen.{autOf, seenAut, LeftBy, Ready, Does, DoesSpp}
 use Rattle.aut_rel.proofs.Join.{same-left}
 use Rattle.aut_rel.proofs.Order.{fits, ready-complement, ready-until, ready-after}

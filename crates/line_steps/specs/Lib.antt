@@ -1,3 +1,2 @@
 -- A constructor line of a book: what it means, the step that makes its state, and the law that joins the two.
 pub mod Lines
-pub mod LineLaws

@@ -15,7 +15,8 @@ use Rattle.book_steps.specs.Run.{Lent, Result, outcome}
 use Rattle.book_steps.specs.Text.{bytes, decimal}
 use Rattle.book_steps.specs.Answers.{say}
 use Rattle.io.specs.Counts.{Counts}
-use Rattle.writer.specs.Seen.{Put, put-take, Answers}
+use Rattle.writer.specs.Seen.{Put, Answers}
+use Rattle.writer.proofs.Seen.{put-take}
 use Rattle.writer.specs.declared.Answered.{Answered}
 use Rattle.writer.specs.declared.Answered.the-variants as answered
 use Rattle.writer.proofs.Rights.{most-digits}

@@ -11,6 +11,3 @@ pub mod Handles  -- the search over handles, as a program does it
 pub mod Direct  -- the plain search as such a search
 pub mod Demand  -- demand 3, for one search
 pub mod Derivatives  -- epsilon and delta of every rule; the automaton of rules
-pub mod Workshop  -- a store for the list operations
-pub mod Examples  -- 01's example and some small ones, computed
-pub mod Laws  -- the proofs of all this

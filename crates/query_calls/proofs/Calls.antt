@@ -8,21 +8,24 @@ use native.Mathlib.Omega.{arith}
 use lib.ListN.{length, getD}
 use Rattle.common.specs.Outcome.{Outcome, refused, given, Step}
 use Rattle.common.specs.Runs.{Table, table, placed}
-use Rattle.cache.specs.Cache.{Own, sound-map, notes-map}
+use Rattle.cache.specs.Cache.{Own}
+use Rattle.cache.proofs.Cache.{sound-map, notes-map}
 use Rattle.netkat.specs.Lists.{State, Transition}
 use Rattle.netkat.specs.ListSteps.{Edge, Are}
 use Rattle.sp_steps.specs.Model as Sp
 use Rattle.sp_steps.specs.Laws as SpLaws
-use Rattle.sp_steps.specs.Sets as SpSets
-use Rattle.sp_steps.specs.Refused as SpRefused
+use Rattle.sp_steps.proofs.Laws as SpLawsProofs
+use Rattle.sp_steps.proofs.Sets as SpSets
+use Rattle.sp_steps.proofs.Refused as SpRefused
 use Rattle.sp_steps.specs.Reuse.{SpNoted}
 use Rattle.sp.specs.Seen as Sets
 use Rattle.sp.specs.declared.SP.{SP}
 use Rattle.sp.specs.declared.Made as sets
-use Rattle.spp_steps.specs.Laws.{At, Den, den-mem}
+use Rattle.spp_steps.specs.Laws.{At, Den}
+use Rattle.spp_steps.proofs.Laws.{den-mem}
 use Rattle.spp_steps.specs.ImageModel as Images
 use Rattle.spp_steps.specs.ImageModel.{Stores}
-use Rattle.spp_steps.specs.Images.{push-exact, pull-exact, bwd-exact, ifwd-exact}
+use Rattle.spp_steps.proofs.Images.{push-exact, pull-exact, bwd-exact, ifwd-exact}
 use Rattle.spp.specs.Seen as SppSeen
 use Rattle.spp.specs.declared.SPP.{SPP}
 use Rattle.spp.specs.declared.Made as relations
@@ -30,17 +33,20 @@ use Rattle.spp_img.specs.Seen as Img
 use Rattle.spp_img.specs.Reuse.{Written, Kept, Counted}
 use Rattle.spp_img2.specs.Seen as Lifts
 use Rattle.aut_steps.specs.Relations as Rel
-use Rattle.aut_steps.specs.RelationLaws.{intersect-made}
+use Rattle.aut_steps.proofs.RelationLaws.{intersect-made}
 use Rattle.aut_steps.specs.Tables.{Aut, onNodes, putNodes}
 use Rattle.aut_steps.specs.Good.{states}
-use Rattle.aut_steps.specs.StateLaws.{nodes-goes}
+use Rattle.aut_steps.proofs.StateLaws.{nodes-goes}
 use Rattle.delta_steps.specs.Epsilon.{epsilon}
 use Rattle.delta_steps.specs.Delta.{Store, putAut, onAut, delta}
 use Rattle.delta_steps.specs.Fits.{tables as readings}
-use Rattle.delta_stage.specs.OnStore.{storeOf, storeLayer, epsilon-given}
-use Rattle.query_steps.specs.Tables.{Tables, tables, diagrams, putSets, putBase, putRelations, onSets, onBase, makingSets, makingRelations, Ordered, both-wf, later-refl}
-use Rattle.query_steps.specs.Steps.{gone-refl, Ends, comes, Steps, ends-map, sets-step, images-step, relations-step, goes-ends, epsilon-ends, delta-ends}
-use Rattle.query_stage.specs.Layer.{tablesOf, Leaves, query-ready, by-ends}
+use Rattle.delta_stage.specs.OnStore.{storeOf, storeLayer}
+use Rattle.delta_stage.proofs.OnStore.{epsilon-given}
+use Rattle.query_steps.specs.Tables.{Tables, tables, diagrams, putSets, putBase, putRelations, onSets, onBase, makingSets, makingRelations, Ordered}
+use Rattle.query_steps.proofs.Tables.{both-wf, later-refl}
+use Rattle.query_steps.proofs.Steps.{gone-refl, Ends, comes, Steps, ends-map, sets-step, images-step, relations-step, goes-ends, epsilon-ends, delta-ends}
+use Rattle.query_stage.specs.Layer.{tablesOf}
+use Rattle.query_stage.proofs.Layer.{Leaves, query-ready, by-ends}
 use Rattle.aut.specs.Seen.{limitsOf}
 use Rattle.aut.specs.declared.Counts.{Counts}
 use Rattle.aut.specs.declared.Limits.{Limits}
@@ -50,9 +56,11 @@ use Rattle.aut_eps.specs.Seen.{seenEpsilon, Works}
 use Rattle.aut_stage.specs.Stage.{gave, refusal, Post}
 use Rattle.aut_stage.specs.OnNodes.{withNodes}
 use Rattle.aut_sets.specs.Contracts.{NotesBehind, PreSet, PreSets, SetNotes, PostSets, PostSize, PreImage, PreLead, ImageNotes, PostImage, PostHas, PreLift, LiftNotes, PostLift, PreCount, PostCount}
-use Rattle.aut_free.specs.Clear.{cleared, clearTables}
+use Rattle.aut_free.specs.Clear.{clearTables}
+use Rattle.aut_free.proofs.Clear.{cleared}
 use Rattle.aut_free.proofs.Free.{epsilon-clear-tables, delta-clear-tables}
-use Rattle.query_calls.specs.Working.{clearOf, Working, Unwritten, Ran, withSets, SetIn, RelIn, EdgeIn, ListIn}
+use Rattle.query_calls.specs.Working.{clearOf, Working, EdgeIn, ListIn}
+use Rattle.query_calls.proofs.Working.{Unwritten, Ran, withSets, SetIn, RelIn}
 use Rattle.query_calls.proofs.Works.{prepared}
 
 -- ---- what is left of scratch
@@ -123,13 +131,13 @@ module _ (t st mem tr : List ℕ) (c : Counts) {N : ℕ} {l : Limits} {sp s : Li
 
         pub difference-given : PostSets (Sp.difference N a b) (table sp (c .sp)) r sp′ s s′ → Ran N l 0 0 (SetIn N) (onSets (Sp.difference N a b) C) σ c (withSets c n) (h .0) (tablesOf sp′ t st mem tr) s s′
         difference-given A = by-sets A (ends-map (λ τ h v. record { gone = v .gone; ordered = v .ordered; holds = v .holds .1 .at })
-            (sets-step order (SpSets.difference-runs N N (omega arith) (table sp (c .sp)) a b _ _ (order .sets) (SpLaws.den-mem x) (SpLaws.den-mem y))
-            (SpRefused.difference-stops N N (omega arith) (table sp (c .sp)) a b _ _ (order .sets) (SpLaws.den-mem x) (SpLaws.den-mem y))))
+            (sets-step order (SpSets.difference-runs N N (omega arith) (table sp (c .sp)) a b _ _ (order .sets) (SpLawsProofs.den-mem x) (SpLawsProofs.den-mem y))
+            (SpRefused.difference-stops N N (omega arith) (table sp (c .sp)) a b _ _ (order .sets) (SpLawsProofs.den-mem x) (SpLawsProofs.den-mem y))))
 
         pub union-given : PostSets (Sp.union N a b) (table sp (c .sp)) r sp′ s s′ → Ran N l 0 0 (SetIn N) (onSets (Sp.union N a b) C) σ c (withSets c n) (h .0) (tablesOf sp′ t st mem tr) s s′
         union-given A = by-sets A (ends-map (λ τ h v. record { gone = v .gone; ordered = v .ordered; holds = v .holds .1 .at })
-            (sets-step order (SpSets.union-runs N N (omega arith) (table sp (c .sp)) a b _ _ (order .sets) (SpLaws.den-mem x) (SpLaws.den-mem y))
-            (SpRefused.union-stops N N (omega arith) (table sp (c .sp)) a b _ _ (order .sets) (SpLaws.den-mem x) (SpLaws.den-mem y))))
+            (sets-step order (SpSets.union-runs N N (omega arith) (table sp (c .sp)) a b _ _ (order .sets) (SpLawsProofs.den-mem x) (SpLawsProofs.den-mem y))
+            (SpRefused.union-stops N N (omega arith) (table sp (c .sp)) a b _ _ (order .sets) (SpLawsProofs.den-mem x) (SpLawsProofs.den-mem y))))
 
   pub sets-refused : {o : Step Table ℕ} {r : sets.Made} {sp′ s′ : List ℕ} → PostSets o (table sp (c .sp)) r sp′ s s′ → r ≡ sets.Made.Full → onSets o C ≡ refused 20
   sets-refused {sp′ = sp′} A q = ap (placed putSets C) (A .gives ∙ ap (λ (r : sets.Made). Sets.seen r sp′) q)
@@ -163,11 +171,11 @@ module _ (t st mem tr : List ℕ) (c : Counts) {N : ℕ} {l : Limits} {sp s : Li
       module _ (a : ℕ) (x : SpLaws.At (table sp (c .sp)) N a) where
         pub push-given : PostImage N (Images.push N N a e) (diagrams C) r sp′ s s′ → Ran N l 0 0 (SetIn N) (makingSets (Images.push N N a e) C) σ c (withSets c n) (h .0) (tablesOf sp′ t st mem tr) s s′
         push-given A = by-images A (ends-map (λ τ h v. record { gone = v .gone; ordered = v .ordered; holds = v .holds .1 .at })
-            (images-step order (λ u v. SpLaws.Den u N v _) (push-exact N N (omega arith) (diagrams C) a e _ _ (both-wf order) (SpLaws.den-mem x) (den-mem y))))
+            (images-step order (λ u v. SpLaws.Den u N v _) (push-exact N N (omega arith) (diagrams C) a e _ _ (both-wf order) (SpLawsProofs.den-mem x) (den-mem y))))
 
         pub pull-given : PostImage N (Images.pull N N e a) (diagrams C) r sp′ s s′ → Ran N l 0 0 (SetIn N) (makingSets (Images.pull N N e a) C) σ c (withSets c n) (h .0) (tablesOf sp′ t st mem tr) s s′
         pull-given A = by-images A (ends-map (λ τ h v. record { gone = v .gone; ordered = v .ordered; holds = v .holds .1 .at })
-            (images-step order (λ u v. SpLaws.Den u N v _) (pull-exact N N (omega arith) (diagrams C) a e _ _ (both-wf order) (SpLaws.den-mem x) (den-mem y))))
+            (images-step order (λ u v. SpLaws.Den u N v _) (pull-exact N N (omega arith) (diagrams C) a e _ _ (both-wf order) (SpLawsProofs.den-mem x) (den-mem y))))
 
     module _ (a : ℕ) (x : SpLaws.At (table sp (c .sp)) N a) where
       pub asks-lead : PreLead N (diagrams C) s a e
@@ -200,7 +208,7 @@ module _ (t st mem tr : List ℕ) (c : Counts) {N : ℕ} {l : Limits} {sp s : Li
   pub ifwd-given : (a : ℕ) → SpLaws.At (table sp (c .sp)) N a → {r : relations.Made} {t′ s′ : List ℕ} {h : SPP} {n : ℕ} → r ≡ relations.Made.Node h n → length s′ ≡ length s → PostLift N (Images.ifwd N a) (diagrams C) r t′ s s′
       → Ran N l 0 0 (RelIn N) (makingRelations (Images.ifwd N a) C) σ c (withNodes c n) (h .0) (tablesOf sp t′ st mem tr) s s′
   ifwd-given a x {r} {t′} {s′} {h} {n} q len A = ran W
-      (ends-map (λ τ h v. record { gone = v .gone; ordered = v .ordered; holds = v .holds .at }) (relations-step order (λ u v. Den u N v _) (ifwd-exact N N (diagrams C) a _ (both-wf order) (SpLaws.den-mem x))))
+      (ends-map (λ τ h v. record { gone = v .gone; ordered = v .ordered; holds = v .holds .at }) (relations-step order (λ u v. Den u N v _) (ifwd-exact N N (diagrams C) a _ (both-wf order) (SpLawsProofs.den-mem x))))
       (tablesOf sp t′ st mem tr)
       (ap (placed (λ s σ. putRelations (s .spp) σ) C) (A .gives ∙ ap (λ (r : relations.Made). Lifts.lifted r t′ (table sp (c .sp))) q))
       (leaves-lifts (clearTables (tablesOf sp t′ st mem tr (withNodes c n))) (subst (λ (r : relations.Made). LiftNotes N r t′ (table sp (c .sp)) s s′) q (A .left))) len (W .fresh) (λ x w i j. refl)

@@ -1,2 +1,3 @@
+pub mod Working
 pub mod Works
 pub mod Calls

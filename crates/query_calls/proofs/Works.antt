@@ -5,11 +5,13 @@ use Prim.Native.Nat.{ℕ, _+_, _*_, _≤_, _<_}
 use native.Mathlib.Omega.{arith}
 use lib.ListN.{set}
 use lib.Seq.{getD-set-other}
-use Rattle.spp_steps.specs.Laws.{ext-refl}
-use Rattle.aut_steps.specs.Good.{states, Grown, Good, extm-refl}
+use Rattle.spp_steps.proofs.Laws.{ext-refl}
+use Rattle.aut_steps.specs.Good.{states, Grown, Good}
+use Rattle.aut_steps.proofs.Good.{extm-refl}
 use Rattle.delta_steps.specs.Epsilon.{epsilonOf}
-use Rattle.delta_steps.specs.Noted.{good-same}
-use Rattle.delta_steps.specs.Worked.{Epsilons, Worked, epsilons-grown, worked-aut}
+use Rattle.delta_steps.proofs.Noted.{good-same}
+use Rattle.delta_steps.specs.Worked.{Epsilons, Worked}
+use Rattle.delta_steps.proofs.Worked.{epsilons-grown, worked-aut}
 use Rattle.delta_stage.specs.OnStore.{Prepared}
 use Rattle.query_steps.specs.Tables.{Tables}
 use Rattle.query_stage.specs.Layer.{tablesOf, QueryReady}
@@ -17,7 +19,7 @@ use Rattle.aut.specs.Seen.{limitsOf}
 use Rattle.aut.specs.declared.Counts.{Counts}
 use Rattle.aut.specs.declared.Limits.{Limits}
 use Rattle.aut_eps.specs.Seen.{Asks}
-use Rattle.aut_free.specs.Clear.{clearAut, clearStore, AtRest}
+use Rattle.aut_free.proofs.Clear.{clearAut, clearStore, AtRest}
 use Rattle.aut_free.proofs.Clearing.{clear-length, clear-kept, clear-set}
 use Rattle.aut_free.proofs.Free.{clear-tables-rest}
 use Rattle.query_calls.specs.Working.{clearOf, Working}

@@ -5,11 +5,5 @@ pub mod Search
 pub mod Corners
 pub mod Live
 pub mod Pruned
-pub mod LiveExamples
-pub mod Steps
-pub mod SearchLaws
 pub mod SearchEnds
 pub mod ExploreLaws
-pub mod SettleLaws
-pub mod LiveLaws
-pub mod PrunedLaws

@@ -1,4 +1,5 @@
 -- what the proofs of several functions use
+pub mod Frame
 pub mod Scan
 pub mod Node
 pub mod Exits

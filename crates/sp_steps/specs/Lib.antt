@@ -4,10 +4,5 @@ pub mod Op
 pub mod Model
 pub mod Laws
 pub mod Make
-pub mod Apply
-pub mod Sets
-pub mod Start
 pub mod Size
-pub mod Refused
 pub mod Reuse
-pub mod Corners

@@ -7,14 +7,17 @@ use native.Mathlib.Omega.{arith}
 use lib.ListN.{length}
 use Rattle.common.specs.Packets.{Packet, bit, Relation}
 use Rattle.common.specs.Outcome.{Outcome, refused, given, Step}
-use Rattle.common.specs.Runs.{Table, table, Runs, runs-map}
-use Rattle.cache.specs.Stage.{Gave}
-use Rattle.cache.specs.Cache.{notes-refl}
+use Rattle.common.specs.Runs.{Table, table}
+use Rattle.common.proofs.Runs.{Runs, runs-map}
+use Rattle.cache.proofs.Stage.{Gave}
+use Rattle.cache.proofs.Cache.{notes-refl}
 use Rattle.spp_steps.specs.Model.{Op, Quad, quad, kids, mem, mk, apply}
-use Rattle.spp_steps.specs.Laws.{Wf, Ext, At, Den, sppTheory, at-ext, den-mem}
-use Rattle.spp_steps.specs.Make.{mk-exact}
-use Rattle.spp_steps.specs.Apply.{apply-exact}
-use Rattle.spp.specs.Reuse.{Kept, sppMemo}
+use Rattle.spp_steps.specs.Laws.{Wf, Ext, At, Den}
+use Rattle.spp_steps.proofs.Laws.{sppTheory, at-ext, den-mem}
+use Rattle.spp_steps.proofs.Make.{mk-exact}
+use Rattle.spp_steps.proofs.Apply.{apply-exact}
+use Rattle.spp.specs.Reuse.{Kept}
+use Rattle.spp.proofs.Reuse.{sppMemo}
 use Rattle.spp.specs.Seen.{seen, Noted, Answer, Ats, Fits}
 use Rattle.spp.specs.declared.Made.{Made}
 use Rattle.spp.specs.declared.Made.the-variants.{Node, Full}

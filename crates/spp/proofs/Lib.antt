@@ -1,3 +1,4 @@
+pub mod Reuse
 pub mod Levels
 pub mod Scan
 pub mod Nodes

@@ -4,11 +4,12 @@ use mathlib.Core.List.{List, [], _∷_}
 use Prim.Native.Nat.{ℕ, suc, _<_}
 use Rattle.common.specs.Outcome.{Outcome, refused, given, Step, after}
 use Rattle.common.specs.Runs.{Table, table}
-use Rattle.cache.specs.Stage as stage
-use Rattle.cache.specs.Stage.{Gave, Stage}
+use Rattle.cache.proofs.Stage as stage
+use Rattle.cache.proofs.Stage.{Gave, Stage}
 use Rattle.spp_steps.specs.Model.{quad, mk}
-use Rattle.spp_steps.specs.Laws.{At, Ext, at-ext}
-use Rattle.spp.specs.Reuse.{sppMemo}
+use Rattle.spp_steps.specs.Laws.{At, Ext}
+use Rattle.spp_steps.proofs.Laws.{at-ext}
+use Rattle.spp.proofs.Reuse.{sppMemo}
 use Rattle.spp.specs.Seen.{seen, Asked, Ats, Noted, Fits}
 use Rattle.spp.specs.declared.Made.{Made}
 use Rattle.spp.specs.declared.Made.the-variants.{Node, Full}

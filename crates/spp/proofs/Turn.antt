@@ -7,15 +7,18 @@ use native.Mathlib.Omega.{arith}
 use lib.ListN.{length}
 use Rattle.common.specs.Packets.{Packet, bit, Relation}
 use Rattle.common.specs.Outcome.{Outcome, refused, given, Step, return, after}
-use Rattle.common.specs.Follow.{given-of}
-use Rattle.common.specs.Runs.{Table, table, Good, Runs}
+use Rattle.common.proofs.Follow.{given-of}
+use Rattle.common.specs.Runs.{Table, table, Good}
+use Rattle.common.proofs.Runs.{Runs}
 use Rattle.cache.specs.Cache.{Of, Own, Notes, Holds, Exactly}
-use Rattle.cache.specs.Stage as stage
-use Rattle.cache.specs.Stage.{Stage}
+use Rattle.cache.proofs.Stage as stage
+use Rattle.cache.proofs.Stage.{Stage}
 use Rattle.spp_steps.specs.Model.{Op, Exit, out, on, Quad, quad, kids, mem, mk, exit, follow, down, each, apply}
-use Rattle.spp_steps.specs.Laws.{Wf, Ext, At, Den, sppTheory, at-ext, ext-trans, den-mem}
-use Rattle.spp_steps.specs.Apply.{Leads, Going, pointwise, exit-right, exit-low, apply-exact}
-use Rattle.spp.specs.Reuse.{Kept, sppMemo, codeOf, run, run-code, reused, to-note}
+use Rattle.spp_steps.specs.Laws.{Wf, Ext, At, Den}
+use Rattle.spp_steps.proofs.Laws.{sppTheory, at-ext, ext-trans, den-mem}
+use Rattle.spp_steps.proofs.Apply.{Leads, Going, pointwise, exit-right, exit-low, apply-exact}
+use Rattle.spp.specs.Reuse.{Kept, codeOf, run}
+use Rattle.spp.proofs.Reuse.{sppMemo, run-code, reused, to-note}
 use Rattle.spp.specs.Seen.{Asked}
 use Rattle.spp.proofs.Calls.{inside, at-kids, apply-can}
 use Rattle.spp.proofs.Quartet.{Quartet}

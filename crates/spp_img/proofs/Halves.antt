@@ -5,16 +5,19 @@ use Prim.Native.Nat.{ℕ, suc, _≤_}
 use native.Mathlib.Omega.{arith}
 use native.Mathlib.Nat.{le-refl}
 use Rattle.common.specs.Outcome.{Outcome, refused, given, Step, after}
-use Rattle.common.specs.Follow.{given-of}
-use Rattle.common.specs.Runs.{Table, table, Good, Runs, runs-map, runs-bind}
-use Rattle.cache.specs.Cache.{Notes, notes-trans, notes-refl}
+use Rattle.common.proofs.Follow.{given-of}
+use Rattle.common.specs.Runs.{Table, table, Good}
+use Rattle.common.proofs.Runs.{Runs, runs-map, runs-bind}
+use Rattle.cache.specs.Cache.{Notes}
+use Rattle.cache.proofs.Cache.{notes-trans, notes-refl}
 use Rattle.sp_steps.specs.Model.{mem, mk, union}
-use Rattle.sp_steps.specs.Laws.{WfIn, Any, At, Den, theoryIn, at-ext, den-mem}
-use Rattle.sp_steps.specs.Make.{mk-runs}
+use Rattle.sp_steps.specs.Laws.{WfIn, Any, At, Den}
+use Rattle.sp_steps.proofs.Laws.{theoryIn, at-ext, den-mem}
+use Rattle.sp_steps.proofs.Make.{mk-runs}
 use Rattle.sp_steps.specs.Op.{Op}
-use Rattle.sp_steps.specs.Apply.{apply-runs}
+use Rattle.sp_steps.proofs.Apply.{apply-runs}
 use Rattle.sp_steps.specs.Reuse.{SpNoted}
-use Rattle.sp.specs.Frame.{sound-own, notes-ext}
+use Rattle.sp.proofs.Frame.{sound-own, notes-ext}
 use Rattle.sp.specs.Seen.{seen, MkReady, Ready, Asked, Noted, Answer}
 use Rattle.sp.specs.declared.Made.{Made}
 use Rattle.sp.specs.declared.Made.the-variants.{Node, Full}

@@ -6,12 +6,14 @@ use Prim.Native.Nat.{ℕ, zero, suc, _+_, _*_, _-_, _/_, _≤_}
 use native.Mathlib.Omega.{arith}
 use lib.ListN.{length}
 use Rattle.common.specs.Outcome.{given, Step, return}
-use Rattle.common.specs.Runs.{Table, table, Runs, runs-map}
+use Rattle.common.specs.Runs.{Table, table}
+use Rattle.common.proofs.Runs.{Runs, runs-map}
 use Rattle.cache.specs.Cache.{Sound, Notes, Holds, Exactly}
-use Rattle.cache.specs.Stage as stage
-use Rattle.cache.specs.Stage.{Stage}
+use Rattle.cache.proofs.Stage as stage
+use Rattle.cache.proofs.Stage.{Stage}
 use Rattle.sp_steps.specs.Model as Sp
 use Rattle.sp_steps.specs.Laws as SpLaws
+use Rattle.sp_steps.proofs.Laws as SpLawsProofs
 use Rattle.sp.specs.Seen.{Inner, Kids}
 use Rattle.sp.specs.declared.Made.{Made}
 use Rattle.sp.specs.declared.Made.the-variants.{Node, Full}
@@ -19,11 +21,14 @@ use Rattle.sp.specs.declared.SP.{SP}
 use Rattle.spp_steps.specs.Model.{Quad, quad, kids}
 use Rattle.spp_steps.specs.ImageModel as M
 use Rattle.spp_steps.specs.ImageModel.{Stores, stores, within, fwd, bwd, Led, done, whole, more, ledExit, push, pull, pushNode, pullNode}
-use Rattle.spp_steps.specs.Laws.{At, at-ext, den-mem}
-use Rattle.spp_steps.specs.Images.{BothWf, BothExt, bothTheory, ledExit-low}
-use Rattle.spp_steps.specs.Results.{push-runs, pull-runs}
+use Rattle.spp_steps.specs.Laws.{At}
+use Rattle.spp_steps.proofs.Laws.{at-ext, den-mem}
+use Rattle.spp_steps.specs.Images.{BothWf}
+use Rattle.spp_steps.proofs.Images.{BothExt, bothTheory, ledExit-low}
+use Rattle.spp_steps.proofs.Results.{push-runs, pull-runs}
 use Rattle.spp_img.specs.Ways.{project, lead, first, second}
-use Rattle.spp_img.specs.Reuse.{Held, setMemo, leadCode, lead-code, run, run-lead}
+use Rattle.spp_img.specs.Reuse.{Held, leadCode, run}
+use Rattle.spp_img.proofs.Reuse.{setMemo, lead-code, run-lead}
 use Rattle.spp_img.specs.Seen.{Asked, LeadAsked, Answer}
 use Rattle.spp_img.specs.declared.Way.{Way}
 use Rattle.spp_img.specs.declared.Way.the-variants.{Forward, Backward}
@@ -32,8 +37,8 @@ use Rattle.spp_img.proofs.Turn.{Turn, chain, ending, halved, halved-is}
 
 lead-runs : (N : ℕ) (w : Way) (d s r : ℕ) {σ : Stores} → d ≤ N → BothWf N σ → SpLaws.At (σ .sp) d s → At (σ .spp) d r
     → Runs (bothTheory N) (lead w N d s r) (λ τ h. SpLaws.At (τ .sp) d h) σ
-lead-runs N Forward d s r l v a b = runs-map (bothTheory N) (λ τ h _ _ D. D .at) (push-runs N v l (den-mem b) (SpLaws.den-mem a))
-lead-runs N Backward d s r l v a b = runs-map (bothTheory N) (λ τ h _ _ D. D .at) (pull-runs N v l (den-mem b) (SpLaws.den-mem a))
+lead-runs N Forward d s r l v a b = runs-map (bothTheory N) (λ τ h _ _ D. D .at) (push-runs N v l (den-mem b) (SpLawsProofs.den-mem a))
+lead-runs N Backward d s r l v a b = runs-map (bothTheory N) (λ τ h _ _ D. D .at) (pull-runs N v l (den-mem b) (SpLawsProofs.den-mem a))
 
 -- ---- the exits
 
@@ -152,7 +157,7 @@ module _ (N D : ℕ) (w : Way) (σ : Stores) (m : List ℕ) (s r : ℕ) (q : Lea
         few = q .few;
         deep = omega (arith, q .deep);
         wf = x;
-        at-s = SpLaws.at-ext (e .sp-ext) (D - 1) (quad p0 u v p1 i j) (at-p i j);
+        at-s = SpLawsProofs.at-ext (e .sp-ext) (D - 1) (quad p0 u v p1 i j) (at-p i j);
         at-r = at-ext (e .spp-ext) (D - 1) (A j i) (at-a j i);
         sound = k;
       }
@@ -160,7 +165,7 @@ module _ (N D : ℕ) (w : Way) (σ : Stores) (m : List ℕ) (s r : ℕ) (q : Lea
       pub below-can : (i j : Bool) → stage.Can (setMemo N) (λ τ h. SpLaws.At (τ .sp) (D - 1) h) σ (lead w N (D - 1) (quad p0 u v p1 i j) (A j i))
       below-can i j τ e x =
           lead-runs N w (D - 1) (quad p0 u v p1 i j) (A j i) (omega (arith, q .deep)) x
-          (SpLaws.at-ext (e .sp-ext) (D - 1) (quad p0 u v p1 i j) (at-p i j)) (at-ext (e .spp-ext) (D - 1) (A j i) (at-a j i))
+          (SpLawsProofs.at-ext (e .sp-ext) (D - 1) (quad p0 u v p1 i j) (at-p i j)) (at-ext (e .spp-ext) (D - 1) (A j i) (at-a j i))
 
       pub is : lead w N D s r σ ≡ chain (λ i j. lead w N (D - 1) (quad p0 u v p1 i j) (A j i)) (ending w (D - 1)) σ
       is =

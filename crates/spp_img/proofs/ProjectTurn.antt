@@ -6,21 +6,25 @@ use Prim.Native.Nat.{ℕ, zero, suc, _+_, _*_, _-_, _≤_}
 use native.Mathlib.Omega.{arith}
 use lib.ListN.{length}
 use Rattle.common.specs.Outcome.{given, Step}
-use Rattle.common.specs.Runs.{Table, table, Runs, runs-map}
+use Rattle.common.specs.Runs.{Table, table}
+use Rattle.common.proofs.Runs.{Runs, runs-map}
 use Rattle.cache.specs.Cache.{Sound, Notes, Holds, Exactly}
-use Rattle.cache.specs.Stage as stage
-use Rattle.cache.specs.Stage.{Stage}
+use Rattle.cache.proofs.Stage as stage
+use Rattle.cache.proofs.Stage.{Stage}
 use Rattle.sp_steps.specs.Laws as SpLaws
 use Rattle.sp.specs.declared.Made.{Made}
 use Rattle.sp.specs.declared.Made.the-variants.{Node, Full}
 use Rattle.sp.specs.declared.SP.{SP}
 use Rattle.spp_steps.specs.Model.{Quad, quad, kids}
 use Rattle.spp_steps.specs.ImageModel.{Stores, stores, onSp, fwd, bwd, fwdNode, bwdNode}
-use Rattle.spp_steps.specs.Laws.{At, at-ext, den-mem}
-use Rattle.spp_steps.specs.Images.{BothWf, BothExt, bothTheory}
-use Rattle.spp_steps.specs.Results.{fwd-runs, bwd-runs}
+use Rattle.spp_steps.specs.Laws.{At}
+use Rattle.spp_steps.proofs.Laws.{at-ext, den-mem}
+use Rattle.spp_steps.specs.Images.{BothWf}
+use Rattle.spp_steps.proofs.Images.{BothExt, bothTheory}
+use Rattle.spp_steps.proofs.Results.{fwd-runs, bwd-runs}
 use Rattle.spp_img.specs.Ways.{project, turn, join}
-use Rattle.spp_img.specs.Reuse.{Held, setMemo, projectCode, project-code, run, run-project}
+use Rattle.spp_img.specs.Reuse.{Held, projectCode, run}
+use Rattle.spp_img.proofs.Reuse.{setMemo, project-code, run-project}
 use Rattle.spp_img.specs.Seen.{Asked, Answer}
 use Rattle.spp_img.specs.declared.Way.{Way}
 use Rattle.spp_img.specs.declared.Way.the-variants.{Forward, Backward}

@@ -7,22 +7,27 @@ use Prim.Native.Nat.{ℕ, suc, _≤_, _<_}
 use native.Mathlib.Omega.{arith}
 use lib.Dec.{eqb}
 use Rattle.common.specs.Outcome.{Outcome, refused, given, Step, after, _>>=_}
-use Rattle.common.specs.Follow.{given-of}
-use Rattle.common.specs.Runs.{Table, table, placed, Runs, runs-on}
-use Rattle.cache.specs.Cache.{Own, Sound, Notes, Holds, Exactly, sound-map, notes-map}
-use Rattle.cache.specs.Stage as stage
-use Rattle.cache.specs.Stage.{Gave, Stage, Can, Four}
+use Rattle.common.proofs.Follow.{given-of}
+use Rattle.common.specs.Runs.{Table, table, placed}
+use Rattle.common.proofs.Runs.{Runs, runs-on}
+use Rattle.cache.specs.Cache.{Own, Sound, Notes, Holds, Exactly}
+use Rattle.cache.proofs.Cache.{sound-map, notes-map}
+use Rattle.cache.proofs.Stage as stage
+use Rattle.cache.proofs.Stage.{Gave, Stage, Can, Four}
 use Rattle.sp_steps.specs.Model as Sp
 use Rattle.sp_steps.specs.Laws as SpLaws
+use Rattle.sp_steps.proofs.Laws as SpLawsProofs
 use Rattle.sp.specs.Seen as sp
 use Rattle.sp.specs.declared.Made.{Made}
 use Rattle.sp.specs.declared.Made.the-variants.{Node, Full}
 use Rattle.sp.specs.declared.SP.{SP}
 use Rattle.spp_steps.specs.ImageModel.{Stores, stores, onSp}
 use Rattle.spp_steps.specs.Laws.{At}
-use Rattle.spp_steps.specs.Images.{BothWf, BothExt, bothTheory, both-refl, inSp}
+use Rattle.spp_steps.specs.Images.{BothWf}
+use Rattle.spp_steps.proofs.Images.{BothExt, bothTheory, both-refl, inSp}
 use Rattle.spp_img.specs.Ways.{first, second, join}
-use Rattle.spp_img.specs.Reuse.{Kept, Held, Written, setMemo, run, depthBy, Deep, reused, to-note}
+use Rattle.spp_img.specs.Reuse.{Kept, Held, Written, run, depthBy}
+use Rattle.spp_img.proofs.Reuse.{setMemo, Deep, reused, to-note}
 use Rattle.spp_img.specs.Seen.{seen, Noted, Answer, JoinAsked}
 use Rattle.spp_img.specs.declared.Way.{Way}
 use Rattle.spp_img.proofs.Halves as halves
@@ -94,7 +99,7 @@ module _ {N d : ℕ} {C : Step Stores ℕ} {σ : Stores} {m : List ℕ} (T : Tur
     can2 = T .can false true;
     can3 = T .can true false;
     can4 = T .can true true;
-    P-ext = λ σ τ h e p. SpLaws.at-ext (e .sp-ext) d h p;
+    P-ext = λ σ τ h e p. SpLawsProofs.at-ext (e .sp-ext) d h p;
     start = stage.begin (setMemo N) (T .wf) (T .sound) (T .is);
   }
 
@@ -160,7 +165,7 @@ module _ {N d : ℕ} {C : Step Stores ℕ} {σ : Stores} {m : List ℕ} (T : Tur
                         let p = either (T .way) (h2 .0) (h3 .0) (held .1) (held .2) in
                         record {
                           deep = omega (arith, T .few, T .deep);
-                          wf = SpLaws.wf-down (last .wf .sp-wf) (omega (arith, T .deep));
+                          wf = SpLawsProofs.wf-down (last .wf .sp-wf) (omega (arith, T .deep));
                           at-w = held .0;
                           at-x = subst (SpLaws.At (table t4 n4) d) (sym x-is) (p .0);
                           at-y = subst (SpLaws.At (table t4 n4) d) (sym y-is) (p .1);

@@ -2,4 +2,3 @@
 pub mod Ways
 pub mod Reuse
 pub mod Seen
-pub mod Frame

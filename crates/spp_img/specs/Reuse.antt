@@ -1,26 +1,21 @@
 -- When a result in the cache is right: the operation gives it, with no change, now and in every later store; and a kept number is the number of pairs.
 -- Codes: 10 fwd, 11 bwd, 12 ifwd, 13 push, 14 pull, 15 has_image, with the set first and the relation second (fwd, bwd, ifwd: their operand twice);
 -- 17 the number of pairs.
-use mathlib.Core.Path.{_≡_, refl, sym, _∙_, ap, subst}
+use mathlib.Core.Path.{_≡_}
 use mathlib.Core.Bool.{Bool, true, false}
-use mathlib.Core.List.{List}
-use mathlib.Core.Logic.{_⊎_, inl, inr, ⊎-elim}
-use Prim.Native.Nat.{ℕ, suc, _≤_}
-use native.Mathlib.Omega.{arith}
+use mathlib.Core.Logic.{_⊎_}
+use Prim.Native.Nat.{ℕ, suc}
 use lib.Dec.{eqb}
 use Rattle.common.specs.Outcome.{given, Step, if_then_else_}
 use Rattle.common.specs.Runs.{Table}
-use Rattle.cache.specs.Cache.{Valid, Of, Own, Sound, Notes, Holds, sound-holds, sound-notes, sound-map, notes-map}
-use Rattle.cache.specs.Stage.{Memo}
-use Rattle.sp_steps.specs.Laws as SpLaws
-use Rattle.sp_steps.specs.Reuse.{wide, SpValid, SpNoted, SpCode, valid-ext, valid-not, noted-ext, code-range}
+use Rattle.cache.specs.Cache.{Valid, Of, Own}
+use Rattle.sp_steps.specs.Reuse.{wide, SpValid, SpNoted}
 use Rattle.spp_steps.specs.Model.{size}
 use Rattle.spp_steps.specs.ImageModel.{Stores, fwd, bwd, ifwd, push, pull, hasImage}
-use Rattle.spp_steps.specs.Laws.{Ext, At, at-ext, one-depth}
-use Rattle.spp_steps.specs.Size.{size-ext}
-use Rattle.spp_steps.specs.Images.{BothWf, BothExt, bothTheory}
+use Rattle.spp_steps.specs.Laws.{At}
+use Rattle.spp_steps.proofs.Images.{bothTheory}
 use Rattle.spp_steps.specs.Reuse as Steps
-use Rattle.spp_img.specs.Ways.{project, lead}
+use Rattle.spp_steps.proofs.Reuse as StepsLaws
 use Rattle.spp_img.specs.declared.Way.{Way}
 use Rattle.spp_img.specs.declared.Way.the-variants.{Forward, Backward}
 
@@ -52,40 +47,12 @@ run N code d x y =
 
 -- the depth is known by the set x, or by the relation y
 abbrev pub depthBy : (N : ℕ) → Bool → ℕ → ℕ → Steps.Depth (bothTheory N)
-depthBy N true x y = Steps.inSet N x
-depthBy N false x y = Steps.inRel N y
-
-abbrev pub Deep : ℕ → Stores → ℕ → ℕ → ℕ → ℕ → Type 0
-Deep N σ code d x y = depthBy N (eqb code 12) x y .Of σ d
+depthBy N true x y = StepsLaws.inSet N x
+depthBy N false x y = StepsLaws.inRel N y
 
 -- a slot of images
 abbrev pub Kept : ℕ → Stores → Valid
 Kept N σ code x y r = Steps.Kept (bothTheory N) (depthBy N (eqb code 12) x y) (λ d. run N code d x y) σ r
-
-pub kept-ext : (N : ℕ) {σ τ : Stores} → BothExt σ τ → (code x y r : ℕ) → Kept N σ code x y r → Kept N τ code x y r
-kept-ext N e code x y r k = Steps.kept-ext (bothTheory N) (depthBy N (eqb code 12) x y) e k
-
--- a hit: the operation gives what was found
-pub reused : (N : ℕ) {σ : Stores} {m : List ℕ} {code x y r : ℕ} (d : ℕ) → BothWf N σ → Deep N σ code (suc d) x y → 10 ≤ code → code ≤ 15
-    → Sound (Of 10 15 (Kept N σ)) m → Holds m code x y r → run N code d x y σ ≡ given σ r
-reused N {code} {x} {y} d w a l h s found = Steps.reuse (bothTheory N) (depthBy N (eqb code 12) x y) d w a (sound-holds s found l h)
-
--- a run that gives the same in every later store may be noted
-pub to-note : (N : ℕ) {σ : Stores} (code x y : ℕ) {r : ℕ} (d : ℕ) → 10 ≤ code → code ≤ 15 → Deep N σ code (suc d) x y
-    → ((τ : Stores) → BothExt σ τ → BothWf N τ → run N code d x y τ ≡ given τ r) → Own 10 15 (Kept N σ) code x y r
-to-note N code x y d l h a again = record { from = l; to = h; valid = record { below = d; depth = a; again = again } }
-
--- ---- the cache of a function that makes no packet node
-
-abbrev pub imgMemo : ℕ → Memo
-imgMemo N = record {
-  theory = bothTheory N;
-  Read = λ σ. Of 10 15 (Kept N σ);
-  Note = λ σ. Own 10 15 (Kept N σ);
-  read-ext = λ σ τ e o x y z v l h. kept-ext N e o x y z (v l h);
-  note-ext = λ σ τ e o x y z w. record { from = w .from; to = w .to; valid = kept-ext N e o x y z (w .valid) };
-  note-read = λ σ o x y z w l h. w .valid;
-}
 
 -- ---- the cache of one that does, by the operations on packet sets
 
@@ -98,78 +65,9 @@ pub record Held (N : ℕ) (σ : Stores) (op x y r : ℕ) : Type 0 where
 abbrev pub Written : (N : ℕ) (σ : Stores) → Valid
 Written N σ op x y r = SpNoted (σ .sp) op x y r ⊎ Own 10 15 (Kept N σ) op x y r
 
-pub held : {N : ℕ} {σ : Stores} {m : List ℕ} → Sound (SpValid (σ .sp)) m → Sound (Of 10 15 (Kept N σ)) m → Sound (Held N σ) m
-held s i = record { slots = λ j l. record { sets = s .slots j l; images = i .slots j l } }
-
--- the codes are apart
-pub apart : {op : ℕ} → SpCode op → 10 ≤ op → op ≤ 15 → ⊥
-apart c l h = ⊎-elim (λ e. omega arith) (λ e. omega arith) (code-range c)
-
-pub held-ext : {N : ℕ} {σ τ : Stores} → BothExt σ τ → (op x y r : ℕ) → Held N σ op x y r → Held N τ op x y r
-held-ext {N} e op x y r v = record { sets = valid-ext (e .sp-ext) (v .sets); images = λ l h. kept-ext N e op x y r (v .images l h) }
-
-pub written-ext : {N : ℕ} {σ τ : Stores} → BothExt σ τ → (op x y r : ℕ) → Written N σ op x y r → Written N τ op x y r
-written-ext e op x y r (inl v) = inl (noted-ext (e .sp-ext) v)
-written-ext {N} e op x y r (inr w) = inr (record { from = w .from; to = w .to; valid = kept-ext N e op x y r (w .valid) })
-
-pub written-held : {N : ℕ} (σ : Stores) (op x y r : ℕ) → Written N σ op x y r → Held N σ op x y r
-written-held σ op x y r (inl v) = record { sets = v .valid; images = λ l h. absurd (apart (v .own) l h) }
-written-held σ op x y r (inr w) = record { sets = valid-not (λ c. apart c (w .from) (w .to)); images = λ l h. w .valid }
-
-abbrev pub setMemo : ℕ → Memo
-setMemo N = record {
-  theory = bothTheory N;
-  Read = Held N;
-  Note = Written N;
-  read-ext = λ σ τ e. held-ext e;
-  note-ext = λ σ τ e. written-ext e;
-  note-read = written-held;
-}
-
 -- ---- numbers of pairs
 
 pub record Counted (σ : Table) (code a b r : ℕ) : Type 0 where
   pub depth : ℕ
   pub at : At σ depth a
   pub counts : size (σ .words) depth a ≡ wide b r
-
-pub counted-ext : {σ τ : Table} → Ext σ τ → (code a b r : ℕ) → Counted σ code a b r → Counted τ code a b r
-counted-ext e code a b r k = record { depth = k .depth; at = at-ext e (k .depth) a (k .at); counts = size-ext e (k .depth) a (k .at) ∙ k .counts }
-
-pub reused-count : {σ : Table} {m : List ℕ} {a b r : ℕ} (d : ℕ) → At σ d a → Sound (Of 17 17 (Counted σ)) m → Holds m 17 a b r → size (σ .words) d a ≡ wide b r
-reused-count {σ} {a} d x s found =
-    let k = sound-holds s found (omega arith) (omega arith) in
-    ap (λ (e : ℕ). size (σ .words) e a) (one-depth σ d (k .depth) a x (k .at)) ∙ k .counts
-
-pub count-to-note : {σ : Table} {a b r : ℕ} (d : ℕ) → At σ d a → size (σ .words) d a ≡ wide b r → Own 17 17 (Counted σ) 17 a b r
-count-to-note d x e = record { from = omega arith; to = omega arith; valid = record { depth = d; at = x; counts = e } }
-
--- ---- codes and directions
-
-module _ (N d x y : ℕ) where
-  pub run-project : (w : Way) → run N (projectCode w) d x y ≡ project w (suc d) y
-  unfolding run
-  run-project Forward = refl
-  run-project Backward = refl
-
-  pub run-lead : (w : Way) → run N (leadCode w) d x y ≡ lead w N (suc d) x y
-  unfolding run
-  run-lead Forward = refl
-  run-lead Backward = refl
-
-  pub run-ifwd : run N 12 d x y ≡ ifwd (suc d) x
-  unfolding run
-  run-ifwd = refl
-
-  pub run-has : run N 15 d x y ≡ tells (hasImage N (suc d) x y)
-  unfolding run
-  run-has = refl
-
--- codes of relations' operands: y has the depth
-pub project-code : (w : Way) → (10 ≤ projectCode w) × (projectCode w ≤ 15) × (eqb (projectCode w) 12 ≡ false)
-project-code Forward = (omega arith, omega arith, refl)
-project-code Backward = (omega arith, omega arith, refl)
-
-pub lead-code : (w : Way) → (10 ≤ leadCode w) × (leadCode w ≤ 15) × (eqb (leadCode w) 12 ≡ false)
-lead-code Forward = (omega arith, omega arith, refl)
-lead-code Backward = (omega arith, omega arith, refl)

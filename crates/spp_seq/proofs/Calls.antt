@@ -4,13 +4,15 @@ use mathlib.Core.Bool.{Bool, true, false}
 use Prim.Native.Nat.{ℕ, zero, suc, _-_, _≤_, _<_}
 use native.Mathlib.Omega.{arith}
 use Rattle.common.specs.Outcome.{given, Step, return, _>>=_}
-use Rattle.common.specs.Runs.{Table, Runs, runs-map, runs-bind, runs-return}
-use Rattle.cache.specs.Stage.{Can}
+use Rattle.common.specs.Runs.{Table}
+use Rattle.common.proofs.Runs.{Runs, runs-map, runs-bind, runs-return}
+use Rattle.cache.proofs.Stage.{Can}
 use Rattle.spp_steps.specs.Model.{union, Early, done, more, Quad, quad, mk, apply, seqExit, finish, down, under, product, sequence, starExit, blocks, star}
-use Rattle.spp_steps.specs.Laws.{Wf, Ext, At, sppTheory, ext-refl, ext-trans, at-ext, den-mem}
-use Rattle.spp_steps.specs.Sequence.{seqExit-low, sequence-exact}
-use Rattle.spp_steps.specs.Star.{starExit-low, star-exact}
-use Rattle.spp.specs.Reuse.{sppMemo}
+use Rattle.spp_steps.specs.Laws.{Wf, Ext, At}
+use Rattle.spp_steps.proofs.Laws.{sppTheory, ext-refl, ext-trans, at-ext, den-mem}
+use Rattle.spp_steps.proofs.Sequence.{seqExit-low, sequence-exact}
+use Rattle.spp_steps.proofs.Star.{starExit-low, star-exact}
+use Rattle.spp.proofs.Reuse.{sppMemo}
 use Rattle.spp.proofs.Calls.{apply-can, mk-can, quad-at}
 use Rattle.spp_seq.specs.Parts.{row, sums, Pair, through, around}
 

@@ -6,20 +6,23 @@ use Prim.Native.Nat.{ℕ, suc, _+_, _*_, _-_, _≤_, _<_}
 use native.Mathlib.Omega.{arith}
 use lib.ListN.{length}
 use Rattle.common.specs.Outcome.{Outcome, refused, given, Step, return, after}
-use Rattle.common.specs.Follow.{given-of}
+use Rattle.common.proofs.Follow.{given-of}
 use Rattle.common.specs.Runs.{Table, table, Good}
 use Rattle.cache.specs.Cache.{Own, Notes, Holds, Exactly}
-use Rattle.cache.specs.Stage as stage
-use Rattle.cache.specs.Stage.{Gave, Stage}
+use Rattle.cache.proofs.Stage as stage
+use Rattle.cache.proofs.Stage.{Gave, Stage}
 use Rattle.spp_steps.specs.Model.{union, more, Quad, quad, kids, mem, mk, apply, sequence, starExit, blocks, star}
 use Rattle.spp_steps.specs.Closure.{closure}
-use Rattle.spp_steps.specs.Laws.{At, Den, sppTheory, ext-refl, at-ext, den-mem}
-use Rattle.spp_steps.specs.Star.{star-exact}
-use Rattle.spp.specs.Reuse.{Kept, sppMemo, run, reused, to-note}
+use Rattle.spp_steps.specs.Laws.{At, Den}
+use Rattle.spp_steps.proofs.Laws.{sppTheory, ext-refl, at-ext, den-mem}
+use Rattle.spp_steps.proofs.Star.{star-exact}
+use Rattle.spp.specs.Reuse.{Kept, run}
+use Rattle.spp.proofs.Reuse.{sppMemo, reused, to-note}
 use Rattle.spp.specs.Seen.{seen, Asked, Noted, Fits}
 use Rattle.spp.specs.declared.Made.{Made}
 use Rattle.spp.proofs.Calls.{inside, fits, at-kids, ats-ext, quad-at}
-use Rattle.spp_seq.specs.Parts.{Pair, through, around, blocks-parts}
+use Rattle.spp_seq.specs.Parts.{Pair, through, around}
+use Rattle.spp_seq.proofs.Parts.{blocks-parts}
 use Rattle.spp_seq.specs.Seen.{NodeAsked}
 use Rattle.spp_seq.proofs.Calls.{star-above, star-more, star-can, through-can, around-can}
 use Rattle.spp_seq.proofs.Moment.{Moment, start, asks, past, past-sequence, past-union, ended}

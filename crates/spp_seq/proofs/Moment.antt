@@ -4,13 +4,15 @@ use mathlib.Core.Bool.{Bool}
 use mathlib.Core.List.{List, [], _∷_}
 use Prim.Native.Nat.{ℕ, suc, _≤_, _<_}
 use Rattle.common.specs.Outcome.{Outcome, given, Step, after}
-use Rattle.common.specs.Follow.{given-of}
-use Rattle.common.specs.Runs.{Table, Runs}
-use Rattle.cache.specs.Stage as stage
-use Rattle.cache.specs.Stage.{Gave, Stage}
+use Rattle.common.proofs.Follow.{given-of}
+use Rattle.common.specs.Runs.{Table}
+use Rattle.common.proofs.Runs.{Runs}
+use Rattle.cache.proofs.Stage as stage
+use Rattle.cache.proofs.Stage.{Gave, Stage}
 use Rattle.spp_steps.specs.Model.{union, Quad, mk, apply, sequence}
-use Rattle.spp_steps.specs.Laws.{At, sppTheory, ext-refl}
-use Rattle.spp.specs.Reuse.{sppMemo}
+use Rattle.spp_steps.specs.Laws.{At}
+use Rattle.spp_steps.proofs.Laws.{sppTheory, ext-refl}
+use Rattle.spp.proofs.Reuse.{sppMemo}
 use Rattle.spp.specs.Seen.{seen, Asked, Ats, Noted}
 use Rattle.spp.specs.declared.Made.{Made}
 use Rattle.spp.specs.declared.Made.the-variants.{Node, Full}

@@ -6,20 +6,23 @@ use Prim.Native.Nat.{ℕ, suc, _+_, _*_, _-_, _≤_, _<_}
 use native.Mathlib.Omega.{arith}
 use lib.ListN.{length}
 use Rattle.common.specs.Outcome.{Outcome, refused, given, Step, return, after}
-use Rattle.common.specs.Follow.{given-of}
+use Rattle.common.proofs.Follow.{given-of}
 use Rattle.common.specs.Runs.{Table, table, Good}
 use Rattle.cache.specs.Cache.{Own, Notes, Holds, Exactly}
-use Rattle.cache.specs.Stage as stage
-use Rattle.cache.specs.Stage.{Gave, Stage}
+use Rattle.cache.proofs.Stage as stage
+use Rattle.cache.proofs.Stage.{Gave, Stage}
 use Rattle.spp_steps.specs.Model.{union, more, Quad, quad, kids, mem, mk, apply, seqExit, product, sequence}
 use Rattle.spp_steps.specs.Relations.{compose}
-use Rattle.spp_steps.specs.Laws.{At, Den, sppTheory, ext-refl, at-ext, den-mem}
-use Rattle.spp_steps.specs.Sequence.{sequence-exact}
-use Rattle.spp.specs.Reuse.{Kept, sppMemo, run, reused, to-note}
+use Rattle.spp_steps.specs.Laws.{At, Den}
+use Rattle.spp_steps.proofs.Laws.{sppTheory, ext-refl, at-ext, den-mem}
+use Rattle.spp_steps.proofs.Sequence.{sequence-exact}
+use Rattle.spp.specs.Reuse.{Kept, run}
+use Rattle.spp.proofs.Reuse.{sppMemo, reused, to-note}
 use Rattle.spp.specs.Seen.{Asked}
 use Rattle.spp.proofs.Calls.{inside, at-kids, ats-ext, apply-can}
 use Rattle.spp.proofs.Quartet.{Quartet}
-use Rattle.spp_seq.specs.Parts.{row, sums, product-parts}
+use Rattle.spp_seq.specs.Parts.{row, sums}
+use Rattle.spp_seq.proofs.Parts.{product-parts}
 use Rattle.spp_seq.specs.Seen.{NodeAsked}
 use Rattle.spp_seq.proofs.Calls.{seq-above, sequence-more, sequence-can, row-can, sums-can}
 

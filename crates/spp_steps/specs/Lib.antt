@@ -1,19 +1,10 @@
 -- Relations on packets (01, port order, step 2): the steps, in the Rust's order, and their laws.
-pub mod Exact
 pub mod Model
 pub mod ImageModel
 pub mod Relations
 pub mod Laws
 pub mod Make
-pub mod Begin
-pub mod Apply
-pub mod Sequence
 pub mod Closure
-pub mod Star
-pub mod Field
 pub mod Size
 pub mod Images
-pub mod HasImage
-pub mod Results
 pub mod Reuse
-pub mod Corners

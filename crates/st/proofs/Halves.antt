@@ -14,19 +14,24 @@ use Rattle.spp.specs.declared.Made.the-variants.{Node, Full}
 use Rattle.aut_steps.specs.Tables as T
 use Rattle.aut_steps.specs.Tables.{Aut, onNodes}
 use Rattle.aut_steps.specs.Relations as Rel
-use Rattle.aut_steps.specs.Goes.{Gone, Goes, came, goes-map}
+use Rattle.aut_steps.specs.Goes.{Gone}
+use Rattle.aut_steps.proofs.Goes.{Goes, came, goes-map}
 use Rattle.aut_steps.specs.Constructors.{mk-union}
-use Rattle.aut_steps.specs.UnionLaws.{mk-union-goes}
+use Rattle.aut_steps.proofs.UnionLaws.{mk-union-goes}
 use Rattle.st_steps.specs.Operations.{ops}
-use Rattle.st_steps.specs.Edges.{edges, edge-grown}
-use Rattle.st_steps.specs.ListGoes.{ListAt, Label, State, label-grown, relation-of, union-goes, intersect-goes, difference-goes, place-goes}
-use Rattle.st_steps.specs.InsertSteps.{Part, part, meetIn, restIn, splitOne, PartAt, meetIn-goes, restIn-goes}
+use Rattle.st_steps.specs.Edges.{edges}
+use Rattle.st_steps.proofs.Edges.{edge-grown}
+use Rattle.st_steps.specs.ListGoes.{ListAt, Label, State}
+use Rattle.st_steps.proofs.ListGoes.{label-grown, relation-of, union-goes, intersect-goes, difference-goes, place-goes}
+use Rattle.st_steps.specs.InsertSteps.{Part, part, meetIn, restIn, splitOne}
+use Rattle.st_steps.proofs.InsertSteps.{PartAt, meetIn-goes, restIn-goes}
 use Rattle.aut.specs.Seen.{limitsOf}
 use Rattle.aut.specs.declared.Counts.{Counts}
 use Rattle.aut.specs.declared.Limits.{Limits}
 use Rattle.aut.specs.declared.State as S
 use Rattle.aut.specs.declared.State.the-variants as state
-use Rattle.aut_rel.specs.Behind.{Left, left-any, left-wide, left-trans}
+use Rattle.aut_rel.specs.Behind.{Left}
+use Rattle.aut_rel.proofs.Behind.{left-any, left-wide, left-trans}
 use Rattle.aut_rel.specs.Seen.{autOf, seenAut, Beside, LeftBy, Ready, Does, RelateReady, Relates}
 use Rattle.aut_rel.proofs.Order.{backed-of, ready-after}
 use Rattle.aut_union.specs.Seen.{PairAt}

@@ -14,10 +14,12 @@ use Rattle.spp.specs.Seen.{seen}
 use Rattle.aut_steps.specs.Tables as T
 use Rattle.aut_steps.specs.Tables.{Aut, putNodes, onNodes}
 use Rattle.aut_steps.specs.Good.{Grown, Good}
-use Rattle.aut_steps.specs.Goes.{Gone, Goes, came}
+use Rattle.aut_steps.specs.Goes.{Gone}
+use Rattle.aut_steps.proofs.Goes.{Goes, came}
 use Rattle.st_steps.specs.Edges.{edges}
-use Rattle.st_steps.specs.ListGoes.{ListAt, Label, list-empty, list-grown}
-use Rattle.st_steps.specs.Places.{edges-length, edges-same}
+use Rattle.st_steps.specs.ListGoes.{ListAt, Label}
+use Rattle.st_steps.proofs.ListGoes.{list-empty, list-grown}
+use Rattle.st_steps.proofs.Places.{edges-length, edges-same}
 use Rattle.aut.specs.Seen.{limitsOf}
 use Rattle.aut.specs.declared.Counts.{Counts}
 use Rattle.aut.specs.declared.Limits.{Limits}

@@ -12,7 +12,7 @@ use Rattle.common.specs.Outcome.{Outcome, refused, given, Step, return, after, 
 use Rattle.common.specs.Runs.{Table, table, placed}
 use Rattle.netkat.specs.ListSteps as St
 use Rattle.netkat.specs.ListSteps.{Edge, edge, unite, enterIn}
-use Rattle.spp_steps.specs.Laws.{ext-refl}
+use Rattle.spp_steps.proofs.Laws.{ext-refl}
 use Rattle.spp.specs.declared.SPP.{SPP}
 use Rattle.spp.specs.declared.Made.{Made}
 use Rattle.spp.specs.declared.Made.the-variants.{Node, Full}
@@ -21,19 +21,26 @@ use Rattle.aut_steps.specs.Tables as T
 use Rattle.aut_steps.specs.Tables.{Aut, putNodes, putStates, onStates}
 use Rattle.aut_steps.specs.Relations as Rel
 use Rattle.aut_steps.specs.Constructors.{mk-spp}
-use Rattle.aut_steps.specs.Scratch.{Kept, kept-wide}
+use Rattle.aut_steps.specs.Scratch.{Kept}
+use Rattle.aut_steps.proofs.Scratch.{kept-wide}
 use Rattle.st_steps.specs.Operations.{ops}
-use Rattle.aut_steps.specs.Goes.{Gone, Goes, came}
-use Rattle.st_steps.specs.Edges.{edges, edge-grown}
-use Rattle.st_steps.specs.ListGoes.{State, list-grown, zero-state-goes}
-use Rattle.st_steps.specs.Places.{seekTarget, edges-length, edge-at, leads, leads-not, unite-at, relabelled}
-use Rattle.st_steps.specs.InsertSteps.{placeIn, place-is}
+use Rattle.aut_steps.specs.Goes.{Gone}
+use Rattle.aut_steps.proofs.Goes.{Goes, came}
+use Rattle.st_steps.specs.Edges.{edges}
+use Rattle.st_steps.proofs.Edges.{edge-grown}
+use Rattle.st_steps.specs.ListGoes.{State}
+use Rattle.st_steps.proofs.ListGoes.{list-grown, zero-state-goes}
+use Rattle.st_steps.specs.Places.{seekTarget}
+use Rattle.st_steps.proofs.Places.{edges-length, edge-at, leads, leads-not, unite-at, relabelled}
+use Rattle.st_steps.specs.InsertSteps.{placeIn}
+use Rattle.st_steps.proofs.InsertSteps.{place-is}
 use Rattle.aut.specs.Seen.{limitsOf, seenPut}
 use Rattle.aut.specs.declared.Counts.{Counts}
 use Rattle.aut.specs.declared.Limits.{Limits}
 use Rattle.aut.specs.declared.Put.{Put}
 use Rattle.aut.specs.declared.Put.the-variants as put
-use Rattle.aut_rel.specs.Behind.{LISTS, Left, left-refl, left-any, left-trans, left-kept}
+use Rattle.aut_rel.specs.Behind.{LISTS, Left}
+use Rattle.aut_rel.proofs.Behind.{left-refl, left-any, left-trans, left-kept}
 use Rattle.aut_rel.specs.Seen.{autOf, MadeLeft, RelateReady, Relates}
 use Rattle.aut_rel.proofs.Order.{backed-of, ready-after}
 use Rattle.st_edges.specs.Seen.{Seeks, Wrote}

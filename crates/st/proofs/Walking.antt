@@ -15,17 +15,23 @@ use Rattle.spp.specs.declared.Made.the-variants.{Node, Full}
 use Rattle.aut_steps.specs.Tables as T
 use Rattle.aut_steps.specs.Tables.{Aut, onNodes}
 use Rattle.aut_steps.specs.Relations as Rel
-use Rattle.aut_steps.specs.Good.{Grown, grown-refl, grown-trans}
-use Rattle.aut_steps.specs.Goes.{Gone, Goes, came}
+use Rattle.aut_steps.specs.Good.{Grown}
+use Rattle.aut_steps.proofs.Good.{grown-refl, grown-trans}
+use Rattle.aut_steps.specs.Goes.{Gone}
+use Rattle.aut_steps.proofs.Goes.{Goes, came}
 use Rattle.st_steps.specs.Operations.{ops}
-use Rattle.st_steps.specs.Edges.{edges, EdgeAt, edge-grown}
-use Rattle.st_steps.specs.ListGoes.{ListAt, Label, zero-label, relation-of, list-empty, difference-goes, insert-goes}
-use Rattle.st_steps.specs.Places.{edgeAt, edges-on, edges-done, edge-at}
-use Rattle.st_steps.specs.InsertSteps.{Part, part, splitOne, walk, placeRest, PartAt, splitOne-goes, walk-goes, insert-is}
+use Rattle.st_steps.specs.Edges.{edges, EdgeAt}
+use Rattle.st_steps.proofs.Edges.{edge-grown}
+use Rattle.st_steps.specs.ListGoes.{ListAt, Label}
+use Rattle.st_steps.proofs.ListGoes.{zero-label, relation-of, list-empty, difference-goes, insert-goes}
+use Rattle.st_steps.proofs.Places.{edgeAt, edges-on, edges-done, edge-at}
+use Rattle.st_steps.specs.InsertSteps.{Part, part, splitOne, walk}
+use Rattle.st_steps.proofs.InsertSteps.{placeRest, PartAt, splitOne-goes, walk-goes, insert-is}
 use Rattle.aut.specs.Seen.{limitsOf}
 use Rattle.aut.specs.declared.Counts.{Counts}
 use Rattle.aut.specs.declared.Limits.{Limits}
-use Rattle.aut_rel.specs.Behind.{LISTS, Left, left-refl, left-any, left-wide, left-trans, left-kept, kept-left}
+use Rattle.aut_rel.specs.Behind.{LISTS, Left}
+use Rattle.aut_rel.proofs.Behind.{left-refl, left-any, left-wide, left-trans, left-kept, kept-left}
 use Rattle.aut_rel.specs.Seen.{autOf, RelateReady, Relates}
 use Rattle.aut_rel.proofs.Order.{backed-of, ready-after}
 use Rattle.st_edges.specs.Seen.{Wrote, CopyReady}

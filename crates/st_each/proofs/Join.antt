@@ -15,21 +15,26 @@ use Rattle.aut_steps.specs.Tables as T
 use Rattle.aut_steps.specs.Tables.{COMPLEMENT, Aut, onNodes, onStates}
 use Rattle.aut_steps.specs.Relations as Rel
 use Rattle.aut_steps.specs.Constructors as C
-use Rattle.aut_steps.specs.Good.{grown-trans}
-use Rattle.aut_steps.specs.Goes.{Gone, Goes, came, goes-map}
-use Rattle.aut_steps.specs.IntersectLaws.{mk-intersect-goes}
+use Rattle.aut_steps.proofs.Good.{grown-trans}
+use Rattle.aut_steps.specs.Goes.{Gone}
+use Rattle.aut_steps.proofs.Goes.{Goes, came, goes-map}
+use Rattle.aut_steps.proofs.IntersectLaws.{mk-intersect-goes}
 use Rattle.st_steps.specs.Operations.{ops}
-use Rattle.st_steps.specs.Edges.{edges, EdgeAt, edge-grown}
+use Rattle.st_steps.specs.Edges.{edges, EdgeAt}
+use Rattle.st_steps.proofs.Edges.{edge-grown}
 use Rattle.st_steps.specs.ListGoes as Goes
+use Rattle.st_steps.proofs.ListGoes as GoesLaws
 use Rattle.st_steps.specs.EachSteps as M
-use Rattle.st_steps.specs.EachSteps.{EachAt, made, insertMade, made-goes}
+use Rattle.st_steps.specs.EachSteps.{EachAt, made, insertMade}
+use Rattle.st_steps.proofs.EachSteps.{made-goes}
 use Rattle.aut.specs.Seen.{limitsOf, seenPut, Ready1}
 use Rattle.aut.specs.declared.Counts.{Counts}
 use Rattle.aut.specs.declared.Limits.{Limits}
 use Rattle.aut.specs.declared.Put.{Put}
 use Rattle.aut.specs.declared.State.{State}
 use Rattle.aut.specs.declared.State.the-variants as state
-use Rattle.aut_rel.specs.Behind.{Left, left-refl, left-any, left-wide, left-trans}
+use Rattle.aut_rel.specs.Behind.{Left}
+use Rattle.aut_rel.proofs.Behind.{left-refl, left-any, left-wide, left-trans}
 use Rattle.aut_rel.specs.Seen.{autOf, seenAut, Beside, LeftBy, RelateReady, Relates, Places, Ready, Does}
 use Rattle.aut_rel.proofs.Join.{same-left}
 use Rattle.aut_rel.proofs.Order.{ready-complement, backed-of, ready-after}
@@ -144,7 +149,7 @@ module _ (N : ℕ) (l : Limits) (t st mem s : List ℕ) (c : Counts) (x : ℕ) (
       met r2 t2 s2 A len2 w q =
           subst (λ (w : Edged). DoesEdge N l 0 576 meet σ w c t2 st1 mem1 s s2) (sym q)
           (from-label meet (R .ready) meet-goes (Rel.intersect N (h .0) (u .label .0)) z t1 st1 mem1 s1 d (meet-is ∙ ap (λ (r : State). after (seenAut r t1 st1 mem1) label) told) beside-1
-          (λ t′ s′ n m e p. left-trans (came (subst (Goes N L (Goes.Label N) τ) e (Goes.intersect-goes (gone .good) (Goes.relation-of (edge-grown (gone .grown) (R .operands))) (Goes.relation-of (edge-grown (gone .grown) (R .edge))))) .grown .nodes) left-1 (left-any 0 576 p (omega arith)))
+          (λ t′ s′ n m e p. left-trans (came (subst (Goes N L (Goes.Label N) τ) e (GoesLaws.intersect-goes (gone .good) (GoesLaws.relation-of (edge-grown (gone .grown) (R .operands))) (GoesLaws.relation-of (edge-grown (gone .grown) (R .edge))))) .grown .nodes) left-1 (left-any 0 576 p (omega arith)))
           r2 A (len2 ∙ len1))
 
 -- ---- make_edge

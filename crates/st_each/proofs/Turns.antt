@@ -9,16 +9,19 @@ use Rattle.netkat.specs.ListSteps as St
 use Rattle.netkat.specs.ListSteps.{Edge, edge}
 use Rattle.aut_steps.specs.Tables as T
 use Rattle.aut_steps.specs.Tables.{Aut}
-use Rattle.aut_steps.specs.Good.{grown-trans}
-use Rattle.aut_steps.specs.Goes.{came, goes-return}
+use Rattle.aut_steps.proofs.Good.{grown-trans}
+use Rattle.aut_steps.proofs.Goes.{came, goes-return}
 use Rattle.st_steps.specs.Operations.{ops}
-use Rattle.st_steps.specs.Edges.{edges, EdgeAt, EdgesAt, edges-grown}
+use Rattle.st_steps.specs.Edges.{edges, EdgeAt, EdgesAt}
+use Rattle.st_steps.proofs.Edges.{edges-grown}
 use Rattle.st_steps.specs.EachSteps as M
-use Rattle.st_steps.specs.EachSteps.{made, insertMade, each-grown}
+use Rattle.st_steps.specs.EachSteps.{made, insertMade}
+use Rattle.st_steps.proofs.EachSteps.{each-grown}
 use Rattle.aut.specs.Seen.{limitsOf}
 use Rattle.aut.specs.declared.Counts.{Counts}
 use Rattle.aut.specs.declared.Limits.{Limits}
-use Rattle.aut_rel.specs.Behind.{Left, left-refl, left-trans}
+use Rattle.aut_rel.specs.Behind.{Left}
+use Rattle.aut_rel.proofs.Behind.{left-refl, left-trans}
 use Rattle.aut_rel.specs.Seen.{autOf}
 use Rattle.st.specs.declared.Listed.{Listed}
 use Rattle.st.specs.declared.Listed.the-variants as listed

@@ -1,3 +1,4 @@
 -- Lemmas for the proofs of this crate.
+pub mod Readings
 pub mod Single
 pub mod Loops

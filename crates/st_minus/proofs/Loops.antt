@@ -9,17 +9,18 @@ use Rattle.netkat.specs.ListSteps.{Edge, Summed as Sum}
 use Rattle.spp.specs.declared.SPP.{SPP}
 use Rattle.aut_steps.specs.Tables.{Aut}
 use Rattle.st_steps.specs.Operations.{ops}
-use Rattle.st_steps.specs.Edges.{EdgeAt, edge-grown}
+use Rattle.st_steps.specs.Edges.{EdgeAt}
+use Rattle.st_steps.proofs.Edges.{edge-grown}
 use Rattle.st_steps.specs.ListGoes.{Label, SumAt}
 use Rattle.st_steps.specs.EachSteps.{subtractOne}
-use Rattle.st_steps.specs.MinusSteps.{subtractRow-is, subtractRow-none, subtractRows-is, subtractRows-none}
+use Rattle.st_steps.proofs.MinusSteps.{subtractRow-is, subtractRow-none, subtractRows-is, subtractRows-none}
 use Rattle.aut.specs.Seen.{limitsOf}
 use Rattle.aut.specs.declared.Counts.{Counts}
 use Rattle.aut.specs.declared.Limits.{Limits}
 use Rattle.aut_rel.specs.Behind.{Left}
 use Rattle.aut_rel.specs.Seen.{autOf}
-use Rattle.aut_stage.specs.Stage.{Folds, Turned, begin, stuck, done, turn, over, again, all-of}
-use Rattle.aut_stage.specs.OnAut.{autLayer}
+use Rattle.aut_stage.proofs.Stage.{Folds, Turned, begin, stuck, done, turn, over, again, all-of}
+use Rattle.aut_stage.proofs.OnAut.{autLayer}
 use Rattle.st.specs.Seen.{ListReady}
 use Rattle.st_source.specs.declared.Source.{Source}
 use Rattle.st_source.specs.Seen.{sourceOf, entryOf, EntryIn, Walked}
@@ -27,7 +28,7 @@ use Rattle.st_source.proofs.Sources.{onFrom, from-all, from-next, from-done, en
 use Rattle.st_minus.specs.declared.Summed.{Summed}
 use Rattle.st_minus.specs.declared.Summed.the-variants as next
 use Rattle.st_minus.specs.Seen.{sumOf, DoesSum}
-use Rattle.st_minus.specs.Readings.{sum-given, sum-refused, to-sum}
+use Rattle.st_minus.proofs.Readings.{sum-given, sum-refused, to-sum}
 
 abbrev pub Turning : (N : ℕ) (l : Limits) → (List Edge → Sum (ops N (limitsOf l)) → Step Aut (Sum (ops N (limitsOf l)))) → List ℕ → Source → Aut → Counts → List ℕ → ℕ → ℕ → Aut → Counts → List ℕ → ℕ → ℕ → ℕ → Type 0
 Turning N l all tr x σ₀ c₀ s₀ h₀ m₀ σ d s h n i =

@@ -14,15 +14,17 @@ use Rattle.spp.specs.declared.Made.the-variants.{Node, Full}
 use Rattle.aut_steps.specs.Tables as T
 use Rattle.aut_steps.specs.Tables.{Aut, onNodes}
 use Rattle.aut_steps.specs.Relations as Rel
-use Rattle.aut_steps.specs.Good.{grown-trans, state-grown}
-use Rattle.aut_steps.specs.Goes.{goes-map}
+use Rattle.aut_steps.proofs.Good.{grown-trans, state-grown}
+use Rattle.aut_steps.proofs.Goes.{goes-map}
 use Rattle.aut_steps.specs.Constructors.{mk-difference}
-use Rattle.aut_steps.specs.StateLaws.{mk-difference-goes}
+use Rattle.aut_steps.proofs.StateLaws.{mk-difference-goes}
 use Rattle.st_steps.specs.Operations.{ops}
-use Rattle.st_steps.specs.Edges.{edges, EdgeAt, edge-grown}
-use Rattle.st_steps.specs.ListGoes.{Label, State, ListAt, list-grown, label-grown, relation-of, union-goes, intersect-goes}
+use Rattle.st_steps.specs.Edges.{edges, EdgeAt}
+use Rattle.st_steps.proofs.Edges.{edge-grown}
+use Rattle.st_steps.specs.ListGoes.{Label, State, ListAt}
+use Rattle.st_steps.proofs.ListGoes.{list-grown, label-grown, relation-of, union-goes, intersect-goes}
 use Rattle.st_steps.specs.EachSteps.{subtractOne}
-use Rattle.st_steps.specs.MinusSteps.{summed}
+use Rattle.st_steps.proofs.MinusSteps.{summed}
 use Rattle.aut.specs.Seen.{limitsOf}
 use Rattle.aut.specs.declared.Counts.{Counts}
 use Rattle.aut.specs.declared.Limits.{Limits}
@@ -31,17 +33,19 @@ use Rattle.aut.specs.declared.State.the-variants as state
 use Rattle.aut_rel.specs.Seen.{autOf, RelateReady, Relates}
 use Rattle.aut_rel.proofs.Order.{backed-of}
 use Rattle.aut_mk.specs.Seen.{Makes}
-use Rattle.aut_stage.specs.Stage.{gave, Post, Stage, Inside, begin, next as follow, stuck, instead, done, all-of}
-use Rattle.aut_stage.specs.OnAut.{autLayer}
-use Rattle.aut_stage.specs.OnNodes.{withNodes, relation-given, relation-refused}
+use Rattle.aut_stage.specs.Stage.{gave, Post, Stage}
+use Rattle.aut_stage.proofs.Stage.{Inside, begin, next as follow, stuck, instead, done, all-of}
+use Rattle.aut_stage.proofs.OnAut.{autLayer}
+use Rattle.aut_stage.specs.OnNodes.{withNodes}
+use Rattle.aut_stage.proofs.OnNodes.{relation-given, relation-refused}
 use Rattle.st.specs.declared.Listed.{Listed}
 use Rattle.st.specs.declared.Listed.the-variants as listed
 use Rattle.st.specs.Seen.{RESULT, ListReady, DoesList}
 use Rattle.st.proofs.Join.{edges-behind, ready-few}
-use Rattle.st_stage.specs.Readings.{made-given, made-refused, list-given, list-refused}
+use Rattle.st_stage.proofs.Readings.{made-given, made-refused, list-given, list-refused}
 use Rattle.st_minus.specs.declared.Summed.the-variants as next
 use Rattle.st_minus.specs.Seen.{OneReady, sumOf, DoesSum}
-use Rattle.st_minus.specs.Readings.{to-sum}
+use Rattle.st_minus.proofs.Readings.{to-sum}
 
 no-list : Inside 0 832 0 0
 no-list = record { from = omega arith; to = omega arith }

@@ -11,8 +11,9 @@ use Rattle.netkat.specs.ListSteps.{Edge}
 use Rattle.aut_steps.specs.Tables.{Aut}
 use Rattle.aut_steps.specs.Good.{Grown}
 use Rattle.st_steps.specs.Operations.{ops}
-use Rattle.st_steps.specs.Edges.{edges, EdgesAt, edges-grown}
-use Rattle.st_steps.specs.Places.{edges-below}
+use Rattle.st_steps.specs.Edges.{edges, EdgesAt}
+use Rattle.st_steps.proofs.Edges.{edges-grown}
+use Rattle.st_steps.proofs.Places.{edges-below}
 use Rattle.aut.specs.Seen.{limitsOf}
 use Rattle.aut.specs.declared.Counts.{Counts}
 use Rattle.aut.specs.declared.Limits.{Limits}
@@ -22,11 +23,13 @@ use Rattle.st.specs.declared.Listed.the-variants as listed
 use Rattle.st.specs.Seen.{RESULT, DoesList}
 use Rattle.st.proofs.Join.{edges-behind, list-few}
 use Rattle.st_edges.specs.Seen.{Wrote, CopyReady}
-use Rattle.st_source.specs.Seen.{scratched}
+use Rattle.st_source.proofs.Seen.{scratched}
 use Rattle.st_ops.specs.Seen.{TwoReady}
-use Rattle.aut_stage.specs.Stage.{Stage, Inside, begin, next, stuck, wrote, instead, finish}
-use Rattle.aut_stage.specs.OnAut.{autLayer}
-use Rattle.st_stage.specs.Readings.{listOf, GivesList, list-given, list-refused, of-list}
+use Rattle.aut_stage.specs.Stage.{Stage}
+use Rattle.aut_stage.proofs.Stage.{Inside, begin, next, stuck, wrote, instead, finish}
+use Rattle.aut_stage.proofs.OnAut.{autLayer}
+use Rattle.st_stage.specs.Readings.{listOf, GivesList}
+use Rattle.st_stage.proofs.Readings.{list-given, list-refused, of-list}
 use Rattle.st_more.specs.Seen.{StoredReady}
 
 -- places, by record

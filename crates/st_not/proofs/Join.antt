@@ -14,12 +14,13 @@ use Rattle.spp.specs.declared.Made.{Made}
 use Rattle.spp.specs.declared.Made.the-variants.{Node, Full}
 use Rattle.aut_steps.specs.Tables.{Aut, onNodes, onStates}
 use Rattle.aut_steps.specs.Constructors.{mk-top}
-use Rattle.aut_steps.specs.Goes.{goes-map}
-use Rattle.aut_steps.specs.StateLaws.{mk-top-goes}
-use Rattle.aut_steps.specs.Good.{grown-trans}
+use Rattle.aut_steps.proofs.Goes.{goes-map}
+use Rattle.aut_steps.proofs.StateLaws.{mk-top-goes}
+use Rattle.aut_steps.proofs.Good.{grown-trans}
 use Rattle.st_steps.specs.Operations.{ops}
 use Rattle.st_steps.specs.Edges.{edges, EdgeAt}
-use Rattle.st_steps.specs.ListGoes.{ListAt, State, Label, list-grown, label-grown}
+use Rattle.st_steps.specs.ListGoes.{ListAt, State, Label}
+use Rattle.st_steps.proofs.ListGoes.{list-grown, label-grown}
 use Rattle.st_steps.specs.EachSteps as M
 use Rattle.aut.specs.Seen.{limitsOf, seenPut, Fits}
 use Rattle.aut.specs.declared.Counts.{Counts}
@@ -29,9 +30,11 @@ use Rattle.aut.specs.declared.State as S
 use Rattle.aut.specs.declared.State.the-variants as state
 use Rattle.aut_rel.specs.Seen.{autOf, Places}
 use Rattle.aut_rel.proofs.Order.{fits, backed-of}
-use Rattle.aut_stage.specs.Stage.{gave, Post, Stage, Inside, begin, next, stuck, instead, finish, all-of}
-use Rattle.aut_stage.specs.OnAut.{autLayer}
-use Rattle.aut_stage.specs.OnNodes.{nodesLayer, Handle, madeOf, withNodes, nodes-given, nodes-refused, state-given, state-refused}
+use Rattle.aut_stage.specs.Stage.{gave, Post, Stage}
+use Rattle.aut_stage.proofs.Stage.{Inside, begin, next, stuck, instead, finish, all-of}
+use Rattle.aut_stage.proofs.OnAut.{autLayer}
+use Rattle.aut_stage.specs.OnNodes.{nodesLayer, Handle, madeOf, withNodes}
+use Rattle.aut_stage.proofs.OnNodes.{nodes-given, nodes-refused, state-given, state-refused}
 use Rattle.st.specs.declared.Listed.{Listed}
 use Rattle.st.specs.declared.Listed.the-variants as listed
 use Rattle.st.specs.Seen.{RESULT, ListReady, DoesList}
@@ -40,8 +43,10 @@ use Rattle.st_source.specs.declared.Source.{Source}
 use Rattle.st_source.specs.Seen.{sourceOf}
 use Rattle.st_source.proofs.Sources.{entry-at, source-kept, walked-later}
 use Rattle.st_each.specs.Seen.{EachReady}
-use Rattle.st_stage.specs.Readings.{listOf, GivesList, list-given, list-refused, of-list}
-use Rattle.st_not.specs.Cover.{uncovered, uncovered-is}
+use Rattle.st_stage.specs.Readings.{listOf, GivesList}
+use Rattle.st_stage.proofs.Readings.{list-given, list-refused, of-list}
+use Rattle.st_not.specs.Cover.{uncovered}
+use Rattle.st_not.proofs.Cover.{uncovered-is}
 use Rattle.st_not.specs.Seen.{CoverReady, OneReady}
 
 none-at : (s : List ℕ) → edges s RESULT 0 ≡ []

@@ -8,17 +8,20 @@ use Rattle.common.specs.Outcome.{after}
 use Rattle.common.specs.Runs.{Table, table}
 use Rattle.netkat.specs.ListSteps.{Edge}
 use Rattle.spp_steps.specs.Model as Spp
-use Rattle.spp_steps.specs.Laws.{At, at-ext, den-zero, den-mem}
-use Rattle.spp_steps.specs.Apply.{apply-exact, pointwise}
+use Rattle.spp_steps.specs.Laws.{At}
+use Rattle.spp_steps.proofs.Laws.{at-ext, den-zero, den-mem}
+use Rattle.spp_steps.proofs.Apply.{apply-exact, pointwise}
 use Rattle.spp.specs.declared.SPP.{SPP}
 use Rattle.spp.specs.declared.Made.{Made}
 use Rattle.spp.specs.declared.Made.the-variants.{Node, Full}
 use Rattle.aut_steps.specs.Relations as Rel
-use Rattle.aut_steps.specs.RelationLaws as Laws
-use Rattle.aut_rel.specs.Behind.{left-any}
+use Rattle.aut_steps.proofs.RelationLaws as Laws
+use Rattle.aut_rel.proofs.Behind.{left-any}
 use Rattle.aut_rel.specs.Seen.{RelateReady, Relates}
-use Rattle.aut_stage.specs.Stage.{gave, refusal, Post, Stage, Folds, Turned, begin, next, stuck, instead, finish, done, turn, over, again, all-of}
-use Rattle.aut_stage.specs.OnNodes.{nodesLayer, Handle, madeOf, node-given, node-refused, node-post}
+use Rattle.aut_stage.specs.Stage.{gave, refusal, Post, Stage}
+use Rattle.aut_stage.proofs.Stage.{Folds, Turned, begin, next, stuck, instead, finish, done, turn, over, again, all-of}
+use Rattle.aut_stage.specs.OnNodes.{nodesLayer, Handle, madeOf}
+use Rattle.aut_stage.proofs.OnNodes.{node-given, node-refused, node-post}
 use Rattle.st_source.specs.declared.Source.{Source}
 use Rattle.st_source.specs.declared.Transition.{Transition}
 use Rattle.st_source.specs.Seen.{edgeOf, sourceOf, entryOf, EntryIn}

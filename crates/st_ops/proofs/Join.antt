@@ -8,7 +8,8 @@ use Rattle.netkat.specs.ListSteps.{Edge, Summed as Sum}
 use Rattle.aut_steps.specs.Tables.{Aut}
 use Rattle.st_steps.specs.Operations.{ops}
 use Rattle.st_steps.specs.Edges.{edges}
-use Rattle.st_steps.specs.ListGoes.{Label, zero-label, list-empty}
+use Rattle.st_steps.specs.ListGoes.{Label}
+use Rattle.st_steps.proofs.ListGoes.{zero-label, list-empty}
 use Rattle.st_steps.specs.EachSteps as M
 use Rattle.aut.specs.Seen.{limitsOf}
 use Rattle.aut.specs.declared.Counts.{Counts}
@@ -26,11 +27,13 @@ use Rattle.st_minus.specs.Seen.{RowsReady, sumOf, DoesSum}
 use Rattle.st_source.proofs.Sources.{source-kept, walked-later}
 use Rattle.spp.specs.declared.SPP.{SPP}
 use Rattle.aut_steps.specs.Relations.{zeroAt}
-use Rattle.aut_stage.specs.Stage.{Stage, begin, next, stuck, instead, finish, all-of}
-use Rattle.aut_stage.specs.OnAut.{autLayer}
+use Rattle.aut_stage.specs.Stage.{Stage}
+use Rattle.aut_stage.proofs.Stage.{begin, next, stuck, instead, finish, all-of}
+use Rattle.aut_stage.proofs.OnAut.{autLayer}
 use Rattle.st_ops.specs.Seen.{OneReady, TwoReady}
-use Rattle.st_stage.specs.Readings.{listOf, list-given, list-refused, of-list, to-list}
-use Rattle.st_minus.specs.Readings.{sum-given, sum-refused}
+use Rattle.st_stage.specs.Readings.{listOf}
+use Rattle.st_stage.proofs.Readings.{list-given, list-refused, of-list, to-list}
+use Rattle.st_minus.proofs.Readings.{sum-given, sum-refused}
 
 -- the empty list
 pub none-ready : {N : ℕ} {l : Limits} {σ : Aut} {s : List ℕ} → Ready N l σ s → l .transitions ≤ 64 → ListReady N l σ s 0

@@ -8,8 +8,9 @@ use Rattle.common.specs.Runs.{Table}
 use Rattle.netkat.specs.ListSteps.{Edge, edge}
 use Rattle.aut_steps.specs.Tables.{Aut}
 use Rattle.aut_steps.specs.Good.{Grown}
-use Rattle.st_steps.specs.Edges.{edges, EdgeAt, EdgesAt, edges-grown}
-use Rattle.st_steps.specs.Places.{edges-on, edges-done, edge-at}
+use Rattle.st_steps.specs.Edges.{edges, EdgeAt, EdgesAt}
+use Rattle.st_steps.proofs.Edges.{edges-grown}
+use Rattle.st_steps.proofs.Places.{edges-on, edges-done, edge-at}
 use Rattle.aut_rel.specs.Behind.{LISTS, Left}
 use Rattle.st.proofs.Join.{edges-behind}
 use Rattle.st_source.specs.declared.Place.{Place}

@@ -38,9 +38,6 @@ WithinAt tr (place.Scratch a) k = (416 ≤ a) × (a + k ≤ 544)
 abbrev pub stored : ℕ → ℕ → Source
 stored a k = record { place = place.Stored a; length = k }
 
-abbrev pub scratched : ℕ → ℕ → Source
-scratched a k = record { place = place.Scratch a; length = k }
-
 -- its transitions; its transition i
 abbrev pub sourceOf : Source → List ℕ → List ℕ → List Edge
 sourceOf x tr s = edgesAt (x .place) tr s (x .length)

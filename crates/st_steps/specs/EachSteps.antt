@@ -8,11 +8,9 @@ use Rattle.netkat.specs.ListSteps.{Edge, Summed}
 use Rattle.aut_steps.specs.Tables.{Limits, Aut, onNodes}
 use Rattle.aut_steps.specs.Relations as Rel
 use Rattle.aut_steps.specs.Constructors.{mk-difference}
-use Rattle.aut_steps.specs.Good.{Grown, grown-refl, Good, state-grown}
-use Rattle.aut_steps.specs.Goes.{Goes}
 use Rattle.st_steps.specs.Operations.{ops}
-use Rattle.st_steps.specs.Edges.{EdgeAt, edge-grown}
-use Rattle.st_steps.specs.ListGoes.{Label, State, Maker, label-grown, return-makes, follow-makes, after-makes, meet-with-makes, complement-makes, rest-makes, meet-makes}
+use Rattle.st_steps.specs.Edges.{EdgeAt}
+use Rattle.st_steps.specs.ListGoes.{Label, State}
 
 -- what is made of a transition
 pub data Each : Type 0 where
@@ -56,24 +54,3 @@ EachAt N σ (intersect x) = State σ x
 EachAt N σ complement = Unit
 EachAt N σ (rest l) = Label N σ l
 EachAt N σ (meet t) = EdgeAt N σ t
-
-pub each-grown : (N : ℕ) {σ τ : Aut} → Grown σ τ → (e : Each) → EachAt N σ e → EachAt N τ e
-each-grown N g same a = tt
-each-grown N g (sequence x) a = state-grown g a
-each-grown N g (after l) a = label-grown g a
-each-grown N g (intersect x) a = state-grown g a
-each-grown N g complement a = tt
-each-grown N g (rest l) a = label-grown g a
-each-grown N g (meet t) a = edge-grown g a
-
-pub made-makes : {N : ℕ} (L : Limits) (σ : Aut) (e : Each) → EachAt N σ e → Maker N L σ (made N L e)
-made-makes L σ same a = return-makes σ
-made-makes L σ (sequence x) a = follow-makes a
-made-makes L σ (after l) a = after-makes a
-made-makes L σ (intersect x) a = meet-with-makes a
-made-makes L σ complement a = complement-makes σ
-made-makes L σ (rest l) a = rest-makes a
-made-makes L σ (meet t) a = meet-makes σ t a
-
-pub made-goes : {N : ℕ} {L : Limits} {σ : Aut} → Good N L σ → (e : Each) → EachAt N σ e → {t : Edge} → EdgeAt N σ t → Goes N L (EdgeAt N) σ (made N L e t σ)
-made-goes {N} {L} {σ} g e a {t} p = made-makes L σ e a σ t (grown-refl σ) g p

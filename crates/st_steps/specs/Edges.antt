@@ -4,9 +4,9 @@ use mathlib.Core.List.{List, [], _∷_}
 use Prim.Native.Nat.{ℕ, zero, suc, _+_, _*_, _<_}
 use lib.ListN.{getD}
 use Rattle.netkat.specs.ListSteps.{Edge, edge}
-use Rattle.spp_steps.specs.Laws.{At, at-ext}
+use Rattle.spp_steps.specs.Laws.{At}
 use Rattle.aut_steps.specs.Tables.{Aut}
-use Rattle.aut_steps.specs.Good.{states, Grown, state-grown}
+use Rattle.aut_steps.specs.Good.{states}
 
 -- the k transitions from record a on
 unfoldable pub edges : List ℕ → ℕ → ℕ → List Edge
@@ -26,18 +26,3 @@ pub record EdgeAt (N : ℕ) (σ : Aut) (e : Edge) : Type 0 where
 pub data EdgesAt (N : ℕ) (σ : Aut) : List Edge → Type 0 where
   none : EdgesAt N σ []
   also : {e : Edge} {es : List Edge} → EdgeAt N σ e → EdgesAt N σ es → EdgesAt N σ (e ∷ es)
-
-module _ {N : ℕ} {σ : Aut} where
-  pub first-at : {e : Edge} {es : List Edge} → EdgesAt N σ (e ∷ es) → EdgeAt N σ e
-  first-at (also p q) = p
-
-  pub rest-at : {e : Edge} {es : List Edge} → EdgesAt N σ (e ∷ es) → EdgesAt N σ es
-  rest-at (also p q) = q
-
-module _ {N : ℕ} {σ τ : Aut} (g : Grown σ τ) where
-  pub edge-grown : {e : Edge} → EdgeAt N σ e → EdgeAt N τ e
-  edge-grown {e} p = record { state = state-grown g (p .state); relation = at-ext (g .nodes) N (e .label) (p .relation) }
-
-  pub edges-grown : {es : List Edge} → EdgesAt N σ es → EdgesAt N τ es
-  edges-grown none = none
-  edges-grown (also p q) = also (edge-grown p) (edges-grown q)

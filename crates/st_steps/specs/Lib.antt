@@ -6,4 +6,3 @@ pub mod ListGoes
 pub mod EachSteps
 pub mod Places
 pub mod InsertSteps
-pub mod MinusSteps

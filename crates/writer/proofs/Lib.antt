@@ -1,2 +1,3 @@
+pub mod Seen
 pub mod Rights
 pub mod Lines

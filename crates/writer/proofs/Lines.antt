@@ -7,7 +7,8 @@ use lib.ListN.{length, set, length-append}
 use lib.Pow.{pow-mono, pow-pos}
 use native.Mathlib.Nat.{mod-eq-of-lt}
 use Rattle.book_steps.specs.Answers.{say, share}
-use Rattle.writer.specs.Seen.{Put, put-append, put-one}
+use Rattle.writer.specs.Seen.{Put}
+use Rattle.writer.proofs.Seen.{put-append, put-one}
 
 pub length-two : (v w : List ℕ) → length (say (v ∷ w ∷ [])) ≡ length v + length w + 2
 unfolding say

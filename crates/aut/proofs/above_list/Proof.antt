@@ -3,7 +3,7 @@ use Prim.Native.Nat.{_≤_, _-_, _+_}
 use native.Mathlib.Omega.{arith}
 use borrow.Author.Needs.{needs}
 use Rattle.aut_steps.specs.Tables.{words}
-use Rattle.aut_steps.specs.Scratch.{from-0}
+use Rattle.aut_steps.proofs.Scratch.{from-0}
 use Rattle.aut.specs.Seen.{aboveL}
 use Rattle.aut.proofs.Scan as scan
 use Rattle.aut.proofs.above_list.Statement.{statement}

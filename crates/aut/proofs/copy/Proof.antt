@@ -1,5 +1,5 @@
 use Rattle.aut.proofs.Scan as tests
-use Rattle.aut.specs.Region.{from-00}
+use Rattle.aut.proofs.Region.{from-00}
 use Rattle.aut_steps.specs.Tables.{words}
 use lib.Seq.{sets}
 use lib.ListN.{length, length-set}

@@ -5,7 +5,7 @@ use native.Mathlib.Omega.{arith}
 use borrow.Author.Needs.{needs}
 use Rattle.aut_steps.specs.Tables.{words}
 use Rattle.aut_steps.specs.Intern.{nestL}
-use Rattle.aut_steps.specs.Scratch.{from-0, all-word}
+use Rattle.aut_steps.proofs.Scratch.{from-0, all-word}
 use Rattle.aut.proofs.Scan as scan
 use Rattle.aut.proofs.nest_list.Statement.{statement}
 use Rattle.aut.proofs.nest_list.Tie as tie

@@ -1,4 +1,4 @@
-use Rattle.aut.specs.Region.{from-00}
+use Rattle.aut.proofs.Region.{from-00}
 use Rattle.aut.proofs.Scan as tests
 use Rattle.aut_steps.specs.Intern.{sameAt}
 use Rattle.aut_steps.specs.Tables.{words}

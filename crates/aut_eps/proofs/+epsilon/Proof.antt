@@ -2,7 +2,7 @@ use mathlib.Core.Path.{_∙_}
 use borrow.Author.Needs.{needs}
 use Rattle.aut_steps.specs.Tables.{nest}
 use Rattle.delta_steps.specs.Epsilon.{epsilonOf}
-use Rattle.delta_steps.specs.EpsilonDown.{opens}
+use Rattle.delta_steps.proofs.EpsilonDown.{opens}
 use Rattle.aut_rel.proofs.Order.{in-table}
 use Rattle.aut_eps.proofs.Turns as turns
 use Rattle.aut_eps.proofs.Turns.{Turn}

@@ -3,7 +3,7 @@ use Prim.Native.Nat.{ℕ, _+_, _*_}
 use native.Mathlib.Omega.{arith}
 use Rattle.common.specs.Outcome.{given}
 use Rattle.common.specs.Runs.{table}
-use Rattle.aut_rel.specs.Behind.{left-refl}
+use Rattle.aut_rel.proofs.Behind.{left-refl}
 use Rattle.aut_eps.proofs.Together as together
 use borrow.Author.Needs.{needs}
 use Rattle.aut_eps.proofs.combine.Statement.{statement}

@@ -1,7 +1,7 @@
 use mathlib.Core.Path.{_≡_, refl, _∙_, ap}
 use native.Mathlib.Omega.{arith}
 use lib.ListN.{length-set}
-use Rattle.aut_steps.specs.StateLaws.{both-spp}
+use Rattle.aut_steps.proofs.StateLaws.{both-spp}
 use Rattle.aut_rel.proofs.Order as order
 use Rattle.aut_inter.proofs.Chain as chain
 use Rattle.aut_union.proofs.Chain.{itself}

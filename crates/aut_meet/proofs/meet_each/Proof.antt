@@ -6,9 +6,10 @@ use native.Mathlib.Omega.{arith}
 use borrow.Author.Needs.{needs}
 use lib.ListN.{length}
 use Rattle.common.specs.Runs.{Table, table}
-use Rattle.spp_steps.specs.Laws.{den-top}
+use Rattle.spp_steps.proofs.Laws.{den-top}
 use Rattle.aut_steps.specs.Tables.{words}
-use Rattle.aut_steps.specs.ListLaws.{All, all-map}
+use Rattle.aut_steps.specs.ListLaws.{All}
+use Rattle.aut_steps.proofs.ListLaws.{all-map}
 use Rattle.aut_steps.specs.Relations.{topAt}
 use Rattle.aut_steps.specs.Constructors.{met, meetOne}
 use Rattle.aut_rel.specs.Behind.{Backed}

@@ -1,5 +1,5 @@
 use mathlib.Core.Path.{_≡_, _∙_, ap}
-use Rattle.aut_steps.specs.Scratch.{kept-refl}
+use Rattle.aut_steps.proofs.Scratch.{kept-refl}
 use Rattle.aut.specs.Seen.{limitsOf}
 use Rattle.aut_meet.proofs.Gather as gather
 use Prim.Native.Nat.{_+_}

@@ -2,7 +2,8 @@ use mathlib.Core.Path.{_≡_, sym, subst}
 use native.Mathlib.Omega.{arith}
 use Rattle.common.specs.Runs.{table}
 use Rattle.cache.specs.Cache.{Sound}
-use Rattle.aut_rel.specs.Behind.{Readable, lent-is}
+use Rattle.aut_rel.specs.Behind.{Readable}
+use Rattle.aut_rel.proofs.Behind.{lent-is}
 use Rattle.aut_rel.proofs.Join as join
 use borrow.Author.Needs.{needs}
 use Rattle.aut_rel.proofs.apply.Statement.{statement}

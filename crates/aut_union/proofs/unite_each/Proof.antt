@@ -5,9 +5,10 @@ use native.Mathlib.Omega.{arith}
 use borrow.Author.Needs.{needs}
 use lib.ListN.{length}
 use Rattle.common.specs.Runs.{Table, table}
-use Rattle.spp_steps.specs.Laws.{den-zero}
+use Rattle.spp_steps.proofs.Laws.{den-zero}
 use Rattle.aut_steps.specs.Tables.{words}
-use Rattle.aut_steps.specs.ListLaws.{All, all-map}
+use Rattle.aut_steps.specs.ListLaws.{All}
+use Rattle.aut_steps.proofs.ListLaws.{all-map}
 use Rattle.aut_steps.specs.Relations.{zeroAt}
 use Rattle.aut_steps.specs.Constructors.{Parts, parts, uniteOne}
 use Rattle.aut_rel.specs.Behind.{Backed}

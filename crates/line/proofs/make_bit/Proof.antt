@@ -2,7 +2,7 @@ use mathlib.Core.Path.{_≡_, refl, _∙_, ap}
 use Rattle.common.specs.Runs.{table}
 use Rattle.spp.specs.Seen.{seen}
 use Rattle.spp.specs.declared.Made.{Made}
-use Rattle.aut_rel.specs.Behind.{left-refl}
+use Rattle.aut_rel.proofs.Behind.{left-refl}
 use Rattle.aut_rel.proofs.Join as rel
 use Rattle.line_steps.specs.Lines as M
 use Rattle.line.specs.Seen.{bitOf}

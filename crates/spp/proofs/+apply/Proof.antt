@@ -2,7 +2,8 @@ use mathlib.Core.Path.{_≡_, _∙_, ap, subst}
 use borrow.Author.Needs.{needs}
 use native.Mathlib.Omega.{arith}
 use Prim.Native.Nat.{suc, _-_}
-use Rattle.cache.specs.Cache.{Found, notes-refl}
+use Rattle.cache.specs.Cache.{Found}
+use Rattle.cache.proofs.Cache.{notes-refl}
 use Rattle.spp.specs.Seen.{seen, opOf, exitOf}
 use Rattle.spp.proofs.Calls.{gave, lost}
 use Rattle.spp.proofs.Quartet as quartet

@@ -4,7 +4,7 @@ use native.Mathlib.Omega.{arith}
 use Rattle.st_source.proofs.Sources.{length-few}
 use borrow.Author.Needs.{needs}
 use lib.ListN.{length}
-use Rattle.st_steps.specs.Edges.{edge-grown}
+use Rattle.st_steps.proofs.Edges.{edge-grown}
 use Rattle.aut_rel.specs.Seen.{autOf}
 use Rattle.st_source.specs.Seen.{edgeOf}
 use Rattle.st_minus.proofs.Loops as loops

@@ -1,0 +1,4 @@
+-- The laws of aut_stage, each beside the definitions of the same name in specs/.
+pub mod Stage
+pub mod OnAut
+pub mod OnNodes

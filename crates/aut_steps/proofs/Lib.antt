@@ -1,0 +1,20 @@
+-- The laws of aut_steps, each beside the definitions of the same name in specs/.
+pub mod Corners
+pub mod ListLaws
+pub mod Facts
+pub mod Scratch
+pub mod Good
+pub mod MadeLaws
+pub mod Goes
+pub mod InternLaws
+pub mod Languages
+pub mod Decide
+pub mod Meaning
+pub mod RelationLaws
+pub mod StateLaws
+pub mod UnionLaws
+pub mod Products
+pub mod IntersectLaws
+pub mod SequenceLaws
+pub mod SequenceDepth
+pub mod Instance

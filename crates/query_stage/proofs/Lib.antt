@@ -1,0 +1,2 @@
+-- The laws of query_stage, each beside the definitions of the same name in specs/.
+pub mod Layer
