@@ -16,7 +16,7 @@ use Rattle.spp.specs.declared.Made.the-variants.{Node, Full}
 use Rattle.aut_steps.specs.Relations as Rel
 use Rattle.aut_steps.specs.Tables.{SEQUENCE, STAR, op1, Aut, putNodes, onNodes}
 use Rattle.aut_steps.specs.Kinds.{form}
-use Rattle.aut_steps.specs.Good.{Good}
+use Rattle.aut_steps.specs.Good.{WfAut}
 use Rattle.aut_steps.proofs.StateLaws.{nodes-goes}
 use Rattle.delta_steps.specs.Epsilon.{epsilon}
 use Rattle.delta_steps.specs.Delta.{Store, putAut, onAut}
@@ -95,7 +95,7 @@ module _ {N : ℕ} (l : Limits) {a : ℕ} {r : Made} {c : Counts} {t st mem s t1
       star-made {g} {m} p len tr R =
           let v = epsilon-given t st mem tr c E R q .then in
           let A = after-it (R .ready) in
-          let G : Good N _ (autOf t1 st1 mem (withNodes c n)) = A .ready .good in
+          let G : WfAut N _ (autOf t1 st1 mem (withNodes c n)) = A .ready .good in
           let w = aut-given t1 st1 mem tr (withNodes c n) (onNodes (Rel.star N (h .0))) (v .ready)
           (relation-given st1 mem (withNodes c n) S p (A .ready) (nodes-goes G (star-makes (G .nodes) (A .law .found .means .den))) len) .then in
           record {

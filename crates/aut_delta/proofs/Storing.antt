@@ -19,7 +19,7 @@ use Rattle.st_steps.specs.ListGoes.{ListAt}
 use Rattle.delta_steps.specs.Delta.{Store, store, roomT, append, keepList, delta}
 use Rattle.delta_steps.proofs.Agree.{Agree, agree-came}
 use Rattle.delta_steps.proofs.Noted.{written}
-use Rattle.delta_steps.specs.Worked.{Worked}
+use Rattle.delta_steps.specs.Worked.{WfStore}
 use Rattle.delta_steps.proofs.Stored.{edges-length}
 use Rattle.delta_steps.specs.EpsilonReads.{workAll}
 use Rattle.delta_steps.proofs.EpsilonReads.{given-store}
@@ -33,7 +33,7 @@ use Rattle.delta_steps.proofs.DeltaDown.{Entered, enter-gives, enter-count, ent
 use Rattle.aut.specs.Seen.{limitsOf}
 use Rattle.aut.specs.declared.Counts.{Counts}
 use Rattle.aut.specs.declared.Limits.{Limits as Bounds}
-use Rattle.aut_rel.specs.Behind.{Left}
+use Rattle.aut_rel.specs.Behind.{Modifies}
 use Rattle.aut_rel.specs.Seen.{autOf}
 use Rattle.aut_rel.proofs.Order.{in-table}
 use Rattle.aut_stage.specs.Stage.{gave, Post, Stage}
@@ -57,7 +57,7 @@ use Rattle.aut_delta.specs.Contracts.{PostDelta}
 use Rattle.aut_delta.specs.Seen.{nodesOf, PostEnter, PreFinish}
 
 -- nothing is worked out of lists that are stored
-work-has : {N : ℕ} {L : Limits} {σ : Store} → Worked N L σ → (ys : List ℕ) → All (λ y. y < states (σ .aut)) ys → All (Has σ) ys → workAll (delta N L) ys σ ≡ given σ tt
+work-has : {N : ℕ} {L : Limits} {σ : Store} → WfStore N L σ → (ys : List ℕ) → All (λ y. y < states (σ .aut)) ys → All (Has σ) ys → workAll (delta N L) ys σ ≡ given σ tt
 unfolding workAll
 work-has W [] a h = refl
 work-has {N} {L} W (y ∷ ys) a h = ap (λ (o : Outcome Store (List Edge)). after o (λ es. workAll (delta N L) ys)) (delta-stored W (a .0) (h .0)) ∙ work-has W ys (a .1) (h .1)
@@ -81,7 +81,7 @@ module _ {N : ℕ} {l : Bounds} {x : ℕ} (c : Counts) {t st mem tr s : List ℕ
   abbrev σ : Store
   σ = storeOf t st mem tr c
 
-  W : Worked N L σ
+  W : WfStore N L σ
   W = F .prepared .worked
 
   abbrev whole : Outcome Store (List Edge)
@@ -110,7 +110,7 @@ module _ {N : ℕ} {l : Bounds} {x : ℕ} (c : Counts) {t st mem tr s : List ℕ
       I : Entered N L σ x τ1
       I = enter-gives W (F .has) (P1 .is)
 
-      W1 : Worked N L τ1
+      W1 : WfStore N L τ1
       W1 = P1 .then .ready .worked
 
       same : listOperands τ1 x ≡ listOperands σ x
@@ -183,8 +183,8 @@ module _ {N : ℕ} {l : Bounds} {x : ℕ} (c : Counts) {t st mem tr s : List ℕ
               D : Deltaed N L x σ τ3 es
               D = agree-came (subst (λ o. Agree (Halted N L σ) (Deltaed N L x σ) o whole) (kept-is z) (delta-goes W (F .has)))
 
-              frame : Left N 0 1088 (τ3 .aut .nodes) s s2
-              frame = subst (λ (t : Table). Left N 0 1088 t s s2) (sym (keep-nodes x es τ2 (K .is t2 mem2 ∙ ap (λ (r : Kept). seenKept r es t2 st3 mem2 tr3) z))) (g3 .frame)
+              frame : Modifies N 0 1088 (τ3 .aut .nodes) s s2
+              frame = subst (λ (t : Table). Modifies N 0 1088 t s s2) (sym (keep-nodes x es τ2 (K .is t2 mem2 ∙ ap (λ (r : Kept). seenKept r es t2 st3 mem2 tr3) z))) (g3 .frame)
 
               pub stored : PostDelta N l x σ c (worked.Done f) (storeOf t2 st3 mem2 tr3) s s2
               stored = record {

@@ -11,8 +11,8 @@ use Rattle.aut_steps.specs.Good.{states, nesting}
 use Rattle.aut_steps.proofs.Good.{nesting-grown, state-grown}
 use Rattle.delta_steps.specs.Delta.{countOf, Store, delta}
 use Rattle.delta_steps.proofs.Operands.{Below}
-use Rattle.delta_steps.specs.Worked.{Worked, Stored}
-use Rattle.delta_steps.specs.Stored.{Went}
+use Rattle.delta_steps.specs.Worked.{WfStore, Stored}
+use Rattle.delta_steps.specs.Stored.{ExtStore}
 use Rattle.delta_steps.proofs.EpsilonReads.{given-store}
 use Rattle.delta_steps.specs.EpsilonDown.{First}
 use Rattle.delta_steps.proofs.EpsilonDown.{first-of, opens}
@@ -44,14 +44,14 @@ pub data EndOf (σ : Store) (y x : ℕ) (xs : List ℕ) : Type 0 where
   itself : y ≡ x → xs ≡ [] → All (Has σ) (listOperands σ x) → EndOf σ y x xs
   lower : nesting (σ .aut) y < nesting (σ .aut) x → EndOf σ y x xs
 
-end-of : {N : ℕ} {L : Limits} {σ : Store} → Worked N L σ → {y x : ℕ} {xs : List ℕ} → x < states (σ .aut) → ListWay σ y xs x → EndOf σ y x xs
+end-of : {N : ℕ} {L : Limits} {σ : Store} → WfStore N L σ → {y x : ℕ} {xs : List ℕ} → x < states (σ .aut) → ListWay σ y xs x → EndOf σ y x xs
 end-of W l (bottom n h) = itself refl refl h
 end-of {σ = σ} W {x = x} l (down n f v) =
     let b = first-of (Below (σ .aut) x) f (list-operands-below W l) in
     lower (omega (arith, b .lower, list-way-state W (b .state) v .1))
 
 -- the states of a way were there before
-way-old : {N : ℕ} {L : Limits} {σ τ : Store} → Worked N L σ → Went σ τ → {y x : ℕ} {xs : List ℕ} → x < states (σ .aut) → ListWay τ y xs x → y < states (σ .aut)
+way-old : {N : ℕ} {L : Limits} {σ τ : Store} → WfStore N L σ → ExtStore σ τ → {y x : ℕ} {xs : List ℕ} → x < states (σ .aut) → ListWay τ y xs x → y < states (σ .aut)
 way-old W w l (bottom n h) = l
 way-old {σ = σ} {τ} W w {x = x} l (down {z = z} n f v) =
     way-old W w (first-of (Below (σ .aut) x) (subst (First (Has τ) (HasNot τ) z) (same-list-operands W w l) f) (list-operands-below W l) .state) v
@@ -83,7 +83,7 @@ module _ {N : ℕ} {l : Bounds} {x : ℕ} (c : Counts) {t₀ st₀ mem₀ tr₀ 
     abbrev τ : Store
     τ = storeOf t st mem tr d
 
-    W : Worked N L τ
+    W : WfStore N L τ
     W = v .stage .ready .worked
 
     has : x < states (τ .aut)

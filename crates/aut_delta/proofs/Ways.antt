@@ -16,7 +16,7 @@ use Rattle.aut_steps.proofs.ListLaws.{all-map}
 use Rattle.aut_steps.specs.Good.{states, nesting}
 use Rattle.delta_steps.specs.Delta.{countOf, Store}
 use Rattle.delta_steps.proofs.Operands.{Below}
-use Rattle.delta_steps.specs.Worked.{Worked}
+use Rattle.delta_steps.specs.Worked.{WfStore}
 use Rattle.delta_steps.specs.EpsilonReads.{workAll}
 use Rattle.delta_steps.proofs.EpsilonReads.{given-store}
 use Rattle.delta_steps.specs.EpsilonDown.{First, this, later}
@@ -57,7 +57,7 @@ all-or-first σ (y ∷ ys) =
     (λ q. let h : Has σ y = omega (arith, eqb-false (countOf (σ .aut .states .words) y) 0 q) in
     ⊎-elim (λ a. inl (h, a)) (λ f. inr (record { one = f .one; first = later h (f .first) })) (all-or-first σ ys))
 
-module _ {N : ℕ} {L : Limits} {σ : Store} (W : Worked N L σ) where
+module _ {N : ℕ} {L : Limits} {σ : Store} (W : WfStore N L σ) where
   way-by : (m : ℕ) {x : ℕ} → x < states (σ .aut) → nesting (σ .aut) x < m → HasNot σ x → SomeWay σ x
   way-by zero l k n = absurd (omega arith)
   way-by (suc m) {x} l k n =
@@ -77,7 +77,7 @@ module _ {N : ℕ} {L : Limits} {σ : Store} (W : Worked N L σ) where
 abbrev FirstOpen : List ℕ → ℕ → List ℕ → Type 0
 FirstOpen st = First (WorkedOut part.Delta st) (NotYet part.Delta st)
 
-pub looks : {N : ℕ} {L : Limits} {σ : Store} → Worked N L σ → {x : ℕ} → x < states (σ .aut) → Looks part.Delta (σ .aut .states .words) (σ .aut .members .words) x
+pub looks : {N : ℕ} {L : Limits} {σ : Store} → WfStore N L σ → {x : ℕ} → x < states (σ .aut) → Looks part.Delta (σ .aut .states .words) (σ .aut .members .words) x
 looks {σ = σ} W {x} l = record { inside = inside-of (W .good) l; operands = all-map (listOperands σ x) (λ y b. in-table (W .good) (b .state)) (list-operands-below W l) }
 
 first-map : {K O K′ O′ : ℕ → Type 0} {z : ℕ} {ys : List ℕ} → ((y : ℕ) → K y → K′ y) → ((y : ℕ) → O y → O′ y) → First K O z ys → First K′ O′ z ys
@@ -101,7 +101,7 @@ enters-next N k i false p q z ys τ =
     ap (λ (j : ℕ). enters N (drop j (z ∷ ys)) τ) {x = k - i} {y = 0} (omega arith)
     ∙ ap (λ (j : ℕ). after (enter N z τ) (λ u. enters N (drop j ys))) {x = 0} {y = k - (i + 1)} (omega arith)
 
-new-counts : {N : ℕ} {L : Limits} {σ τ : Store} {z : ℕ} → Worked N L σ → z < states (σ .aut) → (b : Bool) → unless b (enter N z) σ ≡ given τ tt → (j : ℕ) → countOf (τ .aut .states .words) j ≡ countOf (σ .aut .states .words) j
+new-counts : {N : ℕ} {L : Limits} {σ τ : Store} {z : ℕ} → WfStore N L σ → z < states (σ .aut) → (b : Bool) → unless b (enter N z) σ ≡ given τ tt → (j : ℕ) → countOf (τ .aut .states .words) j ≡ countOf (σ .aut .states .words) j
 new-counts W l true e j = ap (λ (υ : Store). countOf (υ .aut .states .words) j) (sym (given-store e))
 new-counts W l false e j = enter-count (enter-gives W l e) j
 

@@ -184,8 +184,8 @@ module _ {N : ℕ} {l : Limits} {sp t st mem tr s p : List ℕ} {c : Counts} {x 
     P : Puts true p 0 x h p1
     P = subst (λ (b : Bool). Puts b p 0 x h p1) (not-false b b-is) Q
 
-    at-one : SpLaws.At (table sp (c .sp)) N h
-    at-one = subst (SpLaws.At (table sp (c .sp)) N) (sym one-is) (SpLawsProofs.den-one (W .ready .ordered .sets) N (omega arith) .at)
+    at-one : SpLaws.ValidAt (table sp (c .sp)) N h
+    at-one = subst (SpLaws.ValidAt (table sp (c .sp)) N) (sym one-is) (SpLawsProofs.den-one (W .ready .ordered .sets) N (omega arith) .at)
 
     abbrev q : List ℕ
     q = set (set p (2 * 0) x) (2 * 0 + 1) h
@@ -194,7 +194,7 @@ module _ {N : ℕ} {l : Limits} {sp t st mem tr s p : List ℕ} {c : Counts} {x 
     seeking = record {
       working = W;
       stack = stack-put p 0 x h (fits-in p 0 (P .0)) (record { entries = λ e m. absurd (no-entry e m); room = omega arith; idle = λ j i. R .pending j }) (R .has) at-one;
-      seen = λ y. subst (λ (f : ℕ → ℕ). SpLaws.At (table sp (c .sp)) N (f y)) (sym none) (SpLawsProofs.zero-at (W .ready .ordered .sets) N (omega arith));
+      seen = λ y. subst (λ (f : ℕ → ℕ). SpLaws.ValidAt (table sp (c .sp)) N (f y)) (sym none) (SpLawsProofs.zero-at (W .ready .ordered .sets) N (omega arith));
       spare = λ y w i j. R .ready .resting y w (omega arith) j;
     }
       where

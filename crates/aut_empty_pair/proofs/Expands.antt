@@ -22,7 +22,7 @@ use Rattle.spp.specs.declared.Made as relations
 use Rattle.aut_steps.proofs.Good.{state-grown}
 use Rattle.delta_steps.specs.Epsilon.{epsilon}
 use Rattle.delta_steps.specs.Delta.{onAut}
-use Rattle.query_steps.specs.Tables.{Tables, diagrams, onSets, onBase, Later}
+use Rattle.query_steps.specs.Tables.{Tables, diagrams, onSets, onBase, ExtTables}
 use Rattle.query_steps.proofs.Tables.{later-trans}
 use Rattle.query_steps.specs.Search.{machine}
 use Rattle.query_stage.specs.Layer.{tablesOf}
@@ -76,8 +76,8 @@ module _ {N : ℕ} {l : Limits} {sp t st mem tr p s : List ℕ} {c : Counts} {n 
   seen-asks = (omega (arith, R .has, prepared W .worked .good .fits), W .ready .ready .few)
 
   module _ {y : ℕ} (e0 : y ≡ seenIn N st x) where
-    at-y : SpLaws.At (table sp (c .sp)) N y
-    at-y = subst (SpLaws.At (table sp (c .sp)) N) (sym e0) (R .seeking .seen x)
+    at-y : SpLaws.ValidAt (table sp (c .sp)) N y
+    at-y = subst (SpLaws.ValidAt (table sp (c .sp)) N) (sym e0) (R .seeking .seen x)
 
     pub union-asks : PreSets N (table sp (c .sp)) s y fresh
     union-asks = asks-sets t st mem tr c W y at-y fresh (R .at)
@@ -114,13 +114,13 @@ module _ {N : ℕ} {l : Limits} {sp t st mem tr p s : List ℕ} {c : Counts} {n 
             ended : Ran N l 0 0 (RelIn N) (onBase (onAut (epsilon N x)) (clearOf sp1 t st mem tr (withSets c k1))) (tablesOf sp1 t st mem tr (withSets c k1)) (withSets c k1) c2 (g .0) (tablesOf sp1 t2 st2 mem tr) s1 s2
             ended = epsilon-ran t st mem tr (withSets c k1) (united .working) E (R .has) q2 len2
 
-            later2 : Later (clearOf sp t st mem tr c) (clearOf sp1 t2 st2 mem tr c2)
+            later2 : ExtTables (clearOf sp t st mem tr c) (clearOf sp1 t2 st2 mem tr c2)
             later2 = later-trans (united .post .then .ext) (ended .post .then .ext)
 
             stage2 : Stage (queryLayer N l) 0 1088 (Handles.expand M x fresh (entriesOf p n) (seenIn N st) (clearOf sp t st mem tr c)) (looks (h .0) (g .0) (clearOf sp1 t2 st2 mem tr c2)) (clearOf sp t st mem tr c) (clearOf sp1 t2 st2 mem tr c2) c c2 s s2
             stage2 = next (queryLayer N l) 0 1088 (ended .post) (none-of 1088) (looks (h .0)) stage1
 
-            at-fresh : SpLaws.At (table sp1 k1) N fresh
+            at-fresh : SpLaws.ValidAt (table sp1 k1) N fresh
             at-fresh = SpLawsProofs.at-ext (later2 .sets) N fresh (R .at)
 
             pub has-asks : PreLead N (diagrams (clearOf sp1 t2 st2 mem tr c2)) s2 fresh (g .0)
@@ -161,7 +161,7 @@ module _ {N : ℕ} {l : Limits} {sp t st mem tr p s : List ℕ} {c : Counts} {n 
                   Z′ : PostSpread N l c2 n x fresh (walked.On d m) sp1 t2 st2 mem tr p s3 sp4 t4 st4 mem4 tr4 p4 s4
                   Z′ = subst (λ (z : Walked). PostSpread N l c2 n x fresh z sp1 t2 st2 mem tr p s3 sp4 t4 st4 mem4 tr4 p4 s4) q4 Z
 
-                  later4 : Later (clearOf sp1 t2 st2 mem tr c2) (clearOf sp4 t4 st4 mem4 tr4 d)
+                  later4 : ExtTables (clearOf sp1 t2 st2 mem tr c2) (clearOf sp4 t4 st4 mem4 tr4 d)
                   later4 = Z′ .post .then .ext
 
                   has4 : x < d .states
@@ -182,10 +182,10 @@ module _ {N : ℕ} {l : Limits} {sp t st mem tr p s : List ℕ} {c : Counts} {n 
                   back : clearOf sp4 t4 st4 mem4 tr4 d ≡ clearOf sp4 t4 st5 mem4 tr4 d
                   back = sym (clear-written sp4 t4 st4 mem4 tr4 d x 8 (h .0 + 1) (omega arith) (omega arith))
 
-                  at5 : (y : ℕ) → SpLaws.At (table sp4 (d .sp)) N (if eqb x y then h .0 else seenIn N st y)
+                  at5 : (y : ℕ) → SpLaws.ValidAt (table sp4 (d .sp)) N (if eqb x y then h .0 else seenIn N st y)
                   at5 y = go (eqb x y)
                     where
-                      go : (b : Bool) → SpLaws.At (table sp4 (d .sp)) N (if b then h .0 else seenIn N st y)
+                      go : (b : Bool) → SpLaws.ValidAt (table sp4 (d .sp)) N (if b then h .0 else seenIn N st y)
                       go true = SpLawsProofs.at-ext (later4 .sets) N (h .0) (SpLawsProofs.at-ext (ended .post .then .ext .sets) N (h .0) (united .post .then .holds))
                       go false = SpLawsProofs.at-ext (later4 .sets) N (seenIn N st y) (SpLawsProofs.at-ext (later2 .sets) N (seenIn N st y) (R .seeking .seen y))
 
@@ -198,7 +198,7 @@ module _ {N : ℕ} {l : Limits} {sp t st mem tr p s : List ℕ} {c : Counts} {n 
                     to = record {
                       working = working-written sp4 t4 st4 mem4 tr4 d x 8 (h .0 + 1) (omega arith) (omega arith) has4 (Z′ .to .0);
                       stack = subst (λ (τ : Tables). Stack N τ p4 m) back (Z′ .to .1);
-                      seen = λ y. subst (λ (f : ℕ → ℕ). SpLaws.At (table sp4 (d .sp)) N (f y)) (sym seen5) (at5 y);
+                      seen = λ y. subst (λ (f : ℕ → ℕ). SpLaws.ValidAt (table sp4 (d .sp)) N (f y)) (sym seen5) (at5 y);
                       spare = λ y w i j. getD-set-other st4 (12 * x + 8) (12 * y + w) (h .0 + 1) 0 (λ q. omega arith) ∙ Z′ .to .2 y w (omega arith) j ∙ spare2 y w i j;
                     };
                   }

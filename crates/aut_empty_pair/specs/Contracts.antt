@@ -28,7 +28,7 @@ Spare st = (x w : ℕ) → 9 ≤ w → w < 12 → getD st (12 * x + w) 0 ≡ 0
 pub record Seeking (N : ℕ) (l : Limits) (sp t st mem tr : List ℕ) (c : Counts) (s p : List ℕ) (n : ℕ) : Type 0 where
   pub working : Working N l (tablesOf sp t st mem tr c) s
   pub stack : Stack N (clearOf sp t st mem tr c) p n
-  pub seen : (x : ℕ) → SpLaws.At (table sp (c .sp)) N (seenIn N st x)
+  pub seen : (x : ℕ) → SpLaws.ValidAt (table sp (c .sp)) N (seenIn N st x)
   pub spare : Spare st
 
 -- at the end, with n entries that are left
@@ -53,7 +53,7 @@ TurnedTo N l sp t st mem tr n (turned.Refused e) s p = Unit
 
 pub record PreExpand (N : ℕ) (l : Limits) (sp t st mem tr p s : List ℕ) (c : Counts) (n x fresh : ℕ) : Type 0 where
   pub seeking : Seeking N l sp t st mem tr c s p n
-  pub at : SpLaws.At (table sp (c .sp)) N fresh
+  pub at : SpLaws.ValidAt (table sp (c .sp)) N fresh
   pub has : x < c .states
 
 pub record PostExpand (N : ℕ) (l : Limits) (c : Counts) (n x fresh : ℕ) (r : Turned) (sp t st mem tr p s sp′ t′ st′ mem′ tr′ p′ s′ : List ℕ) : Type 0 where

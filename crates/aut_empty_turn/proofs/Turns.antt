@@ -65,8 +65,8 @@ module _ {N : ℕ} {l : Limits} {sp t st mem tr p s : List ℕ} {c : Counts} {n 
   turn-seen-asks = (omega (arith, has-x, prepared K .worked .good .fits), K .ready .ready .few)
 
   module _ {y : ℕ} (e0 : y ≡ seenIn N st x) where
-    seen-at-y : SpLaws.At (table sp (c .sp)) N y
-    seen-at-y = subst (SpLaws.At (table sp (c .sp)) N) (sym e0) (R .seeking .seen x)
+    seen-at-y : SpLaws.ValidAt (table sp (c .sp)) N y
+    seen-at-y = subst (SpLaws.ValidAt (table sp (c .sp)) N) (sym e0) (R .seeking .seen x)
 
     pub difference-asks : PreSets N (table sp (c .sp)) s packets y
     difference-asks = asks-sets t st mem tr c K packets (top (R .seeking .stack) (R .some) .at) y seen-at-y

@@ -59,7 +59,7 @@ pub record Follows (N : ℕ) (c : Counts) (n fresh target label : ℕ) (r : Walk
 pub record Walking (N : ℕ) (l : Limits) (sp t st mem tr p s : List ℕ) (c : Counts) (n x fresh : ℕ) : Type 0 where
   pub working : Working N l (tablesOf sp t st mem tr c) s
   pub stack : Stack N (clearOf sp t st mem tr c) p n
-  pub at : SpLaws.At (table sp (c .sp)) N fresh
+  pub at : SpLaws.ValidAt (table sp (c .sp)) N fresh
   pub has : x < c .states
   pub list : ListIn N x (clearOf sp t st mem tr c) (listAt (storeOf t st mem tr c) x)
 
@@ -80,7 +80,7 @@ spreadOf N L lent x fresh pending = machine N L lent .delta x >>= λ list. Handl
 pub record PreSpread (N : ℕ) (l : Limits) (sp t st mem tr p s : List ℕ) (c : Counts) (n x fresh : ℕ) : Type 0 where
   pub working : Working N l (tablesOf sp t st mem tr c) s
   pub stack : Stack N (clearOf sp t st mem tr c) p n
-  pub at : SpLaws.At (table sp (c .sp)) N fresh
+  pub at : SpLaws.ValidAt (table sp (c .sp)) N fresh
   pub has : x < c .states
 
 -- words 8 to 11 were not written

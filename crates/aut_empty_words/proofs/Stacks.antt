@@ -18,7 +18,7 @@ use Rattle.sp_steps.proofs.Laws as SpLawsProofs
 use Rattle.spp_steps.proofs.Laws.{by-test}
 use Rattle.aut_steps.specs.Good.{states}
 use Rattle.aut_steps.proofs.Good.{state-grown}
-use Rattle.query_steps.specs.Tables.{Tables, Later}
+use Rattle.query_steps.specs.Tables.{Tables, ExtTables}
 use Rattle.query_steps.specs.Search.{capacity}
 use Rattle.query_steps.specs.SearchEnds.{Pending, Entries}
 use Rattle.aut_empty_words.specs.Words.{entryAt, entriesOf, seenIn, Stack, Rested, Emptied}
@@ -71,17 +71,17 @@ module _ (p : List ℕ) (n t h : ℕ) (l : 2 * n + 1 < length p) where
   put-length : length q ≡ length p
   put-length = simp length-set
 
-  pub stack-put : {N : ℕ} {σ : Tables} → Stack N σ p n → t < states (σ .base .aut) → SpLaws.At (σ .sets) N h → Stack N σ q (n + 1)
+  pub stack-put : {N : ℕ} {σ : Tables} → Stack N σ p n → t < states (σ .base .aut) → SpLaws.ValidAt (σ .sets) N h → Stack N σ q (n + 1)
   stack-put {N} {σ} S k a = record {
     entries = subst (Entries N σ) (sym entries-put) (λ e m. ⊎-elim (λ i. subst (Pending N σ) (sym i) (record { known = k; at = a })) (λ i. S .entries e i) (List·Memᴰ·cases-cons m));
     room = omega (arith, put-length);
     idle = λ j i. getD-set-other (set p (2 * n) t) (2 * n + 1) j h 0 (λ e. omega arith) ∙ getD-set-other p (2 * n) j t 0 (λ e. omega arith) ∙ S .idle j (omega arith);
   }
 
-pub entries-later : {N : ℕ} {σ τ : Tables} {es : List (Entry ℕ)} → Later σ τ → Entries N σ es → Entries N τ es
+pub entries-later : {N : ℕ} {σ τ : Tables} {es : List (Entry ℕ)} → ExtTables σ τ → Entries N σ es → Entries N τ es
 entries-later {N} w f e m = record { known = state-grown (w .grown) (f e m .known); at = SpLawsProofs.at-ext (w .sets) N (e .packets) (f e m .at) }
 
-pub stack-later : {N : ℕ} {σ τ : Tables} {p : List ℕ} {n : ℕ} → Later σ τ → Stack N σ p n → Stack N τ p n
+pub stack-later : {N : ℕ} {σ τ : Tables} {p : List ℕ} {n : ℕ} → ExtTables σ τ → Stack N σ p n → Stack N τ p n
 stack-later {N} {σ} {τ} {p} {n} w S = record { entries = entries-later {es = entriesOf p n} w (S .entries); room = S .room; idle = S .idle }
 
 -- the last entry is taken
@@ -147,7 +147,7 @@ seen-set N st x h l = fun-ext (λ y. by-test (eqb x y)
     here = ap (λ (b : Bool). if b then Sp.zeroAt N else (h + 1) - 1) (ne-eqb (h + 1) 0 (λ e. omega arith)) ∙ omega arith
 
 -- a set's handle is small
-pub set-small : {N : ℕ} {t : Table} → SpLaws.Wf N t → (d h : ℕ) → SpLaws.At t d h → h < 33554434
+pub set-small : {N : ℕ} {t : Table} → SpLaws.Wf N t → (d h : ℕ) → SpLaws.ValidAt t d h → h < 33554434
 set-small w zero h a = omega arith
 set-small w (suc d) h a = omega (arith, a .1, w .small)
 

@@ -12,7 +12,7 @@ use Rattle.common.specs.Outcome.{Outcome, given, Step, after, Gives, refusal, g
 use Rattle.common.proofs.Follow.{given-of}
 use Rattle.common.specs.Runs.{Table}
 use Rattle.spp_steps.specs.Model as Spp
-use Rattle.spp_steps.specs.Laws.{Wf, Ext, At}
+use Rattle.spp_steps.specs.Laws.{Wf, Ext, ValidAt}
 use Rattle.spp_steps.proofs.Laws.{ext-refl, ext-trans, at-ext, at-below, den-mem, den-zero, den-one, den-top}
 use Rattle.spp_steps.proofs.Apply.{apply-exact}
 use Rattle.spp.specs.declared.Made.{Made}
@@ -26,7 +26,7 @@ use Rattle.aut_steps.proofs.Scratch.{words-on, words-done, from-0, all-word}
 use Rattle.delta_steps.specs.Epsilon.{valueOf}
 use Rattle.delta_steps.specs.EpsilonReads.{uniteValues, meetValues, combineOn}
 use Rattle.delta_steps.proofs.Labels.{complement-makes}
-use Rattle.aut_rel.specs.Behind.{Left, Backed}
+use Rattle.aut_rel.specs.Behind.{Modifies, CacheReady}
 use Rattle.aut_rel.proofs.Behind.{left-refl, left-trans, backed-left}
 use Rattle.aut_rel.specs.Seen.{RelateReady, Relates}
 use Rattle.aut_rel.proofs.Each.{Grows, Keeps, makes-gives, each-gives}
@@ -40,11 +40,11 @@ use Rattle.aut_eps.proofs.Seen.{combineIn}
 use Rattle.aut_eps.proofs.Shapes.{combine-is, operands-are, list-inside}
 
 -- values as they were read
-pub relate-ready : {N : ℕ} {t : Table} {st s : List ℕ} {x y a b : ℕ} → Backed N t s → ValueAt N t st x → ValueAt N t st y → valueOf st x ≡ a → valueOf st y ≡ b → RelateReady N t s a b
-relate-ready {N} {t} k v w e f = record { backed = k; at-a = subst (At t N) e (v .at); at-b = subst (At t N) f (w .at) }
+pub relate-ready : {N : ℕ} {t : Table} {st s : List ℕ} {x y a b : ℕ} → CacheReady N t s → ValueAt N t st x → ValueAt N t st y → valueOf st x ≡ a → valueOf st y ≡ b → RelateReady N t s a b
+relate-ready {N} {t} k v w e f = record { backed = k; at-a = subst (ValidAt t N) e (v .at); at-b = subst (ValidAt t N) f (w .at) }
 
-pub value-ready : {N : ℕ} {t : Table} {st s : List ℕ} {y a b : ℕ} → Backed N t s → At t N a → ValueAt N t st y → valueOf st y ≡ b → RelateReady N t s a b
-value-ready {N} {t} k v w f = record { backed = k; at-a = v; at-b = subst (At t N) f (w .at) }
+pub value-ready : {N : ℕ} {t : Table} {st s : List ℕ} {y a b : ℕ} → CacheReady N t s → ValidAt t N a → ValueAt N t st y → valueOf st y ≡ b → RelateReady N t s a b
+value-ready {N} {t} k v w f = record { backed = k; at-a = v; at-b = subst (ValidAt t N) f (w .at) }
 
 -- a step that comes to another
 pub relates-as : {N : ℕ} {p o : Step Table ℕ} {t : Table} {r : Made} {t′ s s′ : List ℕ} → p t ≡ o t → Relates N o t r t′ s s′ → Relates N p t r t′ s s′
@@ -124,7 +124,7 @@ module _ (N kind : ℕ) (st mem : List ℕ) (t : Table) (from k : ℕ) where
 
 module _ {N : ℕ} {t : Table} {st mem s : List ℕ} {from k : ℕ} (p : ManyReady N t st mem s from k) where
   pub each-zero : {z : ℕ} → Rel.zeroAt N ≡ z → EachReady N t st mem s z from k
-  each-zero e = record { backed = p .backed; at-h = subst (At t N) e (den-zero (p .backed .wf) N (omega arith) .at); values = p .values; inside = p .inside }
+  each-zero e = record { backed = p .backed; at-h = subst (ValidAt t N) e (den-zero (p .backed .wf) N (omega arith) .at); values = p .values; inside = p .inside }
 
   pub first-value : ValueAt N t st (getD mem from 0)
   first-value = all-first N 0 st mem t from k (ValueAt N t st) (p .some) (p .values) .0
@@ -132,7 +132,7 @@ module _ {N : ℕ} {t : Table} {st mem s : List ℕ} {from k : ℕ} (p : ManyRea
   pub each-rest : {h : ℕ} → valueOf st (getD mem from 0) ≡ h → EachReady N t st mem s h (from + 1) (k - 1)
   each-rest e = record {
     backed = p .backed;
-    at-h = subst (At t N) e (first-value .at);
+    at-h = subst (ValidAt t N) e (first-value .at);
     values = all-first N 0 st mem t from k (ValueAt N t st) (p .some) (p .values) .1;
     inside = omega (arith, p .inside, p .some);
   }
@@ -147,23 +147,23 @@ module _ (N : ℕ) (o : Spp.Op) (st : List ℕ) where
   one y g = Spp.apply N o N g (valueOf st y)
 
   -- a value more
-  pub keeps : Keeps N one (λ t y. ValueAt N t st y) (λ t g. At t N g)
+  pub keeps : Keeps N one (λ t y. ValueAt N t st y) (λ t g. ValidAt t N g)
   keeps = record {
     later = λ t t′ y e v. value-later e v;
     step = λ t y g w a v. grows (makes-gives (RelationLaws.made N (apply-exact N o N (omega arith) t g (valueOf st y) _ _ w (den-mem a) (den-mem (v .at)))));
   }
     where
-      grows : {R : Relation N} {t : Table} {o : Outcome Table ℕ} → Gives (RelationLaws.Made N R t) o → Gives (Grows N (λ t g. At t N g) t) o
+      grows : {R : Relation N} {t : Table} {o : Outcome Table ℕ} → Gives (RelationLaws.Made N R t) o → Gives (Grows N (λ t g. ValidAt t N g) t) o
       grows refusal = refusal
       grows (gives m) = gives (record { ext = m .ext; wf = m .wf; holds = m .den .at })
 
   pub record Turn (mem : List ℕ) (from k : ℕ) (t₀ : Table) (s₀ : List ℕ) (h : ℕ) (t : Table) (s : List ℕ) (g i : ℕ) : Type 0 where
     pub at : i ≤ k
     pub len : length s ≡ length s₀
-    pub left : Left N 0 0 t s₀ s
+    pub left : Modifies N 0 0 t s₀ s
     pub ext : Ext t₀ t
-    pub backed : Backed N t s
-    pub at-g : At t N g
+    pub backed : CacheReady N t s
+    pub at-g : ValidAt t N g
     pub is : each one (words mem from k) h t₀ ≡ each one (words mem (from + i) (k - i)) g t
 
   module _ (mem : List ℕ) (from k : ℕ) (t₀ : Table) (s₀ : List ℕ) (h : ℕ) (p : EachReady N t₀ st mem s₀ h from k) where
@@ -189,7 +189,7 @@ module _ (N : ℕ) (o : Spp.Op) (st : List ℕ) where
             v .is ∙ ap (λ (ys : List ℕ). each one ys g t) (words-on mem from k i l)
             ∙ ap (λ (q : Outcome Table ℕ). after q (each one (words mem (from + (i + 1)) (k - (i + 1))))) (ap (λ (b : ℕ). Spp.apply N o N g b t) e ∙ f)
 
-        pub again : {b : ℕ} → valueOf st (getD mem (from + i) 0) ≡ b → {t1 : Table} {s1 : List ℕ} {g1 : ℕ} → Spp.apply N o N g b t ≡ given t1 g1 → Left N 0 0 t1 s s1 → length s1 ≡ length s
+        pub again : {b : ℕ} → valueOf st (getD mem (from + i) 0) ≡ b → {t1 : Table} {s1 : List ℕ} {g1 : ℕ} → Spp.apply N o N g b t ≡ given t1 g1 → Modifies N 0 0 t1 s s1 → length s1 ≡ length s
             → Turn mem from k t₀ s₀ h t1 s1 g1 (i + 1)
         again {b} e {t1} {s1} {g1} f left len =
             let d = given-of (keeps .step t (getD mem (from + i) 0) g (v .backed .wf) (v .at-g) value-at) (ap (λ (b : ℕ). Spp.apply N o N g b t) e ∙ f) in
@@ -211,9 +211,9 @@ module _ (N : ℕ) (o : Spp.Op) (st : List ℕ) where
 
 module _ (N : ℕ) (st : List ℕ) where
   abbrev Relation-made : Table → Outcome Table ℕ → Type 0
-  Relation-made t o = Gives (Grows N (λ t g. At t N g) t) o
+  Relation-made t o = Gives (Grows N (λ t g. ValidAt t N g) t) o
 
-  given-made : {t : Table} {h : ℕ} → Wf N t → At t N h → Relation-made t (given t h)
+  given-made : {t : Table} {h : ℕ} → Wf N t → ValidAt t N h → Relation-made t (given t h)
   given-made {t} w a = gives (record { ext = ext-refl t; wf = w; holds = a })
 
   makes-made : {R : Relation N} {t : Table} {o : Outcome Table ℕ} → Makes N R t o → Relation-made t o
@@ -239,7 +239,7 @@ module _ (N : ℕ) (st : List ℕ) where
   shape-made Second kind ys a b t w v = given-made w (v .0 .at)
   shape-made Alone kind ys a b t w v = given-made w (constant-at (eqb kind TOP))
     where
-      constant-at : (b : Bool) → At t N (if b then Rel.topAt N else Rel.zeroAt N)
+      constant-at : (b : Bool) → ValidAt t N (if b then Rel.topAt N else Rel.zeroAt N)
       constant-at true = den-top w N (omega arith) .at
       constant-at false = den-zero w N (omega arith) .at
 

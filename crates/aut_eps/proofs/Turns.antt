@@ -17,7 +17,7 @@ use Rattle.aut_steps.specs.Tables.{UNION, INTERSECT, nest, Limits, Aut, aut, pu
 use Rattle.aut_steps.proofs.Facts.{words-length}
 use Rattle.aut_steps.specs.ListLaws.{All}
 use Rattle.aut_steps.proofs.ListLaws.{all-map, all-with}
-use Rattle.aut_steps.specs.Good.{states, kind, first, second, members, Good}
+use Rattle.aut_steps.specs.Good.{states, kind, first, second, members, WfAut}
 use Rattle.aut_steps.proofs.Good.{kind-grown, nesting-grown, state-grown}
 use Rattle.delta_steps.specs.Epsilon.{epsilonOf, setWord, keepEpsilon, epsilon}
 use Rattle.delta_steps.proofs.Agree.{Agree, agree-came}
@@ -34,7 +34,7 @@ use Rattle.delta_steps.proofs.EpsilonDown.{way-end, way-state, way-lower, known
 use Rattle.aut.specs.Seen.{limitsOf}
 use Rattle.aut.specs.declared.Counts.{Counts}
 use Rattle.aut.specs.declared.Limits.{Limits as Bounds}
-use Rattle.aut_rel.specs.Behind.{Left, Backed}
+use Rattle.aut_rel.specs.Behind.{Modifies, CacheReady}
 use Rattle.aut_rel.proofs.Behind.{left-refl, left-trans}
 use Rattle.aut_rel.specs.Seen.{autOf, MadeLeft, Ready}
 use Rattle.aut_rel.proofs.Order.{in-table, backed-of, ready-after}
@@ -55,7 +55,7 @@ module _ {N : ℕ} {σ : Aut} {x : ℕ} (E : Epsilons N σ) (has : x < states σ
   laws-ready : {l : Bounds} {s : List ℕ} → Ready N l σ s → Laws.Ready N (limitsOf l) σ
   laws-ready r = record { good = r .good; epsilons = E }
 
-  after-law : {l : Bounds} {s s′ : List ℕ} → Ready N l σ s → {τ : Aut} {h : ℕ} → epsilon N x σ ≡ given τ h → Left N 0 0 (τ .nodes) s s′ → length s′ ≡ length s → After N l x σ τ s′ h
+  after-law : {l : Bounds} {s s′ : List ℕ} → Ready N l σ s → {τ : Aut} {h : ℕ} → epsilon N x σ ≡ given τ h → Modifies N 0 0 (τ .nodes) s s′ → length s′ ≡ length s → After N l x σ τ s′ h
   after-law {l} r {τ} {h} e p len =
       let law : Epsiloned N (limitsOf l) x σ τ h = agree-came (subst (λ o. Agree (Stopped N (limitsOf l) σ) (Epsiloned N (limitsOf l) x σ) o (epsilon N x σ)) e (epsilon-goes (laws-ready r) has)) in
       record { ready = ready-after r (noted-grown (law .found .noted)) (law .found .good) p len; law = law }
@@ -75,7 +75,7 @@ kept-works {N} {c} {t} {st} {mem} {s} {x} a {k} f {h} e =
 -- ---- tables in order
 
 -- a list has a member
-some-of : {N : ℕ} {L : Limits} {σ : Aut} → Good N L σ → {x : ℕ} → x < states σ → UNION ≤ kind σ x → kind σ x ≤ INTERSECT → 1 ≤ second σ x
+some-of : {N : ℕ} {L : Limits} {σ : Aut} → WfAut N L σ → {x : ℕ} → x < states σ → UNION ≤ kind σ x → kind σ x ≤ INTERSECT → 1 ≤ second σ x
 some-of {σ = σ} g {x} l p q =
     by-test (eqb (kind σ x) UNION) (λ b. omega (arith, g .unions x l (eqb-true (kind σ x) UNION b) .some, long))
     (λ b. let m = g .intersects x l (omega (arith, eqb-false (kind σ x) UNION b)) in omega (arith, long, ap length (m .parts), length-append (m .others) (m .last), m .some))
@@ -93,8 +93,8 @@ module _ (N : ℕ) (c : Counts) (mem : List ℕ) (x : ℕ) (t₀ st₀ s₀ : Li
     pub len : length s ≡ length s₀
     pub noted : Noted σ₀ (autOf t st mem (counted c n))
     pub epsilons : Epsilons N (autOf t st mem (counted c n))
-    pub backed : Backed N (table t n) s
-    pub left : Left N 0 0 (table t n) s₀ s
+    pub backed : CacheReady N (table t n) s
+    pub left : Modifies N 0 0 (table t n) s₀ s
     pub not-yet : Open st x
     pub is : epsilon N x σ₀ ≡ epsilon N x (autOf t st mem (counted c n))
 
@@ -120,7 +120,7 @@ module _ {N : ℕ} (c : Counts) {mem : List ℕ} {x : ℕ} {t₀ st₀ s₀ : Li
     abbrev τ : Aut
     τ = autOf t st mem (counted c n)
 
-    good : Good N L τ
+    good : WfAut N L τ
     good = noted-good (a .ready .good) (v .noted) (v .backed .wf)
 
     law-ready : Laws.Ready N L τ

@@ -6,7 +6,7 @@ use lib.Dec.{eqb}
 use lib.ListN.{length, set}
 use Rattle.common.specs.Outcome.{Outcome, refused, given, Step, if_then_else_}
 use Rattle.common.specs.Runs.{Table, table}
-use Rattle.spp_steps.specs.Laws.{At}
+use Rattle.spp_steps.specs.Laws.{ValidAt}
 use Rattle.spp.specs.Seen.{seen}
 use Rattle.spp.specs.declared.Made.{Made}
 use Rattle.spp.specs.declared.Made.the-variants.{Node, Full}
@@ -23,7 +23,7 @@ use Rattle.delta_steps.specs.Worked.{Epsilons}
 use Rattle.aut.specs.Seen.{limitsOf}
 use Rattle.aut.specs.declared.Counts.{Counts}
 use Rattle.aut.specs.declared.Limits.{Limits}
-use Rattle.aut_rel.specs.Behind.{Backed}
+use Rattle.aut_rel.specs.Behind.{CacheReady}
 use Rattle.aut_rel.specs.Seen.{autOf, MadeLeft, Ready}
 use Rattle.aut_operands.specs.Contracts.{Inside}
 use Rattle.aut_eps.specs.declared.Kept.{Kept}
@@ -39,7 +39,7 @@ Keeps st x Nothing = Open st x
 pub record ValueAt (N : ℕ) (t : Table) (st : List ℕ) (y : ℕ) : Type 0 where
   pub state : 12 * y + 11 < length st
   pub known : Known st y
-  pub at : At t N (valueOf st y)
+  pub at : ValidAt t N (valueOf st y)
 
 -- ---- relations put together
 
@@ -58,23 +58,23 @@ module _ (N kind : ℕ) where
   aloneBy = if eqb kind TOP then Rel.topAt N else Rel.zeroAt N
 
 pub record EachReady (N : ℕ) (t : Table) (st mem s : List ℕ) (h from k : ℕ) : Type 0 where
-  pub backed : Backed N t s
-  pub at-h : At t N h
+  pub backed : CacheReady N t s
+  pub at-h : ValidAt t N h
   pub values : All (ValueAt N t st) (words mem from k)
   pub inside : from + k ≤ length mem
 
 pub record ManyReady (N : ℕ) (t : Table) (st mem s : List ℕ) (from k : ℕ) : Type 0 where
-  pub backed : Backed N t s
+  pub backed : CacheReady N t s
   pub values : All (ValueAt N t st) (words mem from k)
   pub inside : from + k ≤ length mem
   pub some : 1 ≤ k
 
 pub record ValuesReady (N : ℕ) (t : Table) (st s ys : List ℕ) : Type 0 where
-  pub backed : Backed N t s
+  pub backed : CacheReady N t s
   pub values : All (ValueAt N t st) ys
 
 pub record CombineReady (N : ℕ) (t : Table) (st mem s : List ℕ) (x : ℕ) : Type 0 where
-  pub backed : Backed N t s
+  pub backed : CacheReady N t s
   pub inside : Inside st mem x
   -- a list has a member
   pub some : UNION ≤ kindOf st x → kindOf st x ≤ INTERSECT → 1 ≤ op2 st x

@@ -16,10 +16,10 @@ use Rattle.aut_steps.specs.ListLaws.{All}
 use Rattle.aut_steps.proofs.Facts.{words-length, words-sets}
 use Rattle.aut_steps.specs.Scratch.{Kept}
 use Rattle.aut_steps.proofs.Scratch.{kept-sets}
-use Rattle.aut_steps.specs.Good.{states, Grown, Good}
+use Rattle.aut_steps.specs.Good.{states, ExtAut, WfAut}
 use Rattle.aut_steps.proofs.Good.{grown-refl}
 use Rattle.aut_steps.specs.Goes.{Gone}
-use Rattle.aut_steps.proofs.Goes.{Goes, came}
+use Rattle.aut_steps.proofs.Goes.{StepSpec, came}
 use Rattle.aut_steps.proofs.Products.{counted}
 use Rattle.aut_steps.specs.Constructors as C
 use Rattle.aut_steps.specs.Constructors.{Within, within, beyond, sizes, openAll, countAll, mk-union-n, relations, spp-of}
@@ -34,9 +34,9 @@ use Rattle.aut_lists.specs.declared.Counted.{Counted}
 use Rattle.aut_lists.specs.declared.Counted.the-variants as number
 use Rattle.aut_lists.specs.declared.Listed.{Listed}
 use Rattle.aut_lists.specs.declared.Listed.the-variants as listed
-use Rattle.aut_rel.specs.Behind.{LISTS, Left}
+use Rattle.aut_rel.specs.Behind.{LISTS, Modifies}
 use Rattle.aut_rel.proofs.Behind.{left-any, left-wide, left-trans, left-kept, kept-left}
-use Rattle.aut_rel.specs.Seen.{autOf, seenAut, Beside, LeftBy, Ready, Does, DoesSpp}
+use Rattle.aut_rel.specs.Seen.{autOf, seenAut, Beside, ModifiesBy, Ready, Does, DoesSpp}
 use Rattle.aut_rel.proofs.Join.{beside-more}
 use Rattle.aut_rel.proofs.Order as order
 use Rattle.aut_rel.proofs.Order.{ready-after}
@@ -89,7 +89,7 @@ module _ (N : ℕ) (l : Bounds) (t st mem s : List ℕ) (c : Counts) (k : ℕ) (
           is-2 : C.bases N (limitsOf l) xs 0 n [] σ ≡ given (autOf t2 st2 mem2 d) (words s2 128 n)
           is-2 = D .is ∙ ap (λ (r : Based). seenBased r n t2 st2 mem2 s2) told2
 
-          left-2 : Left N 128 448 (table t2 (d .spp)) s s2
+          left-2 : Modifies N 128 448 (table t2 (d .spp)) s s2
           left-2 = subst (λ (r : Based). BasedLeft N r t2 s s2) told2 (D .left)
 
           beside-2 : (d .sp ≡ c .sp) × (d .transitions ≡ c .transitions)
@@ -105,9 +105,9 @@ module _ (N : ℕ) (l : Bounds) (t st mem s : List ℕ) (c : Counts) (k : ℕ) (
               → Does N 128 448 whole r3 c t3 st3 mem3 s s3
           united r3 t3 st3 mem3 s3 len3 E = record { is = after-2 is-2 ∙ E .is; beside = beside-more r3 c d (E .beside) (beside-2 .0) (beside-2 .1); left = left-by r3 (E .is) (E .left) }
             where
-              left-by : (r : State) → mk-union-n N (limitsOf l) (words s2 128 n) (autOf t2 st2 mem2 d) ≡ seenAut r t3 st3 mem3 → LeftBy N 256 320 r t3 s2 s3 → LeftBy N 128 448 r t3 s s3
+              left-by : (r : State) → mk-union-n N (limitsOf l) (words s2 128 n) (autOf t2 st2 mem2 d) ≡ seenAut r t3 st3 mem3 → ModifiesBy N 256 320 r t3 s2 s3 → ModifiesBy N 128 448 r t3 s s3
               left-by (state.Is j e) q v =
-                  let g = came (subst (Goes N (limitsOf l) _ (autOf t2 st2 mem2 d)) q (Rattle.aut_steps.proofs.UnionLaws.mk-union-n-goes (gone .good) (words s2 128 n) (gone .results))) in
+                  let g = came (subst (StepSpec N (limitsOf l) _ (autOf t2 st2 mem2 d)) q (Rattle.aut_steps.proofs.UnionLaws.mk-union-n-goes (gone .good) (words s2 128 n) (gone .results))) in
                   left-trans (g .grown .nodes) left-2 (left-wide v (omega arith) (omega arith))
               left-by (state.Refused e) q v = tt
 
@@ -168,7 +168,7 @@ module _ (N : ℕ) (l : Bounds) (t st mem s : List ℕ) (c : Counts) (from k : �
           left = left-by r2 (D .left);
         }
           where
-            left-by : (r : State) → LeftBy N 128 448 r t2 s1 s2 → LeftBy N 64 512 r t2 s s2
+            left-by : (r : State) → ModifiesBy N 128 448 r t2 s1 s2 → ModifiesBy N 64 512 r t2 s s2
             left-by (state.Is i e) v = kept-left (O .kept) len1 (omega arith) (omega (arith, R .list)) (omega arith) (left-wide v (omega arith) (omega arith))
             left-by (state.Refused e) v = tt
 
@@ -195,7 +195,7 @@ module _ (N : ℕ) (l : Bounds) (t st mem s : List ℕ) (c : Counts) (x y : ℕ)
     pub both-2 : relations st x y ≡ true → {r : State} {t′ st′ s′ : List ℕ} → DoesSpp N (Rel.intersect N (op1 st x) (op1 st y)) r c t st s t′ st′ s′ → Does N 0 576 all-2 r c t′ st′ mem s s′
     both-2 q {r} {t′} {st′} {s′} D = record { is = is-way-2 false true (ne-eqb x y p) q ∙ D .is mem; beside = D .beside; left = left-by r (D .left) }
       where
-        left-by : (r : State) → LeftBy N 0 0 r t′ s s′ → LeftBy N 0 576 r t′ s s′
+        left-by : (r : State) → ModifiesBy N 0 0 r t′ s s′ → ModifiesBy N 0 576 r t′ s s′
         left-by (state.Is i d) v = left-any 0 576 v (omega arith)
         left-by (state.Refused e) v = tt
 
@@ -224,6 +224,6 @@ module _ (N : ℕ) (l : Bounds) (t st mem s : List ℕ) (c : Counts) (x y : ℕ)
       left = left-by r (D .left);
     }
       where
-        left-by : (r : State) → LeftBy N 64 512 r t′ pair s′ → LeftBy N 0 576 r t′ s s′
+        left-by : (r : State) → ModifiesBy N 64 512 r t′ pair s′ → ModifiesBy N 0 576 r t′ s s′
         left-by (state.Is i d) v = kept-left kept-pair len-pair (omega arith) (omega arith) (omega arith) (left-wide v (omega arith) (omega arith))
         left-by (state.Refused e) v = tt

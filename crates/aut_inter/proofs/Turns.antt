@@ -13,10 +13,10 @@ use Rattle.aut_steps.proofs.ListLaws.{all-append, all-map}
 use Rattle.aut_steps.proofs.Facts.{words-length}
 use Rattle.aut_steps.specs.Scratch.{Kept}
 use Rattle.aut_steps.proofs.Scratch.{kept-sets, words-append, words-below}
-use Rattle.aut_steps.specs.Good.{states, Grown, Good}
+use Rattle.aut_steps.specs.Good.{states, ExtAut, WfAut}
 use Rattle.aut_steps.proofs.Good.{grown-refl, grown-trans, states-grown, state-grown}
 use Rattle.aut_steps.specs.Goes.{Gone}
-use Rattle.aut_steps.proofs.Goes.{Goes, came}
+use Rattle.aut_steps.proofs.Goes.{StepSpec, came}
 use Rattle.aut_steps.proofs.Meaning.{Is, HoldsAll}
 use Rattle.aut_steps.proofs.Products.{product-states, sizes-grown}
 use Rattle.aut_steps.proofs.IntersectLaws.{mk-intersect-n-base-goes}
@@ -28,9 +28,9 @@ use Rattle.aut.specs.declared.State.{State}
 use Rattle.aut.specs.declared.State.the-variants as state
 use Rattle.aut.specs.Seen.{limitsOf}
 use Rattle.aut_lists.specs.Seen.{ProductReady, Products}
-use Rattle.aut_rel.specs.Behind.{LISTS, Left}
+use Rattle.aut_rel.specs.Behind.{LISTS, Modifies}
 use Rattle.aut_rel.proofs.Behind.{left-refl, left-wide, left-trans, left-kept, kept-left, words-before}
-use Rattle.aut_rel.specs.Seen.{autOf, seenAut, Beside, LeftBy, Ready, Does}
+use Rattle.aut_rel.specs.Seen.{autOf, seenAut, Beside, ModifiesBy, Ready, Does}
 use Rattle.aut_rel.proofs.Order as order
 use Rattle.aut_rel.proofs.Order.{ready-after}
 use Rattle.aut_union.specs.Seen.{ListAt}
@@ -66,7 +66,7 @@ module _ (N : ℕ) (l : Bounds) (t st mem s : List ℕ) (c : Counts) (k i : ℕ)
       left = left-by r (D .left);
     }
       where
-        left-by : (r : State) → LeftBy N 256 320 r t2 s1 s2 → LeftBy N 192 384 r t2 s s2
+        left-by : (r : State) → ModifiesBy N 256 320 r t2 s1 s2 → ModifiesBy N 192 384 r t2 s s2
         left-by (state.Is j d) v = kept-left (P .kept) len1 (omega arith) (omega (arith, few)) (omega arith) (left-wide v (omega arith) (omega arith))
         left-by (state.Refused e) v = tt
 
@@ -76,9 +76,9 @@ module _ (N : ℕ) (l : Bounds) (t st mem s : List ℕ) (c : Counts) (k i : ℕ)
 pub record Turn (N : ℕ) (l : Bounds) (t₀ st₀ mem₀ s₀ : List ℕ) (c : Counts) (k n : ℕ) (t st mem s : List ℕ) (d : Counts) (i : ℕ) : Type 0 where
   pub at : i ≤ n
   pub len : length s ≡ length s₀
-  pub grown : Grown (autOf t₀ st₀ mem₀ c) (autOf t st mem d)
+  pub grown : ExtAut (autOf t₀ st₀ mem₀ c) (autOf t st mem d)
   pub ready : Ready N l (autOf t st mem d) s
-  pub left : Left N 128 448 (table t (d .spp)) s₀ s
+  pub left : Modifies N 128 448 (table t (d .spp)) s₀ s
   pub sp : d .sp ≡ c .sp
   pub transitions : d .transitions ≡ c .transitions
   pub results : All (λ x. x < d .states) (words s 128 i)
@@ -137,12 +137,12 @@ module _ (N : ℕ) (l : Bounds) (t₀ st₀ mem₀ s₀ : List ℕ) (c : Counts)
           gone : Gone N (limitsOf l) (Is N (HoldsAll N (autOf t st mem d) (product st mem (words s 64 k) i))) (autOf t st mem d) (autOf t1 st1 mem1 d1) z
           unfolding C.base
           gone = came
-              (subst (Goes N (limitsOf l) (Is N (HoldsAll N (autOf t st mem d) (product st mem (words s 64 k) i))) (autOf t st mem d)) (D .is ∙ ap (λ (r : State). seenAut r t1 st1 mem1) told)
+              (subst (StepSpec N (limitsOf l) (Is N (HoldsAll N (autOf t st mem d) (product st mem (words s 64 k) i))) (autOf t st mem d)) (D .is ∙ ap (λ (r : State). seenAut r t1 st1 mem1) told)
               (mk-intersect-n-base-goes (v .ready .good) (product st mem (words s 64 k) i)
               (product-states (v .ready .good) (words s 64 k) (base-asked .list .states) i (base-asked .product))))
 
-          left-1 : Left N 192 384 (table t1 (d1 .spp)) s s1
-          left-1 = subst (λ (r : State). LeftBy N 192 384 r t1 s s1) told (D .left)
+          left-1 : Modifies N 192 384 (table t1 (d1 .spp)) s s1
+          left-1 = subst (λ (r : State). ModifiesBy N 192 384 r t1 s s1) told (D .left)
 
           beside-1 : (d1 .sp ≡ d .sp) × (d1 .transitions ≡ d .transitions)
           beside-1 = subst (λ (r : State). Beside r d) told (D .beside)
@@ -159,7 +159,7 @@ module _ (N : ℕ) (l : Bounds) (t₀ st₀ mem₀ s₀ : List ℕ) (c : Counts)
           len-2 : length s2 ≡ length s1
           len-2 = simp length-set
 
-          left-2 : Left N 128 448 (table t1 (d1 .spp)) s s2
+          left-2 : Modifies N 128 448 (table t1 (d1 .spp)) s s2
           left-2 = left-trans (ext-refl (table t1 (d1 .spp))) (left-wide left-1 (omega arith) (omega arith)) (left-wide (left-kept kept-2 len-2 (omega (arith, B .few))) (omega arith) (omega (arith, B .few)))
 
           pub again : Turn N l t₀ st₀ mem₀ s₀ c k n t1 st1 mem1 s2 d1 (i + 1)

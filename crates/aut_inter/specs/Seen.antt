@@ -6,12 +6,12 @@ use Rattle.common.specs.Outcome.{Outcome, refused, given}
 use Rattle.common.specs.Runs.{Table, table}
 use Rattle.aut_steps.specs.Tables.{words, Aut}
 use Rattle.aut_steps.specs.ListLaws.{All}
-use Rattle.aut_steps.specs.Good.{states, Grown, Good}
+use Rattle.aut_steps.specs.Good.{states, ExtAut, WfAut}
 use Rattle.aut_steps.specs.Constructors.{sizes}
 use Rattle.aut.specs.declared.Counts.{Counts}
 use Rattle.aut.specs.declared.Limits.{Limits}
 use Rattle.aut.specs.Seen.{limitsOf}
-use Rattle.aut_rel.specs.Behind.{Left}
+use Rattle.aut_rel.specs.Behind.{Modifies}
 use Rattle.aut_rel.specs.Seen.{autOf, Ready}
 use Rattle.aut_union.specs.Seen.{ListAt}
 use Rattle.aut_inter.specs.declared.Based.{Based}
@@ -40,13 +40,13 @@ BasedBeside (Done d) c = (d .sp ≡ c .sp) × (d .transitions ≡ c .transitions
 BasedBeside (Refused e) c = Unit
 
 abbrev pub BasedLeft : ℕ → Based → List ℕ → List ℕ → List ℕ → Type 0
-BasedLeft N (Done d) t′ s s′ = Left N 128 448 (table t′ (d .spp)) s s′
+BasedLeft N (Done d) t′ s s′ = Modifies N 128 448 (table t′ (d .spp)) s s′
 BasedLeft N (Refused e) t′ s s′ = Unit
 
 -- the tables have grown and are in order, and the results are states
 pub record BasesGoes (N : ℕ) (l : Limits) (σ τ : Aut) (zs : List ℕ) : Type 0 where
-  pub grown : Grown σ τ
-  pub good : Good N (limitsOf l) τ
+  pub grown : ExtAut σ τ
+  pub good : WfAut N (limitsOf l) τ
   pub results : All (λ x. x < states τ) zs
 
 abbrev pub Going : ℕ → Limits → Aut → Based → ℕ → List ℕ → List ℕ → List ℕ → List ℕ → Type 0

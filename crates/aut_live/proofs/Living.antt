@@ -377,7 +377,7 @@ module _ {N : ℕ} {l : Limits} {sp t st mem tr : List ℕ} {c : Counts} {s p : 
                     beside = tt;
                     frame = g;
                     ready = query-ready (P .ready) (law-live .later) (law-live .ordered) g len;
-                    holds = subst (λ (w : ℕ). SpLaws.At (table sp1 (d .sp)) N w) v (law-live .set .den .at);
+                    holds = subst (λ (w : ℕ). SpLaws.ValidAt (table sp1 (d .sp)) N w) v (law-live .set .den .at);
                   };
                 };
                 pending = zeroed;

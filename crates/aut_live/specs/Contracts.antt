@@ -30,7 +30,7 @@ ZeroedBy (lived.Refused e) p = Unit
 
 -- the step has been done; unless refused, the tables are in order, and the pending entries are zero again
 pub record PostLive (N : ℕ) (l : Limits) (x : ℕ) (σ : Tables) (c : Counts) (r : Lived) (at : Counts → Tables) (s s′ p p′ : List ℕ) : Type 0 where
-  pub post : Post (queryLayer N l) 0 1088 (λ τ h. SpLaws.At (τ .sets) N h) (live-packets N (limitsOf l) (length p / 2) x σ) σ c (livedOf r) at s s′
+  pub post : Post (queryLayer N l) 0 1088 (λ τ h. SpLaws.ValidAt (τ .sets) N h) (live-packets N (limitsOf l) (length p / 2) x σ) σ c (livedOf r) at s s′
   pub pending : ZeroedBy r p′
 
 -- ---- live sets

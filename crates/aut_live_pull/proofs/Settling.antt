@@ -18,7 +18,7 @@ use Rattle.sp_steps.specs.Laws as SpLaws
 use Rattle.sp_steps.proofs.Laws as SpLawsProofs
 use Rattle.sp.specs.declared.SP.{SP}
 use Rattle.sp.specs.declared.Made as sets
-use Rattle.spp_steps.specs.Laws.{At}
+use Rattle.spp_steps.specs.Laws.{ValidAt}
 use Rattle.spp_steps.proofs.Laws.{by-test}
 use Rattle.spp_steps.specs.ImageModel as Images
 use Rattle.aut_steps.specs.Tables as Aut
@@ -61,12 +61,12 @@ none-by : {m : ℕ} → M.none ≡ M.by m → ⊥
 none-by e = let z : _≡_ {A = ℕ} 0 1 = cc in absurd (omega arith)
 
 -- a label of a list is a relation
-pub label-at : {N : ℕ} {L : Aut.Limits} {a : Aut.Aut} (t : ℕ) {lab : ℕ} {es : List Edge} {list : List (Transition State N)} → Are (readings N L) a es list → labelTo t es ≡ M.by lab → At (a .nodes) N lab
+pub label-at : {N : ℕ} {L : Aut.Limits} {a : Aut.Aut} (t : ℕ) {lab : ℕ} {es : List Edge} {list : List (Transition State N)} → Are (readings N L) a es list → labelTo t es ≡ M.by lab → ValidAt (a .nodes) N lab
 unfolding labelTo
 label-at t Are.none q = absurd (none-by q)
 label-at {N} {L} {a} t {lab} (Are.also {s} {l} {es = es} k d as′) q =
     by-test (eqb t s)
-    (λ b. subst (At (a .nodes) N) (by-label (sym (ap (λ (c : Bool). if c then M.by l else labelTo t es) b) ∙ q)) (d .at))
+    (λ b. subst (ValidAt (a .nodes) N) (by-label (sym (ap (λ (c : Bool). if c then M.by l else labelTo t es) b) ∙ q)) (d .at))
     (λ b. label-at t as′ (sym (ap (λ (c : Bool). if c then M.by l else labelTo t es) b) ∙ q))
 
 -- ---- entries
@@ -104,7 +104,7 @@ unfolding countOf
 count-kept st x v u = getD-set-other st (12 * x + 9) (12 * u + 6) v 0 (λ q. omega arith)
 
 -- a set's handle + 1 is a word
-pub set-small : {N : ℕ} {τ : Table} (d h : ℕ) → SpLaws.Wf N τ → SpLaws.At τ d h → h + 1 < 4294967296
+pub set-small : {N : ℕ} {τ : Table} (d h : ℕ) → SpLaws.Wf N τ → SpLaws.ValidAt τ d h → h + 1 < 4294967296
 set-small zero h w a = omega arith
 set-small (suc d) h w a = omega (arith, a .1, w .small)
 
@@ -141,7 +141,7 @@ module _ (sp t st mem tr : List ℕ) (c : Counts) {N : ℕ} {l : Limits} {s p : 
   unfolding listAt
   list-is x = ap₂ (λ (a k : ℕ). edges tr a (k - 1)) (clear-start x) (clear-count x)
 
-  pub held-label : (y x : ℕ) {lab : ℕ} → 0 < workOf st x → 0 < countOf st x → labelTo y (listAt (C .base) x) ≡ M.by lab → At (table t (c .spp)) N lab
+  pub held-label : (y x : ℕ) {lab : ℕ} → 0 < workOf st x → 0 < countOf st x → labelTo y (listAt (C .base) x) ≡ M.by lab → ValidAt (table t (c .spp)) N lab
   held-label y x k some q = label-at y (H .working .ready .ordered .worked .lists .held x (held-known x k) .list (omega (arith, clear-count x)) .are) q
 
   -- the entry i < n is there
@@ -163,7 +163,7 @@ module _ (sp t st mem tr : List ℕ) (c : Counts) {N : ℕ} {l : Limits} {s p : 
     }
 
   -- the set of x is h now, and x goes on `todo`
-  module _ (x h : ℕ) (reached : 0 < workOf st x) (at : SpLaws.At (table sp (c .sp)) N h) (below : m < capacity (length p / 2)) where
+  module _ (x h : ℕ) (reached : 0 < workOf st x) (at : SpLaws.ValidAt (table sp (c .sp)) N h) (below : m < capacity (length p / 2)) where
     abbrev st′ : List ℕ
     st′ = set st (12 * x + 9) (h + 1)
 
@@ -180,8 +180,8 @@ module _ (sp t st mem tr : List ℕ) (c : Counts) {N : ℕ} {l : Limits} {s p : 
       working = working-written sp t st mem tr c x 9 (h + 1) (omega arith) (omega arith) (held-known x reached) (H .working);
       marked = λ u. ap (any (eqb u)) (seconds-same p p′ 0 n (λ i a b. odd-kept p m x i)) ∙ here (λ u v. any (eqb u) (seconds p 0 n) ≡ ltb 0 v)
           (H .marked x ∙ lt-ltb 0 (workOf st x) reached ∙ sym (lt-ltb 0 (h + 1) (omega arith))) (λ u. H .marked u) u;
-      sets = here (λ u v. 0 < v → SpLaws.At (table sp (c .sp)) N (v - 1))
-          (λ _. subst (SpLaws.At (table sp (c .sp)) N) {x = h} {y = h + 1 - 1} (omega arith) at) (λ u. H .sets u);
+      sets = here (λ u v. 0 < v → SpLaws.ValidAt (table sp (c .sp)) N (v - 1))
+          (λ _. subst (SpLaws.ValidAt (table sp (c .sp)) N) {x = h} {y = h + 1 - 1} (omega arith) at) (λ u. H .sets u);
       rest = λ u w a b q. getD-set-other st (12 * x + 9) (12 * u + w) (h + 1) 0 (λ z. q (omega arith)) ∙ H .rest u w a b q;
       todo = λ i k. getD-set-other p (2 * m) (2 * i) x 0 (λ q. omega arith) ∙ H .todo i (omega arith);
       after = λ i k. odd-kept p m x i ∙ H .after i k;
@@ -230,10 +230,10 @@ module _ (sp t st mem tr : List ℕ) (c : Counts) {N : ℕ} {l : Limits} {s p : 
   }
 
   module _ {lab : ℕ} (q : labelTo y (edges tr (startOf st x) (countOf st x - 1)) ≡ M.by lab) where
-    lab-at : At (table t (c .spp)) N lab
+    lab-at : ValidAt (table t (c .spp)) N lab
     lab-at = held-label sp t st mem tr c (S .held) y x (S .source) (S .listed) (ap (labelTo y) (list-is sp t st mem tr c (S .held) x) ∙ q)
 
-    ahead-at : SpLaws.At (table sp (c .sp)) N (workOf st y - 1)
+    ahead-at : SpLaws.ValidAt (table sp (c .sp)) N (workOf st y - 1)
     ahead-at = S .held .sets y (S .target)
 
     pub pull-asks : PreLead N (diagrams κ) s (workOf st y - 1) lab

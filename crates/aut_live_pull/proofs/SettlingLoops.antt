@@ -17,7 +17,7 @@ use Rattle.sp_steps.specs.Model as Sp
 use Rattle.spp_steps.proofs.Laws.{by-test}
 use Rattle.aut_steps.specs.Tables as Aut
 use Rattle.delta_steps.specs.Delta.{countOf, Store}
-use Rattle.delta_steps.specs.Worked.{Worked}
+use Rattle.delta_steps.specs.Worked.{WfStore}
 use Rattle.query_steps.specs.Tables.{Tables}
 use Rattle.query_steps.specs.Search.{capacity}
 use Rattle.query_steps.proofs.Steps.{Ends, comes}
@@ -151,7 +151,7 @@ module _ (sp t st mem tr : List ℕ) (c : Counts) {N : ℕ} {l : Limits} {s p : 
 unfoldable pub leftOf : (N : ℕ) → (sp st ss : List ℕ) → ℕ → ℕ
 leftOf N sp st ss m = m + length ss * 2 ^ N - total (λ s. tally (Sp.mem sp N (liveBy N st s)) (packets N)) ss
 
-module _ {N : ℕ} {L : Aut.Limits} (b : Store) (W : Worked N L b) (ss : List ℕ) (links : (x : ℕ) → List·Memᴰ x ss → Linked b ss x) {σ : Tables} (st : List ℕ) {todo : List ℕ} {m most : ℕ}
+module _ {N : ℕ} {L : Aut.Limits} (b : Store) (W : WfStore N L b) (ss : List ℕ) (links : (x : ℕ) → List·Memᴰ x ss → Linked b ss x) {σ : Tables} (st : List ℕ) {todo : List ℕ} {m most : ℕ}
     (k : length todo ≡ m) (P : Pulls b W ss links most [] σ (work todo (liveBy N st))) where
   amount-is : amount (reached b W ss links) (P .live) ≡ total (λ s. tally (Sp.mem (σ .sets .words) N (liveBy N st s)) (packets N)) ss
   unfolding amount
@@ -211,7 +211,7 @@ module _ (sp t st mem tr : List ℕ) (c : Counts) {N : ℕ} {l : Limits} {s p : 
   abbrev b : Store
   b = clearOf sp t st mem tr c .base
 
-  abbrev W : Worked N (limitsOf l) b
+  abbrev W : WfStore N (limitsOf l) b
   W = S .held .working .ready .ordered .worked
 
   abbrev ss : List ℕ

@@ -57,7 +57,7 @@ use Rattle.aut_live_words.proofs.Words.{seconds-same, seconds-split, seconds-on
 use Rattle.aut_live_words.proofs.Held.{same-rest, live-set, live-unwritten, held-ran, held-state, held-second, held-write, held-there, held-fits, Moved, enqueue-moved, enqueue-is, enqueue-refused}
 
 -- a set's handle + 1 is a word
-pub handle-small : (N : ℕ) (t : Table) (h : ℕ) → SpLaws.Wf N t → SpLaws.At t N h → h + 1 < 4294967296
+pub handle-small : (N : ℕ) (t : Table) (h : ℕ) → SpLaws.Wf N t → SpLaws.ValidAt t N h → h + 1 < 4294967296
 handle-small zero t h w a = omega arith
 handle-small (suc N) t h w a = omega (arith, w .small, a .1)
 

@@ -113,7 +113,7 @@ module _ {N : ℕ} {l : Limits} {σ τ : Tables} {s s′ p : List ℕ} {n m : �
   held-ran H W e u = record {
     working = W;
     marked = λ x. H .marked x ∙ ap (ltb 0) (sym (work-unwritten σ τ u x));
-    sets = λ x a. subst (λ (w : ℕ). SpLaws.At (τ .sets) N (w - 1)) (sym (work-unwritten σ τ u x)) (SpLawsProofs.at-ext e N (workOf (σ .base .aut .states .words) x - 1) (H .sets x (omega (arith, work-unwritten σ τ u x))));
+    sets = λ x a. subst (λ (w : ℕ). SpLaws.ValidAt (τ .sets) N (w - 1)) (sym (work-unwritten σ τ u x)) (SpLawsProofs.at-ext e N (workOf (σ .base .aut .states .words) x - 1) (H .sets x (omega (arith, work-unwritten σ τ u x))));
     rest = λ x w a b c. u x w a b ∙ H .rest x w a b c;
     todo = H .todo;
     after = H .after;
@@ -158,13 +158,13 @@ module _ {N : ℕ} {l : Limits} {sp t st mem tr : List ℕ} {c : Counts} {s p : 
   rest-set : (x v : ℕ) → (y w : ℕ) → 8 ≤ w → w < 12 → w ≢ 9 → getD (set st (12 * x + 9) v) (12 * y + w) 0 ≡ 0
   rest-set x v y w a b k = getD-set-other st (12 * x + 9) (12 * y + w) v 0 (λ q. k (omega arith)) ∙ H .rest y w a b k
 
-  sets-set : (x h : ℕ) → x < c .states → SpLaws.At (table sp (c .sp)) N h → (y : ℕ) → 0 < workOf (set st (12 * x + 9) (h + 1)) y → SpLaws.At (table sp (c .sp)) N (workOf (set st (12 * x + 9) (h + 1)) y - 1)
+  sets-set : (x h : ℕ) → x < c .states → SpLaws.ValidAt (table sp (c .sp)) N h → (y : ℕ) → 0 < workOf (set st (12 * x + 9) (h + 1)) y → SpLaws.ValidAt (table sp (c .sp)) N (workOf (set st (12 * x + 9) (h + 1)) y - 1)
   sets-set x h k a y r = by-test (eqb y x)
       (λ b. let q : y ≡ x = eqb-true y x b in
-      subst (λ (z : ℕ). SpLaws.At (table sp (c .sp)) N (workOf (set st (12 * x + 9) (h + 1)) z - 1)) (sym q)
-      (subst (λ (w : ℕ). SpLaws.At (table sp (c .sp)) N w) {x = h} {y = workOf (set st (12 * x + 9) (h + 1)) x - 1} (omega (arith, work-here st x (h + 1) (there-word x k))) a))
+      subst (λ (z : ℕ). SpLaws.ValidAt (table sp (c .sp)) N (workOf (set st (12 * x + 9) (h + 1)) z - 1)) (sym q)
+      (subst (λ (w : ℕ). SpLaws.ValidAt (table sp (c .sp)) N w) {x = h} {y = workOf (set st (12 * x + 9) (h + 1)) x - 1} (omega (arith, work-here st x (h + 1) (there-word x k))) a))
       (λ b. let e = work-there st x (h + 1) y (eqb-false y x b) in
-      subst (λ (w : ℕ). SpLaws.At (table sp (c .sp)) N (w - 1)) (sym e) (H .sets y (omega (arith, e))))
+      subst (λ (w : ℕ). SpLaws.ValidAt (table sp (c .sp)) N (w - 1)) (sym e) (H .sets y (omega (arith, e))))
 
   marked-set : (x h : ℕ) → x < c .states → (y : ℕ) → (any (eqb y) (seconds p 0 n) || eqb y x) ≡ ltb 0 (workOf (set st (12 * x + 9) (h + 1)) y)
   marked-set x h k y = by-test (eqb y x)
@@ -196,7 +196,7 @@ module _ {N : ℕ} {l : Limits} {sp t st mem tr : List ℕ} {c : Counts} {s p : 
           go true = refl
           go false = refl
 
-  pub held-write : (x h : ℕ) → 0 < workOf st x → SpLaws.At (table sp (c .sp)) N h → Held N l (tablesOf sp t (set st (12 * x + 9) (h + 1)) mem tr c) s p n m
+  pub held-write : (x h : ℕ) → 0 < workOf st x → SpLaws.ValidAt (table sp (c .sp)) N h → Held N l (tablesOf sp t (set st (12 * x + 9) (h + 1)) mem tr c) s p n m
   held-write x h a z = record {
     working = working-written sp t st mem tr c x 9 (h + 1) (omega arith) (omega arith) (held-state H x a) (H .working);
     marked = marked-same x h a;

@@ -42,7 +42,7 @@ stack p (suc m) = getD p (2 * m) 0 ∷ stack p m
 pub record Held (N : ℕ) (l : Limits) (σ : Tables) (s p : List ℕ) (n m : ℕ) : Type 0 where
   pub working : Working N l σ s
   pub marked : (x : ℕ) → any (eqb x) (seconds p 0 n) ≡ ltb 0 (workOf (σ .base .aut .states .words) x)
-  pub sets : (x : ℕ) → 0 < workOf (σ .base .aut .states .words) x → SpLaws.At (σ .sets) N (workOf (σ .base .aut .states .words) x - 1)
+  pub sets : (x : ℕ) → 0 < workOf (σ .base .aut .states .words) x → SpLaws.ValidAt (σ .sets) N (workOf (σ .base .aut .states .words) x - 1)
   pub rest : (x w : ℕ) → 8 ≤ w → w < 12 → w ≢ 9 → getD (σ .base .aut .states .words) (12 * x + w) 0 ≡ 0
   pub todo : (i : ℕ) → m ≤ i → getD p (2 * i) 0 ≡ 0
   pub after : (i : ℕ) → n ≤ i → getD p (2 * i + 1) 0 ≡ 0

@@ -15,7 +15,7 @@ use Rattle.aut_steps.specs.Relations as Rel
 use Rattle.aut_steps.specs.ListLaws.{All}
 use Rattle.aut_steps.proofs.ListLaws.{all-map, all-sorted}
 use Rattle.aut_steps.specs.Lists.{sorted}
-use Rattle.aut_steps.specs.Good.{Good}
+use Rattle.aut_steps.specs.Good.{WfAut}
 use Rattle.aut_steps.proofs.Good.{grown-refl}
 use Rattle.aut_steps.proofs.Goes.{good-nodes}
 use Rattle.aut_steps.specs.Constructors as C
@@ -28,9 +28,9 @@ use Rattle.aut.specs.Seen.{limitsOf}
 use Rattle.aut_lists.specs.Seen.{OpenReady, Extends, listedOf, listedMost, SortReady, Sorts}
 use Rattle.aut_lists.specs.declared.Listed.{Listed}
 use Rattle.aut_lists.specs.declared.Listed.the-variants as listed
-use Rattle.aut_rel.specs.Behind.{LISTS, Left}
+use Rattle.aut_rel.specs.Behind.{LISTS, Modifies}
 use Rattle.aut_rel.proofs.Behind.{left-wide, left-trans, left-kept, kept-left}
-use Rattle.aut_rel.specs.Seen.{autOf, seenAut, Beside, SameNodes, LeftBy, Ready, Does}
+use Rattle.aut_rel.specs.Seen.{autOf, seenAut, Beside, SameNodes, ModifiesBy, Ready, Does}
 use Rattle.aut_rel.proofs.Join.{same-left, beside-more}
 use Rattle.aut_rel.proofs.Order as order
 use Rattle.aut_rel.proofs.Order.{backed-of, ready-after}
@@ -71,7 +71,7 @@ module _ (N : ℕ) (l : Bounds) (t st mem s : List ℕ) (c : Counts) (k : ℕ) (
     is-1 : first ≡ given (table t1 n) (met b (h .0) (words s1 320 m))
     is-1 = U .is ∙ ap (λ (r : Met). seenMet r t1 s1 320) told
 
-    left-1 : Left N 320 k (table t1 n) s s1
+    left-1 : Modifies N 320 k (table t1 n) s s1
     left-1 = subst (λ (r : Met). MetLeft N 320 k r t1 s s1) told (U .left)
 
     few-1 : m ≤ k
@@ -86,7 +86,7 @@ module _ (N : ℕ) (l : Bounds) (t st mem s : List ℕ) (c : Counts) (k : ℕ) (
     abbrev d : Counts
     d = record { sp = c .sp; spp = n; states = c .states; members = c .members; transitions = c .transitions }
 
-    good-1 : Good N (limitsOf l) (autOf t1 st mem d)
+    good-1 : WfAut N (limitsOf l) (autOf t1 st mem d)
     good-1 = good-nodes (R .good) (grows .ext) (grows .wf)
 
     pub sort-ready : SortReady s1 320 m 448
@@ -162,6 +162,6 @@ module _ (N : ℕ) (l : Bounds) (t st mem s : List ℕ) (c : Counts) (from k : �
         left = left-by r2 (D .left);
       }
         where
-          left-by : (r : State) → LeftBy N 320 256 r t2 s1 s2 → LeftBy N 256 320 r t2 s s2
+          left-by : (r : State) → ModifiesBy N 320 256 r t2 s1 s2 → ModifiesBy N 256 320 r t2 s s2
           left-by (Is i e) v = kept-left (O .kept) len1 (omega arith) (omega (arith, R .list)) (omega arith) (left-wide v (omega arith) (omega arith))
           left-by (Refused e) v = tt

@@ -10,7 +10,7 @@ use borrow.Author.Tests.{eq-eqb, ne-eqb, eqb-true}
 use Rattle.common.specs.Outcome.{Outcome, refused, given, Step, return, after, _>>=_, Gives, gives, if_then_else_}
 use Rattle.common.proofs.Follow.{call, branch}
 use Rattle.common.specs.Runs.{Table, table, placed}
-use Rattle.spp_steps.specs.Laws.{Wf, At}
+use Rattle.spp_steps.specs.Laws.{Wf, ValidAt}
 use Rattle.spp_steps.proofs.Laws.{ext-refl, at-ext, den-mem}
 use Rattle.spp.specs.declared.SPP as Spp
 use Rattle.aut_steps.specs.Tables.{SPP, TOP, INTERSECT, kindOf, op1, words, Limits, Aut, aut, exprs, Exprs, putStates, putExprs, onStates, onExprs}
@@ -22,10 +22,10 @@ use Rattle.aut_steps.proofs.Facts.{words-length}
 use Rattle.aut_steps.specs.Scratch.{Kept}
 use Rattle.aut_steps.proofs.Scratch.{kept-refl, kept-sets, words-append}
 use Rattle.aut_steps.specs.Intern.{internL}
-use Rattle.aut_steps.specs.Good.{states, Good}
+use Rattle.aut_steps.specs.Good.{states, WfAut}
 use Rattle.aut_steps.proofs.Good.{states-grown}
 use Rattle.aut_steps.specs.Goes.{Gone}
-use Rattle.aut_steps.proofs.Goes.{Goes, came, goes-return, placed-map}
+use Rattle.aut_steps.proofs.Goes.{StepSpec, came, goes-return, placed-map}
 use Rattle.aut_steps.proofs.StateLaws.{mk-spp-goes}
 use Rattle.aut_steps.specs.Constructors as C
 use Rattle.aut_steps.specs.Constructors.{met, each, meetOne, addLast, meetFinish, mk-spp, mk-top}
@@ -35,7 +35,7 @@ use Rattle.aut.specs.declared.State.{State}
 use Rattle.aut.specs.declared.State.the-variants.{Is, Refused}
 use Rattle.aut.specs.Seen as Put
 use Rattle.aut.specs.Seen.{limitsOf, Interned, seenState, ListReady}
-use Rattle.aut_rel.specs.Behind.{LISTS, Left}
+use Rattle.aut_rel.specs.Behind.{LISTS, Modifies}
 use Rattle.aut_rel.proofs.Behind.{left-refl, left-any, left-kept, words-behind}
 use Rattle.aut_rel.specs.Seen.{RelAt, autOf, seenAut, Beside, SameNodes}
 use Rattle.aut_rel.proofs.Order as order
@@ -54,7 +54,7 @@ module _ (N : ℕ) (st : List ℕ) (P : ℕ → Type 0) where
   Each t x = RelAt N t st x × P x
 
   abbrev pub Held : Table → C.Met → Type 0
-  Held t p = At t N (p .relation) × All P (p .others)
+  Held t p = ValidAt t N (p .relation) × All P (p .others)
 
   one : (t : Table) (x : ℕ) (p : C.Met) → Wf N t → Held t p → Each t x → Gives (Grows N Held t) (meetOne N st x p t)
   unfolding meetOne
@@ -99,7 +99,7 @@ module _ (N : ℕ) (st t s : List ℕ) (n x : ℕ) (b : Bool) (h : Spp.SPP) (to 
       pub full : Rel.intersect N (h .0) (getD st (12 * x + 1) 0) (table t n) ≡ refused 21 → (t′ s′ : List ℕ) → Meets N (to + m) 1 (m + 1) out Full t′ s s′ to
       full q t′ s′ = record { is = is-rel q; left = tt; few = tt }
 
-      pub joined : (t′ s′ : List ℕ) (k : ℕ) (u : Spp.SPP) → Rel.intersect N (h .0) (getD st (12 * x + 1) 0) (table t n) ≡ given (table t′ k) (u .0) → Left N 0 0 (table t′ k) s s′ → to + m < LISTS
+      pub joined : (t′ s′ : List ℕ) (k : ℕ) (u : Spp.SPP) → Rel.intersect N (h .0) (getD st (12 * x + 1) 0) (table t n) ≡ given (table t′ k) (u .0) → Modifies N 0 0 (table t′ k) s s′ → to + m < LISTS
           → Meets N (to + m) 1 (m + 1) out (Rest true u k m) t′ s s′ to
       joined t′ s′ k u q l r = record {
         is = is-rel q ∙ ap (λ (ys : List ℕ). given (table t′ k) (met true (u .0) ys)) (sym (words-behind to m l (omega arith) (omega arith)));
@@ -151,8 +151,8 @@ module _ (b : Bool) (h : ℕ) (st : List ℕ) (n : ℕ) where
 -- ---- the list's state
 
 -- the list with the relation's state
-last-goes : {N : ℕ} {L : Limits} {σ : Aut} → Good N L σ → (b : Bool) (h : ℕ) (others xs : List ℕ) → At (σ .nodes) N h → All (λ x. x < states σ) xs
-    → Goes N L (λ τ ys. All (λ y. y < states τ) ys) σ (onStates (addLast (met b h others) xs) σ)
+last-goes : {N : ℕ} {L : Limits} {σ : Aut} → WfAut N L σ → (b : Bool) (h : ℕ) (others xs : List ℕ) → ValidAt (σ .nodes) N h → All (λ x. x < states σ) xs
+    → StepSpec N L (λ τ ys. All (λ y. y < states τ) ys) σ (onStates (addLast (met b h others) xs) σ)
 unfolding addLast
 last-goes {σ = σ} g true h others xs a l =
     placed-map putStates σ (mk-spp h (σ .states)) (λ i. xs ++ i ∷ []) (mk-spp-goes g (den-mem a)) (λ τ i w v s. all-append (λ y. y < states τ) xs (i ∷ []) (states-grown w xs l) (s .state, tt))
@@ -189,7 +189,7 @@ module _ (N : ℕ) (l : Bounds) (st mem s : List ℕ) (c : Counts) (b : Bool) (h
 
       law : Gone N (limitsOf l) (λ τ ys. All (λ y. y < states τ) ys) (σ (F .nodes)) (autOf (F .nodes) st1 mem d) (words s1 448 m)
       law = came
-          (subst (Goes N (limitsOf l) (λ τ ys. All (λ y. y < states τ) ys) (σ (F .nodes))) (ap (placed putStates (σ (F .nodes))) (D [] .is ∙ ap (λ (r : Added). seenAdded r st1 s1 448) told))
+          (subst (StepSpec N (limitsOf l) (λ τ ys. All (λ y. y < states τ) ys) (σ (F .nodes))) (ap (placed putStates (σ (F .nodes))) (D [] .is ∙ ap (λ (r : Added). seenAdded r st1 s1 448) told))
           (last-goes (F .good) b h [] (words s 448 k) (F .handle) (F .states)))
 
       pub list-ready : ListReady st1 mem s1 d INTERSECT 448 m

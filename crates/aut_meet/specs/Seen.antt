@@ -10,10 +10,10 @@ use Rattle.common.specs.Runs.{Table, table, placed}
 use Rattle.aut_steps.specs.Tables.{INTERSECT, words, putStates, Aut, onStates, onExprs}
 use Rattle.aut_steps.specs.Tables.{Limits as Bounds}
 use Rattle.aut_steps.specs.Intern.{internL}
-use Rattle.spp_steps.specs.Laws.{At}
+use Rattle.spp_steps.specs.Laws.{ValidAt}
 use Rattle.aut_steps.specs.Relations as Rel
 use Rattle.aut_steps.specs.ListLaws.{All}
-use Rattle.aut_steps.specs.Good.{Good}
+use Rattle.aut_steps.specs.Good.{WfAut}
 use Rattle.aut_steps.specs.Scratch.{Kept}
 use Rattle.aut_steps.specs.Constructors as C
 use Rattle.aut_steps.specs.Constructors.{met}
@@ -21,7 +21,7 @@ use Rattle.aut.specs.declared.Counts.{Counts}
 use Rattle.aut.specs.declared.Limits.{Limits}
 use Rattle.aut.specs.declared.State.{State}
 use Rattle.aut.specs.Seen.{Fits, limitsOf}
-use Rattle.aut_rel.specs.Behind.{LISTS, Left}
+use Rattle.aut_rel.specs.Behind.{LISTS, Modifies}
 use Rattle.aut_rel.specs.Seen.{autOf, seenAut, Beside, SameNodes}
 use Rattle.aut_meet.specs.declared.Met.{Met}
 use Rattle.aut_meet.specs.declared.Met.the-variants.{Rest, Full}
@@ -33,7 +33,7 @@ seenMet (Rest b h n m) t s to = given (table t n) (met b (h .0) (words s to m))
 seenMet Full t s to = refused 21
 
 abbrev pub MetLeft : ℕ → ℕ → ℕ → Met → List ℕ → List ℕ → List ℕ → Type 0
-MetLeft N a n (Rest b h k m) t s s′ = Left N a n (table t k) s s′
+MetLeft N a n (Rest b h k m) t s s′ = Modifies N a n (table t k) s s′
 MetLeft N a n Full t s s′ = Unit
 
 abbrev pub MetMost : Met → ℕ → Type 0
@@ -75,8 +75,8 @@ pub record OnStates (o : Step Table ℕ) (r : State) (c : Counts) (st st′ : Li
 pub record FinishReady (N : ℕ) (l : Limits) (st mem s : List ℕ) (c : Counts) (some : Bool) (h k : ℕ) : Type 0 where
   pub nodes : List ℕ
   pub fields : N ≤ 31
-  pub good : Good N (limitsOf l) (autOf nodes st mem c)
-  pub handle : At (table nodes (c .spp)) N h
+  pub good : WfAut N (limitsOf l) (autOf nodes st mem c)
+  pub handle : ValidAt (table nodes (c .spp)) N h
   pub states : All (λ x. x < c .states) (words s 448 k)
   pub few : k ≤ 64
   pub room : LISTS ≤ length s

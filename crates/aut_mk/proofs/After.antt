@@ -7,26 +7,26 @@ use Rattle.common.specs.Outcome.{Step}
 use Rattle.common.specs.Runs.{table}
 use Rattle.aut_steps.specs.Tables.{Limits, Aut}
 use Rattle.aut_steps.specs.Goes.{Gone}
-use Rattle.aut_steps.proofs.Goes.{Goes, came}
+use Rattle.aut_steps.proofs.Goes.{StepSpec, came}
 use Rattle.aut.specs.Seen.{limitsOf}
 use Rattle.aut.specs.declared.Counts.{Counts}
 use Rattle.aut.specs.declared.Limits.{Limits as Bounds}
 use Rattle.aut.specs.declared.State.{State}
 use Rattle.aut.specs.declared.State.the-variants.{Is}
-use Rattle.aut_rel.specs.Behind.{Left}
-use Rattle.aut_rel.specs.Seen.{autOf, seenAut, Beside, LeftBy, Ready}
+use Rattle.aut_rel.specs.Behind.{Modifies}
+use Rattle.aut_rel.specs.Seen.{autOf, seenAut, Beside, ModifiesBy, Ready}
 use Rattle.aut_rel.proofs.Order.{ready-after}
 use Rattle.aut_mk.specs.Seen.{Makes}
 
 module _ {N : ℕ} {o : Step Aut ℕ} {r : State} {c : Counts} {t st s t′ st′ s′ : List ℕ} (m : Makes N o r c t st s t′ st′ s′) {z : ℕ} {d : Counts} (e : r ≡ Is z d) where
-  pub gone : {L : Limits} {mem : List ℕ} {P : Aut → ℕ → Type 0} → Goes N L P (autOf t st mem c) (o (autOf t st mem c)) → Gone N L P (autOf t st mem c) (autOf t′ st′ mem d) z
-  gone {L} {mem} {P} g = came (subst (Goes N L P (autOf t st mem c)) (m .is mem ∙ ap (λ (r : State). seenAut r t′ st′ mem) e) g)
+  pub gone : {L : Limits} {mem : List ℕ} {P : Aut → ℕ → Type 0} → StepSpec N L P (autOf t st mem c) (o (autOf t st mem c)) → Gone N L P (autOf t st mem c) (autOf t′ st′ mem d) z
+  gone {L} {mem} {P} g = came (subst (StepSpec N L P (autOf t st mem c)) (m .is mem ∙ ap (λ (r : State). seenAut r t′ st′ mem) e) g)
 
-  pub left-of : Left N 0 0 (table t′ (d .spp)) s s′
-  left-of = subst (λ (r : State). LeftBy N 0 0 r t′ s s′) e (m .left)
+  pub left-of : Modifies N 0 0 (table t′ (d .spp)) s s′
+  left-of = subst (λ (r : State). ModifiesBy N 0 0 r t′ s s′) e (m .left)
 
   pub beside-of : Beside (Is z d) c
   beside-of = subst (λ (r : State). Beside r c) e (m .beside)
 
-  pub ready-of : {l : Bounds} {mem : List ℕ} {P : Aut → ℕ → Type 0} → Ready N l (autOf t st mem c) s → Goes N (limitsOf l) P (autOf t st mem c) (o (autOf t st mem c)) → length s′ ≡ length s → Ready N l (autOf t′ st′ mem d) s′
+  pub ready-of : {l : Bounds} {mem : List ℕ} {P : Aut → ℕ → Type 0} → Ready N l (autOf t st mem c) s → StepSpec N (limitsOf l) P (autOf t st mem c) (o (autOf t st mem c)) → length s′ ≡ length s → Ready N l (autOf t′ st′ mem d) s′
   ready-of r g len = let i = gone g in ready-after r (i .grown) (i .good) left-of len

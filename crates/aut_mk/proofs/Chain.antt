@@ -11,7 +11,7 @@ use Rattle.aut_steps.specs.Relations as Rel
 use Rattle.aut_steps.specs.Tables.{SEQUENCE, kindOf, op1, op2, nest, Limits, Aut}
 use Rattle.aut_steps.specs.Kinds.{form}
 use Rattle.aut_steps.specs.Constructors.{is-relation, sequence-with, sequence-by}
-use Rattle.aut_steps.specs.Good.{states, Grown, Two, Good}
+use Rattle.aut_steps.specs.Good.{states, ExtAut, Two, WfAut}
 use Rattle.aut_steps.proofs.Good.{ok-as, kind-grown, second-grown}
 use Rattle.aut_rel.proofs.Order.{in-table}
 use Rattle.aut_mk.specs.Seen.{Chain, top, below, Nested, Walks, Ends, Links}
@@ -171,14 +171,14 @@ module _ {st : List ℕ} {x u w : ℕ} (v : Linked st x u w) where
 
 -- ---- chains in tables in order, and in tables that have grown
 
-pub nested-of : {N : ℕ} {L : Limits} {σ : Aut} → Good N L σ → Nested (σ .states .words) (states σ)
+pub nested-of : {N : ℕ} {L : Limits} {σ : Aut} → WfAut N L σ → Nested (σ .states .words) (states σ)
 unfolding form
 nested-of {σ} g = record {
   inside = λ x l. in-table g l;
   lower = λ x l k. let t : Two σ x = ok-as g SEQUENCE l k in (omega (arith, t .earlier2), omega (arith, t .nested));
 }
 
-module _ {σ τ : Aut} (n : Nested (σ .states .words) (states σ)) (g : Grown σ τ) {x : ℕ} (l : x < states σ) where
+module _ {σ τ : Aut} (n : Nested (σ .states .words) (states σ)) (g : ExtAut σ τ) {x : ℕ} (l : x < states σ) where
   pub chain-grown : {u : ℕ} → Chain (σ .states .words) x u → Chain (τ .states .words) x u
   chain-grown top = top
   chain-grown (below {w} p k) = let i = chain-state n l p in subst (Chain (τ .states .words) x) (second-grown g w i) (below (chain-grown p) (kind-grown g w i ∙ k))

@@ -11,10 +11,10 @@ use Rattle.spp_steps.specs.Laws.{Ext}
 use Rattle.aut_steps.specs.Tables.{SEQUENCE, kindOf, op1, op2, nest, Limits, Aut}
 use Rattle.aut_steps.specs.Kinds.{form}
 use Rattle.aut_steps.specs.Constructors.{sequence-with, sequence-by, mk-sequence}
-use Rattle.aut_steps.specs.Good.{Two, Grown}
+use Rattle.aut_steps.specs.Good.{Two, ExtAut}
 use Rattle.aut_steps.proofs.Good.{ok-as, grown-refl, grown-trans, kind-grown, first-grown, second-grown, nesting-grown, state-grown}
 use Rattle.aut_steps.specs.Goes.{Gone}
-use Rattle.aut_steps.proofs.Goes.{Goes}
+use Rattle.aut_steps.proofs.Goes.{StepSpec}
 use Rattle.aut_steps.proofs.Meaning as Meaning
 use Rattle.aut_steps.specs.Meaning.{Holds}
 use Rattle.aut_steps.proofs.SequenceLaws.{mk-sequence-goes}
@@ -23,9 +23,9 @@ use Rattle.aut.specs.declared.Counts.{Counts}
 use Rattle.aut.specs.declared.Limits.{Limits as Bounds}
 use Rattle.aut.specs.declared.State.{State}
 use Rattle.aut.specs.declared.State.the-variants.{Is, Refused}
-use Rattle.aut_rel.specs.Behind.{Left}
+use Rattle.aut_rel.specs.Behind.{Modifies}
 use Rattle.aut_rel.proofs.Behind.{left-refl, left-trans}
-use Rattle.aut_rel.specs.Seen.{autOf, seenAut, Beside, LeftBy, Ready}
+use Rattle.aut_rel.specs.Seen.{autOf, seenAut, Beside, ModifiesBy, Ready}
 use Rattle.aut_rel.proofs.Join.{beside-more}
 use Rattle.aut_mk.specs.declared.Known.{Known}
 use Rattle.aut_mk.specs.declared.Way.{Way}
@@ -45,12 +45,12 @@ module _ (N : ℕ) (L : Limits) (x y : ℕ) (r : State) (c : Counts) (t st t′ 
 
 module _ {N : ℕ} {L : Limits} {x y : ℕ} {r : State} {c : Counts} {t st s t′ st′ s′ : List ℕ} where
   sequences : ((depth : ℕ) → nest st x ≤ depth → (mem : List ℕ) → sequence-by N L depth x y (autOf t st mem c) ≡ seenAut r t′ st′ mem)
-      → Beside r c → LeftBy N 0 0 r t′ s s′ → Sequences N L x y r c t st s t′ st′ s′
+      → Beside r c → ModifiesBy N 0 0 r t′ s s′ → Sequences N L x y r c t st s t′ st′ s′
   unfolding mk-sequence
   sequences f b l = record { made = record { is = λ mem. f (nest st x) (omega arith) mem; beside = b; left = l }; by = f }
 
 -- scratch after two calls
-left-both : {N : ℕ} {t1 : Table} (r : State) (t2 : List ℕ) {s s1 : List ℕ} (s2 : List ℕ) → ((i : ℕ) (d : Counts) → r ≡ Is i d → Ext t1 (table t2 (d .spp))) → Left N 0 0 t1 s s1 → LeftBy N 0 0 r t2 s1 s2 → LeftBy N 0 0 r t2 s s2
+left-both : {N : ℕ} {t1 : Table} (r : State) (t2 : List ℕ) {s s1 : List ℕ} (s2 : List ℕ) → ((i : ℕ) (d : Counts) → r ≡ Is i d → Ext t1 (table t2 (d .spp))) → Modifies N 0 0 t1 s s1 → ModifiesBy N 0 0 r t2 s1 s2 → ModifiesBy N 0 0 r t2 s s2
 left-both (Is i d) t2 s2 e p q = left-trans (e i d refl) p q
 left-both (Refused n) t2 s2 e p q = tt
 
@@ -78,9 +78,9 @@ module _ (N : ℕ) (l : Bounds) (c : Counts) (x y : ℕ) (t₀ st₀ s₀ : List
     pub last : kindOf st₀ e ≡ SEQUENCE → ⊥
     pub has-z : z < d .states
     pub len : length s ≡ length s₀
-    pub grown : Grown (autOf t₀ st₀ (from .members) c) (autOf t st (from .members) d)
+    pub grown : ExtAut (autOf t₀ st₀ (from .members) c) (autOf t st (from .members) d)
     pub ready : Ready N l (autOf t st (from .members) d) s
-    pub left : Left N 0 0 (table t (d .spp)) s₀ s
+    pub left : Modifies N 0 0 (table t (d .spp)) s₀ s
     pub beside : (d .sp ≡ c .sp) × (d .transitions ≡ c .transitions)
     pub run : (p : Chain st₀ x u) (at : ℕ) → nest st₀ u ≤ at → Rest t st u e z d p at
 
@@ -139,7 +139,7 @@ module _ {N : ℕ} {l : Bounds} {c : Counts} {x y : ℕ} {t₀ st₀ s₀ t st s
   call-last p q = v .last (sym (kind-grown (v .grown) e (v .has-e)) ∙ subst (Since N st e z) q (p .since) .0)
 
   module _ {r : State} {t1 st1 s1 : List ℕ} (o : Sequences N L e z r d t st s t1 st1 s1) where
-    law : Goes N L (Meaning.Is N (Join (Holds N τ e) (Holds N τ z))) τ (mk-sequence N L e z τ)
+    law : StepSpec N L (Meaning.Is N (Join (Holds N τ e) (Holds N τ z))) τ (mk-sequence N L e z τ)
     law = mk-sequence-goes (v .ready .good) has-e (v .has-z)
 
     called : {k : ℕ} → nest st₀ e ≤ k → (at : ℕ) (es mem : List ℕ) → (sequence-by N L k e z >>= joinBy N L at es) (autOf t st mem d) ≡ after (seenAut r t1 st1 mem) (joinBy N L at es)
@@ -170,7 +170,7 @@ module _ {N : ℕ} {l : Bounds} {c : Counts} {x y : ℕ} {t₀ st₀ s₀ t st s
       abbrev τ1 : Aut
       τ1 = autOf t1 st1 mem₀ d1
 
-      grown-1 : Grown σ τ1
+      grown-1 : ExtAut σ τ1
       grown-1 = grown-trans (v .grown) (gone-1 .grown)
 
       walks-1 : Walks st1 x

@@ -16,7 +16,7 @@ use Rattle.aut_steps.specs.Constructors.{spp-of, mk-spp, mk-top, is-relation, s
 use Rattle.aut.specs.declared.Counts.{Counts}
 use Rattle.aut.specs.declared.Limits.{Limits}
 use Rattle.aut.specs.declared.State.{State}
-use Rattle.aut_rel.specs.Seen.{autOf, seenAut, Beside, SameNodes, LeftBy, Ready}
+use Rattle.aut_rel.specs.Seen.{autOf, seenAut, Beside, SameNodes, ModifiesBy, Ready}
 use Rattle.aut_mk.specs.declared.Task.{Task}
 use Rattle.aut_mk.specs.declared.Task.the-variants.{Sequence, Star}
 use Rattle.aut_mk.specs.declared.Known.{Known}
@@ -34,7 +34,7 @@ pub record Enters (o : Step Table ℕ) (r : State) (c : Counts) (st st′ : List
 pub record Makes (N : ℕ) (o : Step Aut ℕ) (r : State) (c : Counts) (t st s t′ st′ s′ : List ℕ) : Type 0 where
   pub is : (mem : List ℕ) → o (autOf t st mem c) ≡ seenAut r t′ st′ mem
   pub beside : Beside r c
-  pub left : LeftBy N 0 0 r t′ s s′
+  pub left : ModifiesBy N 0 0 r t′ s s′
 
 -- tables in order, and the operands are states
 pub record Asks (N : ℕ) (l : Limits) (t st s : List ℕ) (c : Counts) (operands : List ℕ) : Type 0 where

@@ -14,7 +14,7 @@ use Rattle.aut_steps.specs.Tables.{UNION, INTERSECT, nest, Limits, Aut}
 use Rattle.aut_steps.specs.Kinds.{form}
 use Rattle.aut_steps.specs.ListLaws.{All}
 use Rattle.aut_steps.proofs.ListLaws.{all-map}
-use Rattle.aut_steps.specs.Good.{states, kind, Good}
+use Rattle.aut_steps.specs.Good.{states, kind, WfAut}
 use Rattle.aut_steps.proofs.Good.{ok-as}
 use Rattle.delta_steps.specs.EpsilonDown.{First, this, later, Way, bottom, down}
 use Rattle.delta_steps.proofs.EpsilonDown.{first-of, first-open}
@@ -110,7 +110,7 @@ module _ {st mem : List ℕ} {x y : ℕ} (v : Reached st mem x y) where
 -- ---- tables in order
 
 -- a list's members are in the table
-pub inside-of : {N : ℕ} {L : Limits} {σ : Aut} → Good N L σ → {x : ℕ} → x < states σ → Inside (σ .states .words) (σ .members .words) x
+pub inside-of : {N : ℕ} {L : Limits} {σ : Aut} → WfAut N L σ → {x : ℕ} → x < states σ → Inside (σ .states .words) (σ .members .words) x
 unfolding form
 inside-of {σ = σ} g {x} l = record {
   state = omega (arith, g .fits);

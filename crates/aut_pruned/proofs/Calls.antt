@@ -11,7 +11,7 @@ use Rattle.cache.proofs.Cache.{sound-map, notes-map}
 use Rattle.sp_steps.specs.Model as Sp
 use Rattle.sp_steps.specs.Laws as SpLaws
 use Rattle.sp_steps.proofs.Laws as SpLawsProofs
-use Rattle.spp_steps.specs.Laws.{At, Den}
+use Rattle.spp_steps.specs.Laws.{ValidAt, Denotes}
 use Rattle.spp_steps.proofs.Laws.{den-mem}
 use Rattle.spp_steps.specs.ImageModel as Images
 use Rattle.spp_steps.specs.ImageModel.{stores}
@@ -37,7 +37,7 @@ use Rattle.query_stage.proofs.Layer.{Leaves, queryLayer, by-ends}
 use Rattle.aut.specs.Seen.{limitsOf}
 use Rattle.aut.specs.declared.Counts.{Counts}
 use Rattle.aut.specs.declared.Limits.{Limits}
-use Rattle.aut_rel.specs.Behind.{Left}
+use Rattle.aut_rel.specs.Behind.{Modifies}
 use Rattle.aut_rel.specs.Seen.{MadeLeft, Relates, RelateReady}
 use Rattle.aut_stage.specs.Stage.{gave, Post}
 use Rattle.aut_stage.specs.OnNodes.{withNodes}
@@ -48,7 +48,7 @@ use Rattle.aut_delta.specs.declared.Worked.the-variants as worked
 
 -- ---- what is left of scratch
 
-left-leaves : {N a n : ℕ} (τ : Tables) {s s′ : List ℕ} → Left N a n (τ .base .aut .nodes) s s′ → Leaves N a n τ s s′
+left-leaves : {N a n : ℕ} (τ : Tables) {s s′ : List ℕ} → Modifies N a n (τ .base .aut .nodes) s s′ → Leaves N a n τ s s′
 left-leaves τ p = record { below = p .below; above = p .above; notes = notes-map (λ op x y r v. inl v) (p .notes) }
 
 lift-leaves : {N : ℕ} (h : SPP) {n : ℕ} (sp u st mem tr : List ℕ) (c : Counts) {s s′ : List ℕ} → LiftNotes N (Node h n) u (table sp (c .sp)) s s′ → Leaves N 0 0 (tablesOf sp u st mem tr (withNodes c n)) s s′
@@ -60,17 +60,17 @@ module _ {N : ℕ} {l : Limits} {sp t st mem tr : List ℕ} {c : Counts} {s : Li
 
   -- ---- ifwd
 
-  module _ (a : ℕ) (at : SpLaws.At (table sp (c .sp)) N a) where
+  module _ (a : ℕ) (at : SpLaws.ValidAt (table sp (c .sp)) N a) where
     pub lift-ready : PreLift N (stores (table sp (c .sp)) (table t (c .spp))) s a
     lift-ready = record { few = R .ready .few; wf = both-wf (R .ordered); room = R .ready .room; sound = sound-map (λ op x y r v. v .images) (R .sound); at-a = at }
 
-    lift-ends : Ends N (limitsOf l) 0 (Steps N (limitsOf l) (λ τ h. At (τ .base .aut .nodes) N h) σ) σ (makingRelations (Images.ifwd N a) σ)
+    lift-ends : Ends N (limitsOf l) 0 (Steps N (limitsOf l) (λ τ h. ValidAt (τ .base .aut .nodes) N h) σ) σ (makingRelations (Images.ifwd N a) σ)
     lift-ends = ends-map (λ τ h v. record { gone = v .gone; ordered = v .ordered; holds = v .holds .at })
-        (relations-step (R .ordered) (λ u v. Den u N v (λ p q. Sp.mem sp N a q)) (ifwd-exact N N (diagrams σ) a (Sp.mem sp N a) (both-wf (R .ordered)) (SpLawsProofs.den-mem at)))
+        (relations-step (R .ordered) (λ u v. Denotes u N v (λ p q. Sp.mem sp N a q)) (ifwd-exact N N (diagrams σ) a (Sp.mem sp N a) (both-wf (R .ordered)) (SpLawsProofs.den-mem at)))
 
     module _ {r : Made} {t′ s′ : List ℕ} (A : PostLift N (Images.ifwd N a) (stores (table sp (c .sp)) (table t (c .spp))) r t′ s s′) where
       pub lift-given : {h : SPP} {n : ℕ} → r ≡ Node h n → length s′ ≡ length s
-          → Post (queryLayer N l) 0 0 (λ τ h. At (τ .base .aut .nodes) N h) (makingRelations (Images.ifwd N a) σ) σ c (gave (withNodes c n) (h .0)) (tablesOf sp t′ st mem tr) s s′
+          → Post (queryLayer N l) 0 0 (λ τ h. ValidAt (τ .base .aut .nodes) N h) (makingRelations (Images.ifwd N a) σ) σ c (gave (withNodes c n) (h .0)) (tablesOf sp t′ st mem tr) s s′
       lift-given {h} q len = by-ends R lift-ends (tablesOf sp t′ st mem tr)
           (ap (placed (λ s σ. putRelations (s .spp) σ) σ) (A .gives ∙ ap (λ (r : Made). lifted r t′ (table sp (c .sp))) q))
           (lift-leaves h sp t′ st mem tr c (subst (λ (r : Made). LiftNotes N r t′ (table sp (c .sp)) s s′) q (A .left))) len
@@ -80,17 +80,17 @@ module _ {N : ℕ} {l : Limits} {sp t st mem tr : List ℕ} {c : Counts} {s : Li
 
   -- ---- an intersection
 
-  module _ (a b : ℕ) (at-a : At (table t (c .spp)) N a) (at-b : At (table t (c .spp)) N b) where
+  module _ (a b : ℕ) (at-a : ValidAt (table t (c .spp)) N a) (at-b : ValidAt (table t (c .spp)) N b) where
     pub relate-ready : RelateReady N (table t (c .spp)) s a b
     relate-ready = record { backed = record { few = R .ready .few; wf = R .ready .good .nodes; room = R .ready .room; sound = R .ready .sound }; at-a = at-a; at-b = at-b }
 
-    meet-ends : Ends N (limitsOf l) 0 (Steps N (limitsOf l) (λ τ h. At (τ .base .aut .nodes) N h) σ) σ (onBase (onAut (onNodes (Rel.intersect N a b))) σ)
+    meet-ends : Ends N (limitsOf l) 0 (Steps N (limitsOf l) (λ τ h. ValidAt (τ .base .aut .nodes) N h) σ) σ (onBase (onAut (onNodes (Rel.intersect N a b))) σ)
     meet-ends = ends-map (λ τ h v. record { gone = v .gone; ordered = v .ordered; holds = v .holds .at })
         (goes-ends (R .ordered) (nodes-goes (R .ready .good) (intersect-makes (R .ready .good .nodes) (den-mem at-a) (den-mem at-b))))
 
     module _ {r : Made} {t′ s′ : List ℕ} (A : Relates N (Rel.intersect N a b) (table t (c .spp)) r t′ s s′) where
       pub meet-given : {h : SPP} {n : ℕ} → r ≡ Node h n → length s′ ≡ length s
-          → Post (queryLayer N l) 0 0 (λ τ h. At (τ .base .aut .nodes) N h) (onBase (onAut (onNodes (Rel.intersect N a b))) σ) σ c (gave (withNodes c n) (h .0)) (tablesOf sp t′ st mem tr) s s′
+          → Post (queryLayer N l) 0 0 (λ τ h. ValidAt (τ .base .aut .nodes) N h) (onBase (onAut (onNodes (Rel.intersect N a b))) σ) σ c (gave (withNodes c n) (h .0)) (tablesOf sp t′ st mem tr) s s′
       meet-given {n = n} q len = by-ends R meet-ends (tablesOf sp t′ st mem tr)
           (ap (λ o. placed putBase σ (placed putAut (σ .base) (placed putNodes (σ .base .aut) o))) (A .gives ∙ ap (λ (r : Made). Spp.seen r t′) q))
           (left-leaves (tablesOf sp t′ st mem tr (withNodes c n)) (subst (λ (r : Made). MadeLeft N r t′ s s′) q (A .left))) len

@@ -11,7 +11,7 @@ use Rattle.common.specs.Outcome.{after, if_then_else_}
 use Rattle.common.specs.Runs.{table}
 use Rattle.netkat.specs.ListSteps.{Edge, edge}
 use Rattle.sp_steps.specs.Laws as SpLaws
-use Rattle.spp_steps.specs.Laws.{At}
+use Rattle.spp_steps.specs.Laws.{ValidAt}
 use Rattle.spp_steps.proofs.Laws.{at-ext}
 use Rattle.spp_steps.specs.ImageModel as Images
 use Rattle.spp_steps.specs.ImageModel.{stores}
@@ -72,11 +72,11 @@ module _ {N : ℕ} {sp t st s : List ℕ} {c : Counts} {y g : ℕ} (P : PreViabl
 
     module _ {h : SPP} {n : ℕ} (q : r1 ≡ Node h n) (len1 : length s1 ≡ length s) where
       lifted-post : (l : Limits) (mem tr : List ℕ) → QueryReady N l (tablesOf sp t st mem tr c) s
-          → Post (queryLayer N l) 0 0 (λ τ h. At (τ .base .aut .nodes) N h) (makingRelations (Images.ifwd N (liveOf st y - 1)) (tablesOf sp t st mem tr c)) (tablesOf sp t st mem tr c) c (gave (withNodes c n) (h .0)) (tablesOf sp t1 st mem tr) s s1
+          → Post (queryLayer N l) 0 0 (λ τ h. ValidAt (τ .base .aut .nodes) N h) (makingRelations (Images.ifwd N (liveOf st y - 1)) (tablesOf sp t st mem tr c)) (tablesOf sp t st mem tr c) c (gave (withNodes c n) (h .0)) (tablesOf sp t1 st mem tr) s s1
       unfolding liveOf
       lifted-post l mem tr R = lift-given R _ (P .at-live) A q len1
 
-      at-g : (l : Limits) (mem tr : List ℕ) → QueryReady N l (tablesOf sp t st mem tr c) s → At (table t1 n) N g
+      at-g : (l : Limits) (mem tr : List ℕ) → QueryReady N l (tablesOf sp t st mem tr c) s → ValidAt (table t1 n) N g
       at-g l mem tr R = at-ext (lifted-post l mem tr R .then .ext .grown .nodes) N g (P .at-label)
 
       pub viable-relate : RelateReady N (table t1 n) s1 g (h .0)
@@ -89,7 +89,7 @@ module _ {N : ℕ} {sp t st s : List ℕ} {c : Counts} {y g : ℕ} (P : PreViabl
           finish (queryLayer N l) 0 0 (next (queryLayer N l) 0 0 v (all-of 0 0) _ (viable-begin l mem tr R)) (cutOf c r2) (go r2 B) (all-of 0 0)
         where
           go : (r : Made) → Relates N (Rel.intersect N g (h .0)) (table t1 n) r t2 s1 s2
-              → Post (queryLayer N l) 0 0 (λ τ h. At (τ .base .aut .nodes) N h) (onBase (onAut (onNodes (Rel.intersect N g (h .0)))) (tablesOf sp t1 st mem tr (withNodes c n))) (tablesOf sp t1 st mem tr (withNodes c n)) (withNodes c n) (cutOf c r) (tablesOf sp t2 st mem tr) s1 s2
+              → Post (queryLayer N l) 0 0 (λ τ h. ValidAt (τ .base .aut .nodes) N h) (onBase (onAut (onNodes (Rel.intersect N g (h .0)))) (tablesOf sp t1 st mem tr (withNodes c n))) (tablesOf sp t1 st mem tr (withNodes c n)) (withNodes c n) (cutOf c r) (tablesOf sp t2 st mem tr) s1 s2
           go (Node k m) B = meet-given (lifted-post l mem tr R .then .ready) _ _ (at-g l mem tr R) (lifted-post l mem tr R .then .holds) B refl len2
           go Full B = record { is = meet-refused (lifted-post l mem tr R .then .ready) _ _ (at-g l mem tr R) (lifted-post l mem tr R .then .holds) B refl; then = tt }
 
@@ -175,7 +175,7 @@ module _ {N : ℕ} {l : Limits} {sp t₀ st tr s₀ : List ℕ} {c : Counts} {x 
       pub entry-marked : 0 < liveOf st (e .target)
       entry-marked = P .ready .ordered .lives .onward x (P .has) (P .marked) e member
 
-      pub entry-live : SpLaws.At (table sp (c .sp)) N (liveOf st (e .target) - 1)
+      pub entry-live : SpLaws.ValidAt (table sp (c .sp)) N (liveOf st (e .target) - 1)
       entry-live = P .ready .ordered .lives .kept (e .target) (entry-known .state) (liveOf st (e .target) - 1) (omega (arith, entry-marked)) .den .at
 
   pub prune-begin : Cutting N l sp t₀ st tr s₀ c x (getD st (12 * x + 5) 0) (getD st (12 * x + 6) 0 - 1) t₀ s₀ (c .spp) 0 0
@@ -229,7 +229,7 @@ module _ {N : ℕ} {l : Limits} {sp t₀ st tr s₀ : List ℕ} {c : Counts} {x 
 
       module _ (r : Made) {t1 s1 : List ℕ} (A : PostViable N sp t st s (withNodes c n) y g r t1 s1) where
         viable-post : (z : Made) → r ≡ z → (mem : List ℕ) → Pruning N l (tablesOf sp t₀ st mem tr c) s₀ x
-            → Post (queryLayer N l) 0 0 (λ τ h. At (τ .base .aut .nodes) N h) (M.viable N (edge y g) (tablesOf sp t st mem tr (withNodes c n))) (tablesOf sp t st mem tr (withNodes c n)) (withNodes c n) (cutOf (withNodes c n) z) (tablesOf sp t1 st mem tr) s s1
+            → Post (queryLayer N l) 0 0 (λ τ h. ValidAt (τ .base .aut .nodes) N h) (M.viable N (edge y g) (tablesOf sp t st mem tr (withNodes c n))) (tablesOf sp t st mem tr (withNodes c n)) (withNodes c n) (cutOf (withNodes c n) z) (tablesOf sp t1 st mem tr) s s1
         viable-post z q mem P = subst (λ (r : Made). PostViable N sp t st s (withNodes c n) y g r t1 s1) q A l mem tr (v .turned mem P .stage .ready)
 
         pub prune-stuck : r ≡ Full → PostPrune N l sp t₀ st tr s₀ c x (pruned.Refused 21) t1 s1

@@ -6,7 +6,7 @@ use lib.ListN.{length}
 use Rattle.common.specs.Runs.{table}
 use Rattle.netkat.specs.ListSteps.{Edge, edge}
 use Rattle.sp_steps.specs.Laws as SpLaws
-use Rattle.spp_steps.specs.Laws.{At}
+use Rattle.spp_steps.specs.Laws.{ValidAt}
 use Rattle.spp.specs.declared.Made.{Made}
 use Rattle.spp.specs.declared.Made.the-variants.{Node, Full}
 use Rattle.aut_steps.specs.Good.{states}
@@ -62,13 +62,13 @@ pub record PreViable (N : ℕ) (sp t st s : List ℕ) (c : Counts) (y g : ℕ) :
   pub ready : QueryReady N limits (tablesOf sp t st members transitions c) s
   pub has : y < c .states
   pub marked : 0 < liveOf st y
-  pub at-live : SpLaws.At (table sp (c .sp)) N (liveOf st y - 1)
-  pub at-label : At (table t (c .spp)) N g
+  pub at-live : SpLaws.ValidAt (table sp (c .sp)) N (liveOf st y - 1)
+  pub at-label : ValidAt (table t (c .spp)) N g
 
 -- .. with any for which they are in order
 abbrev pub PostViable : (N : ℕ) (sp t st s : List ℕ) → Counts → (y g : ℕ) → Made → List ℕ → List ℕ → Type 0
 PostViable N sp t st s c y g r t′ s′ = (l : Limits) (mem tr : List ℕ) → QueryReady N l (tablesOf sp t st mem tr c) s
-    → Post (queryLayer N l) 0 0 (λ τ h. At (τ .base .aut .nodes) N h) (M.viable N (edge y g) (tablesOf sp t st mem tr c)) (tablesOf sp t st mem tr c) c (cutOf c r) (tablesOf sp t′ st mem tr) s s′
+    → Post (queryLayer N l) 0 0 (λ τ h. ValidAt (τ .base .aut .nodes) N h) (M.viable N (edge y g) (tablesOf sp t st mem tr c)) (tablesOf sp t st mem tr c) c (cutOf c r) (tablesOf sp t′ st mem tr) s s′
 
 -- ---- the list so far
 

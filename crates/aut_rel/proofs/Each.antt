@@ -16,7 +16,7 @@ use Rattle.common.specs.Packets.{Relation}
 use Rattle.aut_steps.proofs.RelationLaws.{Made, Makes, lacks, makes}
 use Rattle.aut_steps.specs.Constructors.{each}
 use Rattle.aut_steps.proofs.Scratch.{words-on, words-done, from-0, all-word}
-use Rattle.aut_rel.specs.Behind.{LISTS, Left, Backed}
+use Rattle.aut_rel.specs.Behind.{LISTS, Modifies, CacheReady}
 use Rattle.aut_rel.proofs.Behind.{left-refl, left-trans, left-wide, backed-left}
 
 -- what an operation on relations makes
@@ -54,15 +54,15 @@ pub record Turn (N : ℕ) {A : Type 0} (one : ℕ → A → Step Table A) (I : T
   pub at : i ≤ k
   pub few : m ≤ i
   pub len : length s ≡ length s₀
-  pub left : Left N to k t s₀ s
+  pub left : Modifies N to k t s₀ s
   pub ext : Ext t₀ t
-  pub backed : Backed N t s
+  pub backed : CacheReady N t s
   pub holds : I t a
   pub is : each one (words s₀ from k) a₀ t₀ ≡ each one (words s₀ (from + i) (k - i)) a t
 
 module _ {N : ℕ} {A : Type 0} {one : ℕ → A → Step Table A} {X : Table → ℕ → Type 0} {I : Table → A → Type 0} (K : Keeps N one X I)
     (a₀ : A) (t₀ : Table) (s₀ : List ℕ) (from k to : ℕ) (apart : from + k ≤ to) (room : to + k ≤ LISTS) where
-  pub begin : Backed N t₀ s₀ → I t₀ a₀ → Turn N one I a₀ t₀ s₀ from k to a₀ t₀ s₀ 0 0
+  pub begin : CacheReady N t₀ s₀ → I t₀ a₀ → Turn N one I a₀ t₀ s₀ from k to a₀ t₀ s₀ 0 0
   begin b h = record {
     at = omega arith;
     few = omega arith;
@@ -92,10 +92,10 @@ module _ {N : ℕ} {A : Type 0} {one : ℕ → A → Step Table A} {X : Table �
       stuck e = next e
 
       pub again : All (X t₀) (words s₀ from k) → (a1 : A) (t1 : Table) (s1 : List ℕ) (m1 : ℕ) → one (getD s (from + i) 0) a t ≡ given t1 a1
-          → Left N (to + m) 1 t1 s s1 → m1 ≤ m + 1 → length s1 ≡ length s → Turn N one I a₀ t₀ s₀ from k to a1 t1 s1 m1 (i + 1)
+          → Modifies N (to + m) 1 t1 s s1 → m1 ≤ m + 1 → length s1 ≡ length s → Turn N one I a₀ t₀ s₀ from k to a1 t1 s1 m1 (i + 1)
       again all a1 t1 s1 m1 e left h len =
           let g = given-of (K .step t (getD s (from + i) 0) a (v .backed .wf) (v .holds) (member l all)) e in
-          let wide : Left N to k t1 s s1 = left-wide left (omega arith) (omega (arith, v .few)) in
+          let wide : Modifies N to k t1 s s1 = left-wide left (omega arith) (omega (arith, v .few)) in
           record {
             at = omega arith;
             few = omega (arith, v .few);

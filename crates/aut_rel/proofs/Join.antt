@@ -19,9 +19,9 @@ use Rattle.aut.specs.declared.State.the-variants.{Is, Refused}
 use Rattle.spp.specs.Seen.{seen, Noted}
 use Rattle.spp.specs.declared.Made.{Made}
 use Rattle.spp.specs.declared.Made.the-variants.{Node, Full}
-use Rattle.aut_rel.specs.Behind.{LISTS, Left}
+use Rattle.aut_rel.specs.Behind.{LISTS, Modifies}
 use Rattle.aut_rel.proofs.Behind.{lent, back, left-back}
-use Rattle.aut_rel.specs.Seen.{autOf, seenAut, Beside, LeftBy, SameNodes, MadeLeft, Places}
+use Rattle.aut_rel.specs.Seen.{autOf, seenAut, Beside, ModifiesBy, SameNodes, MadeLeft, Places}
 
 -- both_relations
 module _ (st : List ℕ) (x y : ℕ) where
@@ -44,8 +44,8 @@ made-left N (Node h n) t′ s m′ l v = left-back s m′ l v
 made-left N Full t′ s m′ l v = tt
 
 -- what is left of scratch, where the nodes are as they were
-pub same-left : (N a n : ℕ) (r : State) (c : Counts) (t s s′ : List ℕ) → SameNodes r c → Left N a n (table t (c .spp)) s s′ → LeftBy N a n r t s s′
-same-left N a n (Is i d) c t s s′ e l = subst (λ (z : ℕ). Left N a n (table t z) s s′) (sym e) l
+pub same-left : (N a n : ℕ) (r : State) (c : Counts) (t s s′ : List ℕ) → SameNodes r c → Modifies N a n (table t (c .spp)) s s′ → ModifiesBy N a n r t s s′
+same-left N a n (Is i d) c t s s′ e l = subst (λ (z : ℕ). Modifies N a n (table t z) s s′) (sym e) l
 same-left N a n (Refused e) c t s s′ q l = tt
 
 -- the counts of tables that were not taken

@@ -11,7 +11,7 @@ use Rattle.aut_steps.specs.Tables.{UNION, INTERSECT, TOP, kindOf, Limits, Aut}
 use Rattle.aut_steps.specs.Kinds.{form}
 use Rattle.aut_steps.specs.ListLaws.{All}
 use Rattle.aut_steps.proofs.ListLaws.{all-append}
-use Rattle.aut_steps.specs.Good.{states, kind, Good}
+use Rattle.aut_steps.specs.Good.{states, kind, WfAut}
 use Rattle.aut_steps.proofs.UnionLaws.{Extended, fits, passes, extended, opened-states}
 use Rattle.aut_steps.specs.Constructors.{Within, within, beyond, thenWithin, Opened, list, top, long, thenOpen, opened, extend, openAll, openUnion}
 
@@ -24,7 +24,7 @@ abbrev pub AllWithin : (ℕ → Type 0) → Within (List ℕ) → Type 0
 AllWithin P (within xs) = All P xs
 AllWithin P beyond = Unit
 
-module _ {N : ℕ} {L : Limits} {σ : Aut} (g : Good N L σ) where
+module _ {N : ℕ} {L : Limits} {σ : Aut} (g : WfAut N L σ) where
   abbrev State : ℕ → Type 0
   State x = x < states σ
 

@@ -10,17 +10,17 @@ use Rattle.common.specs.Outcome.{Outcome, refused, given, Gives}
 use Rattle.common.proofs.Follow.{given-of}
 use Rattle.common.specs.Runs.{Table, table}
 use Rattle.netkat.specs.Rules.{Rule, xor, difference, complement, sequence, star, until}
-use Rattle.spp_steps.specs.Laws.{Wf, Ext, At}
+use Rattle.spp_steps.specs.Laws.{Wf, Ext, ValidAt}
 use Rattle.spp_steps.proofs.Laws.{at-ext}
 use Rattle.aut_steps.specs.Tables.{SPP, UNION, INTERSECT, XOR, DIFFERENCE, COMPLEMENT, SEQUENCE, STAR, UNTIL, kindOf, op1, op2, words, Limits, Aut, stateCap}
 use Rattle.aut_steps.specs.Kinds.{Form, one, two, form}
 use Rattle.aut_steps.specs.ListLaws.{All}
 use Rattle.aut_steps.proofs.ListLaws.{all-map}
 use Rattle.aut_steps.proofs.Products.{union-size}
-use Rattle.aut_steps.specs.Good.{states, kind, first, second, Ok, Grown, Good}
+use Rattle.aut_steps.specs.Good.{states, kind, first, second, Ok, ExtAut, WfAut}
 use Rattle.aut_steps.proofs.Good.{ok-as}
 use Rattle.aut_steps.specs.Goes.{Gone}
-use Rattle.aut_steps.proofs.Goes.{Goes}
+use Rattle.aut_steps.proofs.Goes.{StepSpec}
 use Rattle.aut_steps.proofs.StateLaws as StateLaws
 use Rattle.aut.specs.declared.Counts.{Counts}
 use Rattle.aut.specs.declared.Limits.{Limits as Bounds}
@@ -28,11 +28,11 @@ use Rattle.aut.specs.declared.State.{State}
 use Rattle.aut.specs.declared.State.the-variants.{Is, Refused}
 use Rattle.aut.specs.Seen.{limitsOf, Fits, Ready1, Ready2, ListIn, Below, AddReady, ListReady}
 use Rattle.aut_lists.specs.Seen.{OpenAt, ProductAt}
-use Rattle.aut_rel.specs.Behind.{LISTS, Left, Backed}
+use Rattle.aut_rel.specs.Behind.{LISTS, Modifies, CacheReady}
 use Rattle.aut_rel.proofs.Behind.{backed-left}
-use Rattle.aut_rel.specs.Seen.{autOf, seenAut, LeftBy, Ready, RelAt, SppReady}
+use Rattle.aut_rel.specs.Seen.{autOf, seenAut, ModifiesBy, Ready, RelAt, SppReady}
 
-module _ {N : ℕ} {L : Limits} {σ : Aut} (g : Good N L σ) where
+module _ {N : ℕ} {L : Limits} {σ : Aut} (g : WfAut N L σ) where
   abbrev st : List ℕ
   st = σ .states .words
 
@@ -127,11 +127,11 @@ module _ {N : ℕ} {L : Limits} {σ : Aut} (g : Good N L σ) where
     intersect-ready = ready INTERSECT (λ i l. record { within = intersect-inside l }) (λ i l e. ok-as g INTERSECT l e .earlier)
 
 -- scratch and nodes
-pub backed-of : {N : ℕ} {l : Bounds} {σ : Aut} {s : List ℕ} → Ready N l σ s → Backed N (σ .nodes) s
+pub backed-of : {N : ℕ} {l : Bounds} {σ : Aut} {s : List ℕ} → Ready N l σ s → CacheReady N (σ .nodes) s
 backed-of r = record { few = r .few; wf = r .good .nodes; room = r .room; sound = r .sound }
 
 -- later tables, and scratch as it is left
-pub ready-after : {N : ℕ} {l : Bounds} {σ τ : Aut} {s s′ : List ℕ} {a n : ℕ} → Ready N l σ s → Grown σ τ → Good N (limitsOf l) τ → Left N a n (τ .nodes) s s′ → length s′ ≡ length s → Ready N l τ s′
+pub ready-after : {N : ℕ} {l : Bounds} {σ τ : Aut} {s s′ : List ℕ} {a n : ℕ} → Ready N l σ s → ExtAut σ τ → WfAut N (limitsOf l) τ → Modifies N a n (τ .nodes) s s′ → length s′ ≡ length s → Ready N l τ s′
 ready-after r w g p len =
     let b = backed-left (backed-of r) (w .nodes) (g .nodes) p len in
     record { few = r .few; good = g; room = b .room; sound = b .sound; list = r .list; products = r .products }

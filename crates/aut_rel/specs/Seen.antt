@@ -6,31 +6,31 @@ use lib.ListN.{length}
 use Rattle.common.specs.Outcome.{Outcome, refused, given, Step}
 use Rattle.common.specs.Runs.{Table, table, placed}
 use Rattle.cache.specs.Cache.{Sound}
-use Rattle.spp_steps.specs.Laws.{At}
+use Rattle.spp_steps.specs.Laws.{ValidAt}
 use Rattle.spp.specs.Seen.{seen}
 use Rattle.spp.specs.declared.Made.{Made}
 use Rattle.spp.specs.declared.Made.the-variants.{Node, Full}
 use Rattle.aut_steps.specs.Tables as M
 use Rattle.aut_steps.specs.Tables.{Aut, aut, Exprs, exprs, putStates, kindOf, op1, SPP}
 use Rattle.aut_steps.specs.Constructors.{spp-of}
-use Rattle.aut_steps.specs.Good.{Good}
+use Rattle.aut_steps.specs.Good.{WfAut}
 use Rattle.aut.specs.Seen.{limitsOf, seenPut, seenState, Fits}
 use Rattle.aut.specs.declared.Counts.{Counts}
 use Rattle.aut.specs.declared.Limits.{Limits}
 use Rattle.aut.specs.declared.Put.{Put}
 use Rattle.aut.specs.declared.State.{State}
 use Rattle.aut.specs.declared.State.the-variants.{Is, Refused}
-use Rattle.aut_rel.specs.Behind.{LISTS, Left, Backed, Readable, cached}
+use Rattle.aut_rel.specs.Behind.{LISTS, Modifies, CacheReady, Readable, cached}
 
 -- ---- an operation on relations
 
 pub record RelateReady (N : ℕ) (t : Table) (s : List ℕ) (a b : ℕ) : Type 0 where
-  pub backed : Backed N t s
-  pub at-a : At t N a
-  pub at-b : At t N b
+  pub backed : CacheReady N t s
+  pub at-a : ValidAt t N a
+  pub at-b : ValidAt t N b
 
 abbrev pub MadeLeft : ℕ → Made → List ℕ → List ℕ → List ℕ → Type 0
-MadeLeft N (Node h n) t′ s s′ = Left N 0 0 (table t′ n) s s′
+MadeLeft N (Node h n) t′ s s′ = Modifies N 0 0 (table t′ n) s s′
 MadeLeft N Full t′ s s′ = Unit
 
 -- the step c has been done; of the lists nothing was touched
@@ -53,20 +53,20 @@ Beside (Is i d) c = (d .sp ≡ c .sp) × (d .transitions ≡ c .transitions)
 Beside (Refused e) c = Unit
 
 -- of scratch, the n words from a were written; unless refused
-abbrev pub LeftBy : ℕ → ℕ → ℕ → State → List ℕ → List ℕ → List ℕ → Type 0
-LeftBy N a n (Is i d) t′ s s′ = Left N a n (table t′ (d .spp)) s s′
-LeftBy N a n (Refused e) t′ s s′ = Unit
+abbrev pub ModifiesBy : ℕ → ℕ → ℕ → State → List ℕ → List ℕ → List ℕ → Type 0
+ModifiesBy N a n (Is i d) t′ s s′ = Modifies N a n (table t′ (d .spp)) s s′
+ModifiesBy N a n (Refused e) t′ s s′ = Unit
 
 -- the outcome o is what the answer r says
 pub record Does (N a n : ℕ) (o : Outcome Aut ℕ) (r : State) (c : Counts) (t′ st′ mem′ s s′ : List ℕ) : Type 0 where
   pub is : o ≡ seenAut r t′ st′ mem′
   pub beside : Beside r c
-  pub left : LeftBy N a n r t′ s s′
+  pub left : ModifiesBy N a n r t′ s s′
 
 -- the tables are in order, the limits in range
 pub record Ready (N : ℕ) (l : Limits) (σ : Aut) (s : List ℕ) : Type 0 where
   pub few : N ≤ 31
-  pub good : Good N (limitsOf l) σ
+  pub good : WfAut N (limitsOf l) σ
   pub room : LISTS ≤ length s
   pub sound : Sound (Readable N (σ .nodes)) (cached s)
   pub list : l .list ≤ 64
@@ -87,20 +87,20 @@ pub record Places (p : Put) (c : Counts) (r : State) : Type 0 where
 -- ---- the state of a relation that an operation makes of x and y
 
 pub record SppReady (N : ℕ) (t st s : List ℕ) (c : Counts) (x y : ℕ) : Type 0 where
-  pub backed : Backed N (table t (c .spp)) s
+  pub backed : CacheReady N (table t (c .spp)) s
   pub fits : Fits st (c .states)
   pub has-x : x < c .states
   pub has-y : y < c .states
-  pub at-x : At (table t (c .spp)) N (op1 st x)
-  pub at-y : At (table t (c .spp)) N (op1 st y)
+  pub at-x : ValidAt (table t (c .spp)) N (op1 st x)
+  pub at-y : ValidAt (table t (c .spp)) N (op1 st y)
 
 -- the members, which are not taken, are any
 pub record DoesSpp (N : ℕ) (o : Step Table ℕ) (r : State) (c : Counts) (t st s t′ st′ s′ : List ℕ) : Type 0 where
   pub is : (mem : List ℕ) → spp-of o (autOf t st mem c) ≡ seenAut r t′ st′ mem
   pub beside : Beside r c
-  pub left : LeftBy N 0 0 r t′ s s′
+  pub left : ModifiesBy N 0 0 r t′ s s′
 
 -- state x is in the table; if it is a relation, its handle is in order
 pub record RelAt (N : ℕ) (t : Table) (st : List ℕ) (x : ℕ) : Type 0 where
   pub state : 12 * x + 11 < length st
-  pub handle : kindOf st x ≡ SPP → At t N (op1 st x)
+  pub handle : kindOf st x ≡ SPP → ValidAt t N (op1 st x)

@@ -12,7 +12,7 @@ use Rattle.common.proofs.Runs as Runs
 use Rattle.common.specs.Runs.{Table, placed}
 use Rattle.common.proofs.Runs.{runs-bind, runs-return, runs-map}
 use Rattle.spp_steps.specs.Model as Spp
-use Rattle.spp_steps.specs.Laws.{Wf, Ext, At}
+use Rattle.spp_steps.specs.Laws.{Wf, Ext, ValidAt}
 use Rattle.spp_steps.proofs.Laws.{at-ext, den-mem, den-top, sppTheory}
 use Rattle.spp_steps.proofs.Apply.{apply-exact}
 use Rattle.spp_steps.proofs.Sequence.{sequence-exact}
@@ -26,7 +26,7 @@ use Rattle.netkat.specs.Rules.{union, intersection}
 use Rattle.aut_steps.specs.Kinds.{form}
 use Rattle.aut_steps.specs.ListLaws.{All}
 use Rattle.aut_steps.proofs.ListLaws.{all-map, all-append}
-use Rattle.aut_steps.specs.Good.{states, kind, first, second, nesting, Two, Good}
+use Rattle.aut_steps.specs.Good.{states, kind, first, second, nesting, Two, WfAut}
 use Rattle.aut_steps.proofs.Good.{nesting-grown, state-grown, states-grown, ok-as}
 use Rattle.aut_steps.proofs.Goes.{goes-map}
 use Rattle.aut_steps.proofs.StateLaws.{handle, both-spp, mk-spp-goes, mk-dup-goes, mk-top-goes, mk-until-goes, mk-xor-goes, mk-difference-goes, mk-complement-goes, mk-star-goes}
@@ -42,9 +42,9 @@ use Rattle.aut_replay.proofs.Opening.{Withins, Openings, within-same, o
 
 -- ---- relations
 
-module _ {N : ℕ} {L L′ : Limits} {σ : Aut} (g : Good N L σ) where
+module _ {N : ℕ} {L L′ : Limits} {σ : Aut} (g : WfAut N L σ) where
   -- a handle is made
-  label-replay : (c : Step Table ℕ) → Runs.Runs (sppTheory N) c (λ t h. At t N h) (σ .nodes) → Replays N L′ (In N L (Label N)) (onNodes c) σ (onNodes c σ)
+  label-replay : (c : Step Table ℕ) → Runs.StableSpec (sppTheory N) c (λ t h. ValidAt t N h) (σ .nodes) → Replays N L′ (In N L (Label N)) (onNodes c) σ (onNodes c σ)
   label-replay c r = replays-map (nodes-replay g c r) (λ τ h w p. (p .0, record { at = p .1 .1 }))
 
   module _ {a : ℕ} (x : Label N σ a) where
@@ -67,7 +67,7 @@ module _ {N : ℕ} {L L′ : Limits} {σ : Aut} (g : Good N L σ) where
 
 -- ---- states that need no look at their operands
 
-module _ {N : ℕ} {L L′ : Limits} {σ : Aut} (g : Good N L σ) where
+module _ {N : ℕ} {L L′ : Limits} {σ : Aut} (g : WfAut N L σ) where
   pub mk-spp-replay : {h : ℕ} → Label N σ h → Replays N L′ (In N L State) (onStates (mk-spp h)) σ (onStates (mk-spp h) σ)
   unfolding mk-spp form
   mk-spp-replay {h} a =
@@ -108,47 +108,47 @@ module _ {σ υ : Aut} (w : Later σ υ) {x : ℕ} (l : x < states σ) where
   relations-later {y} m = λ d. eqb (kind-later w x l d) SPP && eqb (kind-later w y m d) SPP
 
 -- the handles of two SPP states
-handles : {N : ℕ} {L : Limits} {σ : Aut} → Good N L σ → {x y : ℕ} → x < states σ → y < states σ → relations (σ .states .words) x y ≡ true → Label N σ (first σ x) × Label N σ (first σ y)
+handles : {N : ℕ} {L : Limits} {σ : Aut} → WfAut N L σ → {x y : ℕ} → x < states σ → y < states σ → relations (σ .states .words) x y ≡ true → Label N σ (first σ x) × Label N σ (first σ y)
 handles g {x} {y} l m q = let (a, b) = both-spp g x y q in (record { at = handle g l a }, record { at = handle g m b })
 
 -- ---- relations gathered from a list
 
 runs-if : {N : ℕ} {A : Type 0} {P : Table → A → Type 0} {t : Table} (b : Bool) (c d : Step Table A)
-    → (b ≡ true → Runs.Runs (sppTheory N) c P t) → (b ≡ false → Runs.Runs (sppTheory N) d P t) → Runs.Runs (sppTheory N) (if b then c else d) P t
+    → (b ≡ true → Runs.StableSpec (sppTheory N) c P t) → (b ≡ false → Runs.StableSpec (sppTheory N) d P t) → Runs.StableSpec (sppTheory N) (if b then c else d) P t
 runs-if true c d f h = f refl
 runs-if false c d f h = h refl
 
 -- one of the first n states; the handle that st has of an SPP is a relation
 record Member (N n : ℕ) (st : List ℕ) (t : Table) (x : ℕ) : Type 0 where
   state : x < n
-  relation : eqb (kindOf st x) SPP ≡ true → At t N (op1 st x)
+  relation : eqb (kindOf st x) SPP ≡ true → ValidAt t N (op1 st x)
 
 members-ext : (N n : ℕ) (st : List ℕ) {t u : Table} → Ext t u → (xs : List ℕ) → All (Member N n st t) xs → All (Member N n st u) xs
 members-ext N n st e xs a = all-map xs (λ x m. record { state = m .state; relation = λ q. at-ext e N (op1 st x) (m .relation q) }) a
 
-members-are : {N : ℕ} {L : Limits} {σ : Aut} → Good N L σ → (xs : List ℕ) → All (λ x. x < states σ) xs → All (Member N (states σ) (σ .states .words) (σ .nodes)) xs
+members-are : {N : ℕ} {L : Limits} {σ : Aut} → WfAut N L σ → (xs : List ℕ) → All (λ x. x < states σ) xs → All (Member N (states σ) (σ .states .words) (σ .nodes)) xs
 members-are {σ = σ} g xs a = all-map xs (λ x l. record { state = l; relation = λ q. handle g l (eqb-true (kind σ x) SPP q) }) a
 
 module _ (N n : ℕ) where
   record PartsAt (t : Table) (p : Parts) : Type 0 where
-    at : At t N (p .relation)
+    at : ValidAt t N (p .relation)
     others : All (λ x. x < n) (p .others)
 
   record MetAt (t : Table) (p : Met) : Type 0 where
-    at : At t N (p .relation)
+    at : ValidAt t N (p .relation)
     others : All (λ x. x < n) (p .others)
 
-  pub apply-runs : (o : Spp.Op) {t : Table} (a b : ℕ) → Wf N t → At t N a → At t N b → Runs.Runs (sppTheory N) (Spp.apply N o N a b) (λ t h. At t N h) t
+  pub apply-runs : (o : Spp.Op) {t : Table} (a b : ℕ) → Wf N t → ValidAt t N a → ValidAt t N b → Runs.StableSpec (sppTheory N) (Spp.apply N o N a b) (λ t h. ValidAt t N h) t
   apply-runs o {t} a b w x y = runs-map (sppTheory N) (λ t h e w d. d .at) (apply-exact N o N (omega arith) t a b _ _ w (den-mem x) (den-mem y) .runs)
 
-  uniteOne-runs : (st : List ℕ) {t : Table} → Wf N t → (x : ℕ) → Member N n st t x → (p : Parts) → PartsAt t p → Runs.Runs (sppTheory N) (uniteOne N st x p) PartsAt t
+  uniteOne-runs : (st : List ℕ) {t : Table} → Wf N t → (x : ℕ) → Member N n st t x → (p : Parts) → PartsAt t p → Runs.StableSpec (sppTheory N) (uniteOne N st x p) PartsAt t
   unfolding uniteOne
   uniteOne-runs st w x m p a =
       runs-if (eqb (kindOf st x) SPP) _ _
       (λ q. runs-bind (sppTheory N) (apply-runs Spp.union (p .relation) (op1 st x) w (a .at) (m .relation q)) (λ u h e v d. runs-return (sppTheory N) (parts h (p .others)) v (record { at = d; others = a .others })))
       (λ q. runs-return (sppTheory N) _ w (record { at = a .at; others = all-append (λ x. x < n) (p .others) (x ∷ []) (a .others) (m .state, tt) }))
 
-  meetOne-runs : (st : List ℕ) {t : Table} → Wf N t → (x : ℕ) → Member N n st t x → (p : Met) → MetAt t p → Runs.Runs (sppTheory N) (meetOne N st x p) MetAt t
+  meetOne-runs : (st : List ℕ) {t : Table} → Wf N t → (x : ℕ) → Member N n st t x → (p : Met) → MetAt t p → Runs.StableSpec (sppTheory N) (meetOne N st x p) MetAt t
   unfolding meetOne
   meetOne-runs st w x m p a =
       runs-if (eqb (kindOf st x) TOP) _ _ (λ q. runs-return (sppTheory N) p w a)
@@ -157,8 +157,8 @@ module _ (N n : ℕ) where
       (λ q. runs-return (sppTheory N) _ w (record { at = a .at; others = all-append (λ x. x < n) (p .others) (x ∷ []) (a .others) (m .state, tt) })))
 
   each-runs : {A : Type 0} {P : Table → A → Type 0} (st : List ℕ) (one : ℕ → A → Step Table A)
-      → ((t : Table) → Wf N t → (x : ℕ) → Member N n st t x → (a : A) → P t a → Runs.Runs (sppTheory N) (one x a) P t)
-      → {t : Table} → Wf N t → (xs : List ℕ) → All (Member N n st t) xs → (a : A) → P t a → Runs.Runs (sppTheory N) (each one xs a) P t
+      → ((t : Table) → Wf N t → (x : ℕ) → Member N n st t x → (a : A) → P t a → Runs.StableSpec (sppTheory N) (one x a) P t)
+      → {t : Table} → Wf N t → (xs : List ℕ) → All (Member N n st t) xs → (a : A) → P t a → Runs.StableSpec (sppTheory N) (each one xs a) P t
   unfolding each
   each-runs st one f w [] m a p = runs-return (sppTheory N) a w p
   each-runs st one f {t} w (x ∷ xs) m a p = runs-bind (sppTheory N) (f t w x (m .0) a p) (λ u b e v q. each-runs st one f v xs (members-ext N n st e xs (m .1)) b q)
@@ -191,7 +191,7 @@ abbrev exprsOf : Aut → Exprs
 exprsOf σ = exprs (σ .states) (σ .members)
 
 module _ {N : ℕ} {L L′ : Limits} (wide : Wider L L′) where
-  addRelation-replay : {σ : Aut} → Good N L σ → (p : Parts) → PartsAt N (states σ) (σ .nodes) p
+  addRelation-replay : {σ : Aut} → WfAut N L σ → (p : Parts) → PartsAt N (states σ) (σ .nodes) p
       → Replays N L′ (In N L (λ τ ys. All (λ y. y < states τ) ys)) (onStates (addRelation N p)) σ (onStates (addRelation N p) σ)
   unfolding addRelation
   addRelation-replay {σ} g p a =
@@ -200,7 +200,7 @@ module _ {N : ℕ} {L L′ : Limits} (wide : Wider L L′) where
       (λ q. states-then (mk-spp (p .relation)) (mk-spp (p .relation)) (λ i. p .others ++ i ∷ []) (mk-spp-replay g (record { at = a .at }))
       (λ τ i w (v, s). (v, all-append (λ y. y < states τ) (p .others) (i ∷ []) (states-grown w (p .others) (a .others)) (s, tt))))
 
-  finish-replay : {σ : Aut} → Good N L σ → (xs : List ℕ) → Replays N L′ Some (onExprs (finish N L′ xs)) σ (onExprs (finish N L xs) σ)
+  finish-replay : {σ : Aut} → WfAut N L σ → (xs : List ℕ) → Replays N L′ Some (onExprs (finish N L′ xs)) σ (onExprs (finish N L xs) σ)
   unfolding finish form
   finish-replay {σ} g xs =
       replays-in putExprs exprsOf (eqb (length xs) 1) _ _ _ _ (λ q. replays-return (getD xs 0 0) tt)
@@ -209,7 +209,7 @@ module _ {N : ℕ} {L L′ : Limits} (wide : Wider L L′) where
       (replays-as (λ υ w v. within-exprs υ (mk-spp (Rel.zeroAt N) (υ .states))) (replays-map (zero-replay g) (λ τ z w p. tt))))
       (λ m. internL-replays g UNION union refl xs))
 
-  unite-replay : {σ : Aut} → Good N L σ → (xs : List ℕ) → All (λ x. x < states σ) xs → Replays N L′ Some (unite N L′ xs) σ (unite N L xs σ)
+  unite-replay : {σ : Aut} → WfAut N L σ → (xs : List ℕ) → All (λ x. x < states σ) xs → Replays N L′ Some (unite N L′ xs) σ (unite N L xs σ)
   unfolding unite
   unite-replay {σ} g xs a =
       replays-as (λ υ w v. ap (λ (c : Step Table Parts). after (onNodes c υ) (λ p. onStates (addRelation N p) >>= λ ys. onExprs (finish N L′ (sorted ys)))) (uniteOne-later w N xs a (parts (Rel.zeroAt N) [])))
@@ -218,7 +218,7 @@ module _ {N : ℕ} {L L′ : Limits} (wide : Wider L L′) where
       (record { at = zero-label g .at; others = tt }))) (λ τ p w (v, (e, q)).
       replays-bind (addRelation-replay v p (record { at = q .at; others = subst (λ (n : ℕ). All (λ x. x < n) (p .others)) (sym e) (q .others) })) (λ τ₁ ys w₁ (v₁, b). finish-replay v₁ (sorted ys))))
 
-  pub mk-union-n-replay : {σ : Aut} → Good N L σ → (xs : List ℕ) → All (λ x. x < states σ) xs → Replays N L′ (In N L State) (mk-union-n N L′ xs) σ (mk-union-n N L xs σ)
+  pub mk-union-n-replay : {σ : Aut} → WfAut N L σ → (xs : List ℕ) → All (λ x. x < states σ) xs → Replays N L′ (In N L State) (mk-union-n N L′ xs) σ (mk-union-n N L xs σ)
   unfolding mk-union-n
   mk-union-n-replay {σ} g xs a =
       replays-goes (goes-map (mk-union-n-goes g xs a) (λ τ z w v s. s .state))
@@ -232,7 +232,7 @@ module _ {N : ℕ} {L L′ : Limits} (wide : Wider L L′) where
       go top f = replays-as (λ υ w v. ap (λ (o : Opened). uniteOpened N L′ o υ) (open-top (f υ w))) (replays-map (mk-top-replay g) (λ τ z w p. tt))
       go (list ys) f = replays-as (λ υ w v. ap (λ (o : Opened). uniteOpened N L′ o υ) (open-list (f υ w) .0)) (unite-replay g ys (open-list (f σ (later-refl σ)) .1))
 
-  pub mk-union-replay : {σ : Aut} → Good N L σ → {x y : ℕ} → State σ x → State σ y → Replays N L′ (In N L State) (mk-union N L′ x y) σ (mk-union N L x y σ)
+  pub mk-union-replay : {σ : Aut} → WfAut N L σ → {x y : ℕ} → State σ x → State σ y → Replays N L′ (In N L State) (mk-union N L′ x y) σ (mk-union N L x y σ)
   unfolding mk-union
   mk-union-replay {σ} g {x} {y} l m =
       replays-choose (eqb x y) (λ q. replays-return x (g, l))
@@ -243,14 +243,14 @@ module _ {N : ℕ} {L L′ : Limits} (wide : Wider L L′) where
 
   -- ---- intersections
 
-  addLast-replay : {σ : Aut} → Good N L σ → (p : Met) (xs : List ℕ) → Label N σ (p .relation) → Replays N L′ (In N L (λ τ ys. Unit {0})) (onStates (addLast p xs)) σ (onStates (addLast p xs) σ)
+  addLast-replay : {σ : Aut} → WfAut N L σ → (p : Met) (xs : List ℕ) → Label N σ (p .relation) → Replays N L′ (In N L (λ τ ys. Unit {0})) (onStates (addLast p xs)) σ (onStates (addLast p xs) σ)
   unfolding addLast
   addLast-replay {σ} g p xs a =
       replays-in putStates (λ υ. υ .states) (p .some) _ _ _ _
       (λ q. states-then (mk-spp (p .relation)) (mk-spp (p .relation)) (λ i. xs ++ i ∷ []) (mk-spp-replay g a) (λ τ i w (v, s). (v, tt)))
       (λ q. replays-return xs (g, tt))
 
-  meetFinish-replay : {σ : Aut} → Good N L σ → (p : Met) (xs : List ℕ) → Label N σ (p .relation) → Replays N L′ Some (meetFinish N L′ p xs) σ (meetFinish N L p xs σ)
+  meetFinish-replay : {σ : Aut} → WfAut N L σ → (p : Met) (xs : List ℕ) → Label N σ (p .relation) → Replays N L′ Some (meetFinish N L′ p xs) σ (meetFinish N L p xs σ)
   unfolding meetFinish form
   meetFinish-replay {σ} g p xs a = at-zero (p .some && eqb (p .relation) (Rel.zeroAt N))
     where
@@ -272,7 +272,7 @@ module _ {N : ℕ} {L L′ : Limits} (wide : Wider L L′) where
       at-zero true = replays-map (zero-replay g) (λ τ z w s. tt)
       at-zero false = at-none (eqb (length xs) 0)
 
-  meet-replay : {σ : Aut} → Good N L σ → (xs : List ℕ) → All (λ x. x < states σ) xs → Replays N L′ Some (meet N L′ xs) σ (meet N L xs σ)
+  meet-replay : {σ : Aut} → WfAut N L σ → (xs : List ℕ) → All (λ x. x < states σ) xs → Replays N L′ Some (meet N L′ xs) σ (meet N L xs σ)
   unfolding meet
   meet-replay {σ} g xs a =
       replays-as (λ υ w v. ap (λ (c : Step Table Met). after (onNodes c υ) (λ p. meetFinish N L′ p (sorted (p .others)))) (meetOne-later w N xs a (met false (Rel.topAt N) [])))
@@ -280,7 +280,7 @@ module _ {N : ℕ} {L L′ : Limits} (wide : Wider L L′) where
       (each-runs N (states σ) (σ .states .words) (meetOne N (σ .states .words)) (λ t w x m p q. meetOne-runs N (states σ) (σ .states .words) w x m p q) (g .nodes) xs (members-are g xs a) _
       (record { at = den-top (g .nodes) N (omega arith) .at; others = tt }))) (λ τ p w (v, (e, q)). meetFinish-replay v p (sorted (p .others)) (record { at = q .at })))
 
-  pub mk-intersect-n-base-replay : {σ : Aut} → Good N L σ → (xs : List ℕ) → All (λ x. x < states σ) xs → Replays N L′ (In N L State) (mk-intersect-n-base N L′ xs) σ (mk-intersect-n-base N L xs σ)
+  pub mk-intersect-n-base-replay : {σ : Aut} → WfAut N L σ → (xs : List ℕ) → All (λ x. x < states σ) xs → Replays N L′ (In N L State) (mk-intersect-n-base N L′ xs) σ (mk-intersect-n-base N L xs σ)
   unfolding mk-intersect-n-base
   mk-intersect-n-base-replay {σ} g xs a =
       replays-goes (goes-map (mk-intersect-n-base-goes g xs a) (λ τ z w v s. s .state))
@@ -291,13 +291,13 @@ module _ {N : ℕ} {L L′ : Limits} (wide : Wider L L′) where
       go beyond f = stops
       go (within ys) f = replays-as (λ υ w v. ap (λ (o : Within (List ℕ)). meetOpened N L′ o υ) (within-same (f υ w) .0)) (meet-replay g ys (within-same (f σ (later-refl σ)) .1))
 
-  base-replay : {σ : Aut} → Good N L σ → (xs : List ℕ) → All (λ x. x < states σ) xs → (i : ℕ) → Replays N L′ (In N L State) (base N L′ xs i) σ (base N L xs i σ)
+  base-replay : {σ : Aut} → WfAut N L σ → (xs : List ℕ) → All (λ x. x < states σ) xs → (i : ℕ) → Replays N L′ (In N L State) (base N L′ xs i) σ (base N L xs i σ)
   unfolding base
   base-replay {σ} g xs a i =
       replays-as (λ υ w v. ap (λ (ys : List ℕ). mk-intersect-n-base N L′ ys υ) (product-later g w xs i a))
       (mk-intersect-n-base-replay g (product (σ .states .words) (σ .members .words) xs i) (product-are g xs i a))
 
-  bases-replay : {σ : Aut} → Good N L σ → (xs : List ℕ) → All (λ x. x < states σ) xs → (i k : ℕ) (acc : List ℕ) → All (λ x. x < states σ) acc
+  bases-replay : {σ : Aut} → WfAut N L σ → (xs : List ℕ) → All (λ x. x < states σ) xs → (i k : ℕ) (acc : List ℕ) → All (λ x. x < states σ) acc
       → Replays N L′ (In N L (λ τ zs. All (λ z. z < states τ) zs)) (bases N L′ xs i k acc) σ (bases N L xs i k acc σ)
   unfolding bases
   bases-replay g xs a i zero acc b = replays-return acc (g, b)
@@ -305,7 +305,7 @@ module _ {N : ℕ} {L L′ : Limits} (wide : Wider L L′) where
       replays-bind (base-replay g xs a i) (λ τ z w (v, s).
       bases-replay v xs (states-grown w xs a) (i + 1) k (acc ++ z ∷ []) (all-append (λ x. x < states τ) acc (z ∷ []) (states-grown w acc b) (s, tt)))
 
-  pub mk-intersect-n-replay : {σ : Aut} → Good N L σ → (xs : List ℕ) → All (λ x. x < states σ) xs → Replays N L′ (In N L State) (mk-intersect-n N L′ xs) σ (mk-intersect-n N L xs σ)
+  pub mk-intersect-n-replay : {σ : Aut} → WfAut N L σ → (xs : List ℕ) → All (λ x. x < states σ) xs → Replays N L′ (In N L State) (mk-intersect-n N L′ xs) σ (mk-intersect-n N L xs σ)
   unfolding mk-intersect-n
   mk-intersect-n-replay {σ} g xs a =
       replays-goes (goes-map (mk-intersect-n-goes g xs a) (λ τ z w v s. s .state))
@@ -328,7 +328,7 @@ module _ {N : ℕ} {L L′ : Limits} (wide : Wider L L′) where
           replays-as (λ υ w v. ap (λ (o : Within (List ℕ)). intersectOpened N L′ o υ) (within-same (f υ w) .0))
           (spread ys b (countAll (L .products) (σ .states .words) ys 1) (λ υ w. countAll-later g w (wide .products) ys 1 b))
 
-  pub mk-intersect-replay : {σ : Aut} → Good N L σ → {x y : ℕ} → State σ x → State σ y → Replays N L′ (In N L State) (mk-intersect N L′ x y) σ (mk-intersect N L x y σ)
+  pub mk-intersect-replay : {σ : Aut} → WfAut N L σ → {x y : ℕ} → State σ x → State σ y → Replays N L′ (In N L State) (mk-intersect N L′ x y) σ (mk-intersect N L x y σ)
   unfolding mk-intersect
   mk-intersect-replay {σ} g {x} {y} l m =
       replays-choose (eqb x y) (λ q. replays-return x (g, l))
@@ -339,7 +339,7 @@ module _ {N : ℕ} {L L′ : Limits} (wide : Wider L L′) where
 
 -- ---- the others
 
-module _ {N : ℕ} {L L′ : Limits} {σ : Aut} (g : Good N L σ) where
+module _ {N : ℕ} {L L′ : Limits} {σ : Aut} (g : WfAut N L σ) where
   module _ {x y : ℕ} (l : State σ x) (m : State σ y) where
     pub mk-xor-replay : Replays N L′ (In N L State) (mk-xor N L′ x y) σ (mk-xor N L x y σ)
     unfolding mk-xor form
@@ -388,10 +388,10 @@ module _ {N : ℕ} {L L′ : Limits} {σ : Aut} (g : Good N L σ) where
 
 -- (a; b); c is regrouped, by calls on operands that are nested lower
 abbrev Regroups : (N : ℕ) (L L′ : Limits) → ℕ → (ℕ → ℕ → Step Aut ℕ) → (ℕ → ℕ → Step Aut ℕ) → Type 0
-Regroups N L L′ depth again other = (σ : Aut) → Good N L σ → (x y : ℕ) → State σ x → State σ y → nesting σ x < depth → Replays N L′ (In N L State) (other x y) σ (again x y σ)
+Regroups N L L′ depth again other = (σ : Aut) → WfAut N L σ → (x y : ℕ) → State σ x → State σ y → nesting σ x < depth → Replays N L′ (In N L State) (other x y) σ (again x y σ)
 
 module _ {N : ℕ} {L L′ : Limits} where
-  sequence-with-replay : {again other : ℕ → ℕ → Step Aut ℕ} {σ : Aut} → Good N L σ → {x y : ℕ} → State σ x → State σ y → Regroups N L L′ (nesting σ x) again other
+  sequence-with-replay : {again other : ℕ → ℕ → Step Aut ℕ} {σ : Aut} → WfAut N L σ → {x y : ℕ} → State σ x → State σ y → Regroups N L L′ (nesting σ x) again other
       → Replays N L′ Some (sequence-with N L′ other x y) σ (sequence-with N L again x y σ)
   unfolding sequence-with form
   sequence-with-replay {again} {other} {σ} g {x} {y} l m f =
@@ -411,7 +411,7 @@ module _ {N : ℕ} {L L′ : Limits} where
       (λ n₆. replays-test (λ υ. eqb (kind υ x) TOP && eqb (kind υ y) TOP) _ _ (λ υ w. λ d. is-kind-later w l TOP d && is-kind-later w m TOP d) (λ q. some (mk-top-replay g))
       (λ q. intern2-replays g SEQUENCE x y)))))))
 
-  sequence-by-replay : (depth : ℕ) {σ : Aut} → Good N L σ → {x y : ℕ} → State σ x → State σ y → nesting σ x ≤ depth → Replays N L′ (In N L State) (sequence-by N L′ depth x y) σ (sequence-by N L depth x y σ)
+  sequence-by-replay : (depth : ℕ) {σ : Aut} → WfAut N L σ → {x y : ℕ} → State σ x → State σ y → nesting σ x ≤ depth → Replays N L′ (In N L State) (sequence-by N L′ depth x y) σ (sequence-by N L depth x y σ)
   unfolding sequence-by
   sequence-by-replay zero g l m d =
       replays-goes (goes-map (sequence-by-goes zero g l m d) (λ τ z w v i. i .state)) (sequence-with-replay {again = λ a b. return a} {other = λ a b. return a} g l m (λ τ v a b i j k. absurd (omega arith)))
@@ -419,6 +419,6 @@ module _ {N : ℕ} {L L′ : Limits} where
       replays-goes (goes-map (sequence-by-goes (suc depth) g l m d) (λ τ z w v i. i .state))
       (sequence-with-replay {again = sequence-by N L depth} {other = sequence-by N L′ depth} g l m (λ τ v a b i j k. sequence-by-replay depth v i j (omega arith)))
 
-  pub mk-sequence-replay : {σ : Aut} → Good N L σ → {x y : ℕ} → State σ x → State σ y → Replays N L′ (In N L State) (mk-sequence N L′ x y) σ (mk-sequence N L x y σ)
+  pub mk-sequence-replay : {σ : Aut} → WfAut N L σ → {x y : ℕ} → State σ x → State σ y → Replays N L′ (In N L State) (mk-sequence N L′ x y) σ (mk-sequence N L x y σ)
   unfolding mk-sequence
   mk-sequence-replay {σ} g {x} {y} l m = replays-as (λ υ w v. λ d. sequence-by N L′ (nesting-later w x l d) x y υ) (sequence-by-replay (nesting σ x) g l m (omega arith))

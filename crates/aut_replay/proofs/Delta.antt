@@ -13,7 +13,7 @@ use Rattle.common.proofs.Follow.{given-of, given-same, refused≢given}
 use Rattle.common.specs.Runs.{Table, placed}
 use Rattle.netkat.specs.Rules.{sequence, star, until, next}
 use Rattle.netkat.specs.ListSteps.{Edge}
-use Rattle.spp_steps.specs.Laws.{Ext, At}
+use Rattle.spp_steps.specs.Laws.{Ext, ValidAt}
 use Rattle.spp_steps.proofs.Laws.{ext-refl, by-test}
 use Rattle.aut_steps.specs.Relations as Rel
 use Rattle.aut_steps.specs.Tables.{SEQUENCE, STAR, NEXT, UNTIL, Limits, Aut, putNodes, onNodes}
@@ -21,7 +21,7 @@ use Rattle.aut_steps.specs.Kinds.{form}
 use Rattle.aut_steps.specs.ListLaws.{All}
 use Rattle.aut_steps.proofs.ListLaws.{all-map, all-with}
 use Rattle.aut_steps.proofs.StateLaws as StateLaws
-use Rattle.aut_steps.specs.Good.{states, kind, first, second, nesting, members, ExtM, Grown, Good}
+use Rattle.aut_steps.specs.Good.{states, kind, first, second, nesting, members, ExtM, ExtAut, WfAut}
 use Rattle.aut_steps.proofs.Good.{extm-refl, grown-nodes, kind-grown, first-grown, nesting-grown, state-grown}
 use Rattle.st_steps.specs.Edges.{edges}
 use Rattle.st_steps.specs.ListGoes.{ListAt}
@@ -32,13 +32,13 @@ use Rattle.delta_steps.proofs.Agree.{agree-given}
 use Rattle.delta_steps.specs.Fits.{Since}
 use Rattle.delta_steps.specs.Noted.{Noted}
 use Rattle.delta_steps.proofs.Noted.{noted-grown, written, written-other, written-count}
-use Rattle.delta_steps.specs.Worked.{Valued, handle, memo, Worked, Stored}
+use Rattle.delta_steps.specs.Worked.{Valued, handle, memo, WfStore, Stored}
 use Rattle.delta_steps.proofs.Worked.{valued-reads, worked-since}
 use Rattle.delta_steps.proofs.Operands.{below-one, below-two}
 use Rattle.delta_steps.specs.EpsilonLaws.{Ready, Epsiloned}
 use Rattle.delta_steps.specs.EpsilonReads.{workAll}
 use Rattle.delta_steps.proofs.EpsilonReads.{given-store}
-use Rattle.delta_steps.specs.Stored.{Went}
+use Rattle.delta_steps.specs.Stored.{ExtStore}
 use Rattle.delta_steps.proofs.Stored.{went-refl, went-trans, went-since, went-noted, stored-went, edges-length, keeping, keeping-stored, keeping-went}
 use Rattle.delta_steps.proofs.DeltaRuns.{Deltaed}
 use Rattle.delta_steps.proofs.DeltaLaws.{delta-goes}
@@ -52,10 +52,10 @@ use Rattle.aut_replay.proofs.Together.{Operands, together-replay, toget
 
 -- ---- what is stored stays
 
-pub ready-of : {N : ℕ} {M : Limits} {σ : Store} → Worked N M σ → Ready N M (σ .aut)
+pub ready-of : {N : ℕ} {M : Limits} {σ : Store} → WfStore N M σ → Ready N M (σ .aut)
 ready-of W = record { good = W .good; epsilons = W .epsilons }
 
-module _ {N : ℕ} {M : Limits} {σ : Aut} (g : Good N M σ) {x : ℕ} (l : x < states σ) where
+module _ {N : ℕ} {M : Limits} {σ : Aut} (g : WfAut N M σ) {x : ℕ} (l : x < states σ) where
   sequence-first : kind σ x ≡ SEQUENCE → first σ x < states σ
   unfolding form
   sequence-first e = below-two g l SEQUENCE e sequence refl .0 .state
@@ -65,18 +65,18 @@ module _ {N : ℕ} {M : Limits} {σ : Aut} (g : Good N M σ) {x : ℕ} (l : x < 
   star-first e = below-one g l STAR e star refl .state
 
 -- an epsilon that is at hand is a relation
-has-at : {N : ℕ} {M : Limits} {σ : Aut} → Ready N M σ → {x e : ℕ} → x < states σ → Valued σ x e → At (σ .nodes) N e
-has-at {N} {σ = σ} r {x} l (handle k f) = subst (At (σ .nodes) N) f (StateLaws.handle (r .good) l k)
+has-at : {N : ℕ} {M : Limits} {σ : Aut} → Ready N M σ → {x e : ℕ} → x < states σ → Valued σ x e → ValidAt (σ .nodes) N e
+has-at {N} {σ = σ} r {x} l (handle k f) = subst (ValidAt (σ .nodes) N) f (StateLaws.handle (r .good) l k)
 has-at r {x} {e} l (memo n m) = r .epsilons .kept x l e m .den .at
 
 -- tables where all that σ has stored is as it was
 record Stays (σ τ : Store) : Type 0 where
-  grown : Grown (σ .aut) (τ .aut)
+  grown : ExtAut (σ .aut) (τ .aut)
   epsilons : Kept (σ .aut) (τ .aut)
   counts : (x : ℕ) → 0 < countOf (σ .aut .states .words) x → 0 < countOf (τ .aut .states .words) x
   reads : (x : ℕ) → x < states (σ .aut) → 0 < countOf (σ .aut .states .words) x → listAt τ x ≡ listAt σ x
 
-stays-went : {N : ℕ} {M : Limits} {σ τ : Store} → Worked N M σ → Went σ τ → Stays σ τ
+stays-went : {N : ℕ} {M : Limits} {σ τ : Store} → WfStore N M σ → ExtStore σ τ → Stays σ τ
 stays-went W w = record {
   grown = w .grown;
   epsilons = w .epsilons;
@@ -84,7 +84,7 @@ stays-went W w = record {
   reads = λ x l m. stored-went W w l (record { marked = m; reads = refl }) .reads;
 }
 
-module _ {N : ℕ} {M : Limits} {σ τ : Store} (W : Worked N M σ) (w : Stays σ τ) where
+module _ {N : ℕ} {M : Limits} {σ τ : Store} (W : WfStore N M σ) (w : Stays σ τ) where
   later : Later (σ .aut) (τ .aut)
   later = grown-later (w .grown) (later-refl (τ .aut))
 
@@ -133,7 +133,7 @@ module _ {N : ℕ} {M : Limits} {σ τ : Store} (W : Worked N M σ) (w : Stays �
 
 -- ---- steps that store no list
 
-module _ {N : ℕ} {M L : Limits} {σ : Store} (W : Worked N M σ) (s : SettledLists N L σ) where
+module _ {N : ℕ} {M L : Limits} {σ : Store} (W : WfStore N M σ) (s : SettledLists N L σ) where
   -- constructors and list operations
   pub settled-since : {α : Aut} → Since N M (σ .aut) α → SettledLists N L (store α (σ .transitions))
   unfolding countOf
@@ -149,14 +149,14 @@ module _ {N : ℕ} {M L : Limits} {σ : Store} (W : Worked N M σ) (s : SettledL
       settled-went W (stays-went W (went-noted n)) s e (λ x l m. inl (omega (arith, n .count), omega (arith, n .words x 6 (omega arith) (λ q. omega arith))))
 
 -- words 7 to 11 of states are written
-pub settled-written : {N : ℕ} {M L : Limits} {σ τ : Store} → Worked N M σ → SettledLists N L σ → Written σ τ → SettledLists N L τ
+pub settled-written : {N : ℕ} {M L : Limits} {σ τ : Store} → WfStore N M σ → SettledLists N L σ → Written σ τ → SettledLists N L τ
 unfolding epsilonOf countOf startOf listAt
 settled-written {σ = σ} {τ = τ} W s n =
     settled-went W stays s
     (settled-kept (ready-of W) grown (λ i m. n .words i 4 (omega arith)) (s .settled) (λ x l m. inl (omega (arith, n .count), omega (arith, n .words x 4 (omega arith)))))
     (λ x l m. inl (omega (arith, n .count), omega (arith, n .words x 6 (omega arith))))
   where
-    grown : Grown (σ .aut) (τ .aut)
+    grown : ExtAut (σ .aut) (τ .aut)
     grown = record {
       nodes = subst (Ext (σ .aut .nodes)) (sym (n .nodes)) (ext-refl (σ .aut .nodes));
       states = record { more = omega (arith, n .count); len = n .len; keep = λ i w l m. n .words i w (omega arith); beyond = λ j l. n .beyond j (omega (arith, n .count)) };
@@ -174,8 +174,8 @@ settled-written {σ = σ} {τ = τ} W s n =
 -- ---- what is worked out before the operands' lists
 
 record Entering (N : ℕ) (M L : Limits) (x : ℕ) (σ τ : Store) : Type 0 where
-  went : Went σ τ
-  worked : Worked N M τ
+  went : ExtStore σ τ
+  worked : WfStore N M τ
   settled : SettledLists N L τ
   counts : (i : ℕ) → countOf (τ .aut .states .words) i ≡ countOf (σ .aut .states .words) i
   sequence : kind (σ .aut) x ≡ SEQUENCE → HasEpsilon (τ .aut) (first (σ .aut) x)
@@ -184,7 +184,7 @@ record Entering (N : ℕ) (M L : Limits) (x : ℕ) (σ τ : Store) : Type 0 wher
 not-star : {k : ℕ} → k ≡ SEQUENCE → k ≡ STAR → ⊥
 not-star p q = omega arith
 
-module _ {N : ℕ} {M L : Limits} {σ : Store} (W : Worked N M σ) (s : SettledLists N L σ) {x : ℕ} (l : x < states (σ .aut)) where
+module _ {N : ℕ} {M L : Limits} {σ : Store} (W : WfStore N M σ) (s : SettledLists N L σ) {x : ℕ} (l : x < states (σ .aut)) where
   abbrev a : ℕ
   a = first (σ .aut) x
 
@@ -200,7 +200,7 @@ module _ {N : ℕ} {M L : Limits} {σ : Store} (W : Worked N M σ) (s : SettledL
           let p : Epsiloned N M a (σ .aut) α ε = entered W m e in
           let n : Noted (σ .aut) (putNodes t α) = star-noted W m e z in
           let x₀ = given-of (star-runs N ε (p .found .good .nodes) (has-at (ran-ready p) (state-grown (noted-grown (p .found .noted)) m) (p .value))) z in
-          let gα : Grown α (putNodes t α) = grown-nodes {σ = α} (x₀ .ext) in
+          let gα : ExtAut α (putNodes t α) = grown-nodes {σ = α} (x₀ .ext) in
           let v : Valued (putNodes t α) a ε = valued-kept gα (λ i b. refl) (state-grown (noted-grown (p .found .noted)) m) (p .value) in
           let e₁ : Settled N L (putNodes t α) = settled-kept (ran-ready p) gα (λ i b. refl) (settles (ready-of W) (s .settled) m e) (λ i b c. inl (b, c)) in
           subst (Entering N M L x σ) (given-store q) (record {
@@ -250,22 +250,22 @@ abbrev AboveLists : ℕ → Store → Store → Type 0
 AboveLists d σ τ = (i : ℕ) → i < states (σ .aut) → d ≤ nesting (σ .aut) i → countOf (τ .aut .states .words) i ≡ countOf (σ .aut .states .words) i
 
 abbrev SettlingLists : ℕ → Limits → Limits → ℕ → Type 0
-SettlingLists N M L d = (σ : Store) → Worked N M σ → SettledLists N L σ → (x : ℕ) → x < states (σ .aut) → nesting (σ .aut) x < d → (τ : Store) (es : List Edge) → delta N M x σ ≡ given τ es
+SettlingLists N M L d = (σ : Store) → WfStore N M σ → SettledLists N L σ → (x : ℕ) → x < states (σ .aut) → nesting (σ .aut) x < d → (τ : Store) (es : List Edge) → delta N M x σ ≡ given τ es
     → SettledLists N L τ × AboveLists (nesting (σ .aut) x + 1) σ τ
 
 record RanAll (N : ℕ) (M L : Limits) (d : ℕ) (ys : List ℕ) (σ τ : Store) : Type 0 where
-  went : Went σ τ
-  worked : Worked N M τ
+  went : ExtStore σ τ
+  worked : WfStore N M τ
   settled : SettledLists N L τ
   above : AboveLists d σ τ
   stored : All (λ y. 0 < countOf (τ .aut .states .words) y) ys
 
 module _ {N : ℕ} {M : Limits} where
-  deltaed : {σ τ : Store} {x : ℕ} {es : List Edge} → Worked N M σ → x < states (σ .aut) → delta N M x σ ≡ given τ es → Deltaed N M x σ τ es
+  deltaed : {σ τ : Store} {x : ℕ} {es : List Edge} → WfStore N M σ → x < states (σ .aut) → delta N M x σ ≡ given τ es → Deltaed N M x σ τ es
   deltaed W l q = agree-given (delta-goes W l) q
 
   -- a stored list is within the limit
-  list-ok : {σ : Store} → Worked N M σ → {y : ℕ} → y < states (σ .aut) → 0 < countOf (σ .aut .states .words) y → ListAt N M (σ .aut) (listAt σ y)
+  list-ok : {σ : Store} → WfStore N M σ → {y : ℕ} → y < states (σ .aut) → 0 < countOf (σ .aut .states .words) y → ListAt N M (σ .aut) (listAt σ y)
   unfolding listAt
   list-ok {σ} W {y} l m = record {
     edges = list-at M (W .lists .held y l .list m);
@@ -273,18 +273,18 @@ module _ {N : ℕ} {M : Limits} where
   }
 
 module _ {N : ℕ} {M L : Limits} where
-  run-all : (d : ℕ) → SettlingLists N M L d → (ys : List ℕ) {σ τ : Store} → Worked N M σ → SettledLists N L σ → All (λ y. (y < states (σ .aut)) × (nesting (σ .aut) y < d)) ys
+  run-all : (d : ℕ) → SettlingLists N M L d → (ys : List ℕ) {σ τ : Store} → WfStore N M σ → SettledLists N L σ → All (λ y. (y < states (σ .aut)) × (nesting (σ .aut) y < d)) ys
       → workAll (delta N M) ys σ ≡ given τ tt → RanAll N M L d ys σ τ
   unfolding workAll
   run-all d f [] {σ} {τ} W s b q = subst (RanAll N M L d [] σ) (given-store q) (record { went = went-refl σ; worked = W; settled = s; above = λ i l m. refl; stored = tt })
   run-all d f (y ∷ ys) {σ} {τ} W s b q = go (λ ρ. run-all d f ys {σ = ρ} {τ = τ}) (delta N M y σ) refl q
     where
-      go : ((ρ : Store) → Worked N M ρ → SettledLists N L ρ → All (λ y. (y < states (ρ .aut)) × (nesting (ρ .aut) y < d)) ys → workAll (delta N M) ys ρ ≡ given τ tt → RanAll N M L d ys ρ τ)
+      go : ((ρ : Store) → WfStore N M ρ → SettledLists N L ρ → All (λ y. (y < states (ρ .aut)) × (nesting (ρ .aut) y < d)) ys → workAll (delta N M) ys ρ ≡ given τ tt → RanAll N M L d ys ρ τ)
           → (o : Outcome Store (List Edge)) → delta N M y σ ≡ o → after o (λ a. workAll (delta N M) ys) ≡ given τ tt → RanAll N M L d (y ∷ ys) σ τ
       go ih (refused number) e q = absurd (refused≢given q)
       go ih (given ρ es) e q =
           let p : Deltaed N M y σ ρ es = deltaed W (b .0 .0) e in
-          let n : Went σ ρ = p .listed .went in
+          let n : ExtStore σ ρ = p .listed .went in
           let (s₁, u₁) = f σ W s y (b .0 .0) (b .0 .1) ρ es e in
           let r : RanAll N M L d ys ρ τ = ih ρ (p .listed .worked) s₁ (all-map ys (λ z c. (state-grown (n .grown) (c .0), omega (arith, c .1, nesting-grown (n .grown) z (c .0)))) (b .1)) q in
           record {
@@ -295,9 +295,9 @@ module _ {N : ℕ} {M L : Limits} where
             stored = (stays-went (p .listed .worked) (r .went) .counts y (p .stored .marked), r .stored);
           }
 
-  module _ (wide : Wider M L) {σ : Store} (W : Worked N M σ) {x : ℕ} (l : x < states (σ .aut)) (z : countOf (σ .aut .states .words) x ≡ 0) where
+  module _ (wide : Wider M L) {σ : Store} (W : WfStore N M σ) {x : ℕ} (l : x < states (σ .aut)) (z : countOf (σ .aut .states .words) x ≡ 0) where
     -- in τ the operands' lists are there; the list of x is put together, and stored
-    put-together : {τ : Store} → Went σ τ → Worked N M τ → SettledLists N L τ → AboveLists (nesting (σ .aut) x) σ τ → All (λ y. 0 < countOf (τ .aut .states .words) y) (listOperands σ x)
+    put-together : {τ : Store} → ExtStore σ τ → WfStore N M τ → SettledLists N L τ → AboveLists (nesting (σ .aut) x) σ τ → All (λ y. 0 < countOf (τ .aut .states .words) y) (listOperands σ x)
         → (kind (σ .aut) x ≡ SEQUENCE → HasEpsilon (τ .aut) (first (σ .aut) x))
         → (kind (σ .aut) x ≡ STAR → HasEpsilon (τ .aut) (first (σ .aut) x) × ((h : ℕ) × Again N L (onNodes (Rel.star N (values (τ .aut) (first (σ .aut) x)))) (τ .aut) h))
         → {ρ : Store} {es : List Edge} → after (together N M x τ) (keepList x) ≡ given ρ es → SettledLists N L ρ × AboveLists (nesting (σ .aut) x + 1) σ ρ
@@ -348,7 +348,7 @@ module _ {N : ℕ} {M L : Limits} where
             τ₃ : Store
             τ₃ = store β (τ .transitions)
 
-            W₃ : Worked N M τ₃
+            W₃ : WfStore N M τ₃
             W₃ = worked-since W₂ i
 
             s₃ : SettledLists N L τ₃
@@ -369,7 +369,7 @@ module _ {N : ℕ} {M L : Limits} where
                 last : Store
                 last = keeping W₃ l₃ fs room
 
-                went : Went τ₃ last
+                went : ExtStore τ₃ last
                 went = keeping-went W₃ l₃ fs room (went-refl τ₃) none
 
                 word : (y k : ℕ) → ((y ≡ x) → (k ≡ 5) → ⊥) → ((y ≡ x) → (k ≡ 6) → ⊥) → k < 12 → getD (last .aut .states .words) (12 * y + k) 0 ≡ getD (β .states .words) (12 * y + k) 0
@@ -414,7 +414,7 @@ module _ {N : ℕ} {M L : Limits} where
                 → SettledLists N L ρ × AboveLists (nesting (σ .aut) x + 1) σ ρ
             at-work (refused number) e₂ q = absurd (refused≢given q)
             at-work (given σ₂ u) e₂ q =
-                let g₁ : Grown (σ .aut) (σ₁ .aut) = n .went .grown in
+                let g₁ : ExtAut (σ .aut) (σ₁ .aut) = n .went .grown in
                 let r : RanAll N M L (nesting (σ .aut) x) (listOperands σ x) σ₁ σ₂ =
                 run-all (nesting (σ .aut) x) f (listOperands σ x) (n .worked) (n .settled)
                 (all-map (listOperands σ x) (λ y b. (state-grown g₁ (b .state), omega (arith, b .lower, nesting-grown g₁ y (b .state)))) (list-operands-below W l)) e₂ in
@@ -436,13 +436,13 @@ module _ {N : ℕ} {M L : Limits} where
       (λ t. let z : countOf (σ .aut .states .words) x ≡ 0 = omega (arith, ltb-false 0 (countOf (σ .aut .states .words) x) t) in
       works wide W l z s (λ ρ W₁ s₁ y k b. settles-by wide d ρ W₁ s₁ y k (omega arith)) (sym (delta-works W l z) ∙ q))
 
-  pub lists-settle : Wider M L → {σ : Store} → Worked N M σ → SettledLists N L σ → {x : ℕ} → x < states (σ .aut) → {τ : Store} {es : List Edge} → delta N M x σ ≡ given τ es → SettledLists N L τ
+  pub lists-settle : Wider M L → {σ : Store} → WfStore N M σ → SettledLists N L σ → {x : ℕ} → x < states (σ .aut) → {τ : Store} {es : List Edge} → delta N M x σ ≡ given τ es → SettledLists N L τ
   lists-settle wide {σ} W s {x} l {τ} {es} q = settles-by wide (suc (nesting (σ .aut) x)) σ W s x l (omega arith) τ es q .0
 
 -- ---- the same list wherever it is stored
 
 module _ {N : ℕ} {M L : Limits} where
-  lists-agree : (d : ℕ) {σ υ : Store} → Worked N M σ → SettledLists N L σ → Later (σ .aut) (υ .aut) → Worked N L υ → SettledLists N L υ → {x : ℕ} → x < states (σ .aut) → nesting (σ .aut) x < d
+  lists-agree : (d : ℕ) {σ υ : Store} → WfStore N M σ → SettledLists N L σ → Later (σ .aut) (υ .aut) → WfStore N L υ → SettledLists N L υ → {x : ℕ} → x < states (σ .aut) → nesting (σ .aut) x < d
       → 0 < countOf (σ .aut .states .words) x → 0 < countOf (υ .aut .states .words) x → listAt σ x ≡ listAt υ x
   lists-agree zero W s w W′ s′ l m c c′ = absurd (omega arith)
   lists-agree (suc d) {σ} {υ} W s w W′ s′ {x} l m c c′ =
@@ -480,7 +480,7 @@ same-refl υ = record { nodes = refl; count = refl; members = refl }
 same-trans : {υ τ ρ : Store} → Same υ τ → Same τ ρ → Same υ ρ
 same-trans p q = record { nodes = q .nodes ∙ p .nodes; count = q .count ∙ p .count; members = q .members ∙ p .members }
 
-later-same : {σ : Aut} {υ τ : Store} → Later σ (υ .aut) → Same υ τ → Grown (υ .aut) (τ .aut) → Later σ (τ .aut)
+later-same : {σ : Aut} {υ τ : Store} → Later σ (υ .aut) → Same υ τ → ExtAut (υ .aut) (τ .aut) → Later σ (τ .aut)
 later-same {σ} {υ} {τ} w e g = record {
   nodes = subst (Ext (σ .nodes)) (sym (e .nodes)) (w .nodes);
   more = omega (arith, w .more, e .count);
@@ -493,16 +493,16 @@ data Redone (N : ℕ) (L : Limits) (x : ℕ) (υ : Store) (es : List Edge) : Typ
   lacks-room : delta N L x υ ≡ refused 25 → Redone N L x υ es
   gives-again : {τ : Store} → delta N L x υ ≡ given τ es → τ .aut .nodes ≡ υ .aut .nodes → states (τ .aut) ≡ states (υ .aut) → τ .aut .members ≡ υ .aut .members → Redone N L x υ es
 
-delta-done : {N : ℕ} {L : Limits} {x : ℕ} {υ : Store} {es : List Edge} → Worked N L υ → x < states (υ .aut) → Redone N L x υ es → DeltaDone N L x υ es
+delta-done : {N : ℕ} {L : Limits} {x : ℕ} {υ : Store} {es : List Edge} → WfStore N L υ → x < states (υ .aut) → Redone N L x υ es → DeltaDone N L x υ es
 delta-done W l (lacks-room q) = lacks q
 delta-done W l (gives-again q n c m) = gives q (record { nodes = n; count = c; members = m; went = deltaed W l q .listed .went }) (deltaed W l q .stored)
 
 -- tables to which a run on υ has come, with nothing made
 record Went-on (N : ℕ) (L : Limits) (σ υ τ : Store) : Type 0 where
   same : Same υ τ
-  went : Went υ τ
+  went : ExtStore υ τ
   later : Later (σ .aut) (τ .aut)
-  worked : Worked N L τ
+  worked : WfStore N L τ
   settled : SettledLists N L τ
 
 wider-refl : (L : Limits) → Wider L L
@@ -515,8 +515,8 @@ data AllDone (N : ℕ) (L : Limits) (σ υ : Store) (ys : List ℕ) : Type 0 whe
 
 module _ {N : ℕ} {L : Limits} {σ : Store} where
   all-done : (ys : List ℕ)
-      → ((υ : Store) → Later (σ .aut) (υ .aut) → Worked N L υ → SettledLists N L υ → All (λ y. (y < states (σ .aut)) × Redone N L y υ (listAt σ y)) ys)
-      → (υ : Store) → Later (σ .aut) (υ .aut) → Worked N L υ → SettledLists N L υ → AllDone N L σ υ ys
+      → ((υ : Store) → Later (σ .aut) (υ .aut) → WfStore N L υ → SettledLists N L υ → All (λ y. (y < states (σ .aut)) × Redone N L y υ (listAt σ y)) ys)
+      → (υ : Store) → Later (σ .aut) (υ .aut) → WfStore N L υ → SettledLists N L υ → AllDone N L σ υ ys
   unfolding workAll
   all-done [] f υ w W s = done refl (record { same = same-refl υ; went = went-refl υ; later = w; worked = W; settled = s }) tt
   all-done (y ∷ ys) f υ w W s = first-of (λ ρ. all-done ys (λ υ w W s. f υ w W s .1) ρ) (f υ w W s .0 .0) (f υ w W s .0 .1)
@@ -528,7 +528,7 @@ module _ {N : ℕ} {L : Limits} {σ : Store} where
           (record { same = same-trans (o .same) (p .same); went = went-trans (o .went) (p .went); later = p .later; worked = p .worked; settled = p .settled })
           (stored-went (o .worked) (p .went) (omega (arith, o .later .more)) st, a)
 
-      first-of : ((ρ : Store) → Later (σ .aut) (ρ .aut) → Worked N L ρ → SettledLists N L ρ → AllDone N L σ ρ ys) → y < states (σ .aut) → Redone N L y υ (listAt σ y) → AllDone N L σ υ (y ∷ ys)
+      first-of : ((ρ : Store) → Later (σ .aut) (ρ .aut) → WfStore N L ρ → SettledLists N L ρ → AllDone N L σ ρ ys) → y < states (σ .aut) → Redone N L y υ (listAt σ y) → AllDone N L σ υ (y ∷ ys)
       first-of ih b (lacks-room q) = lacking (ap (λ (o : Outcome Store (List Edge)). after o (λ a. workAll (delta N L) ys)) q)
       first-of ih b (gives-again {τ} q n c m) =
           let ly : y < states (υ .aut) = omega (arith, w .more) in
@@ -544,8 +544,8 @@ record EnterDone (N x : ℕ) (υ : Store) : Type 0 where
   gives : enter N x υ ≡ given last tt
   same : Same υ last
 
-module _ {N : ℕ} {M L : Limits} {σ : Store} (W : Worked N M σ) (s : SettledLists N L σ) {x : ℕ} (l : x < states (σ .aut)) (p : ListKept N L σ x) where
-  enter-done : (υ : Store) → Later (σ .aut) (υ .aut) → Worked N L υ → SettledLists N L υ → EnterDone N x υ
+module _ {N : ℕ} {M L : Limits} {σ : Store} (W : WfStore N M σ) (s : SettledLists N L σ) {x : ℕ} (l : x < states (σ .aut)) (p : ListKept N L σ x) where
+  enter-done : (υ : Store) → Later (σ .aut) (υ .aut) → WfStore N L υ → SettledLists N L υ → EnterDone N x υ
   unfolding enterWith
   enter-done υ w W′ s′ = at (eqb (kind (υ .aut) x) SEQUENCE) (eqb (kind (υ .aut) x) STAR) refl refl
     where
@@ -573,7 +573,7 @@ module _ {N : ℕ} {M L : Limits} {σ : Store} (W : Worked N M σ) (s : SettledL
           let (h, (n, i)) = p .star e in
           let b : first (σ .aut) x < states (σ .aut) = star-first (W .good) l e in
           let d : EpsilonDone N a′ (υ .aut) (values (σ .aut) (first (σ .aut) x)) = again b h in
-          let g : Good N L (d .last) = ran (ready-of W′) (star-first (W′ .good) (omega (arith, w .more)) (eqb-true (kind (υ .aut) x) STAR k)) (d .gives) .found .good in
+          let g : WfAut N L (d .last) = ran (ready-of W′) (star-first (W′ .good) (omega (arith, w .more)) (eqb-true (kind (υ .aut) x) STAR k)) (d .gives) .found .good in
           record {
             last = store (d .last) (υ .transitions);
             gives =
@@ -591,7 +591,7 @@ module _ {N : ℕ} {M L : Limits} {σ : Store} (W : Worked N M σ) (s : SettledL
         same = same-refl υ;
       }
 
-module _ {N : ℕ} {M L : Limits} {σ : Store} (W : Worked N M σ) (s : SettledLists N L σ) where
+module _ {N : ℕ} {M L : Limits} {σ : Store} (W : WfStore N M σ) (s : SettledLists N L σ) where
   -- in τ the operands' lists are those of σ
   module _ {x : ℕ} (l : x < states (σ .aut)) (c : 0 < countOf (σ .aut .states .words) x) {υ τ : Store} (o : Went-on N L σ υ τ) (a : All (λ y. Stored τ y (listAt σ y)) (listOperands σ x))
       (f : kind (σ .aut) x ≡ SEQUENCE → HasEpsilon (τ .aut) (first (σ .aut) x)) (h : kind (σ .aut) x ≡ STAR → HasEpsilon (τ .aut) (first (σ .aut) x)) where
@@ -632,7 +632,7 @@ module _ {N : ℕ} {M L : Limits} {σ : Store} (W : Worked N M σ) (s : SettledL
         go false room = lacks-room (to ∙ ap (λ (b : Bool). if b then given kept es else refused 25) room)
 
   lists-done : (d : ℕ) (x : ℕ) → x < states (σ .aut) → nesting (σ .aut) x < d → 0 < countOf (σ .aut .states .words) x
-      → (υ : Store) → Later (σ .aut) (υ .aut) → Worked N L υ → SettledLists N L υ → Redone N L x υ (listAt σ x)
+      → (υ : Store) → Later (σ .aut) (υ .aut) → WfStore N L υ → SettledLists N L υ → Redone N L x υ (listAt σ x)
   lists-done zero x l m c υ w W′ s′ = absurd (omega arith)
   lists-done (suc d) x l m c υ w W′ s′ =
       by-test (ltb 0 (countOf (υ .aut .states .words) x))

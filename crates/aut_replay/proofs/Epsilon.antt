@@ -11,12 +11,12 @@ use Rattle.common.specs.Outcome.{Outcome, refused, given, Step, after, Gives, g
 use Rattle.common.proofs.Follow.{given-same, refused≢given}
 use Rattle.common.specs.Runs as Runs
 use Rattle.common.specs.Runs.{Table, placed}
-use Rattle.spp_steps.specs.Laws.{Ext, At}
+use Rattle.spp_steps.specs.Laws.{Ext, ValidAt}
 use Rattle.spp_steps.proofs.Laws.{sppTheory, by-test}
 use Rattle.aut_steps.specs.Tables.{SPP, nest, Limits, Aut, putNodes}
 use Rattle.aut_steps.specs.ListLaws.{All}
 use Rattle.aut_steps.proofs.ListLaws.{all-map, all-with}
-use Rattle.aut_steps.specs.Good.{states, kind, first, second, nesting, members, Grown, Good}
+use Rattle.aut_steps.specs.Good.{states, kind, first, second, nesting, members, ExtAut, WfAut}
 use Rattle.aut_steps.proofs.Good.{grown-trans, grown-nodes, kind-grown, first-grown, state-grown}
 use Rattle.aut_steps.specs.Goes.{Memos}
 use Rattle.delta_steps.specs.Epsilon.{epsilonOf, keepEpsilon, epsilon}
@@ -43,7 +43,7 @@ operandsIn σ x = operandsOf (σ .states .words) (σ .members .words) x
 abbrev pub Kept : Aut → Aut → Type 0
 Kept σ τ = (i : ℕ) → 0 < epsilonOf (σ .states .words) i → epsilonOf (τ .states .words) i ≡ epsilonOf (σ .states .words) i
 
-module _ {σ τ : Aut} (g : Grown σ τ) (k : Kept σ τ) {x : ℕ} (l : x < states σ) where
+module _ {σ τ : Aut} (g : ExtAut σ τ) (k : Kept σ τ) {x : ℕ} (l : x < states σ) where
   pub valued-kept : {e : ℕ} → Valued σ x e → Valued τ x e
   valued-kept (handle a f) = handle (kind-grown g x l ∙ a) (first-grown g x l ∙ f)
   valued-kept (memo n m) = memo (λ q. n (sym (kind-grown g x l) ∙ q)) (k x (omega (arith, m)) ∙ m)
@@ -69,7 +69,7 @@ module _ {N : ℕ} {L : Limits} {σ : Aut} (r : Ready N L σ) {x : ℕ} (l : x <
 
 -- ---- settled tables that go on
 
-module _ {N : ℕ} {M : Limits} {σ τ : Aut} (r : Ready N M σ) (w : Grown σ τ) (k : Kept σ τ) where
+module _ {N : ℕ} {M : Limits} {σ τ : Aut} (r : Ready N M σ) (w : ExtAut σ τ) (k : Kept σ τ) where
   later : Later σ τ
   later = grown-later w (later-refl τ)
 
@@ -94,13 +94,13 @@ module _ {N : ℕ} {M : Limits} {σ τ : Aut} (r : Ready N M σ) (w : Grown σ �
           made-kept l (p .operands) (subst (Again N L (epsilonFrom N (values σ) σ x) τ) (sym (value-kept w k l (has-stored r l m))) (again-grown w (p .again)))
 
 -- a state of which a word is not 0 is there
-pub was-there : {N : ℕ} {M : Limits} {σ : Aut} → Good N M σ → (x w : ℕ) → 0 < getD (σ .states .words) (12 * x + w) 0 → x < states σ
+pub was-there : {N : ℕ} {M : Limits} {σ : Aut} → WfAut N M σ → (x w : ℕ) → 0 < getD (σ .states .words) (12 * x + w) 0 → x < states σ
 was-there {σ = σ} g x w m =
     by-test (ltb x (states σ)) (λ t. ltb-true x (states σ) t)
     (λ t. absurd (omega (arith, g .fresh (12 * x + w) (omega (arith, ltb-false x (states σ) t)))))
 
 -- constructors and list operations
-pub settled-grown : {N : ℕ} {M L : Limits} {σ τ : Aut} → Ready N M σ → Settled N L σ → Grown σ τ → Memos σ τ → Settled N L τ
+pub settled-grown : {N : ℕ} {M L : Limits} {σ τ : Aut} → Ready N M σ → Settled N L σ → ExtAut σ τ → Memos σ τ → Settled N L τ
 unfolding epsilonOf
 settled-grown r s g m =
     settled-kept r g (λ i b. m i 4 (omega arith) (omega arith)) s
@@ -149,10 +149,10 @@ module _ {N : ℕ} {M L : Limits} where
     ys = operandsIn σ x
 
     -- the relation is put together in τ, and stored
-    put-together : {τ : Aut} → Noted σ τ → Ready N M τ → Settled N L τ → Above (nesting σ x) σ τ → All (λ y. HasEpsilon τ y × At (τ .nodes) N (values τ y)) ys
+    put-together : {τ : Aut} → Noted σ τ → Ready N M τ → Settled N L τ → Above (nesting σ x) σ τ → All (λ y. HasEpsilon τ y × ValidAt (τ .nodes) N (values τ y)) ys
         → {ρ : Aut} {e : ℕ} → after (combineAt N x τ) (keepEpsilon x) ≡ given ρ e → Settled N L ρ × Above (nesting σ x + 1) σ ρ
     unfolding keepEpsilon epsilonOf
-    put-together {τ} m r₁ s₁ u a {ρ} {e} q = go (combine-runs N (values τ) (kind τ x) (members τ x) (first τ x) (second τ x) (r₁ .good .nodes) (subst (All (λ y. At (τ .nodes) N (values τ y))) (sym same) (all-map ys (λ y p. p .1) a))) q
+    put-together {τ} m r₁ s₁ u a {ρ} {e} q = go (combine-runs N (values τ) (kind τ x) (members τ x) (first τ x) (second τ x) (r₁ .good .nodes) (subst (All (λ y. ValidAt (τ .nodes) N (values τ y))) (sym same) (all-map ys (λ y p. p .1) a))) q
       where
         c : Step Table ℕ
         c = combineBy N (values τ) (kind τ x) (members τ x) (first τ x) (second τ x)
@@ -163,7 +163,7 @@ module _ {N : ℕ} {M L : Limits} where
         lx : x < states τ
         lx = state-grown (noted-grown m) l
 
-        go : {o : Outcome Table ℕ} → Gives (Runs.Good (sppTheory N) c (λ t h. At t N h) (τ .nodes)) o → after (placed putNodes τ o) (keepEpsilon x) ≡ given ρ e → Settled N L ρ × Above (nesting σ x + 1) σ ρ
+        go : {o : Outcome Table ℕ} → Gives (Runs.StableResult (sppTheory N) c (λ t h. ValidAt t N h) (τ .nodes)) o → after (placed putNodes τ o) (keepEpsilon x) ≡ given ρ e → Settled N L ρ × Above (nesting σ x + 1) σ ρ
         go refusal q = absurd (refused≢given q)
         go (gives {σ = t} {a = h} p) q = subst (λ (κ : Aut). Settled N L κ × Above (nesting σ x + 1) σ κ) (given-store q) (settled, above)
           where
@@ -173,7 +173,7 @@ module _ {N : ℕ} {M L : Limits} where
             last : Aut
             last = written τ₂ x 4 (h + 1)
 
-            grown : Grown τ last
+            grown : ExtAut τ last
             grown = grown-trans (grown-nodes {σ = τ} (p .ext)) (written-grown τ₂ x 4 (h + 1) lx (omega arith) (omega arith))
 
             other : (i : ℕ) → (i ≡ x → ⊥) → getD (last .states .words) (12 * i + 4) 0 ≡ getD (τ .states .words) (12 * i + 4) 0

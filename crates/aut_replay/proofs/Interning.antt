@@ -16,7 +16,7 @@ use Rattle.aut_steps.specs.Tables.{op1, op2, nest, words, Limits, roomS, roomM,
 use Rattle.aut_steps.specs.Intern.{seek, same2, sameL, put, intern0, intern1, intern2, nestL, store, putL, internL}
 use Rattle.aut_steps.specs.Kinds.{Form, leaf, constant, one, two, many, nothing, form, operandsBy}
 use Rattle.aut_steps.proofs.Facts.{seek-hit, seek-miss, Is2, same2-is, is-same2, IsL, sameL-is, is-sameL, sets-below, sets-above, words-sets, room-state, room-members}
-use Rattle.aut_steps.specs.Good.{states, kind, ExtM, Ok, Good, operands}
+use Rattle.aut_steps.specs.Good.{states, kind, ExtM, Ok, WfAut, operands}
 use Rattle.aut_steps.proofs.Good.{extm-refl, grown-refl, ok-as}
 use Rattle.aut_steps.proofs.Goes.{plus, grown-plus, memos-plus, kind-plus, first-plus, second-plus}
 use Rattle.aut_steps.proofs.InternLaws.{State2, StateL}
@@ -39,7 +39,7 @@ by-words (two c) st m i z p q = ap₂ (λ (a b : ℕ). a ∷ b ∷ []) p q
 by-words (many c) st m i z p q = ap₂ (words m) p q
 by-words nothing st m i z p q = refl
 
-module _ {N : ℕ} {L : Limits} {υ : Aut} (g : Good N L υ) where
+module _ {N : ℕ} {L : Limits} {υ : Aut} (g : WfAut N L υ) where
   -- two states of one kind whose operands are the same, in one of the two ways
   one-state : (i z : ℕ) → i < states υ → z < states υ → kind υ i ≡ kind υ z
       → operandsBy (form {N = N} (kind υ z)) (υ .states .words) (υ .members .words) i ≡ operands N υ z → i ≡ z
@@ -105,7 +105,7 @@ Some τ z = Unit {0}
 
 -- ---- a state, whatever its operands
 
-module _ {N : ℕ} {L : Limits} {σ : Aut} (g : Good N L σ) (k x y : ℕ) where
+module _ {N : ℕ} {L : Limits} {σ : Aut} (g : WfAut N L σ) (k x y : ℕ) where
   abbrev Finds : Limits → Step Table ℕ → Type 0
   Finds L′ step = (τ : Aut) (z : ℕ) → State2 k x y τ z → Again N L′ (onStates step) τ z
 
@@ -143,7 +143,7 @@ module _ {N : ℕ} {L : Limits} {σ : Aut} (g : Good N L σ) (k x y : ℕ) where
   deep-finds step f true e = stops
   deep-finds step f false e = put-finds step f e
 
-module _ {N : ℕ} {L : Limits} {σ : Aut} (g : Good N L σ) where
+module _ {N : ℕ} {L : Limits} {σ : Aut} (g : WfAut N L σ) where
   pub intern0-replays : {L′ : Limits} (k x : ℕ) → Replays N L′ Some (onStates (intern0 k x)) σ (onStates (intern0 k x) σ)
   unfolding intern0
   intern0-replays k x = seek-finds g k x 0 (intern0 k x) (λ τ z s. intern0-again k x z s) _ (put-finds g k x 0 (intern0 k x) (λ τ z s. intern0-again k x z s) 0)
@@ -162,7 +162,7 @@ module _ {N : ℕ} {L : Limits} {σ : Aut} (g : Good N L σ) where
 
 -- ---- a list's state, whatever the list
 
-module _ {N : ℕ} {L : Limits} {σ : Aut} (g : Good N L σ) (k : ℕ) (c : Rules N → Rule N) (q : form {N = N} k ≡ many c) (xs : List ℕ) where
+module _ {N : ℕ} {L : Limits} {σ : Aut} (g : WfAut N L σ) (k : ℕ) (c : Rules N → Rule N) (q : form {N = N} k ≡ many c) (xs : List ℕ) where
   abbrev nm : ℕ
   nm = σ .members .count
 

@@ -13,7 +13,7 @@ use Rattle.netkat.specs.ListSteps.{Edge, edge, leadsTo, unite, enter, enterIn, 
 use Rattle.spp_steps.specs.Model as Spp
 use Rattle.aut_steps.specs.Relations as Rel
 use Rattle.aut_steps.specs.Tables.{Limits, Aut}
-use Rattle.aut_steps.specs.Good.{Grown, Good}
+use Rattle.aut_steps.specs.Good.{ExtAut, WfAut}
 use Rattle.aut_steps.proofs.Good.{grown-refl, grown-trans, state-grown}
 use Rattle.st_steps.specs.Operations.{ops}
 use Rattle.st_steps.specs.Edges.{EdgeAt, EdgesAt, none, also}
@@ -32,7 +32,7 @@ enter-as N L L′ s l [] = refl
 enter-as N L L′ s l (u ∷ us) = ap (λ (fs : List Edge). if ltb s (u .target) then (edge s l ∷ u ∷ us) else (u ∷ fs)) (enter-as N L L′ s l us)
 
 module _ {N : ℕ} {L L′ : Limits} (wide : Wider L L′) where
-  unite-replay : {σ : Aut} → Good N L σ → (s l : ℕ) → Label N σ l → {es : List Edge} → EdgesAt N σ es
+  unite-replay : {σ : Aut} → WfAut N L σ → (s l : ℕ) → Label N σ l → {es : List Edge} → EdgesAt N σ es
       → Replays N L′ (In N L (λ τ fs. EdgesAt N τ fs × (length fs ≡ length es))) (unite (ops N L′) s l es) σ (unite (ops N L) s l es σ)
   unfolding unite
   unite-replay g s l a none = replays-return [] (g, (none, refl))
@@ -41,7 +41,7 @@ module _ {N : ℕ} {L L′ : Limits} (wide : Wider L L′) where
       (λ _. replays-bind (apply-replay g (relation-of p) a Spp.union) (λ τ m w (v, b). replays-return _ (v, (also (record { state = state-grown w (p .state); relation = b .at }) (edges-grown w q), refl))))
       (λ _. replays-bind (unite-replay g s l a q) (λ τ fs w (v, b). replays-return _ (v, (also (edge-grown w p) (b .0), ap suc (b .1)))))
 
-  module _ {σ : Aut} (g : Good N L σ) {s l : ℕ} (x : State σ s) (a : Label N σ l) where
+  module _ {σ : Aut} (g : WfAut N L σ) {s l : ℕ} (x : State σ s) (a : Label N σ l) where
     enterIn-replay : {es : List Edge} → ListAt N L σ es → Replays N L′ (In N L (ListAt N L)) (enterIn (ops N L′) s l es) σ (enterIn (ops N L) s l es σ)
     unfolding enterIn
     enterIn-replay {es} p = replays-goes (enterIn-goes g x a p) (go (ltb (length es) (L .transitions)) (ltb (length es) (L′ .transitions)) wider)
@@ -56,7 +56,7 @@ module _ {N : ℕ} {L L′ : Limits} (wide : Wider L L′) where
             (replays-return (enter (ops N L) s l es) tt)
         go false c f = stops
 
-  module _ {σ : Aut} (g : Good N L σ) {s l : ℕ} (x : State σ s) (a : Label N σ l) where
+  module _ {σ : Aut} (g : WfAut N L σ) {s l : ℕ} (x : State σ s) (a : Label N σ l) where
     -- st_insert_helper
     pub place-replay : {es : List Edge} → ListAt N L σ es → Replays N L′ (In N L (ListAt N L)) (place (ops N L′) s l es) σ (place (ops N L) s l es σ)
     unfolding place
@@ -77,7 +77,7 @@ module _ {N : ℕ} {L L′ : Limits} (wide : Wider L L′) where
 
   -- ---- insertion
 
-  split-replay : {σ : Aut} → Good N L σ → {s l : ℕ} → State σ s → Label N σ l → (us : List Edge) → EdgesAt N σ us → {total : ℕ} → Label N σ total → {es : List Edge} → ListAt N L σ es
+  split-replay : {σ : Aut} → WfAut N L σ → {s l : ℕ} → State σ s → Label N σ l → (us : List Edge) → EdgesAt N σ us → {total : ℕ} → Label N σ total → {es : List Edge} → ListAt N L σ es
       → Replays N L′ (In N L (ListAt N L)) (split (ops N L′) s l us total es) σ (split (ops N L) s l us total es σ)
   unfolding split
   split-replay g x a [] u t p = replays-bind (apply-replay g a t Spp.difference) (λ τ rest w (v, b). place-replay v (state-grown w x) b (list-grown w p))
@@ -91,7 +91,7 @@ module _ {N : ℕ} {L L′ : Limits} (wide : Wider L L′) where
       split-replay v₆ (state-grown w₆₀ x) (label-grown w₆₀ a) us (edges-grown w₆₀ (rest-at u)) (label-grown (grown-trans w₅ w₆) b₄) b₆))))))
 
   -- st_insert
-  pub insert-replay : {σ : Aut} → Good N L σ → {s l : ℕ} → State σ s → Label N σ l → {es : List Edge} → EdgesAt N σ es
+  pub insert-replay : {σ : Aut} → WfAut N L σ → {s l : ℕ} → State σ s → Label N σ l → {es : List Edge} → EdgesAt N σ es
       → Replays N L′ (In N L (ListAt N L)) (insert (ops N L′) s l es) σ (insert (ops N L) s l es σ)
   unfolding insert
   insert-replay {σ} g x a {es} e = split-replay g x a es e (zero-label g) (list-empty σ)
@@ -100,10 +100,10 @@ module _ {N : ℕ} {L L′ : Limits} (wide : Wider L L′) where
 
 -- what is made of a transition is made again, in all tables that have grown
 abbrev Maker : ℕ → Limits → Limits → Aut → (Edge → Step Aut Edge) → (Edge → Step Aut Edge) → Type 0
-Maker N L L′ σ make make′ = (τ : Aut) (e : Edge) → Grown σ τ → Good N L τ → EdgeAt N τ e → Replays N L′ (In N L (EdgeAt N)) (make′ e) τ (make e τ)
+Maker N L L′ σ make make′ = (τ : Aut) (e : Edge) → ExtAut σ τ → WfAut N L τ → EdgeAt N τ e → Replays N L′ (In N L (EdgeAt N)) (make′ e) τ (make e τ)
 
 module _ {N : ℕ} {L L′ : Limits} (wide : Wider L L′) where
-  insertEach-replay : {σ : Aut} → Good N L σ → (make make′ : Edge → Step Aut Edge) → Maker N L L′ σ make make′ → (ts : List Edge) → EdgesAt N σ ts → {es : List Edge} → ListAt N L σ es
+  insertEach-replay : {σ : Aut} → WfAut N L σ → (make make′ : Edge → Step Aut Edge) → Maker N L L′ σ make make′ → (ts : List Edge) → EdgesAt N σ ts → {es : List Edge} → ListAt N L σ es
       → Replays N L′ (In N L (ListAt N L)) (insertEach (ops N L′) make′ ts es) σ (insertEach (ops N L) make ts es σ)
   unfolding insertEach
   insertEach-replay g make make′ f [] a {es} p = replays-return es (g, p)
@@ -112,8 +112,8 @@ module _ {N : ℕ} {L L′ : Limits} (wide : Wider L L′) where
       replays-bind (insert-replay wide v₁ (b₁ .state) (relation-of b₁) (list-grown w₁ p .edges)) (λ τ₂ r w₂ (v₂, b₂). let w = grown-trans w₁ w₂ in
       insertEach-replay v₂ make make′ (λ υ e w′ v q. f υ e (grown-trans w w′) v q) ts (edges-grown w (rest-at a)) b₂))
 
-  insertPairs-replay : {σ : Aut} → Good N L σ → (make make′ : Edge → Edge → Step Aut Edge)
-      → ((τ : Aut) (t : Edge) → Grown σ τ → Good N L τ → EdgeAt N τ t → Maker N L L′ τ (make t) (make′ t))
+  insertPairs-replay : {σ : Aut} → WfAut N L σ → (make make′ : Edge → Edge → Step Aut Edge)
+      → ((τ : Aut) (t : Edge) → ExtAut σ τ → WfAut N L τ → EdgeAt N τ t → Maker N L L′ τ (make t) (make′ t))
       → (ts us : List Edge) → EdgesAt N σ ts → EdgesAt N σ us → {es : List Edge} → ListAt N L σ es
       → Replays N L′ (In N L (ListAt N L)) (insertPairs (ops N L′) make′ ts us es) σ (insertPairs (ops N L) make ts us es σ)
   unfolding insertPairs
@@ -154,7 +154,7 @@ module _ {N : ℕ} {L L′ : Limits} (wide : Wider L L′) where
 
   -- ---- the operations
 
-  module _ {σ : Aut} (g : Good N L σ) where
+  module _ {σ : Aut} (g : WfAut N L σ) where
     module _ {ts us : List Edge} (a : EdgesAt N σ ts) (b : EdgesAt N σ us) where
       pub st-union-replay : Replays N L′ (In N L (ListAt N L)) (st-union (ops N L′) ts us) σ (st-union (ops N L) ts us σ)
       unfolding st-union
@@ -188,7 +188,7 @@ abbrev pub toFirst : (N : ℕ) (L L′ : Limits) → Summed (ops N L′) → Ste
 toFirst N L L′ s = return (summed N L L′ s)
 
 module _ {N : ℕ} {L L′ : Limits} (wide : Wider L L′) where
-  subtractRow-replay : {σ : Aut} → Good N L σ → {t : Edge} → EdgeAt N σ t → (us : List Edge) → EdgesAt N σ us → (s : Summed (ops N L′)) → SumAt N L σ (summed N L L′ s)
+  subtractRow-replay : {σ : Aut} → WfAut N L σ → {t : Edge} → EdgeAt N σ t → (us : List Edge) → EdgesAt N σ us → (s : Summed (ops N L′)) → SumAt N L σ (summed N L L′ s)
       → Replays N L′ (In N L (SumAt N L)) (subtractRow (ops N L′) t us s >>= (toFirst N L L′)) σ (subtractRow (ops N L) t us (summed N L L′ s) σ)
   unfolding subtractRow
   subtractRow-replay g q [] b s p = replays-return (summed N L L′ s) (g, p)
@@ -200,7 +200,7 @@ module _ {N : ℕ} {L L′ : Limits} (wide : Wider L L′) where
       let w = grown-trans w₁ (grown-trans w₂ (grown-trans w₃ w₄)) in
       subtractRow-replay v₄ (edge-grown w q) us (edges-grown w (rest-at b)) (record { sum = sum₁; result = r }) (record { sum = label-grown w₄ b₃; result = b₄ })))))
 
-  subtractRows-replay : {σ : Aut} → Good N L σ → (ts us : List Edge) → EdgesAt N σ ts → EdgesAt N σ us → (s : Summed (ops N L′)) → SumAt N L σ (summed N L L′ s)
+  subtractRows-replay : {σ : Aut} → WfAut N L σ → (ts us : List Edge) → EdgesAt N σ ts → EdgesAt N σ us → (s : Summed (ops N L′)) → SumAt N L σ (summed N L L′ s)
       → Replays N L′ (In N L (SumAt N L)) (subtractRows (ops N L′) ts us s >>= (toFirst N L L′)) σ (subtractRows (ops N L) ts us (summed N L L′ s) σ)
   unfolding subtractRows
   subtractRows-replay g [] us a b s p = replays-return (summed N L L′ s) (g, p)
@@ -208,7 +208,7 @@ module _ {N : ℕ} {L L′ : Limits} (wide : Wider L L′) where
       replays-as (λ υ w v. assoc (subtractRow (ops N L′) t us s υ) (subtractRows (ops N L′) ts us) (toFirst N L L′) ∙ sym (assoc (subtractRow (ops N L′) t us s υ) (toFirst N L L′) (λ r. subtractRows (ops N L′) ts us (summed N L′ L r) >>= (toFirst N L L′))))
       (replays-bind (subtractRow-replay g (first-at a) us b s p) (λ τ r w (v, q). subtractRows-replay v ts us (edges-grown w (rest-at a)) (edges-grown w b) (summed N L′ L r) q))
 
-  module _ {σ : Aut} (g : Good N L σ) where
+  module _ {σ : Aut} (g : WfAut N L σ) where
     pub st-difference-replay : {ts us : List Edge} → EdgesAt N σ ts → EdgesAt N σ us → Replays N L′ (In N L (ListAt N L)) (st-difference (ops N L′) ts us) σ (st-difference (ops N L) ts us σ)
     unfolding st-difference
     st-difference-replay {ts} {us} a b =
@@ -216,7 +216,7 @@ module _ {N : ℕ} {L L′ : Limits} (wide : Wider L L′) where
         (replays-bind (subtractRows-replay g ts us a b (record { sum = Rel.zeroAt N; result = [] }) (record { sum = zero-label g; result = list-empty σ })) (λ τ s w (v, p).
         insertEach-replay wide v (restOf (ops N L) (s .sum)) (restOf (ops N L′) (s .sum)) (rest-makes wide (p .sum)) ts (edges-grown w a) (p .result)))
 
-  module _ {σ : Aut} (g : Good N L σ) where
+  module _ {σ : Aut} (g : WfAut N L σ) where
     -- st_xor
     pub st-xor-replay : {ts us : List Edge} → EdgesAt N σ ts → EdgesAt N σ us → Replays N L′ (In N L (ListAt N L)) (st-xor (ops N L′) ts us) σ (st-xor (ops N L) ts us σ)
     unfolding st-xor
@@ -226,12 +226,12 @@ module _ {N : ℕ} {L L′ : Limits} (wide : Wider L L′) where
 
   -- ---- st_complement
 
-  coverAll-replay : {σ : Aut} → Good N L σ → (ts : List Edge) → EdgesAt N σ ts → {sum : ℕ} → Label N σ sum → Replays N L′ (In N L (Label N)) (coverAll (ops N L′) ts sum) σ (coverAll (ops N L) ts sum σ)
+  coverAll-replay : {σ : Aut} → WfAut N L σ → (ts : List Edge) → EdgesAt N σ ts → {sum : ℕ} → Label N σ sum → Replays N L′ (In N L (Label N)) (coverAll (ops N L′) ts sum) σ (coverAll (ops N L) ts sum σ)
   unfolding coverAll
   coverAll-replay g [] a {sum} p = replays-return sum (g, p)
   coverAll-replay g (t ∷ ts) a p = replays-bind (apply-replay g p (relation-of (first-at a)) Spp.union) (λ τ m w (v, b). coverAll-replay v ts (edges-grown w (rest-at a)) b)
 
-  module _ {σ : Aut} (g : Good N L σ) where
+  module _ {σ : Aut} (g : WfAut N L σ) where
     pub st-complement-replay : {ts : List Edge} → EdgesAt N σ ts → Replays N L′ (In N L (ListAt N L)) (st-complement (ops N L′) ts) σ (st-complement (ops N L) ts σ)
     unfolding st-complement
     st-complement-replay {ts} a =

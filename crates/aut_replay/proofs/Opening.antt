@@ -16,7 +16,7 @@ use Rattle.aut_steps.specs.Kinds.{Form, many, form}
 use Rattle.aut_steps.specs.ListLaws.{All}
 use Rattle.aut_steps.proofs.ListLaws.{all-append}
 use Rattle.aut_steps.proofs.Scratch.{all-word}
-use Rattle.aut_steps.specs.Good.{states, kind, first, second, members, Many, Ok, Good}
+use Rattle.aut_steps.specs.Good.{states, kind, first, second, members, Many, Ok, WfAut}
 use Rattle.aut_steps.proofs.Good.{ok-as}
 use Rattle.aut_steps.proofs.UnionLaws.{opened-states}
 use Rattle.aut_steps.proofs.Products.{union-size}
@@ -58,7 +58,7 @@ open-then (same {a} p) f = f a p
 leb-wide : (n m k : ℕ) → m ≤ k → leb n m ≡ true → leb n k ≡ true
 leb-wide n m k l e = le-leb n k (omega (arith, leb-true n m e))
 
-module _ {N : ℕ} {L : Limits} {σ υ : Aut} (g : Good N L σ) (w : Later σ υ) where
+module _ {N : ℕ} {L : Limits} {σ υ : Aut} (g : WfAut N L σ) (w : Later σ υ) where
   pub list-later : (k : ℕ) (c : Rules N → Rule N) → form {N = N} k ≡ many c → (x : ℕ) → x < states σ → kind σ x ≡ k → members υ x ≡ members σ x
   list-later k c q x l e = members-later w x l (subst (λ (f : Form N). Ok f σ x) q (ok-as g k l e) .inside)
 
@@ -124,7 +124,7 @@ module _ {N : ℕ} {L : Limits} {σ υ : Aut} (g : Good N L σ) (w : Later σ υ
         go true = within-if (leb (n * second σ x) most) (leb (n * second σ x) more) (n * second σ x) (leb-wide (n * second σ x) most more wide) tt
         go false = same tt
 
-module _ {N : ℕ} {L : Limits} {σ : Aut} (g : Good N L σ) where
+module _ {N : ℕ} {L : Limits} {σ : Aut} (g : WfAut N L σ) where
   united : (x : ℕ) → x < states σ → kind σ x ≡ UNION → Many σ x
   unfolding form
   united x l e = ok-as g UNION l e

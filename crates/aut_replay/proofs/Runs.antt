@@ -12,9 +12,9 @@ use Rattle.common.specs.Runs.{Table, placed}
 use Rattle.spp_steps.proofs.Laws.{ext-refl, ext-trans, sppTheory}
 use Rattle.aut_steps.specs.Tables.{kindOf, op1, op2, nest, words, Limits, Aut, putNodes, onNodes, onStates, putStates}
 use Rattle.aut_steps.proofs.Facts.{words-same}
-use Rattle.aut_steps.specs.Good.{states, kind, first, second, nesting, members, Grown, Good}
+use Rattle.aut_steps.specs.Good.{states, kind, first, second, nesting, members, ExtAut, WfAut}
 use Rattle.aut_steps.proofs.Good.{grown-refl, grown-trans, grown-nodes}
-use Rattle.aut_steps.proofs.Goes.{Goes, good-nodes}
+use Rattle.aut_steps.proofs.Goes.{StepSpec, good-nodes}
 use Rattle.aut_steps.proofs.Goes as Going
 use Rattle.aut_replay.specs.Replay.{Later, Again, Replays, stops, comes, In}
 
@@ -24,7 +24,7 @@ pub later-refl : (σ : Aut) → Later σ σ
 later-refl σ = record { nodes = ext-refl (σ .nodes); more = omega arith; words = λ x w l m. refl; members = λ i l. refl }
 
 -- tables that have grown, and later ones
-pub grown-later : {σ τ υ : Aut} → Grown σ τ → Later τ υ → Later σ υ
+pub grown-later : {σ τ υ : Aut} → ExtAut σ τ → Later τ υ → Later σ υ
 grown-later g w = record {
   nodes = ext-trans (g .nodes) (w .nodes);
   more = le-trans (g .states .more) (w .more);
@@ -56,7 +56,7 @@ module _ {σ υ : Aut} (w : Later σ υ) (x : ℕ) (l : x < states σ) where
       ap₂ (words (υ .members .words)) first-later second-later
       ∙ words-same (σ .members .words) (υ .members .words) (first σ x) (second σ x) (λ i a b. w .members i (omega arith))
 
-pub again-grown : {N : ℕ} {L : Limits} {A : Type 0} {step : Step Aut A} {σ τ : Aut} {a : A} → Grown σ τ → Again N L step σ a → Again N L step τ a
+pub again-grown : {N : ℕ} {L : Limits} {A : Type 0} {step : Step Aut A} {σ τ : Aut} {a : A} → ExtAut σ τ → Again N L step σ a → Again N L step τ a
 again-grown g r = record { same = λ υ w v. r .same υ (grown-later g w) v }
 
 -- ---- following two runs
@@ -74,13 +74,13 @@ module _ {N : ℕ} {L : Limits} {A : Type 0} where
   replays-return {σ = σ} a p = comes (grown-refl σ) (λ i w l m. refl) p (record { same = λ υ w v. refl })
 
   pub replays-map : {P Q : Aut → A → Type 0} {step : Step Aut A} {σ : Aut} {o : Outcome Aut A} → Replays N L P step σ o
-      → ((τ : Aut) (a : A) → Grown σ τ → P τ a → Q τ a) → Replays N L Q step σ o
+      → ((τ : Aut) (a : A) → ExtAut σ τ → P τ a → Q τ a) → Replays N L Q step σ o
   replays-map stops f = stops
   replays-map (comes {τ} {a} g m p r) f = comes g m (f τ a g p) r
 
   -- a step that does the same, on all tables later than the first
   pub replays-as : {P : Aut → A → Type 0} {step other : Step Aut A} {σ : Aut} {o : Outcome Aut A}
-      → ((υ : Aut) → Later σ υ → Good N L υ → other υ ≡ step υ) → Replays N L P step σ o → Replays N L P other σ o
+      → ((υ : Aut) → Later σ υ → WfAut N L υ → other υ ≡ step υ) → Replays N L P step σ o → Replays N L P other σ o
   replays-as f stops = stops
   replays-as f (comes g m p r) = comes g m p (record { same = λ υ w v. f υ (grown-later g w) v ∙ r .same υ w v })
 
@@ -89,7 +89,7 @@ module _ {N : ℕ} {L : Limits} {A : Type 0} where
   replays-from {P} {step} {σ} e r = subst (Replays N L P step σ) (sym e) r
 
   pub replays-bind : {B : Type 0} {P : Aut → A → Type 0} {Q : Aut → B → Type 0} {step : Step Aut A} {next : A → Step Aut B} {σ : Aut} {o : Outcome Aut A} {k : A → Step Aut B}
-      → Replays N L P step σ o → ((τ : Aut) (a : A) → Grown σ τ → P τ a → Replays N L Q (next a) τ (k a τ)) → Replays N L Q (step >>= next) σ (after o k)
+      → Replays N L P step σ o → ((τ : Aut) (a : A) → ExtAut σ τ → P τ a → Replays N L Q (next a) τ (k a τ)) → Replays N L Q (step >>= next) σ (after o k)
   replays-bind stops f = stops
   replays-bind {B} {Q = Q} {step = step} {next = next} {σ = σ} {k = k} (comes {τ} {a} g m p r) f = go (f τ a g p)
     where
@@ -129,18 +129,18 @@ module _ {N : ℕ} {L : Limits} {A : Type 0} where
   replays-in put get false m k m′ k′ f h = h refl
 
   -- with what is known of the first run
-  pub replays-goes : {M : Limits} {P Q : Aut → A → Type 0} {step : Step Aut A} {σ : Aut} {o : Outcome Aut A} → Goes N M Q σ o → Replays N L P step σ o → Replays N L (In N M Q) step σ o
+  pub replays-goes : {M : Limits} {P Q : Aut → A → Type 0} {step : Step Aut A} {σ : Aut} {o : Outcome Aut A} → StepSpec N M Q σ o → Replays N L P step σ o → Replays N L (In N M Q) step σ o
   replays-goes (Going.stops w g y) stops = stops
   replays-goes (Going.comes r) (comes g m p s) = comes g m (r .good, r .holds) s
 
-  pub replays-of : {M : Limits} {Q : Aut → A → Type 0} {step : Step Aut A} {σ : Aut} {o : Outcome Aut A} → Goes N M Q σ o
-      → ((τ : Aut) (a : A) → Good N M τ → Q τ a → Again N L step τ a) → Replays N L (In N M Q) step σ o
+  pub replays-of : {M : Limits} {Q : Aut → A → Type 0} {step : Step Aut A} {σ : Aut} {o : Outcome Aut A} → StepSpec N M Q σ o
+      → ((τ : Aut) (a : A) → WfAut N M τ → Q τ a → Again N L step τ a) → Replays N L (In N M Q) step σ o
   replays-of (Going.stops w g y) f = stops
   replays-of (Going.comes {τ} {a} r) f = comes (r .grown) (r .memos) (r .good, r .holds) (f τ a (r .good) (r .holds))
 
 -- one step after another, of which the second goes on
 pub replays-assoc : {N : ℕ} {L : Limits} {A B C : Type 0} {P : Aut → A → Type 0} {Q : Aut → C → Type 0} {step : Step Aut A} (next : A → Step Aut B) (last : B → Step Aut C) {σ : Aut} {o : Outcome Aut A} {k : A → Step Aut C}
-    → Replays N L P step σ o → ((τ : Aut) (a : A) → Grown σ τ → P τ a → Replays N L Q (next a >>= last) τ (k a τ)) → Replays N L Q ((step >>= next) >>= last) σ (after o k)
+    → Replays N L P step σ o → ((τ : Aut) (a : A) → ExtAut σ τ → P τ a → Replays N L Q (next a >>= last) τ (k a τ)) → Replays N L Q ((step >>= next) >>= last) σ (after o k)
 replays-assoc {step = step} next last r f = replays-as {step = step >>= λ a. next a >>= last} (λ υ w v. assoc (step υ) next last) (replays-bind r f)
 
 -- a step on some of the tables, and then a value made of its answer
@@ -149,7 +149,7 @@ placed-then put σ (refused number) f = refl
 placed-then put σ (given s a) f = refl
 
 pub states-then : {N : ℕ} {L : Limits} {A B : Type 0} {P : Aut → A → Type 0} {Q : Aut → B → Type 0} {σ : Aut} (c d : Step Table A) (f : A → B) → Replays N L P (onStates d) σ (onStates c σ)
-    → ((τ : Aut) (a : A) → Grown σ τ → P τ a → Q τ (f a)) → Replays N L Q (onStates (d >>= λ a. return (f a))) σ (onStates (c >>= λ a. return (f a)) σ)
+    → ((τ : Aut) (a : A) → ExtAut σ τ → P τ a → Q τ (f a)) → Replays N L Q (onStates (d >>= λ a. return (f a))) σ (onStates (c >>= λ a. return (f a)) σ)
 states-then {σ = σ} c d f r h =
     replays-from (placed-then putStates σ (c (σ .states)) f)
     (replays-as {step = onStates d >>= λ a. return (f a)} (λ υ w v. placed-then putStates υ (d (υ .states)) f) (replays-bind r (λ τ a g p. replays-return (f a) (h τ a g p))))
@@ -157,11 +157,11 @@ states-then {σ = σ} c d f r h =
 -- ---- relation nodes
 
 -- relations replay: they are stable
-pub nodes-replay : {N : ℕ} {L M : Limits} {A : Type 0} {P : Table → A → Type 0} {σ : Aut} → Good N M σ → (c : Step Table A) → RunsLaws.Runs (sppTheory N) c P (σ .nodes)
+pub nodes-replay : {N : ℕ} {L M : Limits} {A : Type 0} {P : Table → A → Type 0} {σ : Aut} → WfAut N M σ → (c : Step Table A) → RunsLaws.StableSpec (sppTheory N) c P (σ .nodes)
     → Replays N L (In N M (λ τ a. (states τ ≡ states σ) × P (τ .nodes) a)) (onNodes c) σ (onNodes c σ)
 nodes-replay {N} {L} {M} {A} {P} {σ} g c r = go r
   where
-    go : {o : Outcome Table A} → Gives (Runs.Good (sppTheory N) c P (σ .nodes)) o → Replays N L (In N M (λ τ a. (states τ ≡ states σ) × P (τ .nodes) a)) (onNodes c) σ (placed putNodes σ o)
+    go : {o : Outcome Table A} → Gives (Runs.StableResult (sppTheory N) c P (σ .nodes)) o → Replays N L (In N M (λ τ a. (states τ ≡ states σ) × P (τ .nodes) a)) (onNodes c) σ (placed putNodes σ o)
     go refusal = stops
     go (gives {σ = t} h) =
         comes (grown-nodes {σ = σ} (h .ext)) (λ i w l m. refl) (good-nodes g (h .ext) (h .wf), (refl, h .holds))

@@ -14,7 +14,7 @@ use Rattle.aut_steps.specs.Relations as Rel
 use Rattle.aut_steps.specs.Tables.{SPP, UNION, INTERSECT, XOR, DIFFERENCE, COMPLEMENT, SEQUENCE, STAR, DUP, NEXT, UNTIL, Limits, Aut, onNodes}
 use Rattle.aut_steps.specs.Kinds.{form}
 use Rattle.aut_steps.specs.ListLaws.{All}
-use Rattle.aut_steps.specs.Good.{states, kind, first, second, members, Grown, Good}
+use Rattle.aut_steps.specs.Good.{states, kind, first, second, members, ExtAut, WfAut}
 use Rattle.aut_steps.proofs.Good.{grown-trans, state-grown}
 use Rattle.st_steps.specs.Operations.{ops}
 use Rattle.st_steps.specs.Edges.{EdgesAt}
@@ -33,7 +33,7 @@ use Rattle.aut_replay.proofs.Values.{pick}
 
 -- ---- lists joined
 
-later-lists : {N : ℕ} {L : Limits} {σ τ : Aut} {lists : List (List Edge)} → Grown σ τ → ListsAt N L σ lists → ListsAt N L τ lists
+later-lists : {N : ℕ} {L : Limits} {σ τ : Aut} {lists : List (List Edge)} → ExtAut σ τ → ListsAt N L σ lists → ListsAt N L τ lists
 later-lists w empties = empties
 later-lists w (with-list t ts) = with-list (list-grown w t) (later-lists w ts)
 
@@ -43,22 +43,22 @@ lists-of v [] a = empties
 lists-of v (y ∷ ys) a = with-list (a .0) (lists-of v ys (a .1))
 
 module _ {N : ℕ} {L L′ : Limits} (wide : Wider L L′) where
-  unionAll-replay : (lists : List (List Edge)) {σ : Aut} {r : List Edge} → Good N L σ → ListsAt N L σ lists → ListAt N L σ r → Replays N L′ (In N L (ListAt N L)) (unionAll N L′ lists r) σ (unionAll N L lists r σ)
+  unionAll-replay : (lists : List (List Edge)) {σ : Aut} {r : List Edge} → WfAut N L σ → ListsAt N L σ lists → ListAt N L σ r → Replays N L′ (In N L (ListAt N L)) (unionAll N L′ lists r) σ (unionAll N L lists r σ)
   unfolding unionAll
   unionAll-replay [] {r = r} g ts t = replays-return r (g, t)
   unionAll-replay (es ∷ lists) g (with-list u us) t = replays-bind (st-union-replay wide g (t .edges) (u .edges)) (λ τ r w (v, p). unionAll-replay lists v (later-lists w us) p)
 
-  intersectAll-replay : (lists : List (List Edge)) {σ : Aut} {r : List Edge} → Good N L σ → ListsAt N L σ lists → ListAt N L σ r
+  intersectAll-replay : (lists : List (List Edge)) {σ : Aut} {r : List Edge} → WfAut N L σ → ListsAt N L σ lists → ListAt N L σ r
       → Replays N L′ (In N L (ListAt N L)) (intersectAll N L′ lists r) σ (intersectAll N L lists r σ)
   unfolding intersectAll
   intersectAll-replay [] {r = r} g ts t = replays-return r (g, t)
   intersectAll-replay (es ∷ lists) g (with-list u us) t = replays-bind (st-intersect-replay wide g (t .edges) (u .edges)) (λ τ r w (v, p). intersectAll-replay lists v (later-lists w us) p)
 
-  intersectFirst-replay : (lists : List (List Edge)) {σ : Aut} → Good N L σ → ListsAt N L σ lists → Replays N L′ (In N L (ListAt N L)) (intersectFirst N L′ lists) σ (intersectFirst N L lists σ)
+  intersectFirst-replay : (lists : List (List Edge)) {σ : Aut} → WfAut N L σ → ListsAt N L σ lists → Replays N L′ (In N L (ListAt N L)) (intersectFirst N L′ lists) σ (intersectFirst N L lists σ)
   intersectFirst-replay [] {σ} g ts = replays-return [] (g, list-empty σ)
   intersectFirst-replay (es ∷ lists) g (with-list u us) = intersectAll-replay lists g us u
 
-  module _ {σ : Aut} (g : Good N L σ) where
+  module _ {σ : Aut} (g : WfAut N L σ) where
     sequenceList-replay : {b ε : ℕ} {ts us : List Edge} → State σ b → Label N σ ε → EdgesAt N σ ts → EdgesAt N σ us
         → Replays N L′ (In N L (ListAt N L)) (sequenceList N L′ b ε ts us) σ (sequenceList N L b ε ts us σ)
     unfolding sequenceList
@@ -103,7 +103,7 @@ replays-all : {N : ℕ} {L : Limits} {A : Type 0} {Q : Aut → A → Type 0} {σ
 replays-all P true xs zs m k m′ k′ h f g = f refl h
 replays-all P false xs zs m k m′ k′ h f g = g refl h
 
-pub together-replay : {N : ℕ} {L L′ : Limits} → Wider L L′ → {α : Aut} → Good N L α → 1 ≤ L .transitions → (v : ℕ → List Edge) (e k x : ℕ) (ys : List ℕ) (a b : ℕ) → Operands N L α v e k x ys a b
+pub together-replay : {N : ℕ} {L L′ : Limits} → Wider L L′ → {α : Aut} → WfAut N L α → 1 ≤ L .transitions → (v : ℕ → List Edge) (e k x : ℕ) (ys : List ℕ) (a b : ℕ) → Operands N L α v e k x ys a b
     → Replays N L′ (In N L (ListAt N L)) (togetherWith N L′ v e k x ys a b) α (togetherWith N L v e k x ys a b α)
 unfolding togetherWith listOperandsWith
 together-replay {N} {L} wide {α} g one v e k x ys a b o =
@@ -152,7 +152,7 @@ together-as N L v w e f k x ys a b h s t =
 
 -- ---- by what later tables have
 
-module _ {N : ℕ} {M : Limits} {σ υ : Aut} (g : Good N M σ) (u : Later σ υ) (x : ℕ) (l : x < states σ) where
+module _ {N : ℕ} {M : Limits} {σ υ : Aut} (g : WfAut N M σ) (u : Later σ υ) (x : ℕ) (l : x < states σ) where
   union-members : eqb (kind σ x) UNION ≡ true → members υ x ≡ members σ x
   unfolding form
   union-members q = list-later g u UNION union refl x l (eqb-true (kind σ x) UNION q)

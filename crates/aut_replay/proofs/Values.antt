@@ -12,7 +12,7 @@ use Rattle.common.specs.Runs.{Table, placed}
 use Rattle.common.proofs.Runs.{runs-bind, runs-return, runs-map}
 use Rattle.netkat.specs.Rules.{union, intersection}
 use Rattle.spp_steps.specs.Model as Spp
-use Rattle.spp_steps.specs.Laws.{Wf, At}
+use Rattle.spp_steps.specs.Laws.{Wf, ValidAt}
 use Rattle.spp_steps.proofs.Laws.{at-ext, den-mem, den-zero, den-one, den-top, sppTheory}
 use Rattle.spp_steps.proofs.Sequence.{sequence-exact}
 use Rattle.spp_steps.proofs.Star.{star-exact}
@@ -22,7 +22,7 @@ use Rattle.aut_steps.specs.Constructors.{each}
 use Rattle.aut_steps.specs.Kinds.{form}
 use Rattle.aut_steps.specs.ListLaws.{All}
 use Rattle.aut_steps.proofs.ListLaws.{all-map}
-use Rattle.aut_steps.specs.Good.{states, kind, members, Good}
+use Rattle.aut_steps.specs.Good.{states, kind, members, WfAut}
 use Rattle.st_steps.specs.Operations as Ops
 use Rattle.delta_steps.specs.EpsilonReads.{operandsWith, operandsOf, uniteValues, meetValues, combineBy}
 use Rattle.aut_replay.specs.Replay.{Later, epsilonFrom}
@@ -41,7 +41,7 @@ pick-all P true xs ys h f g = f h
 pick-all P false xs ys h f g = g h
 
 runs-all : {N : ℕ} {P : Table → ℕ → Type 0} {t : Table} (Q : ℕ → Type 0) (b : Bool) (xs ys : List ℕ) (c d : Step Table ℕ)
-    → All Q (if b then xs else ys) → (All Q xs → Runs.Runs (sppTheory N) c P t) → (All Q ys → Runs.Runs (sppTheory N) d P t) → Runs.Runs (sppTheory N) (λ t. if b then c t else d t) P t
+    → All Q (if b then xs else ys) → (All Q xs → Runs.StableSpec (sppTheory N) c P t) → (All Q ys → Runs.StableSpec (sppTheory N) d P t) → Runs.StableSpec (sppTheory N) (λ t. if b then c t else d t) P t
 runs-all Q true xs ys c d h f g = f h
 runs-all Q false xs ys c d h f g = g h
 
@@ -82,26 +82,26 @@ module _ (N : ℕ) (v w : ℕ → ℕ) where
 
 module _ (N : ℕ) where
   abbrev Handle : Table → ℕ → Type 0
-  Handle t h = At t N h
+  Handle t h = ValidAt t N h
 
-  fold-runs : (o : Spp.Op) (v : ℕ → ℕ) (ys : List ℕ) {t : Table} → Wf N t → All (λ y. At t N (v y)) ys → (h : ℕ) → At t N h
-      → Runs.Runs (sppTheory N) (each (λ y h. Spp.apply N o N h (v y)) ys h) Handle t
+  fold-runs : (o : Spp.Op) (v : ℕ → ℕ) (ys : List ℕ) {t : Table} → Wf N t → All (λ y. ValidAt t N (v y)) ys → (h : ℕ) → ValidAt t N h
+      → Runs.StableSpec (sppTheory N) (each (λ y h. Spp.apply N o N h (v y)) ys h) Handle t
   unfolding each
   fold-runs o v [] w a h x = runs-return (sppTheory N) h w x
   fold-runs o v (y ∷ ys) w a h x =
       runs-bind (sppTheory N) (apply-runs N 0 o h (v y) w x (a .0)) (λ u r e w′ q. fold-runs o v ys w′ (all-map ys (λ z i. at-ext e N (v z) i) (a .1)) r q)
 
-  first-runs : (v : ℕ → ℕ) (ys : List ℕ) {t : Table} → Wf N t → All (λ y. At t N (v y)) ys → Runs.Runs (sppTheory N) (meetValues N v ys) Handle t
+  first-runs : (v : ℕ → ℕ) (ys : List ℕ) {t : Table} → Wf N t → All (λ y. ValidAt t N (v y)) ys → Runs.StableSpec (sppTheory N) (meetValues N v ys) Handle t
   first-runs v [] w a = runs-return (sppTheory N) (Rel.oneAt N) w (den-one w N (omega arith) .at)
   first-runs v (y ∷ ys) w a = fold-runs Spp.intersect v ys w (a .1) (v y) (a .0)
 
-  pub star-runs : (a : ℕ) {t : Table} → Wf N t → At t N a → Runs.Runs (sppTheory N) (Rel.star N a) Handle t
+  pub star-runs : (a : ℕ) {t : Table} → Wf N t → ValidAt t N a → Runs.StableSpec (sppTheory N) (Rel.star N a) Handle t
   star-runs a {t} w x = runs-map (sppTheory N) (λ t h e w d. d .at) (star-exact N N (omega arith) t a _ w (den-mem x) .runs)
 
-  pub combine-runs : (v : ℕ → ℕ) (k : ℕ) (ys : List ℕ) (a b : ℕ) {t : Table} → Wf N t → All (λ y. At t N (v y)) (operandsWith k ys a b) → Runs.Runs (sppTheory N) (combineBy N v k ys a b) Handle t
+  pub combine-runs : (v : ℕ → ℕ) (k : ℕ) (ys : List ℕ) (a b : ℕ) {t : Table} → Wf N t → All (λ y. ValidAt t N (v y)) (operandsWith k ys a b) → Runs.StableSpec (sppTheory N) (combineBy N v k ys a b) Handle t
   unfolding combineBy operandsWith Spp.complement
   combine-runs v k ys a b {t} w h =
-      let P : ℕ → Type 0 = λ y. At t N (v y) in
+      let P : ℕ → Type 0 = λ y. ValidAt t N (v y) in
       runs-all P (eqb k UNION) _ _ _ _ h (λ h. fold-runs Spp.union v ys w h (Rel.zeroAt N) (den-zero w N (omega arith) .at))
       (λ h. runs-all P (eqb k INTERSECT) _ _ _ _ h (λ h. first-runs v ys w h)
       (λ h. runs-all P (eqb k XOR) _ _ _ _ h (λ h. apply-runs N 0 Spp.xor (v a) (v b) w (h .0) (h .1 .0))
@@ -112,13 +112,13 @@ module _ (N : ℕ) where
       (λ h. runs-all P (eqb k UNTIL) _ _ _ _ h (λ h. runs-return (sppTheory N) (v b) w (h .0))
       (λ h. last (eqb k TOP)))))))))
     where
-      last : (c : Bool) → Runs.Runs (sppTheory N) (λ t. if c then given t (Rel.topAt N) else given t (Rel.zeroAt N)) Handle t
+      last : (c : Bool) → Runs.StableSpec (sppTheory N) (λ t. if c then given t (Rel.topAt N) else given t (Rel.zeroAt N)) Handle t
       last true = runs-return (sppTheory N) (Rel.topAt N) w (den-top w N (omega arith) .at)
       last false = runs-return (sppTheory N) (Rel.zeroAt N) w (den-zero w N (omega arith) .at)
 
 -- ---- by what later tables have
 
-module _ {N : ℕ} {L : Limits} {σ υ : Aut} (g : Good N L σ) (u : Later σ υ) (x : ℕ) (l : x < states σ) where
+module _ {N : ℕ} {L : Limits} {σ υ : Aut} (g : WfAut N L σ) (u : Later σ υ) (x : ℕ) (l : x < states σ) where
   union-members : eqb (kind σ x) UNION ≡ true → members υ x ≡ members σ x
   unfolding form
   union-members q = list-later g u UNION union refl x l (eqb-true (kind σ x) UNION q)

@@ -13,7 +13,7 @@ use Rattle.aut_steps.specs.Tables.{SEQUENCE, STAR, Limits, Aut, onNodes, onStat
 use Rattle.aut_steps.specs.Constructors as Make
 use Rattle.aut_steps.specs.ListLaws.{All}
 use Rattle.aut_steps.specs.Goes.{Memos}
-use Rattle.aut_steps.specs.Good.{states, kind, first, second, members, Grown, Good}
+use Rattle.aut_steps.specs.Good.{states, kind, first, second, members, ExtAut, WfAut}
 use Rattle.st_steps.specs.Operations.{ops}
 use Rattle.st_steps.specs.Edges.{EdgesAt}
 use Rattle.st_steps.specs.ListGoes.{ListAt, Label, State}
@@ -21,10 +21,10 @@ use Rattle.delta_steps.specs.Epsilon.{epsilonOf, valueOf, epsilon}
 use Rattle.delta_steps.specs.Delta.{countOf, Store, store, listAt, delta}
 use Rattle.delta_steps.specs.Fits.{Since}
 use Rattle.delta_steps.specs.Noted.{Noted}
-use Rattle.delta_steps.specs.Worked.{Valued, Worked, Stored}
+use Rattle.delta_steps.specs.Worked.{Valued, WfStore, Stored}
 use Rattle.delta_steps.specs.EpsilonLaws.{Ready}
 use Rattle.delta_steps.specs.EpsilonReads.{operandsOf, combineBy}
-use Rattle.delta_steps.specs.Stored.{Went}
+use Rattle.delta_steps.specs.Stored.{ExtStore}
 use Rattle.delta_steps.specs.DeltaReads.{listOperands, togetherWith}
 
 -- ---- later tables
@@ -48,16 +48,16 @@ pub record Wider (L L′ : Limits) : Type 0 where
 
 -- on all tables later than τ that are in order, the step gives a and makes nothing
 pub record Again (N : ℕ) (L : Limits) {A : Type 0} (step : Step Aut A) (τ : Aut) (a : A) : Type 0 where
-  pub same : (υ : Aut) → Later τ υ → Good N L υ → step υ ≡ given υ a
+  pub same : (υ : Aut) → Later τ υ → WfAut N L υ → step υ ≡ given υ a
 
 -- o is what the first run has come to from σ: unless it is refused, the tables have grown, with words 4 to 11 of every state as they were, P holds of them and of the value a, and the step gives a again
 pub data Replays (N : ℕ) (L : Limits) {A : Type 0} (P : Aut → A → Type 0) (step : Step Aut A) (σ : Aut) : Outcome Aut A → Type 0 where
   stops : {number : ℕ} → Replays N L P step σ (refused number)
-  comes : {τ : Aut} {a : A} → Grown σ τ → Memos σ τ → P τ a → Again N L step τ a → Replays N L P step σ (given τ a)
+  comes : {τ : Aut} {a : A} → ExtAut σ τ → Memos σ τ → P τ a → Again N L step τ a → Replays N L P step σ (given τ a)
 
 -- the tables are in order, and Q holds
 abbrev pub In : (N : ℕ) (L : Limits) {A : Type 0} → (Aut → A → Type 0) → Aut → A → Type 0
-In N L Q τ a = Good N L τ × Q τ a
+In N L Q τ a = WfAut N L τ × Q τ a
 
 -- from σ, a step under the limits L is done again under L′; then the tables are in order, and Q holds
 abbrev pub DoneAgain : (N : ℕ) (L L′ : Limits) {A : Type 0} → (Aut → A → Type 0) → (Limits → Step Aut A) → Aut → Type 0
@@ -116,7 +116,7 @@ CallAt N σ (star x) = State σ x
 
 -- the law of constructors
 abbrev pub ConstructorsAgain : Type 0
-ConstructorsAgain = (N : ℕ) (L L′ : Limits) → Wider L L′ → (c : Call) (σ : Aut) → Good N L σ → CallAt N σ c → DoneAgain N L L′ State (called N c) σ
+ConstructorsAgain = (N : ℕ) (L L′ : Limits) → Wider L L′ → (c : Call) (σ : Aut) → WfAut N L σ → CallAt N σ c → DoneAgain N L L′ State (called N c) σ
 
 -- ---- operations on transition lists
 
@@ -159,7 +159,7 @@ ListCallAt N L σ (st-intersect-expr ts x) = EdgesAt N σ ts × State σ x
 
 -- the law of list operations
 abbrev pub ListsAgain : Type 0
-ListsAgain = (N : ℕ) (L L′ : Limits) → Wider L L′ → (c : ListCall) (σ : Aut) → Good N L σ → ListCallAt N L σ c → DoneAgain N L L′ (ListAt N L) (listed N c) σ
+ListsAgain = (N : ℕ) (L L′ : Limits) → Wider L L′ → (c : ListCall) (σ : Aut) → WfAut N L σ → ListCallAt N L σ c → DoneAgain N L L′ (ListAt N L) (listed N c) σ
 
 -- ---- epsilon
 
@@ -197,7 +197,7 @@ pub record EpsilonDone (N x : ℕ) (υ : Aut) (e : ℕ) : Type 0 where
 -- the laws of epsilon: tables with no epsilon stored are settled, steps on states and lists leave them so, and epsilon does; and what is at hand in σ is given again in all later tables, whatever is stored there
 pub record EpsilonAgain (N : ℕ) (L L′ : Limits) : Type 0 where
   pub begins : (σ : Aut) → ((x : ℕ) → x < states σ → epsilonOf (σ .states .words) x ≡ 0) → Settled N L′ σ
-  pub grows : (σ : Aut) → Ready N L σ → Settled N L′ σ → (τ : Aut) → Grown σ τ → Memos σ τ → Settled N L′ τ
+  pub grows : (σ : Aut) → Ready N L σ → Settled N L′ σ → (τ : Aut) → ExtAut σ τ → Memos σ τ → Settled N L′ τ
   pub settles : (σ : Aut) → Ready N L σ → Settled N L′ σ → (x : ℕ) → x < states σ → (τ : Aut) (e : ℕ) → epsilon N x σ ≡ given τ e → Settled N L′ τ × Valued τ x e
   pub again : (σ : Aut) → Ready N L σ → Settled N L′ σ → (x e : ℕ) → x < states σ → Valued σ x e → (υ : Aut) → Later σ υ → Ready N L′ υ → Settled N L′ υ → EpsilonDone N x υ e
 
@@ -234,7 +234,7 @@ pub record Unmade (υ τ : Store) : Type 0 where
   pub nodes : τ .aut .nodes ≡ υ .aut .nodes
   pub count : states (τ .aut) ≡ states (υ .aut)
   pub members : τ .aut .members ≡ υ .aut .members
-  pub went : Went υ τ
+  pub went : ExtStore υ τ
 
 -- on υ, delta of x makes nothing, gives es, and es is stored; or no record of transitions is left
 pub data DeltaDone (N : ℕ) (L : Limits) (x : ℕ) (υ : Store) (es : List Edge) : Type 0 where
@@ -244,9 +244,9 @@ pub data DeltaDone (N : ℕ) (L : Limits) (x : ℕ) (υ : Store) (es : List Edge
 -- the laws of delta, in the same way
 pub record DeltaAgain (N : ℕ) (L L′ : Limits) : Type 0 where
   pub begins : (σ : Store) → Settled N L′ (σ .aut) → ((x : ℕ) → x < states (σ .aut) → countOf (σ .aut .states .words) x ≡ 0) → SettledLists N L′ σ
-  pub grows : (σ : Store) → Worked N L σ → SettledLists N L′ σ → (α : Aut) → Since N L (σ .aut) α → SettledLists N L′ (store α (σ .transitions))
-  pub written : (σ : Store) → Worked N L σ → SettledLists N L′ σ → (τ : Store) → Written σ τ → SettledLists N L′ τ
-  pub notes : (σ : Store) → Worked N L σ → SettledLists N L′ σ → (x : ℕ) → x < states (σ .aut) → (α : Aut) (e : ℕ) → epsilon N x (σ .aut) ≡ given α e → SettledLists N L′ (store α (σ .transitions))
-  pub settles : (σ : Store) → Worked N L σ → SettledLists N L′ σ → (x : ℕ) → x < states (σ .aut) → (τ : Store) (es : List Edge) → delta N L x σ ≡ given τ es → SettledLists N L′ τ × Stored τ x es
-  pub again : (σ : Store) → Worked N L σ → SettledLists N L′ σ → (x : ℕ) (es : List Edge) → x < states (σ .aut) → Stored σ x es
-      → (υ : Store) → Later (σ .aut) (υ .aut) → Worked N L′ υ → SettledLists N L′ υ → DeltaDone N L′ x υ es
+  pub grows : (σ : Store) → WfStore N L σ → SettledLists N L′ σ → (α : Aut) → Since N L (σ .aut) α → SettledLists N L′ (store α (σ .transitions))
+  pub written : (σ : Store) → WfStore N L σ → SettledLists N L′ σ → (τ : Store) → Written σ τ → SettledLists N L′ τ
+  pub notes : (σ : Store) → WfStore N L σ → SettledLists N L′ σ → (x : ℕ) → x < states (σ .aut) → (α : Aut) (e : ℕ) → epsilon N x (σ .aut) ≡ given α e → SettledLists N L′ (store α (σ .transitions))
+  pub settles : (σ : Store) → WfStore N L σ → SettledLists N L′ σ → (x : ℕ) → x < states (σ .aut) → (τ : Store) (es : List Edge) → delta N L x σ ≡ given τ es → SettledLists N L′ τ × Stored τ x es
+  pub again : (σ : Store) → WfStore N L σ → SettledLists N L′ σ → (x : ℕ) (es : List Edge) → x < states (σ .aut) → Stored σ x es
+      → (υ : Store) → Later (σ .aut) (υ .aut) → WfStore N L′ υ → SettledLists N L′ υ → DeltaDone N L′ x υ es

@@ -6,7 +6,7 @@ use native.Mathlib.Omega.{arith}
 use lib.ListN.{length, take, drop, length-drop, drop-of-length-le, List·getD-append}
 use lib.Seq.{getD-take, drop-at, length-take-le}
 use Rattle.common.specs.Runs.{Table}
-use Rattle.cache.specs.Cache.{Valid, Of, Sound, Notes}
+use Rattle.cache.specs.Cache.{Valid, OnCodes, Sound, WritesValid}
 use Rattle.cache.proofs.Cache.{sound-map}
 use Rattle.sp.specs.Seen as Sets
 use Rattle.sp.specs.declared.Made as sets
@@ -19,10 +19,10 @@ use Rattle.aut_rel.specs.Behind.{LISTS, cached}
 use Rattle.aut_rel.proofs.Behind.{lent, back, lent-is}
 use Rattle.aut_sets.specs.Contracts.{NotesBehind, SetNotes, ImageNotes, LiftNotes}
 
-pub notes-back : {P : Valid} (s m : List ℕ) → LISTS ≤ length s → Notes P (lent s) m → NotesBehind P s (back s m)
+pub notes-back : {P : Valid} (s m : List ℕ) → LISTS ≤ length s → WritesValid P (lent s) m → NotesBehind P s (back s m)
 notes-back {P} s m l n = record {
   below = λ i k. List·getD-append (take LISTS s) (m ++ drop (length s - LISTS) (drop LISTS s)) 0 i (omega (arith, length-take-le LISTS s l)) ∙ getD-take LISTS s i 0 k;
-  notes = subst (Notes P (cached s)) (sym cache-is) (subst (λ (c : List ℕ). Notes P c m) (lent-is s) n);
+  notes = subst (WritesValid P (cached s)) (sym cache-is) (subst (λ (c : List ℕ). WritesValid P c m) (lent-is s) n);
 }
   where
     cache-is : cached (back s m) ≡ m
@@ -47,5 +47,5 @@ lift-back N (relations.Made.Node h n) u′ ρ s m′ l v = notes-back s m′ l v
 lift-back N relations.Made.Full u′ ρ s m′ l v = tt
 
 -- .. for what reads no packet sets' slots
-pub lent-images : {N : ℕ} {σ : Stores} (s : List ℕ) → Sound (Held N σ) (cached s) → Sound (Of 10 15 (Kept N σ)) (lent s)
+pub lent-images : {N : ℕ} {σ : Stores} (s : List ℕ) → Sound (Held N σ) (cached s) → Sound (OnCodes 10 15 (Kept N σ)) (lent s)
 lent-images s v = sound-map (λ op x y r h. h .images) (lent-sound s v)

@@ -7,14 +7,14 @@ use Prim.Native.Nat.{ℕ, _≤_, _<_}
 use lib.ListN.{length, getD}
 use Rattle.common.specs.Outcome.{Step}
 use Rattle.common.specs.Runs.{Table, table}
-use Rattle.cache.specs.Cache.{Valid, Of, Own, Sound, Notes}
+use Rattle.cache.specs.Cache.{Valid, OnCodes, OnlyCodes, Sound, WritesValid}
 use Rattle.sp_steps.specs.Model as Sp
 use Rattle.sp_steps.specs.Laws as SpLaws
 use Rattle.sp_steps.specs.Reuse.{SpValid, SpNoted}
 use Rattle.sp.specs.Seen as Sets
 use Rattle.sp.specs.declared.Made as sets
 use Rattle.spp_steps.specs.Model as Spp
-use Rattle.spp_steps.specs.Laws.{Wf, At}
+use Rattle.spp_steps.specs.Laws.{Wf, ValidAt}
 use Rattle.spp_steps.specs.ImageModel.{Stores, stores, hasImage}
 use Rattle.spp_steps.specs.Images.{BothWf}
 use Rattle.spp.specs.declared.Made as relations
@@ -26,7 +26,7 @@ use Rattle.aut_rel.specs.Behind.{LISTS, cached}
 -- the lists are as they were, and each slot of the cache is as it was or satisfies P
 pub record NotesBehind (P : Valid) (s s′ : List ℕ) : Type 0 where
   pub below : (i : ℕ) → i < LISTS → getD s′ i 0 ≡ getD s i 0
-  pub notes : Notes P (cached s) (cached s′)
+  pub notes : WritesValid P (cached s) (cached s′)
 
 -- ---- packet sets
 
@@ -35,11 +35,11 @@ pub record PreSet (N : ℕ) (t : Table) (s : List ℕ) (a : ℕ) : Type 0 where
   pub wf : SpLaws.Wf N t
   pub room : LISTS ≤ length s
   pub sound : Sound (SpValid t) (cached s)
-  pub at-a : SpLaws.At t N a
+  pub at-a : SpLaws.ValidAt t N a
 
 pub record PreSets (N : ℕ) (t : Table) (s : List ℕ) (a b : ℕ) : Type 0 where
   pub first : PreSet N t s a
-  pub at-b : SpLaws.At t N b
+  pub at-b : SpLaws.ValidAt t N b
 
 abbrev pub SetNotes : sets.Made → List ℕ → List ℕ → List ℕ → Type 0
 SetNotes (sets.Made.Node h n) t′ s s′ = NotesBehind (SpNoted (table t′ n)) s s′
@@ -61,12 +61,12 @@ pub record PreImage (N : ℕ) (σ : Stores) (s : List ℕ) (r : ℕ) : Type 0 wh
   pub wf : BothWf N σ
   pub room : LISTS ≤ length s
   pub sound : Sound (Held N σ) (cached s)
-  pub at-r : At (σ .spp) N r
+  pub at-r : ValidAt (σ .spp) N r
 
 -- of the set a and the relation r
 pub record PreLead (N : ℕ) (σ : Stores) (s : List ℕ) (a r : ℕ) : Type 0 where
   pub image : PreImage N σ s r
-  pub at-a : SpLaws.At (σ .sp) N a
+  pub at-a : SpLaws.ValidAt (σ .sp) N a
 
 abbrev pub ImageNotes : ℕ → sets.Made → List ℕ → Table → List ℕ → List ℕ → Type 0
 ImageNotes N (sets.Made.Node h n) t′ ρ s s′ = NotesBehind (Written N (stores (table t′ n) ρ)) s s′
@@ -78,7 +78,7 @@ pub record PostImage (N : ℕ) (c : Step Stores ℕ) (σ : Stores) (r : sets.Mad
 
 pub record PostHas (N : ℕ) (σ : Stores) (a r : ℕ) (b : Bool) (s s′ : List ℕ) : Type 0 where
   pub is : b ≡ hasImage N N a r σ
-  pub left : NotesBehind (Own 10 15 (Kept N σ)) s s′
+  pub left : NotesBehind (OnlyCodes 10 15 (Kept N σ)) s s′
 
 -- ---- the relation of a set
 
@@ -87,10 +87,10 @@ pub record PreLift (N : ℕ) (σ : Stores) (s : List ℕ) (a : ℕ) : Type 0 whe
   pub wf : BothWf N σ
   pub room : LISTS ≤ length s
   pub sound : Sound (Held N σ) (cached s)
-  pub at-a : SpLaws.At (σ .sp) N a
+  pub at-a : SpLaws.ValidAt (σ .sp) N a
 
 abbrev pub LiftNotes : ℕ → relations.Made → List ℕ → Table → List ℕ → List ℕ → Type 0
-LiftNotes N (relations.Made.Node h n) u′ ρ s s′ = NotesBehind (Own 10 15 (Kept N (stores ρ (table u′ n)))) s s′
+LiftNotes N (relations.Made.Node h n) u′ ρ s s′ = NotesBehind (OnlyCodes 10 15 (Kept N (stores ρ (table u′ n)))) s s′
 LiftNotes N relations.Made.Full u′ ρ s s′ = Unit
 
 pub record PostLift (N : ℕ) (c : Step Stores ℕ) (σ : Stores) (r : relations.Made) (u′ s s′ : List ℕ) : Type 0 where
@@ -103,9 +103,9 @@ pub record PreCount (N : ℕ) (t : Table) (s : List ℕ) (r : ℕ) : Type 0 wher
   pub few : N ≤ 31
   pub wf : Wf N t
   pub room : LISTS ≤ length s
-  pub sound : Sound (Of 17 17 (Counted t)) (cached s)
-  pub at-r : At t N r
+  pub sound : Sound (OnCodes 17 17 (Counted t)) (cached s)
+  pub at-r : ValidAt t N r
 
 pub record PostCount (N : ℕ) (t : Table) (r k : ℕ) (s s′ : List ℕ) : Type 0 where
   pub is : k ≡ Spp.size (t .words) N r
-  pub left : NotesBehind (Own 17 17 (Counted t)) s s′
+  pub left : NotesBehind (OnlyCodes 17 17 (Counted t)) s s′

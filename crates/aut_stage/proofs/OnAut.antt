@@ -7,29 +7,29 @@ use Rattle.common.specs.Outcome.{Outcome, given}
 use Rattle.common.specs.Runs.{table}
 use Rattle.spp_steps.proofs.Laws.{ext-refl}
 use Rattle.aut_steps.specs.Tables.{Aut}
-use Rattle.aut_steps.specs.Good.{Grown, Good}
+use Rattle.aut_steps.specs.Good.{ExtAut, WfAut}
 use Rattle.aut_steps.proofs.Good.{grown-refl, grown-trans}
 use Rattle.aut_steps.specs.Goes.{Memos}
-use Rattle.aut_steps.proofs.Goes.{Goes, came}
+use Rattle.aut_steps.proofs.Goes.{StepSpec, came}
 use Rattle.aut.specs.Seen.{limitsOf}
 use Rattle.aut.specs.declared.Counts.{Counts}
 use Rattle.aut.specs.declared.Limits.{Limits}
-use Rattle.aut_rel.specs.Behind.{LISTS, Left, Backed}
+use Rattle.aut_rel.specs.Behind.{LISTS, Modifies, CacheReady}
 use Rattle.aut_rel.proofs.Behind.{left-refl, left-trans, left-wide, left-kept, backed-left}
 use Rattle.aut_rel.specs.Seen.{autOf, Ready}
 use Rattle.aut_stage.specs.Stage.{Layer, gave, Post}
 
 pub record Onward (σ τ : Aut) : Type 0 where
-  pub grown : Grown σ τ
+  pub grown : ExtAut σ τ
   pub memos : Memos σ τ
 
 -- the tables that a constructor does not take
 abbrev pub Aside : Counts → Counts → Type 0
 Aside c d = (d .sp ≡ c .sp) × (d .transitions ≡ c .transitions)
 
-pub ready-left : (N : ℕ) (l : Limits) (a n : ℕ) (σ τ : Aut) (s s′ : List ℕ) → Grown σ τ → Good N (limitsOf l) τ → length s′ ≡ length s → Left N a n (τ .nodes) s s′ → Ready N l σ s → Ready N l τ s′
+pub ready-left : (N : ℕ) (l : Limits) (a n : ℕ) (σ τ : Aut) (s s′ : List ℕ) → ExtAut σ τ → WfAut N (limitsOf l) τ → length s′ ≡ length s → Modifies N a n (τ .nodes) s s′ → Ready N l σ s → Ready N l τ s′
 ready-left N l a n σ τ s s′ w g len p r =
-    let b : Backed N (τ .nodes) s′ = backed-left (record { few = r .few; wf = r .good .nodes; room = r .room; sound = r .sound }) (w .nodes) (g .nodes) p len in
+    let b : CacheReady N (τ .nodes) s′ = backed-left (record { few = r .few; wf = r .good .nodes; room = r .room; sound = r .sound }) (w .nodes) (g .nodes) p len in
     record { few = r .few; good = g; room = b .room; sound = b .sound; list = r .list; products = r .products }
 
 abbrev pub autLayer : ℕ → Limits → Layer
@@ -38,7 +38,7 @@ autLayer N l = record {
   Counts = Counts;
   Ext = Onward;
   Beside = Aside;
-  Frame = λ a n σ s s′. Left N a n (σ .nodes) s s′;
+  Frame = λ a n σ s s′. Modifies N a n (σ .nodes) s s′;
   Ready = λ σ s. Ready N l σ s;
   ext-refl = λ σ. record { grown = grown-refl σ; memos = λ i w x y. refl };
   ext-trans = λ σ τ υ p q. record { grown = grown-trans (p .grown) (q .grown); memos = λ i w x y. q .memos i w x y ∙ p .memos i w x y };
@@ -53,11 +53,11 @@ autLayer N l = record {
 }
 
 -- A step whose law is known: from its equation, what it kept and left, and the law, the whole of `Post`.
-module _ {N : ℕ} {l : Limits} {A : Type 0} {P : Aut → A → Type 0} {σ : Aut} {s : List ℕ} {o : Outcome Aut A} (R : Ready N l σ s) (G : Goes N (limitsOf l) P σ o) where
-  pub by-law : {a n : ℕ} {c d : Counts} {t st mem s′ : List ℕ} {x : A} → o ≡ given (autOf t st mem d) x → Aside c d → Left N a n (table t (d .spp)) s s′ → length s′ ≡ length s
+module _ {N : ℕ} {l : Limits} {A : Type 0} {P : Aut → A → Type 0} {σ : Aut} {s : List ℕ} {o : Outcome Aut A} (R : Ready N l σ s) (G : StepSpec N (limitsOf l) P σ o) where
+  pub by-law : {a n : ℕ} {c d : Counts} {t st mem s′ : List ℕ} {x : A} → o ≡ given (autOf t st mem d) x → Aside c d → Modifies N a n (table t (d .spp)) s s′ → length s′ ≡ length s
       → Post (autLayer N l) a n P o σ c (gave d x) (autOf t st mem) s s′
   by-law {a} {n} {d = d} {t = t} {st = st} {mem = mem} {s′ = s′} e b p len =
-      let i = came (subst (Goes N (limitsOf l) P σ) e G) in
+      let i = came (subst (StepSpec N (limitsOf l) P σ) e G) in
       record {
         is = e;
         then = record {

@@ -12,7 +12,7 @@ use Rattle.spp.specs.declared.Made.the-variants.{Node, Full}
 use Rattle.spp.specs.Seen as Spp
 use Rattle.aut_steps.specs.Tables.{Aut, putNodes, putStates, onNodes, onStates}
 use Rattle.aut_steps.proofs.Good.{grown-nodes}
-use Rattle.aut_steps.proofs.Goes.{Goes, good-nodes}
+use Rattle.aut_steps.proofs.Goes.{StepSpec, good-nodes}
 use Rattle.aut_steps.proofs.RelationLaws as Laws
 use Rattle.aut.specs.Seen.{limitsOf, seenPut}
 use Rattle.aut.specs.declared.Counts.{Counts}
@@ -20,7 +20,7 @@ use Rattle.aut.specs.declared.Limits.{Limits}
 use Rattle.aut.specs.declared.Put.{Put}
 use Rattle.aut.specs.declared.State.{State}
 use Rattle.aut.specs.declared.State.the-variants as state
-use Rattle.aut_rel.specs.Behind.{LISTS, Left, Backed}
+use Rattle.aut_rel.specs.Behind.{LISTS, Modifies, CacheReady}
 use Rattle.aut_rel.proofs.Behind.{left-refl, left-any, backed-left}
 use Rattle.aut_rel.specs.Seen.{autOf, seenAut, Beside, MadeLeft, Relates, Places, Ready}
 use Rattle.aut_stage.specs.Stage.{gave, Post}
@@ -30,13 +30,13 @@ use Rattle.aut_stage.specs.OnNodes.{nodesLayer, Handle, madeOf, withNode
 -- ---- an operation on relations
 
 module _ {N : ℕ} {o : Step Table ℕ} {t : Table} {r : Made} {t′ s s′ : List ℕ} (A : Relates N o t r t′ s s′) where
-  pub node-given : {R : Relation N} {u : SPP} {m : ℕ} (a n c : ℕ) → r ≡ Node u m → Backed N t s → Laws.Makes N R t (o t) → length s′ ≡ length s → a ≤ LISTS → Post (nodesLayer N) a n (Handle N) (o t) t c (gave m (u .0)) (table t′) s s′
+  pub node-given : {R : Relation N} {u : SPP} {m : ℕ} (a n c : ℕ) → r ≡ Node u m → CacheReady N t s → Laws.Makes N R t (o t) → length s′ ≡ length s → a ≤ LISTS → Post (nodesLayer N) a n (Handle N) (o t) t c (gave m (u .0)) (table t′) s s′
   node-given {R} {u} {m} a n c q b v len k = go (subst (Laws.Makes N R t) e v)
     where
       e : o t ≡ given (table t′ m) (u .0)
       e = A .gives ∙ ap (λ (r : Made). Spp.seen r t′) q
 
-      p : Left N a n (table t′ m) s s′
+      p : Modifies N a n (table t′ m) s s′
       p = left-any a n (subst (λ (r : Made). MadeLeft N r t′ s s′) q (A .left)) k
 
       go : Laws.Makes N R t (given (table t′ m) (u .0)) → Post (nodesLayer N) a n (Handle N) (o t) t c (gave m (u .0)) (table t′) s s′
@@ -46,7 +46,7 @@ module _ {N : ℕ} {o : Step Table ℕ} {t : Table} {r : Made} {t′ s s′ : Li
   node-refused q = A .gives ∙ ap (λ (r : Made). Spp.seen r t′) q
 
 -- any answer
-pub node-post : {N : ℕ} {o : Step Table ℕ} {t : Table} {t′ s s′ : List ℕ} {R : Relation N} (a n c : ℕ) (r : Made) → Relates N o t r t′ s s′ → Backed N t s → Laws.Makes N R t (o t) → length s′ ≡ length s → a ≤ LISTS
+pub node-post : {N : ℕ} {o : Step Table ℕ} {t : Table} {t′ s s′ : List ℕ} {R : Relation N} (a n c : ℕ) (r : Made) → Relates N o t r t′ s s′ → CacheReady N t s → Laws.Makes N R t (o t) → length s′ ≡ length s → a ≤ LISTS
     → Post (nodesLayer N) a n (Handle N) (o t) t c (madeOf r) (table t′) s s′
 node-post a n c (Node u m) A b v len k = node-given A a n c refl b v len k
 node-post a n c Full A b v len k = record { is = A .gives; then = tt }
@@ -72,7 +72,7 @@ module _ (t st mem : List ℕ) (c : Counts) (o : Step Table ℕ) where
 
 -- an operation on relations whose law on all tables is known
 module _ (st mem : List ℕ) (c : Counts) {N : ℕ} {o : Step Table ℕ} {t : List ℕ} {r : Made} {t′ s s′ : List ℕ} (A : Relates N o (table t (c .spp)) r t′ s s′) where
-  pub relation-given : {l : Limits} {P : Aut → ℕ → Type 0} {u : SPP} {m : ℕ} → r ≡ Node u m → Ready N l (autOf t st mem c) s → Goes N (limitsOf l) P (autOf t st mem c) (onNodes o (autOf t st mem c)) → length s′ ≡ length s
+  pub relation-given : {l : Limits} {P : Aut → ℕ → Type 0} {u : SPP} {m : ℕ} → r ≡ Node u m → Ready N l (autOf t st mem c) s → StepSpec N (limitsOf l) P (autOf t st mem c) (onNodes o (autOf t st mem c)) → length s′ ≡ length s
       → Post (autLayer N l) 0 0 P (onNodes o (autOf t st mem c)) (autOf t st mem c) c (gave (withNodes c m) (u .0)) (autOf t′ st mem) s s′
   relation-given q R G len = by-law R G (ap (placed putNodes (autOf t st mem c)) (A .gives ∙ ap (λ (r : Made). Spp.seen r t′) q)) (refl, refl) (subst (λ (r : Made). MadeLeft N r t′ s s′) q (A .left)) len
 
@@ -85,7 +85,7 @@ module _ (t st mem st′ : List ℕ) (c : Counts) (o : Step Table ℕ) (p : Put)
   state-is : (z : State) → r ≡ z → onStates o (autOf t st mem c) ≡ seenAut z t st′ mem
   state-is z e = ap (placed putStates (autOf t st mem c)) q ∙ v .is t st st′ mem ∙ ap (λ (r : State). seenAut r t st′ mem) e
 
-  pub state-given : {N : ℕ} {l : Limits} {s : List ℕ} {P : Aut → ℕ → Type 0} {i : ℕ} {d : Counts} (a n : ℕ) → r ≡ state.Is i d → Ready N l (autOf t st mem c) s → Goes N (limitsOf l) P (autOf t st mem c) (onStates o (autOf t st mem c))
+  pub state-given : {N : ℕ} {l : Limits} {s : List ℕ} {P : Aut → ℕ → Type 0} {i : ℕ} {d : Counts} (a n : ℕ) → r ≡ state.Is i d → Ready N l (autOf t st mem c) s → StepSpec N (limitsOf l) P (autOf t st mem c) (onStates o (autOf t st mem c))
       → Post (autLayer N l) a n P (onStates o (autOf t st mem c)) (autOf t st mem c) c (gave d i) (autOf t st′ mem) s s
   state-given {s = s} {i = i} {d = d} a n e R G = by-law R G (state-is (state.Is i d) e) (subst (λ (r : State). Beside r c) e (v .beside)) (left-refl a n (table t (d .spp)) s) refl
 

@@ -2,12 +2,12 @@
 -- states, as answers of the rule.
 use Prim.Native.Nat.{ℕ}
 use Rattle.common.specs.Runs.{Table}
-use Rattle.spp_steps.specs.Laws.{Ext, At}
+use Rattle.spp_steps.specs.Laws.{Ext, ValidAt}
 use Rattle.spp_steps.proofs.Laws.{ext-refl, ext-trans}
 use Rattle.spp.specs.declared.Made.{Made}
 use Rattle.spp.specs.declared.Made.the-variants.{Node, Full}
 use Rattle.aut.specs.declared.Counts.{Counts}
-use Rattle.aut_rel.specs.Behind.{LISTS, Left, Backed}
+use Rattle.aut_rel.specs.Behind.{LISTS, Modifies, CacheReady}
 use Rattle.aut_rel.proofs.Behind.{left-refl, left-trans, left-wide, left-kept, backed-left}
 use Rattle.aut_rel.specs.Seen.{Beside, Ready}
 use Rattle.aut_stage.specs.Stage.{Layer, Answer, gave, refusal}
@@ -18,8 +18,8 @@ nodesLayer N = record {
   Counts = ℕ;
   Ext = λ σ τ. Ext σ τ;
   Beside = λ c d. Unit;
-  Frame = λ a n σ s s′. Left N a n σ s s′;
-  Ready = λ σ s. Backed N σ s;
+  Frame = λ a n σ s s′. Modifies N a n σ s s′;
+  Ready = λ σ s. CacheReady N σ s;
   ext-refl = λ σ. ext-refl σ;
   ext-trans = λ σ τ υ p q. ext-trans p q;
   beside-refl = λ c. tt;
@@ -34,7 +34,7 @@ nodesLayer N = record {
 
 -- a relation of N fields
 abbrev pub Handle : ℕ → Table → ℕ → Type 0
-Handle N τ h = At τ N h
+Handle N τ h = ValidAt τ N h
 
 abbrev pub madeOf : Made → Answer ℕ ℕ
 madeOf (Node h n) = gave n (h .0)

@@ -21,61 +21,61 @@ use Rattle.aut_steps.specs.ListLaws.{All}
 use Rattle.aut_steps.proofs.ListLaws.{all-map}
 use Rattle.aut_steps.specs.Made.{MadeOf}
 use Rattle.aut_steps.proofs.Facts.{put4-length, put4-other, put4-kind, put4-op1, put4-op2, put4-nest}
-use Rattle.aut_steps.specs.Good.{states, kind, first, second, nesting, members, ExtM, Grown, Ok, United, Meeting, Made, lengthAs, membersBefore, operands, Good}
+use Rattle.aut_steps.specs.Good.{states, kind, first, second, nesting, members, ExtM, ExtAut, Ok, United, Meeting, Made, lengthAs, membersBefore, operands, WfAut}
 use Rattle.aut_steps.proofs.Good.{grown-refl, grown-trans, grown-nodes, kind-grown, second-grown, members-grown, ok-as, ok-grown, operands-grown, nesting-grown, meeting-grown}
 use Rattle.aut_steps.proofs.MadeLaws.{made-at, before-grown, made-kept, packed-kept}
 use Rattle.aut_steps.specs.Goes.{Memos, Gone}
 
 -- 01, "Who can cause a refusal": why a step that has come to the tables τ is refused with a number.
-pub data Why (L : Limits) (τ : Aut) : ℕ → Type 0 where
+pub data RefusalReason (L : Limits) (τ : Aut) : ℕ → Type 0 where
   -- this list, as it is given or opened, passes the limit
-  long-list : (xs : List ℕ) → All (λ x. x < states τ) xs → L .list < length xs → Why L τ 6
+  long-list : (xs : List ℕ) → All (λ x. x < states τ) xs → L .list < length xs → RefusalReason L τ 6
   -- intersecting this list over its unions passes the limit
-  many-products : (xs : List ℕ) → All (λ x. x < states τ) xs → L .products < sizes (τ .states .words) xs → Why L τ 7
+  many-products : (xs : List ℕ) → All (λ x. x < states τ) xs → L .products < sizes (τ .states .words) xs → RefusalReason L τ 7
   -- a state with these operands would be nested above the limit
-  too-deep : (xs : List ℕ) → All (λ x. x < states τ) xs → L .nesting < nestL (τ .states .words) 0 xs + 1 → Why L τ 8
+  too-deep : (xs : List ℕ) → All (λ x. x < states τ) xs → L .nesting < nestL (τ .states .words) 0 xs + 1 → RefusalReason L τ 8
   -- a relation node is lacking (21)
-  no-node : {number : ℕ} → Lacks number (τ .nodes) → Why L τ number
+  no-node : {number : ℕ} → Lacks number (τ .nodes) → RefusalReason L τ number
   -- there is no room for a state
-  no-state : roomS (τ .states) ≡ false → Why L τ 22
+  no-state : roomS (τ .states) ≡ false → RefusalReason L τ 22
   -- there is no room for this list
-  no-members : (xs : List ℕ) → All (λ x. x < states τ) xs → length xs ≤ L .list → roomM (τ .members) (length xs) ≡ false → Why L τ 23
+  no-members : (xs : List ℕ) → All (λ x. x < states τ) xs → length xs ≤ L .list → roomM (τ .members) (length xs) ≡ false → RefusalReason L τ 23
   -- this transition list is as long as the limit allows, and one more is to go in
-  full-list : (es : List Edge) → L .transitions ≤ length es → Why L τ 9
+  full-list : (es : List Edge) → L .transitions ≤ length es → RefusalReason L τ 9
 
 -- What a step from σ comes to. It is refused only from tables that have grown and are in order, and with the right number.
-pub data Goes (N : ℕ) (L : Limits) {A : Type 0} (P : Aut → A → Type 0) (σ : Aut) : Outcome Aut A → Type 0 where
-  stops : {number : ℕ} {τ : Aut} → Grown σ τ → Good N L τ → Why L τ number → Goes N L P σ (refused number)
-  comes : {τ : Aut} {a : A} → Gone N L P σ τ a → Goes N L P σ (given τ a)
+pub data StepSpec (N : ℕ) (L : Limits) {A : Type 0} (P : Aut → A → Type 0) (σ : Aut) : Outcome Aut A → Type 0 where
+  stops : {number : ℕ} {τ : Aut} → ExtAut σ τ → WfAut N L τ → RefusalReason L τ number → StepSpec N L P σ (refused number)
+  comes : {τ : Aut} {a : A} → Gone N L P σ τ a → StepSpec N L P σ (given τ a)
 
 -- refused at once
-pub stops-here : {N : ℕ} {L : Limits} {A : Type 0} {P : Aut → A → Type 0} {σ : Aut} {number : ℕ} → Good N L σ → Why L σ number → Goes N L P σ (refused number)
+pub stops-here : {N : ℕ} {L : Limits} {A : Type 0} {P : Aut → A → Type 0} {σ : Aut} {number : ℕ} → WfAut N L σ → RefusalReason L σ number → StepSpec N L P σ (refused number)
 stops-here {σ = σ} g y = stops (grown-refl σ) g y
 
 module _ {N : ℕ} {L : Limits} {A : Type 0} where
-  pub goes-return : {P : Aut → A → Type 0} {σ : Aut} (a : A) → Good N L σ → P σ a → Goes N L P σ (given σ a)
+  pub goes-return : {P : Aut → A → Type 0} {σ : Aut} (a : A) → WfAut N L σ → P σ a → StepSpec N L P σ (given σ a)
   goes-return {σ = σ} a g p = comes (record { grown = grown-refl σ; memos = λ i w l m. refl; good = g; holds = p })
 
   -- what is given
-  pub came : {P : Aut → A → Type 0} {σ τ : Aut} {a : A} → Goes N L P σ (given τ a) → Gone N L P σ τ a
+  pub came : {P : Aut → A → Type 0} {σ τ : Aut} {a : A} → StepSpec N L P σ (given τ a) → Gone N L P σ τ a
   came (comes r) = r
 
-  gone-after : {B : Type 0} {P : Aut → A → Type 0} {Q : Aut → B → Type 0} {σ τ : Aut} {a : A} {o : Outcome Aut B} → Gone N L P σ τ a → Goes N L Q τ o → Goes N L Q σ o
+  gone-after : {B : Type 0} {P : Aut → A → Type 0} {Q : Aut → B → Type 0} {σ τ : Aut} {a : A} {o : Outcome Aut B} → Gone N L P σ τ a → StepSpec N L Q τ o → StepSpec N L Q σ o
   gone-after r (stops w g y) = stops (grown-trans (r .grown) w) g y
   gone-after r (comes s) = comes (record { grown = grown-trans (r .grown) (s .grown); memos = λ i w l m. s .memos i w l m ∙ r .memos i w l m; good = s .good; holds = s .holds })
 
-  pub goes-bind : {B : Type 0} {P : Aut → A → Type 0} {Q : Aut → B → Type 0} {σ : Aut} {o : Outcome Aut A} {k : A → Step Aut B} → Goes N L P σ o
-      → ((τ : Aut) (a : A) → Grown σ τ → Good N L τ → P τ a → Goes N L Q τ (k a τ)) → Goes N L Q σ (after o k)
+  pub goes-bind : {B : Type 0} {P : Aut → A → Type 0} {Q : Aut → B → Type 0} {σ : Aut} {o : Outcome Aut A} {k : A → Step Aut B} → StepSpec N L P σ o
+      → ((τ : Aut) (a : A) → ExtAut σ τ → WfAut N L τ → P τ a → StepSpec N L Q τ (k a τ)) → StepSpec N L Q σ (after o k)
   goes-bind (stops w g y) f = stops w g y
   goes-bind (comes {τ} {a} r) f = gone-after r (f τ a (r .grown) (r .good) (r .holds))
 
-  pub goes-map : {P Q : Aut → A → Type 0} {σ : Aut} {o : Outcome Aut A} → Goes N L P σ o
-      → ((τ : Aut) (a : A) → Grown σ τ → Good N L τ → P τ a → Q τ a) → Goes N L Q σ o
+  pub goes-map : {P Q : Aut → A → Type 0} {σ : Aut} {o : Outcome Aut A} → StepSpec N L P σ o
+      → ((τ : Aut) (a : A) → ExtAut σ τ → WfAut N L τ → P τ a → Q τ a) → StepSpec N L Q σ o
   goes-map (stops w g y) f = stops w g y
   goes-map (comes {τ} {a} s) f = comes (record { grown = s .grown; memos = s .memos; good = s .good; holds = f τ a (s .grown) (s .good) (s .holds) })
 
 -- relation nodes alone
-pub good-nodes : {N : ℕ} {L : Limits} {σ : Aut} {t : Table} → Good N L σ → Ext (σ .nodes) t → Wf N t → Good N L (aut t (σ .states) (σ .members))
+pub good-nodes : {N : ℕ} {L : Limits} {σ : Aut} {t : Table} → WfAut N L σ → Ext (σ .nodes) t → Wf N t → WfAut N L (aut t (σ .states) (σ .members))
 good-nodes {N} {σ = σ} {t} g e w = record {
   nodes = w;
   fits = g .fits;
@@ -95,7 +95,7 @@ good-nodes {N} {σ = σ} {t} g e w = record {
 }
 
 -- zeroed tables beside a relation store that is well formed
-pub good-begun : {N : ℕ} {L : Limits} {r : Table} (s m : List ℕ) → Wf N r → ((j : ℕ) → getD s j 0 ≡ 0) → Good N L (aut r (table s 0) (table m 0))
+pub good-begun : {N : ℕ} {L : Limits} {r : Table} (s m : List ℕ) → Wf N r → ((j : ℕ) → getD s j 0 ≡ 0) → WfAut N L (aut r (table s 0) (table m 0))
 unfolding membersBefore
 good-begun s m w z = record {
   nodes = w;
@@ -116,7 +116,7 @@ good-begun s m w z = record {
 }
 
 -- what a step made new has nothing worked out
-pub unworked : {N : ℕ} {L : Limits} {A : Type 0} {P : Aut → A → Type 0} {σ τ : Aut} {a : A} → Good N L σ → Gone N L P σ τ a
+pub unworked : {N : ℕ} {L : Limits} {A : Type 0} {P : Aut → A → Type 0} {σ τ : Aut} {a : A} → WfAut N L σ → Gone N L P σ τ a
     → (x w : ℕ) → states σ ≤ x → 4 ≤ w → w < 12 → getD (τ .states .words) (12 * x + w) 0 ≡ 0
 unworked g r x w l a b = r .memos x w a b ∙ g .fresh (12 * x + w) (omega arith)
 
@@ -126,14 +126,14 @@ unworked g r x w l a b = r .memos x w a b ∙ g .fresh (12 * x + w) (omega arith
 one-more : {n : ℕ} (P : ℕ → Type 0) → ((z : ℕ) → z < n → P z) → P n → (z : ℕ) → z < n + 1 → P z
 one-more {n} P f p z l = by-test (leb n z) (λ t. subst P {x = n} {y = z} (omega (arith, leb-true n z t)) p) (λ t. f z (leb-false n z t))
 
-module _ {N : ℕ} {L : Limits} {σ : Aut} (g : Good N L σ) (k x y e : ℕ) (m′ : Table) (gm : ExtM (σ .members) m′) (room : 12 * states σ + 11 < length (σ .states .words)) where
+module _ {N : ℕ} {L : Limits} {σ : Aut} (g : WfAut N L σ) (k x y e : ℕ) (m′ : Table) (gm : ExtM (σ .members) m′) (room : 12 * states σ + 11 < length (σ .states .words)) where
   abbrev pub plus : Aut
   plus = aut (σ .nodes) (table (put4 (σ .states .words) (states σ) k x y e) (states σ + 1)) m′
 
   abbrev n : ℕ
   n = states σ
 
-  pub grown-plus : Grown σ plus
+  pub grown-plus : ExtAut σ plus
   grown-plus = record {
     nodes = ext-refl (σ .nodes);
     states = record {
@@ -190,7 +190,7 @@ module _ {N : ℕ} {L : Limits} {σ : Aut} (g : Good N L σ) (k x y e : ℕ) (m�
   members-before : σ .members .count ≡ membersBefore plus n
   members-before = g .counted ∙ sym (before-grown grown-plus n (omega arith))
 
-  pub good-plus : New → Good N L plus
+  pub good-plus : New → WfAut N L plus
   unfolding form membersBefore
   good-plus v = record {
     nodes = g .nodes;
@@ -240,31 +240,31 @@ module _ {N : ℕ} {L : Limits} {σ : Aut} (g : Good N L σ) (k x y e : ℕ) (m�
 
 module _ {N : ℕ} {L : Limits} {A : Type 0} {Q : Aut → A → Type 0} where
   -- a test
-  pub choose : {σ : Aut} (b : Bool) {o p : Outcome Aut A} → (b ≡ true → Goes N L Q σ o) → (b ≡ false → Goes N L Q σ p) → Goes N L Q σ (if b then o else p)
+  pub choose : {σ : Aut} (b : Bool) {o p : Outcome Aut A} → (b ≡ true → StepSpec N L Q σ o) → (b ≡ false → StepSpec N L Q σ p) → StepSpec N L Q σ (if b then o else p)
   choose true f g = f refl
   choose false f g = g refl
 
   -- a test between steps
-  pub branch : {σ : Aut} (b : Bool) (m k : Step Aut A) → (b ≡ true → Goes N L Q σ (m σ)) → (b ≡ false → Goes N L Q σ (k σ)) → Goes N L Q σ ((if b then m else k) σ)
+  pub branch : {σ : Aut} (b : Bool) (m k : Step Aut A) → (b ≡ true → StepSpec N L Q σ (m σ)) → (b ≡ false → StepSpec N L Q σ (k σ)) → StepSpec N L Q σ ((if b then m else k) σ)
   branch true m k f g = f refl
   branch false m k f g = g refl
 
   -- the same within a step on some of the tables
   pub choose-in : {S : Type 0} (put : S → Aut → Aut) (σ : Aut) (b : Bool) (o p : Outcome S A)
-      → (b ≡ true → Goes N L Q σ (placed put σ o)) → (b ≡ false → Goes N L Q σ (placed put σ p)) → Goes N L Q σ (placed put σ (if b then o else p))
+      → (b ≡ true → StepSpec N L Q σ (placed put σ o)) → (b ≡ false → StepSpec N L Q σ (placed put σ p)) → StepSpec N L Q σ (placed put σ (if b then o else p))
   choose-in put σ true o p f g = f refl
   choose-in put σ false o p f g = g refl
 
   pub branch-in : {S : Type 0} (put : S → Aut → Aut) (σ : Aut) (b : Bool) (m k : Step S A) (s : S)
-      → (b ≡ true → Goes N L Q σ (placed put σ (m s))) → (b ≡ false → Goes N L Q σ (placed put σ (k s))) → Goes N L Q σ (placed put σ ((if b then m else k) s))
+      → (b ≡ true → StepSpec N L Q σ (placed put σ (m s))) → (b ≡ false → StepSpec N L Q σ (placed put σ (k s))) → StepSpec N L Q σ (placed put σ ((if b then m else k) s))
   branch-in put σ true m k s f g = f refl
   branch-in put σ false m k s f g = g refl
 
 -- steps on relation nodes, one after the other
 pub nodes-after : {N : ℕ} {L : Limits} {A B : Type 0} {Q : Aut → B → Type 0} (σ : Aut) (o : Outcome Table A) (k : A → Step Table B)
-    → Goes N L Q σ (after (placed putNodes σ o) (λ a. onNodes (k a))) → Goes N L Q σ (placed putNodes σ (after o k))
+    → StepSpec N L Q σ (after (placed putNodes σ o) (λ a. onNodes (k a))) → StepSpec N L Q σ (placed putNodes σ (after o k))
 nodes-after σ (refused e) k r = r
-nodes-after {N} {L} {B = B} {Q = Q} σ (given t a) k r = subst (Goes N L Q σ) (again (k a t)) r
+nodes-after {N} {L} {B = B} {Q = Q} σ (given t a) k r = subst (StepSpec N L Q σ) (again (k a t)) r
   where
     again : (o : Outcome Table B) → placed putNodes (putNodes t σ) o ≡ placed putNodes σ o
     again (refused e) = refl
@@ -272,6 +272,6 @@ nodes-after {N} {L} {B = B} {Q = Q} σ (given t a) k r = subst (Goes N L Q σ) (
 
 -- a step on some of the tables, and then a value made of its answer
 pub placed-map : {N : ℕ} {L : Limits} {S A B : Type 0} {P : Aut → A → Type 0} {Q : Aut → B → Type 0} (put : S → Aut → Aut) (σ : Aut) (o : Outcome S A) (f : A → B)
-    → Goes N L P σ (placed put σ o) → ((τ : Aut) (a : A) → Grown σ τ → Good N L τ → P τ a → Q τ (f a)) → Goes N L Q σ (placed put σ (after o (λ a. return (f a))))
+    → StepSpec N L P σ (placed put σ o) → ((τ : Aut) (a : A) → ExtAut σ τ → WfAut N L τ → P τ a → Q τ (f a)) → StepSpec N L Q σ (placed put σ (after o (λ a. return (f a))))
 placed-map put σ (refused e) f r h = goes-bind {k = λ a. return (f a)} r (λ τ a w g p. goes-return (f a) g (h τ a w g p))
 placed-map put σ (given s a) f r h = goes-bind {k = λ a. return (f a)} r (λ τ a w g p. goes-return (f a) g (h τ a w g p))

@@ -6,7 +6,7 @@ use native.Mathlib.Omega.{arith}
 use native.Mathlib.Nat.{le-trans}
 use lib.ListN.{getD}
 use Rattle.common.specs.Runs.{Table}
-use Rattle.spp_steps.specs.Laws.{Ext, At}
+use Rattle.spp_steps.specs.Laws.{Ext, ValidAt}
 use Rattle.spp_steps.proofs.Laws.{ext-refl, ext-trans, at-ext}
 use Rattle.aut_steps.specs.Tables.{kindOf, op1, op2, nest, words, Limits, Aut, aut}
 use Rattle.aut_steps.specs.Intern.{nestL}
@@ -14,7 +14,7 @@ use Rattle.aut_steps.specs.Kinds.{Form, leaf, constant, one, two, many, 
 use Rattle.aut_steps.specs.ListLaws.{All}
 use Rattle.aut_steps.proofs.ListLaws.{all-map, all-with, all-split}
 use Rattle.aut_steps.proofs.Facts.{words-same}
-use Rattle.aut_steps.specs.Good.{states, kind, first, second, nesting, members, ExtS, ExtM, Grown, Ok, LastSpp, Meeting, Good}
+use Rattle.aut_steps.specs.Good.{states, kind, first, second, nesting, members, ExtS, ExtM, ExtAut, Ok, LastSpp, Meeting, WfAut}
 
 pub exts-refl : (s : Table) → ExtS s s
 exts-refl s = record { more = omega arith; len = refl; keep = λ i w l m. refl; beyond = λ j l. refl }
@@ -22,10 +22,10 @@ exts-refl s = record { more = omega arith; len = refl; keep = λ i w l m. refl; 
 pub extm-refl : (s : Table) → ExtM s s
 extm-refl s = record { more = omega arith; len = refl; keep = λ i l. refl; beyond = λ j l. refl }
 
-pub grown-refl : (σ : Aut) → Grown σ σ
+pub grown-refl : (σ : Aut) → ExtAut σ σ
 grown-refl σ = record { nodes = ext-refl (σ .nodes); states = exts-refl (σ .states); members = extm-refl (σ .members) }
 
-pub grown-trans : {σ τ υ : Aut} → Grown σ τ → Grown τ υ → Grown σ υ
+pub grown-trans : {σ τ υ : Aut} → ExtAut σ τ → ExtAut τ υ → ExtAut σ υ
 grown-trans {σ} {τ} {υ} p q = record {
   nodes = ext-trans (p .nodes) (q .nodes);
   states = record {
@@ -43,10 +43,10 @@ grown-trans {σ} {τ} {υ} p q = record {
 }
 
 -- a step on relation nodes alone
-pub grown-nodes : {σ : Aut} {t : Table} → Ext (σ .nodes) t → Grown σ (aut t (σ .states) (σ .members))
+pub grown-nodes : {σ : Aut} {t : Table} → Ext (σ .nodes) t → ExtAut σ (aut t (σ .states) (σ .members))
 grown-nodes {σ} e = record { nodes = e; states = exts-refl (σ .states); members = extm-refl (σ .members) }
 
-module _ {σ τ : Aut} (g : Grown σ τ) (x : ℕ) (l : x < states σ) where
+module _ {σ τ : Aut} (g : ExtAut σ τ) (x : ℕ) (l : x < states σ) where
   pub kind-grown : kind τ x ≡ kind σ x
   unfolding kindOf
   kind-grown =
@@ -70,26 +70,26 @@ module _ {σ τ : Aut} (g : Grown σ τ) (x : ℕ) (l : x < states σ) where
       ap₂ (words (τ .members .words)) first-grown second-grown
       ∙ words-same (σ .members .words) (τ .members .words) (first σ x) (second σ x) (λ i a b. g .members .keep i (omega arith))
 
-pub state-grown : {σ τ : Aut} → Grown σ τ → {x : ℕ} → x < states σ → x < states τ
+pub state-grown : {σ τ : Aut} → ExtAut σ τ → {x : ℕ} → x < states σ → x < states τ
 state-grown g l = le-trans l (g .states .more)
 
-pub states-grown : {σ τ : Aut} → Grown σ τ → (xs : List ℕ) → All (λ x. x < states σ) xs → All (λ x. x < states τ) xs
+pub states-grown : {σ τ : Aut} → ExtAut σ τ → (xs : List ℕ) → All (λ x. x < states σ) xs → All (λ x. x < states τ) xs
 states-grown g xs a = all-map xs (λ x l. state-grown g l) a
 
-pub nestL-grown : {σ τ : Aut} → Grown σ τ → (h : ℕ) (xs : List ℕ) → All (λ y. y < states σ) xs → nestL (τ .states .words) h xs ≡ nestL (σ .states .words) h xs
+pub nestL-grown : {σ τ : Aut} → ExtAut σ τ → (h : ℕ) (xs : List ℕ) → All (λ y. y < states σ) xs → nestL (τ .states .words) h xs ≡ nestL (σ .states .words) h xs
 unfolding nestL
 nestL-grown g h [] a = refl
 nestL-grown {σ} {τ} g h (x ∷ xs) a =
     ap (λ (e : ℕ). nestL (τ .states .words) (max h e) xs) (nesting-grown g x (a .0)) ∙ nestL-grown g (max h (nesting σ x)) xs (a .1)
 
 -- a state of a kind is in order as that kind is
-pub ok-as : {N : ℕ} {L : Limits} {σ : Aut} → Good N L σ → (k : ℕ) {x : ℕ} → x < states σ → kind σ x ≡ k → Ok (form {N = N} k) σ x
+pub ok-as : {N : ℕ} {L : Limits} {σ : Aut} → WfAut N L σ → (k : ℕ) {x : ℕ} → x < states σ → kind σ x ≡ k → Ok (form {N = N} k) σ x
 ok-as {N} {σ = σ} g k {x} l e = subst (λ (j : ℕ). Ok (form {N = N} j) σ x) e (g .ok x l)
 
 -- what is in order stays in order
-pub ok-grown : {N : ℕ} {σ τ : Aut} → Grown σ τ → (f : Form N) (x : ℕ) → x < states σ → Ok f σ x → Ok f τ x
+pub ok-grown : {N : ℕ} {σ τ : Aut} → ExtAut σ τ → (f : Form N) (x : ℕ) → x < states σ → Ok f σ x → Ok f τ x
 ok-grown {N} {σ} {τ} g leaf x l o = record {
-  handle = subst (At (τ .nodes) N) (sym (first-grown g x l)) (at-ext (g .nodes) N (first σ x) (o .handle));
+  handle = subst (ValidAt (τ .nodes) N) (sym (first-grown g x l)) (at-ext (g .nodes) N (first σ x) (o .handle));
   unused = second-grown g x l ∙ o .unused;
   nested = nesting-grown g x l ∙ o .nested;
 }
@@ -121,7 +121,7 @@ ok-grown {σ} {τ} g (many c) x l o =
     }
 ok-grown g nothing x l o = absurd o
 
-pub operands-grown : {N : ℕ} {σ τ : Aut} → Grown σ τ → (f : Form N) (x : ℕ) → x < states σ → Ok f σ x
+pub operands-grown : {N : ℕ} {σ τ : Aut} → ExtAut σ τ → (f : Form N) (x : ℕ) → x < states σ → Ok f σ x
     → operandsBy f (τ .states .words) (τ .members .words) x ≡ operandsBy f (σ .states .words) (σ .members .words) x
 operands-grown g leaf x l o = ap₂ (λ (a b : ℕ). a ∷ b ∷ []) (first-grown g x l) (second-grown g x l)
 operands-grown g (constant r) x l o = ap₂ (λ (a b : ℕ). a ∷ b ∷ []) (first-grown g x l) (second-grown g x l)
@@ -130,11 +130,11 @@ operands-grown g (two c) x l o = ap₂ (λ (a b : ℕ). a ∷ b ∷ []) (first-g
 operands-grown g (many c) x l o = members-grown g x l (o .inside)
 operands-grown g nothing x l o = absurd o
 
-last-grown : {σ τ : Aut} → Grown σ τ → (xs : List ℕ) → All (λ y. y < states σ) xs → LastSpp (σ .states .words) xs → LastSpp (τ .states .words) xs
+last-grown : {σ τ : Aut} → ExtAut σ τ → (xs : List ℕ) → All (λ y. y < states σ) xs → LastSpp (σ .states .words) xs → LastSpp (τ .states .words) xs
 last-grown g [] a m = tt
 last-grown g (x ∷ xs) a m = (kind-grown g x (a .0) ∙ m .0, m .1)
 
-pub meeting-grown : {σ τ : Aut} → Grown σ τ → (xs : List ℕ) → All (λ y. y < states σ) xs → Meeting (σ .states .words) xs → Meeting (τ .states .words) xs
+pub meeting-grown : {σ τ : Aut} → ExtAut σ τ → (xs : List ℕ) → All (λ y. y < states σ) xs → Meeting (σ .states .words) xs → Meeting (τ .states .words) xs
 meeting-grown {σ} {τ} g xs a m =
     let parts = all-split (λ y. y < states σ) (m .others) (m .last) (subst (All (λ y. y < states σ)) (m .parts) a) in
     record {

@@ -8,7 +8,7 @@ use Rattle.common.specs.Runs.{table}
 use Rattle.spp_steps.specs.Model as Spp
 use Rattle.spp_steps.proofs.Begin.{begun}
 use Rattle.aut_steps.specs.Tables.{limits01}
-use Rattle.aut_steps.specs.Good.{Good}
+use Rattle.aut_steps.specs.Good.{WfAut}
 use Rattle.aut_steps.proofs.Goes.{good-begun}
 use Rattle.aut_steps.specs.Corners.{room}
 
@@ -21,5 +21,5 @@ begins : Spp.constants 1 (table (replicate 32 0) 0) ≡ given (room 4 4 .nodes) 
 unfolding Spp.constants Spp.zeros Spp.ones Spp.tops Spp.zeroAt Spp.mk Spp.seek Spp.same Spp.kid Spp.put Spp.room
 begins = refl
 
-pub in-order : Good 1 limits01 (room 4 4)
+pub in-order : WfAut 1 limits01 (room 4 4)
 in-order = good-begun (replicate 48 0) (replicate 4 0) (given-of (begun 1 (replicate 32 0)) begins .wf) (zeros 48)

@@ -10,7 +10,7 @@ use lib.Seq.{length-sets}
 use borrow.Author.Tests.{eqb-true, eqb-false, ltb-true, ltb-false}
 use Rattle.common.specs.Outcome.{Outcome, refused, given, if_then_else_}
 use Rattle.common.specs.Runs.{Table, table, placed}
-use Rattle.spp_steps.specs.Laws.{At}
+use Rattle.spp_steps.specs.Laws.{ValidAt}
 use Rattle.spp_steps.proofs.Laws.{by-test}
 use Rattle.netkat.specs.Rules.{Rule, Rules}
 use Rattle.aut_steps.specs.Tables.{UNION, INTERSECT, STAR, op1, op2, words, Limits, roomS, roomM, put4, exprs, Aut, putStates, putExprs, onStates, onExprs, kindOf, memberCap}
@@ -19,10 +19,10 @@ use Rattle.aut_steps.specs.Kinds.{Form, leaf, constant, one, two, many, 
 use Rattle.aut_steps.specs.ListLaws.{All}
 use Rattle.aut_steps.specs.Made.{MadeOf}
 use Rattle.aut_steps.proofs.Facts.{seek-hit, seek-miss, Is2, same2-is, is-same2, IsL, sameL-is, is-sameL, sets-below, sets-above, words-sets, room-state, room-members}
-use Rattle.aut_steps.specs.Good.{states, kind, first, second, nesting, members, ExtM, Grown, Ok, United, Meeting, lengthAs, Good}
+use Rattle.aut_steps.specs.Good.{states, kind, first, second, nesting, members, ExtM, ExtAut, Ok, United, Meeting, lengthAs, WfAut}
 use Rattle.aut_steps.proofs.Good.{extm-refl, nesting-grown, nestL-grown, kind-grown}
 use Rattle.aut_steps.proofs.MadeLaws.{made-given, made-list, Below, made-grown, none-as}
-use Rattle.aut_steps.proofs.Goes.{too-deep, no-state, no-members, Goes, comes, stops-here, goes-return, plus, grown-plus, memos-plus, kind-plus, first-plus, second-plus, nesting-plus, good-plus}
+use Rattle.aut_steps.proofs.Goes.{too-deep, no-state, no-members, StepSpec, comes, stops-here, goes-return, plus, grown-plus, memos-plus, kind-plus, first-plus, second-plus, nesting-plus, good-plus}
 
 -- state z of τ has this kind and these operands
 pub record State2 (k x y : ℕ) (τ : Aut) (z : ℕ) : Type 0 where
@@ -36,7 +36,7 @@ pub record StateL (k : ℕ) (xs : List ℕ) (τ : Aut) (z : ℕ) : Type 0 where
 
 -- what a state of a form that is no list needs: its operands and its nesting
 abbrev pub Fit : {N : ℕ} → Form N → Aut → ℕ → ℕ → ℕ → Type 0
-Fit {N} leaf σ x y e = At (σ .nodes) N x × (y ≡ 0) × (e ≡ 0)
+Fit {N} leaf σ x y e = ValidAt (σ .nodes) N x × (y ≡ 0) × (e ≡ 0)
 Fit (constant r) σ x y e = (x ≡ 0) × (y ≡ 0) × (e ≡ 0)
 Fit (one c) σ x y e = (x < states σ) × (y ≡ 0) × (e ≡ nesting σ x + 1)
 Fit (two c) σ x y e = (x < states σ) × (y < states σ) × (e ≡ max (nesting σ x) (nesting σ y) + 1)
@@ -51,7 +51,7 @@ two-words (two c) σ x y e v st m z = refl
 two-words (many c) σ x y e v st m z = absurd v
 two-words nothing σ x y e v st m z = absurd v
 
-module _ {N : ℕ} {L : Limits} {σ : Aut} (g : Good N L σ) where
+module _ {N : ℕ} {L : Limits} {σ : Aut} (g : WfAut N L σ) where
   -- ---- no list
 
   module _ (k x y e : ℕ) where
@@ -85,7 +85,7 @@ module _ {N : ℕ} {L : Limits} {σ : Aut} (g : Good N L σ) where
         old z l = nesting-grown (grown-plus g k x y e (σ .members) m room) z l
 
         go : (f : Form N) → Fit f σ x y e → Ok f p (states σ)
-        go leaf v = record { handle = subst (At (σ .nodes) N) (sym e1) (v .0); unused = e2 ∙ v .1; nested = e3 ∙ v .2 }
+        go leaf v = record { handle = subst (ValidAt (σ .nodes) N) (sym e1) (v .0); unused = e2 ∙ v .1; nested = e3 ∙ v .2 }
         go (constant r) v = record { unused1 = e1 ∙ v .0; unused2 = e2 ∙ v .1; nested = e3 ∙ v .2 }
         go (one c) v = record { earlier = omega (arith, e1, v .0); unused = e2 ∙ v .1; nested = e3 ∙ v .2 ∙ ap (λ (h : ℕ). h + 1) (sym (old x (v .0)) ∙ ap (nesting p) (sym e1)) }
         go (two c) v = record {
@@ -97,7 +97,7 @@ module _ {N : ℕ} {L : Limits} {σ : Aut} (g : Good N L σ) where
         go nothing v = absurd v
 
     put-goes : Fit (form {N = N} k) σ x y e → ((xs : List ℕ) → MadeOf N (σ .states .words) k x y xs) → e ≤ L .nesting → states σ ≤ seek (same2 (σ .states .words) k x y) 0 (states σ)
-        → Goes N L (State2 k x y) σ (placed putStates σ (put k x y e (σ .states)))
+        → StepSpec N L (State2 k x y) σ (placed putStates σ (put k x y e (σ .states)))
     unfolding put form
     put-goes v made d miss = go (roomS (σ .states)) refl
       where
@@ -111,7 +111,7 @@ module _ {N : ℕ} {L : Limits} {σ : Aut} (g : Good N L σ) where
         m = extm-refl (σ .members)
 
         go : (b : Bool) → roomS (σ .states) ≡ b
-            → Goes N L (State2 k x y) σ (placed putStates σ (if b then given (table (put4 (σ .states .words) (states σ) k x y e) (states σ + 1)) (states σ) else refused 22))
+            → StepSpec N L (State2 k x y) σ (placed putStates σ (if b then given (table (put4 (σ .states .words) (states σ) k x y e) (states σ + 1)) (states σ) else refused 22))
         go false q = stops-here g (no-state q)
         go true q =
             let (room, cap) = room-state (σ .states) q in
@@ -146,14 +146,14 @@ module _ {N : ℕ} {L : Limits} {σ : Aut} (g : Good N L σ) where
             })
 
   -- found, or what comes then
-  find : (k x y : ℕ) (o : Outcome Table ℕ) → (states σ ≤ seek (same2 (σ .states .words) k x y) 0 (states σ) → Goes N L (State2 k x y) σ (placed putStates σ o))
-      → Goes N L (State2 k x y) σ (placed putStates σ (if ltb (seek (same2 (σ .states .words) k x y) 0 (states σ)) (states σ) then given (σ .states) (seek (same2 (σ .states .words) k x y) 0 (states σ)) else o))
+  find : (k x y : ℕ) (o : Outcome Table ℕ) → (states σ ≤ seek (same2 (σ .states .words) k x y) 0 (states σ) → StepSpec N L (State2 k x y) σ (placed putStates σ o))
+      → StepSpec N L (State2 k x y) σ (placed putStates σ (if ltb (seek (same2 (σ .states .words) k x y) 0 (states σ)) (states σ) then given (σ .states) (seek (same2 (σ .states .words) k x y) 0 (states σ)) else o))
   find k x y o f = go (ltb i (states σ)) refl
     where
       i : ℕ
       i = seek (same2 (σ .states .words) k x y) 0 (states σ)
 
-      go : (b : Bool) → ltb i (states σ) ≡ b → Goes N L (State2 k x y) σ (placed putStates σ (if b then given (σ .states) i else o))
+      go : (b : Bool) → ltb i (states σ) ≡ b → StepSpec N L (State2 k x y) σ (placed putStates σ (if b then given (σ .states) i else o))
       go true q =
           let l : i < states σ = ltb-true i (states σ) q in
           goes-return i g (record { state = l; is = same2-is (σ .states .words) k x y i (seek-hit (same2 (σ .states .words) k x y) 0 (states σ) (omega arith)) })
@@ -161,22 +161,22 @@ module _ {N : ℕ} {L : Limits} {σ : Aut} (g : Good N L σ) where
 
   -- the limit of nesting, or what comes then
   deep : {S : Type 0} {P : Aut → ℕ → Type 0} (put : S → Aut → Aut) (xs : List ℕ) (e : ℕ) (o : Outcome S ℕ) → All (λ x. x < states σ) xs → e ≤ nestL (σ .states .words) 0 xs + 1
-      → (e ≤ L .nesting → Goes N L P σ (placed put σ o)) → Goes N L P σ (placed put σ (if ltb (L .nesting) e then refused 8 else o))
+      → (e ≤ L .nesting → StepSpec N L P σ (placed put σ o)) → StepSpec N L P σ (placed put σ (if ltb (L .nesting) e then refused 8 else o))
   deep {S} {P} put xs e o a n f = go (ltb (L .nesting) e) refl
     where
-      go : (b : Bool) → ltb (L .nesting) e ≡ b → Goes N L P σ (placed put σ (if b then refused 8 else o))
+      go : (b : Bool) → ltb (L .nesting) e ≡ b → StepSpec N L P σ (placed put σ (if b then refused 8 else o))
       go true q = stops-here g (too-deep xs a (omega (arith, ltb-true (L .nesting) e q)))
       go false q = f (ltb-false (L .nesting) e q)
 
-  pub intern0-goes : (k x : ℕ) → (UNION ≤ k → STAR < k) → Fit (form {N = N} k) σ x 0 0 → Goes N L (State2 k x 0) σ (onStates (intern0 k x) σ)
+  pub intern0-goes : (k x : ℕ) → (UNION ≤ k → STAR < k) → Fit (form {N = N} k) σ x 0 0 → StepSpec N L (State2 k x 0) σ (onStates (intern0 k x) σ)
   unfolding intern0
   intern0-goes k x f v = find k x 0 (put k x 0 0 (σ .states)) (put-goes k x 0 0 v (λ xs. made-given f) (omega arith))
 
-  pub intern1-goes : (k x : ℕ) → ((xs : List ℕ) → MadeOf N (σ .states .words) k x 0 xs) → x < states σ → Fit (form {N = N} k) σ x 0 (nesting σ x + 1) → Goes N L (State2 k x 0) σ (onStates (intern1 L k x) σ)
+  pub intern1-goes : (k x : ℕ) → ((xs : List ℕ) → MadeOf N (σ .states .words) k x 0 xs) → x < states σ → Fit (form {N = N} k) σ x 0 (nesting σ x + 1) → StepSpec N L (State2 k x 0) σ (onStates (intern1 L k x) σ)
   unfolding intern1 nestL
   intern1-goes k x made l v = find k x 0 _ (λ m. deep putStates (x ∷ []) (nesting σ x + 1) _ (l, tt) (omega arith) (λ d. put-goes k x 0 (nesting σ x + 1) v made d m))
 
-  pub intern2-goes : (k x y : ℕ) → ((xs : List ℕ) → MadeOf N (σ .states .words) k x y xs) → x < states σ → y < states σ → Fit (form {N = N} k) σ x y (max (nesting σ x) (nesting σ y) + 1) → Goes N L (State2 k x y) σ (onStates (intern2 L k x y) σ)
+  pub intern2-goes : (k x y : ℕ) → ((xs : List ℕ) → MadeOf N (σ .states .words) k x y xs) → x < states σ → y < states σ → Fit (form {N = N} k) σ x y (max (nesting σ x) (nesting σ y) + 1) → StepSpec N L (State2 k x y) σ (onStates (intern2 L k x y) σ)
   unfolding intern2 nestL
   intern2-goes k x y made l l′ v = find k x y _ (λ m. deep putStates (x ∷ y ∷ []) (max (nesting σ x) (nesting σ y) + 1) _ (l, (l′, tt)) (omega arith) (λ d. put-goes k x y (max (nesting σ x) (nesting σ y) + 1) v made d m))
 
@@ -201,18 +201,18 @@ module _ {N : ℕ} {L : Limits} {σ : Aut} (g : Good N L σ) where
     }
 
     putL-goes : e ≤ L .nesting → states σ ≤ seek (sameL (σ .states .words) (σ .members .words) k xs) 0 (states σ)
-        → Goes N L (StateL k xs) σ (placed putExprs σ (putL k xs e (exprs (σ .states) (σ .members))))
+        → StepSpec N L (StateL k xs) σ (placed putExprs σ (putL k xs e (exprs (σ .states) (σ .members))))
     unfolding putL put store form
     putL-goes d miss = at-members (roomM (σ .members) (length xs)) refl
       where
         at-states : (r : nm + length xs ≤ length (σ .members .words)) → nm + length xs ≤ memberCap → (b : Bool) → roomS (σ .states) ≡ b
-            → Goes N L (StateL k xs) σ (placed putExprs σ (placed (λ s τ. exprs s (store xs (τ .members))) (exprs (σ .states) (σ .members)) (if b then given (table (put4 (σ .states .words) (states σ) k nm (length xs) e) (states σ + 1)) (states σ) else refused 22)))
+            → StepSpec N L (StateL k xs) σ (placed putExprs σ (placed (λ s τ. exprs s (store xs (τ .members))) (exprs (σ .states) (σ .members)) (if b then given (table (put4 (σ .states .words) (states σ) k nm (length xs) e) (states σ + 1)) (states σ) else refused 22)))
         at-states r s false p = stops-here g (no-state p)
         at-states r s true p =
             let (room, cap) = room-state (σ .states) p in
             let gm : ExtM (σ .members) (store xs (σ .members)) = stored r in
             let τ : Aut = plus g k nm (length xs) e (store xs (σ .members)) gm room in
-            let gr : Grown σ τ = grown-plus g k nm (length xs) e (store xs (σ .members)) gm room in
+            let gr : ExtAut σ τ = grown-plus g k nm (length xs) e (store xs (σ .members)) gm room in
             let e1 : first τ (states σ) ≡ nm = first-plus g k nm (length xs) e (store xs (σ .members)) gm room in
             let e2 : second τ (states σ) ≡ length xs = second-plus g k nm (length xs) e (store xs (σ .members)) gm room in
             let list : members τ (states σ) ≡ xs = ap₂ (words (store xs (σ .members) .words)) e1 e2 ∙ words-sets xs (σ .members .words) nm r in
@@ -248,11 +248,11 @@ module _ {N : ℕ} {L : Limits} {σ : Aut} (g : Good N L σ) where
             })
 
         at-members : (b : Bool) → roomM (σ .members) (length xs) ≡ b
-            → Goes N L (StateL k xs) σ (placed putExprs σ (if b then placed (λ s τ. exprs s (store xs (τ .members))) (exprs (σ .states) (σ .members)) (put k nm (length xs) e (σ .states)) else refused 23))
+            → StepSpec N L (StateL k xs) σ (placed putExprs σ (if b then placed (λ s τ. exprs s (store xs (τ .members))) (exprs (σ .states) (σ .members)) (put k nm (length xs) e (σ .states)) else refused 23))
         at-members false p = stops-here g (no-members xs a few p)
         at-members true p = let (r, s) = room-members (σ .members) (length xs) p in at-states r s (roomS (σ .states)) refl
 
-    pub internL-goes : Goes N L (StateL k xs) σ (onExprs (internL L k xs) σ)
+    pub internL-goes : StepSpec N L (StateL k xs) σ (onExprs (internL L k xs) σ)
     unfolding internL
     internL-goes = go (ltb i (states σ)) refl
       where
@@ -260,7 +260,7 @@ module _ {N : ℕ} {L : Limits} {σ : Aut} (g : Good N L σ) where
         i = seek (sameL (σ .states .words) (σ .members .words) k xs) 0 (states σ)
 
         go : (b : Bool) → ltb i (states σ) ≡ b
-            → Goes N L (StateL k xs) σ (placed putExprs σ (if b then given (exprs (σ .states) (σ .members)) i else if ltb (L .nesting) e then refused 8 else putL k xs e (exprs (σ .states) (σ .members))))
+            → StepSpec N L (StateL k xs) σ (placed putExprs σ (if b then given (exprs (σ .states) (σ .members)) i else if ltb (L .nesting) e then refused 8 else putL k xs e (exprs (σ .states) (σ .members))))
         go true p =
             let l : i < states σ = ltb-true i (states σ) p in
             goes-return i g (record { state = l; is = sameL-is (σ .states .words) (σ .members .words) k xs i (seek-hit (sameL (σ .states .words) (σ .members .words) k xs) 0 (states σ) (omega arith)) })

@@ -14,7 +14,7 @@ use Rattle.common.specs.Outcome.{return, _>>=_, if_then_else_}
 use Rattle.common.specs.Runs.{placed}
 use Rattle.netkat.specs.Strings.{Str}
 use Rattle.netkat.specs.Rules.{Language, intersection}
-use Rattle.spp_steps.specs.Laws.{At}
+use Rattle.spp_steps.specs.Laws.{ValidAt}
 use Rattle.spp_steps.proofs.Laws.{den-mem, den-zero, den-top, by-test}
 use Rattle.aut_steps.specs.Relations as Spp
 use Rattle.aut_steps.specs.Tables.{SPP, INTERSECT, TOP, kindOf, op1, Limits, Aut, putNodes, putStates, onNodes, onStates}
@@ -29,9 +29,9 @@ use Rattle.aut_steps.proofs.RelationLaws.{Makes, intersect-made}
 use Rattle.aut_steps.proofs.Facts.{and-true, and-false}
 use Rattle.aut_steps.specs.Made.{Part}
 use Rattle.aut_steps.proofs.MadeLaws.{made-intersect}
-use Rattle.aut_steps.specs.Good.{states, kind, first, members, Grown, Meeting, Good}
+use Rattle.aut_steps.specs.Good.{states, kind, first, members, ExtAut, Meeting, WfAut}
 use Rattle.aut_steps.proofs.Good.{grown-refl, kind-grown, state-grown, states-grown}
-use Rattle.aut_steps.proofs.Goes.{long-list, many-products, Goes, stops-here, goes-return, goes-bind, goes-map, choose, branch, branch-in, nodes-after, placed-map}
+use Rattle.aut_steps.proofs.Goes.{long-list, many-products, StepSpec, stops-here, goes-return, goes-bind, goes-map, choose, branch, branch-in, nodes-after, placed-map}
 use Rattle.aut_steps.proofs.InternLaws.{internL-goes}
 use Rattle.aut_steps.specs.Meaning.{Holds}
 use Rattle.aut_steps.proofs.Meaning.{HoldsSome, HoldsAll, Is, is-same, holds-spp, holds-top, holds-intersect}
@@ -59,7 +59,7 @@ both-unit = (λ (a, b). a, λ a. (a, tt))
 unit-both : {A B : Type 0} → A → (A × B) ↔ B
 unit-both a = (λ (x, b). b, λ b. (a, b))
 
-module _ {N : ℕ} {L : Limits} {σ : Aut} (g : Good N L σ) where
+module _ {N : ℕ} {L : Limits} {σ : Aut} (g : WfAut N L σ) where
   -- ---- opening
 
   opened-all : (x : ℕ) → x < states σ → HoldsAll N σ (opened INTERSECT (σ .states .words) (σ .members .words) x) ≈ Holds N σ x
@@ -116,7 +116,7 @@ When true A u = A u
 When false A u = Unit {0}
 
 record MetOk (N : ℕ) (τ : Aut) (p : Met) : Type 0 where
-  handle : At (τ .nodes) N (p .relation)
+  handle : ValidAt (τ .nodes) N (p .relation)
   others : All (λ x. x < states τ) (p .others)
   plain : All (λ x. Plain INTERSECT (kind τ x)) (p .others)
   -- with no relation so far it is the top
@@ -140,7 +140,7 @@ when-rel true R S f u = back (both-rel R S u)
 when-rel false R S f u = rel-same (λ p q. ap (λ (b : Bool). b && S p q) (f refl p q)) u so back (unit-both tt)
 
 module _ {N : ℕ} {L : Limits} where
-  meet-one : {σ : Aut} → Good N L σ → (st : List ℕ) (x : ℕ) → Alike st σ x → kind σ x ≢ INTERSECT → (p : Met) → MetOk N σ p → Goes N L (Gathered N σ (x ∷ []) p) σ (onNodes (meetOne N st x p) σ)
+  meet-one : {σ : Aut} → WfAut N L σ → (st : List ℕ) (x : ℕ) → Alike st σ x → kind σ x ≢ INTERSECT → (p : Met) → MetOk N σ p → StepSpec N L (Gathered N σ (x ∷ []) p) σ (onNodes (meetOne N st x p) σ)
   unfolding meetOne
   meet-one {σ} g st x r d p o =
       branch-in putNodes σ (eqb (kindOf st x) TOP) _ _ (σ .nodes)
@@ -177,7 +177,7 @@ module _ {N : ℕ} {L : Limits} where
         strings = λ u. both-same same (all-both g (p .others) (x ∷ []) u) so both-assoc;
       })))
 
-  meet-each : {σ : Aut} → Good N L σ → (st xs : List ℕ) → All (Alike st σ) xs → All (λ x. kind σ x ≢ INTERSECT) xs → (p : Met) → MetOk N σ p → Goes N L (Gathered N σ xs p) σ (onNodes (each (meetOne N st) xs p) σ)
+  meet-each : {σ : Aut} → WfAut N L σ → (st xs : List ℕ) → All (Alike st σ) xs → All (λ x. kind σ x ≢ INTERSECT) xs → (p : Met) → MetOk N σ p → StepSpec N L (Gathered N σ xs p) σ (onNodes (each (meetOne N st) xs p) σ)
   unfolding each
   meet-each g st [] r d p o = goes-return p g (record { ok = o; few = omega arith; strings = λ u. back both-unit })
   meet-each {σ} g st (x ∷ xs) r d p o =
@@ -206,7 +206,7 @@ record Listed (N : ℕ) (σ : Aut) (p : Met) (τ : Aut) (ys : List ℕ) : Type 0
   strings : HoldsAll N τ ys ≈ Cut N σ p
 
 module _ {N : ℕ} {L : Limits} where
-  add-last : {σ : Aut} → Good N L σ → (p : Met) → MetOk N σ p → (p .some ≡ true → p .relation ≢ Spp.zeroAt N) → 1 ≤ length (sorted (p .others)) → Goes N L (Listed N σ p) σ (onStates (addLast p (sorted (p .others))) σ)
+  add-last : {σ : Aut} → WfAut N L σ → (p : Met) → MetOk N σ p → (p .some ≡ true → p .relation ≢ Spp.zeroAt N) → 1 ≤ length (sorted (p .others)) → StepSpec N L (Listed N σ p) σ (onStates (addLast p (sorted (p .others))) σ)
   unfolding addLast
   add-last {σ} g p o nonzero some = go (p .some) refl
     where
@@ -222,13 +222,13 @@ module _ {N : ℕ} {L : Limits} where
       holds-xs : (u : Str N) → HoldsAll N σ xs u ↔ HoldsAll N σ (p .others) u
       holds-xs u = back (all-sorted (λ y. Holds N σ y u) (p .others))
 
-      no-spp-in : {τ : Aut} → Grown σ τ → (st : List ℕ) → ((y : ℕ) → y < states τ → kindOf st y ≡ kind τ y) → All (λ y. kindOf st y ≡ SPP → ⊥) xs
+      no-spp-in : {τ : Aut} → ExtAut σ τ → (st : List ℕ) → ((y : ℕ) → y < states τ → kindOf st y ≡ kind τ y) → All (λ y. kindOf st y ≡ SPP → ⊥) xs
       no-spp-in w st f = all-with xs (λ y l n e. n .0 (sym (kind-grown w y l) ∙ sym (f y (state-grown w l)) ∙ e)) states-xs plain-xs
 
       when-true : p .some ≡ true → (u : Str N) → Rel (Spp.pairs N (σ .nodes) (p .relation)) u ↔ When (p .some) (Rel (Spp.pairs N (σ .nodes) (p .relation))) u
       when-true e u = subst (λ (b : Bool). Rel (Spp.pairs N (σ .nodes) (p .relation)) u ↔ When b (Rel (Spp.pairs N (σ .nodes) (p .relation))) u) (sym e) same
 
-      go : (b : Bool) → p .some ≡ b → Goes N L (Listed N σ p) σ (placed putStates σ ((if b then (mk-spp (p .relation) >>= (λ i. return (xs ++ i ∷ []))) else return xs) (σ .states)))
+      go : (b : Bool) → p .some ≡ b → StepSpec N L (Listed N σ p) σ (placed putStates σ ((if b then (mk-spp (p .relation) >>= (λ i. return (xs ++ i ∷ []))) else return xs) (σ .states)))
       go true q =
           placed-map putStates σ (mk-spp (p .relation) (σ .states)) (λ i. xs ++ i ∷ []) (spp-state g (den-mem (o .handle)))
           (λ τ i w v (s, k). record {
@@ -267,7 +267,7 @@ module _ {N : ℕ} {L : Limits} where
           when-false : p .some ≡ false → (u : Str N) → When (p .some) (Rel (Spp.pairs N (σ .nodes) (p .relation))) u
           when-false e u = subst (λ (b : Bool). When b (Rel (Spp.pairs N (σ .nodes) (p .relation))) u) (sym e) tt
 
-  meet-finish : {σ : Aut} → Good N L σ → (p : Met) → MetOk N σ p → size p ≤ L .list → Goes N L (Is N (Cut N σ p)) σ (meetFinish N L p (sorted (p .others)) σ)
+  meet-finish : {σ : Aut} → WfAut N L σ → (p : Met) → MetOk N σ p → size p ≤ L .list → StepSpec N L (Is N (Cut N σ p)) σ (meetFinish N L p (sorted (p .others)) σ)
   unfolding meetFinish form
   meet-finish {σ} g p o few =
       branch (p .some && eqb (p .relation) (Spp.zeroAt N)) _ _
@@ -309,25 +309,25 @@ module _ {N : ℕ} {L : Limits} where
       empty : length xs ≡ 0 → (u : Str N) → Unit {0} ↔ HoldsAll N σ (p .others) u
       empty e u = (λ _. all-sorted (λ y. Holds N σ y u) (p .others) .1 (nothing xs e u), λ _. tt)
 
-  meet-goes : {σ : Aut} → Good N L σ → (xs : List ℕ) → All (λ x. x < states σ) xs → All (λ x. kind σ x ≢ INTERSECT) xs → length xs ≤ L .list → Goes N L (Is N (HoldsAll N σ xs)) σ (meet N L xs σ)
+  meet-goes : {σ : Aut} → WfAut N L σ → (xs : List ℕ) → All (λ x. x < states σ) xs → All (λ x. kind σ x ≢ INTERSECT) xs → length xs ≤ L .list → StepSpec N L (Is N (HoldsAll N σ xs)) σ (meet N L xs σ)
   unfolding meet
   meet-goes {σ} g xs a d few =
       let t = den-top (g .nodes) N (omega arith) in
       goes-bind (meet-each g (σ .states .words) xs (alike-self σ xs a) d (met false (Spp.topAt N) []) (record { handle = t .at; others = tt; plain = tt; top = λ _. t .means })) (λ τ p w v b.
       goes-map (meet-finish v p (b .ok) (omega (arith, b .few))) (λ υ z w′ v′ s. is-same (λ u. b .strings u so unit-both (tt, tt)) s))
 
-  pub mk-intersect-n-base-goes : {σ : Aut} → Good N L σ → (xs : List ℕ) → All (λ x. x < states σ) xs → Goes N L (Is N (HoldsAll N σ xs)) σ (mk-intersect-n-base N L xs σ)
+  pub mk-intersect-n-base-goes : {σ : Aut} → WfAut N L σ → (xs : List ℕ) → All (λ x. x < states σ) xs → StepSpec N L (Is N (HoldsAll N σ xs)) σ (mk-intersect-n-base N L xs σ)
   unfolding mk-intersect-n-base
   mk-intersect-n-base-goes {σ} g xs a = go (openAll (L .list) (σ .states .words) (σ .members .words) xs []) (open-all g (L .list) xs [] a tt tt (omega arith))
     where
-      go : (o : Within (List ℕ)) → Opens g (L .list) xs [] o → Goes N L (Is N (HoldsAll N σ xs)) σ (meetOpened N L o σ)
+      go : (o : Within (List ℕ)) → Opens g (L .list) xs [] o → StepSpec N L (Is N (HoldsAll N σ xs)) σ (meetOpened N L o σ)
       go beyond (zs, c, l) = stops-here g (long-list zs c l)
       go (within ys) (b, d, l, e) = goes-map (meet-goes g ys b d l) (λ τ z w v s. is-same (λ u. e u so unit-both tt) s)
 
   -- ---- distributing over unions
 
-  bases-goes : {σ : Aut} → Good N L σ → (xs : List ℕ) → All (λ x. x < states σ) xs → (i k : ℕ) → i + k ≤ sizes (σ .states .words) xs → (acc : List ℕ) → All (λ x. x < states σ) acc
-      → Goes N L (λ τ zs. All (λ z. z < states τ) zs × ((u : Str N) → HoldsSome N τ zs u ↔ (HoldsSome N σ acc u ⊎ Among N σ xs i k u))) σ (bases N L xs i k acc σ)
+  bases-goes : {σ : Aut} → WfAut N L σ → (xs : List ℕ) → All (λ x. x < states σ) xs → (i k : ℕ) → i + k ≤ sizes (σ .states .words) xs → (acc : List ℕ) → All (λ x. x < states σ) acc
+      → StepSpec N L (λ τ zs. All (λ z. z < states τ) zs × ((u : Str N) → HoldsSome N τ zs u ↔ (HoldsSome N σ acc u ⊎ Among N σ xs i k u))) σ (bases N L xs i k acc σ)
   unfolding bases base
   bases-goes {σ} g xs a i zero l acc b = goes-return acc g (b, λ u. (inl, left u))
     where
@@ -345,7 +345,7 @@ module _ {N : ℕ} {L : Limits} where
             so back sum-assoc so sum-same same (first-of w u),
       )))
     where
-      first-of : {τ : Aut} → Grown σ τ → (u : Str N) → (HoldsAll N σ (product (σ .states .words) (σ .members .words) xs i) u ⊎ Among N τ xs (i + 1) k u) ↔ Among N σ xs i (suc k) u
+      first-of : {τ : Aut} → ExtAut σ τ → (u : Str N) → (HoldsAll N σ (product (σ .states .words) (σ .members .words) xs i) u ⊎ Among N τ xs (i + 1) k u) ↔ Among N σ xs i (suc k) u
       first-of {τ} w u = (there, there-back)
         where
           later : (j : ℕ) → j < i + suc k → HoldsAll N τ (product (τ .states .words) (τ .members .words) xs j) u ↔ HoldsAll N σ (product (σ .states .words) (σ .members .words) xs j) u
@@ -363,7 +363,7 @@ module _ {N : ℕ} {L : Limits} where
               (λ t. inr (j, leb-true (i + 1) j t, omega arith, later j n .1 h))
               (λ t. inl (subst (λ (d : ℕ). HoldsAll N σ (product (σ .states .words) (σ .members .words) xs d) u) {x = j} {y = i} (omega (arith, leb-false (i + 1) j t)) h))
 
-  pub mk-intersect-n-goes : {σ : Aut} → Good N L σ → (xs : List ℕ) → All (λ x. x < states σ) xs → Goes N L (Is N (HoldsAll N σ xs)) σ (mk-intersect-n N L xs σ)
+  pub mk-intersect-n-goes : {σ : Aut} → WfAut N L σ → (xs : List ℕ) → All (λ x. x < states σ) xs → StepSpec N L (Is N (HoldsAll N σ xs)) σ (mk-intersect-n N L xs σ)
   unfolding mk-intersect-n
   mk-intersect-n-goes {σ} g xs a =
       choose (ltb (L .list) (length xs)) (λ q. stops-here g (long-list xs a (ltb-true (L .list) (length xs) q)))
@@ -375,7 +375,7 @@ module _ {N : ℕ} {L : Limits} where
       }))
       (λ _. opening (openAll (L .list) (σ .states .words) (σ .members .words) xs []) (open-all g (L .list) xs [] a tt tt (omega arith))))
     where
-      spread : (ys : List ℕ) → All (λ y. y < states σ) ys → (o : Within ℕ) → countAll (L .products) (σ .states .words) ys 1 ≡ o → Goes N L (Is N (HoldsAll N σ ys)) σ (distribute N L ys o σ)
+      spread : (ys : List ℕ) → All (λ y. y < states σ) ys → (o : Within ℕ) → countAll (L .products) (σ .states .words) ys 1 ≡ o → StepSpec N L (Is N (HoldsAll N σ ys)) σ (distribute N L ys o σ)
       spread ys b beyond q = stops-here g (many-products ys b (omega (arith, passed g (L .products) ys b 1 q, one-mul (sizes (σ .states .words) ys))))
       spread ys b (within m) q =
           let number : m ≡ sizes (σ .states .words) ys = counted (L .products) (σ .states .words) ys 1 m q ∙ one-mul (sizes (σ .states .words) ys) in
@@ -385,11 +385,11 @@ module _ {N : ℕ} {L : Limits} where
           all-of : {m : ℕ} → m ≡ sizes (σ .states .words) ys → (u : Str N) → Among N σ ys 0 m u ↔ HoldsAll N σ ys u
           all-of number u = (λ (j, l, n, h). in-product g ys b u .1 (j, omega arith, h), λ h. let (j, l, p) = in-product g ys b u .0 h in (j, omega arith, omega arith, p))
 
-      opening : (o : Within (List ℕ)) → Opens g (L .list) xs [] o → Goes N L (Is N (HoldsAll N σ xs)) σ (intersectOpened N L o σ)
+      opening : (o : Within (List ℕ)) → Opens g (L .list) xs [] o → StepSpec N L (Is N (HoldsAll N σ xs)) σ (intersectOpened N L o σ)
       opening beyond (zs, c, l) = stops-here g (long-list zs c l)
       opening (within ys) (b, d, l, e) = goes-map (spread ys b (countAll (L .products) (σ .states .words) ys 1) refl) (λ τ z w v s. is-same (λ u. e u so unit-both tt) s)
 
-  pub mk-intersect-goes : {σ : Aut} → Good N L σ → {x y : ℕ} → x < states σ → y < states σ → Goes N L (Is N (Both (Holds N σ x) (Holds N σ y))) σ (mk-intersect N L x y σ)
+  pub mk-intersect-goes : {σ : Aut} → WfAut N L σ → {x y : ℕ} → x < states σ → y < states σ → StepSpec N L (Is N (Both (Holds N σ x) (Holds N σ y))) σ (mk-intersect N L x y σ)
   unfolding mk-intersect
   mk-intersect-goes {σ} g {x} {y} l m =
       choose (eqb x y)

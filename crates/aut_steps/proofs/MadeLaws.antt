@@ -14,7 +14,7 @@ use Rattle.aut_steps.specs.Kinds.{Form, leaf, constant, one, two, many, 
 use Rattle.aut_steps.specs.ListLaws.{All}
 use Rattle.aut_steps.proofs.ListLaws.{all-map, all-with}
 use Rattle.aut_steps.specs.Made.{IsRelation, NotBoth, Part, Summands, Sequenced, MadeOf}
-use Rattle.aut_steps.specs.Good.{states, kind, first, second, members, Grown, Ok, Made, lengthAs, membersBefore, Good}
+use Rattle.aut_steps.specs.Good.{states, kind, first, second, members, ExtAut, Ok, Made, lengthAs, membersBefore, WfAut}
 use Rattle.aut_steps.proofs.Good.{kind-grown, first-grown, second-grown, members-grown, ok-as}
 
 -- ---- for each kind
@@ -144,7 +144,7 @@ ok-below (two c) σ x l o = (omega (arith, o .earlier1), omega (arith, o .earlie
 ok-below (many c) σ x l o = all-map (members σ x) (λ y m. omega arith) (o .earlier)
 ok-below nothing σ x l o = tt
 
-module _ {σ τ : Aut} (w : Grown σ τ) where
+module _ {σ τ : Aut} (w : ExtAut σ τ) where
   was : {x k : ℕ} → x < states σ → kind τ x ≡ k → kind σ x ≡ k
   was {x} l e = sym (kind-grown w x l) ∙ e
 
@@ -190,7 +190,7 @@ module _ {σ τ : Aut} (w : Grown σ τ) where
   before-grown zero l = refl
   before-grown (suc n) l = ap₂ (λ (a b : ℕ). a + b) (before-grown n (omega arith)) (ap₂ lengthAs (kind-grown w n (omega arith)) (second-grown w n (omega arith)))
 
-  module _ {N : ℕ} {L : Limits} (g : Good N L σ) (x : ℕ) (l : x < states σ) where
+  module _ {N : ℕ} {L : Limits} (g : WfAut N L σ) (x : ℕ) (l : x < states σ) where
     list-kept : UNION ≤ kind σ x → kind σ x ≤ INTERSECT → members τ x ≡ members σ x
     unfolding form
     list-kept a b =

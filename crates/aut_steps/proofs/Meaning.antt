@@ -12,7 +12,7 @@ use Rattle.aut_steps.specs.ListLaws.{All}
 use Rattle.aut_steps.proofs.ListLaws.{Some, all-map}
 use Rattle.aut_steps.specs.Languages.{_≈_}
 use Rattle.aut_steps.proofs.Languages.{_then_, Rel, Whole, Differ, Minus, Not, either-same, both-same}
-use Rattle.aut_steps.specs.Good.{states, kind, first, second, members, Grown, Ok, Good}
+use Rattle.aut_steps.specs.Good.{states, kind, first, second, members, ExtAut, Ok, WfAut}
 use Rattle.aut_steps.proofs.Good.{grown-refl, kind-grown, first-grown, second-grown, members-grown}
 use Rattle.aut_steps.specs.Meaning.{rulesOf, shape, ruleBelow, rule, Holds}
 
@@ -41,7 +41,7 @@ module _ {N : ℕ} where
   rules-same r s [] a = refl
   rules-same r s (x ∷ xs) a = ap₂ also (a .0) (rules-same r s xs (a .1))
 
-  shape-same : {σ τ : Aut} → Grown σ τ → (f : Form N) (r s : ℕ → Rule N) (x : ℕ) → x < states σ → Ok f σ x → ((y : ℕ) → y < x → s y ≡ r y) → shape f τ s x ≡ shape f σ r x
+  shape-same : {σ τ : Aut} → ExtAut σ τ → (f : Form N) (r s : ℕ → Rule N) (x : ℕ) → x < states σ → Ok f σ x → ((y : ℕ) → y < x → s y ≡ r y) → shape f τ s x ≡ shape f σ r x
   shape-same {σ} {τ} g leaf r s x l o e =
       ap relation (ap (pairs N (τ .nodes)) (first-grown g x l) ∙ fun-ext (λ p. fun-ext (λ q. mem-ext (g .nodes) N (first σ x) p q (o .handle))))
   shape-same g (constant c) r s x l o e = refl
@@ -52,8 +52,8 @@ module _ {N : ℕ} where
       ap c (ap (rulesOf s) (members-grown g x l (o .inside)) ∙ rules-same s r (members σ x) (all-map (members σ x) e (o .earlier)))
   shape-same g nothing r s x l o e = refl
 
-  module _ {L : Limits} {σ : Aut} (G : Good N L σ) where
-    below-same : {τ : Aut} → Grown σ τ → (f h x : ℕ) → x < f → x < h → x < states σ → ruleBelow N τ f x ≡ ruleBelow N σ h x
+  module _ {L : Limits} {σ : Aut} (G : WfAut N L σ) where
+    below-same : {τ : Aut} → ExtAut σ τ → (f h x : ℕ) → x < f → x < h → x < states σ → ruleBelow N τ f x ≡ ruleBelow N σ h x
     unfolding ruleBelow
     below-same g zero h x a b l = absurd (omega arith)
     below-same g (suc f) zero x a b l = absurd (omega arith)
@@ -62,11 +62,11 @@ module _ {N : ℕ} where
         ∙ shape-same g (form (kind σ x)) (ruleBelow N σ h) (ruleBelow N τ f) x l (G .ok x l) (λ y m. below-same g f h y (omega arith) (omega arith) (omega arith))
 
     -- a later table has the same rule
-    pub rule-grown : {τ : Aut} → Grown σ τ → {x : ℕ} → x < states σ → rule N τ x ≡ rule N σ x
+    pub rule-grown : {τ : Aut} → ExtAut σ τ → {x : ℕ} → x < states σ → rule N τ x ≡ rule N σ x
     unfolding rule
     rule-grown g {x} l = below-same g (suc x) (suc x) x (omega arith) (omega arith) l
 
-    pub holds-grown : {τ : Aut} → Grown σ τ → {x : ℕ} → x < states σ → Holds N τ x ≈ Holds N σ x
+    pub holds-grown : {τ : Aut} → ExtAut σ τ → {x : ℕ} → x < states σ → Holds N τ x ≈ Holds N σ x
     holds-grown g l = in-same (rule-grown g l)
 
     -- a state's rule, from its operands' rules
@@ -88,7 +88,7 @@ module _ {N : ℕ} where
   in-each r (x ∷ xs) = both-same (λ w. (λ a. a, λ a. a)) (in-each r xs)
 
   -- what a state of each kind holds, from its operands
-  module _ {L : Limits} {σ : Aut} (G : Good N L σ) {x : ℕ} (l : x < states σ) where
+  module _ {L : Limits} {σ : Aut} (G : WfAut N L σ) {x : ℕ} (l : x < states σ) where
     pub holds-spp : kind σ x ≡ SPP → Holds N σ x ≈ Rel (pairs N (σ .nodes) (first σ x))
     unfolding form In
     holds-spp e = in-same (rule-is G SPP x l e)

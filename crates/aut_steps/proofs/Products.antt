@@ -17,7 +17,7 @@ use Rattle.aut_steps.specs.Kinds.{form}
 use Rattle.aut_steps.specs.ListLaws.{All}
 use Rattle.aut_steps.proofs.ListLaws.{Some, all-at}
 use Rattle.aut_steps.proofs.Facts.{words-length, some-word, word-of}
-use Rattle.aut_steps.specs.Good.{states, kind, first, second, members, Grown, Good}
+use Rattle.aut_steps.specs.Good.{states, kind, first, second, members, ExtAut, WfAut}
 use Rattle.aut_steps.proofs.Good.{kind-grown, first-grown, second-grown, ok-as}
 use Rattle.aut_steps.specs.Meaning.{Holds}
 use Rattle.aut_steps.proofs.Meaning.{HoldsAll, holds-union}
@@ -60,7 +60,7 @@ place-rest c j i l = add-mul-div-left j i {y = c} (omega arith) ∙ ap (λ (k : 
 
 -- ---- products of states
 
-module _ {N : ℕ} {L : Limits} {σ : Aut} (g : Good N L σ) where
+module _ {N : ℕ} {L : Limits} {σ : Aut} (g : WfAut N L σ) where
   abbrev st : List ℕ
   st = σ .states .words
 
@@ -161,12 +161,12 @@ module _ {N : ℕ} {L : Limits} {σ : Aut} (g : Good N L σ) where
           )
 
   -- a later table has the same products
-  pub sizes-grown : {τ : Aut} → Grown σ τ → (xs : List ℕ) → All (λ x. x < states σ) xs → sizes (τ .states .words) xs ≡ sizes st xs
+  pub sizes-grown : {τ : Aut} → ExtAut σ τ → (xs : List ℕ) → All (λ x. x < states σ) xs → sizes (τ .states .words) xs ≡ sizes st xs
   sizes-grown w [] a = refl
   sizes-grown w (x ∷ xs) a =
       ap₂ (λ (p q : ℕ). p * q) (ap₂ (λ (k c : ℕ). if eqb k UNION then c else 1) (kind-grown w x (a .0)) (second-grown w x (a .0))) (sizes-grown w xs (a .1))
 
-  pub product-grown : {τ : Aut} → Grown σ τ → (xs : List ℕ) → All (λ x. x < states σ) xs → (i : ℕ) → i < sizes st xs
+  pub product-grown : {τ : Aut} → ExtAut σ τ → (xs : List ℕ) → All (λ x. x < states σ) xs → (i : ℕ) → i < sizes st xs
       → product (τ .states .words) (τ .members .words) xs i ≡ product st mem xs i
   unfolding product form
   product-grown w [] a i l = refl

@@ -11,7 +11,7 @@ use Rattle.common.specs.Runs as Runs
 use Rattle.common.specs.Runs.{Table}
 use Rattle.spp_steps.specs.Model as Spp
 use Rattle.spp_steps.specs.Relations.{compose}
-use Rattle.spp_steps.specs.Laws.{Wf, Ext, At, Den}
+use Rattle.spp_steps.specs.Laws.{Wf, Ext, ValidAt, Denotes}
 use Rattle.spp_steps.proofs.Laws.{sppTheory, den-mem}
 use Rattle.spp_steps.proofs.Exact.{Exact, Stops, stuck}
 use Rattle.spp_steps.proofs.Make.{Lacks, sppLimits}
@@ -35,17 +35,17 @@ module _ (N : ℕ) where
   pub record Made (R : Relation N) (t t′ : Table) (h : ℕ) : Type 0 where
     pub ext : Ext t t′
     pub wf : Wf N t′
-    pub den : Den t′ N h R
+    pub den : Denotes t′ N h R
 
   -- what an operation from t comes to: it is refused only where a node is lacking
   pub data Makes (R : Relation N) (t : Table) : Outcome Table ℕ → Type 0 where
     lacks : {number : ℕ} {t′ : Table} → Ext t t′ → Wf N t′ → Lacks number t′ → Makes R t (refused number)
     makes : {t′ : Table} {h : ℕ} → Made R t t′ h → Makes R t (given t′ h)
 
-  pub made : {R : Relation N} {c : Step Table ℕ} {t : Table} → Exact (sppLimits N) c (λ τ h. Den τ N h R) t → Makes R t (c t)
+  pub made : {R : Relation N} {c : Step Table ℕ} {t : Table} → Exact (sppLimits N) c (λ τ h. Denotes τ N h R) t → Makes R t (c t)
   made {R} {c} {t} e = at (c t) (e .runs) (e .stops)
     where
-      at : (o : Outcome Table ℕ) → Gives (Runs.Good (sppTheory N) c (λ τ h. Den τ N h R) t) o → Stops (sppLimits N) t o → Makes R t o
+      at : (o : Outcome Table ℕ) → Gives (Runs.StableResult (sppTheory N) c (λ τ h. Denotes τ N h R) t) o → Stops (sppLimits N) t o → Makes R t o
       at (refused number) g (stuck x w s) = lacks x w s
       at (given t′ h) (gives g) s = makes (record { ext = g .ext; wf = g .wf; den = g .holds })
 
@@ -59,10 +59,10 @@ module _ (N : ℕ) where
   steps-way R (suc k) p q (m, e, s) = step e (steps-way R k m q s)
 
   module _ (t : Table) (w : Wf N t) where
-    pub star-made : (a : ℕ) → At t N a → Makes (closure (pairs N t a)) t (star N a t)
+    pub star-made : (a : ℕ) → ValidAt t N a → Makes (closure (pairs N t a)) t (star N a t)
     star-made a x = made (star-exact N N (omega arith) t a (pairs N t a) w (den-mem x))
 
-    module _ (a b : ℕ) (x : At t N a) (y : At t N b) where
+    module _ (a b : ℕ) (x : ValidAt t N a) (y : ValidAt t N b) where
       by : (o : Spp.Op) → Makes (pointwise o (pairs N t a) (pairs N t b)) t (Spp.apply N o N a b t)
       by o = made (apply-exact N o N (omega arith) t a b (pairs N t a) (pairs N t b) w (den-mem x) (den-mem y))
 

@@ -14,9 +14,9 @@ use Rattle.aut_steps.specs.Tables.{SEQUENCE, TOP, Limits, Aut, onStates}
 use Rattle.aut_steps.specs.Intern.{intern2}
 use Rattle.aut_steps.specs.Constructors.{mk-spp, mk-top, spp-of, relations, is-relation, sequence-with, sequence-by, mk-sequence}
 use Rattle.aut_steps.specs.Kinds.{form}
-use Rattle.aut_steps.specs.Good.{states, kind, first, second, nesting, Two, Good}
+use Rattle.aut_steps.specs.Good.{states, kind, first, second, nesting, Two, WfAut}
 use Rattle.aut_steps.proofs.Good.{kind-grown, ok-as}
-use Rattle.aut_steps.proofs.Goes.{Goes, came}
+use Rattle.aut_steps.proofs.Goes.{StepSpec, came}
 use Rattle.aut_steps.specs.Meaning.{Holds}
 use Rattle.aut_steps.proofs.Meaning.{Is}
 use Rattle.aut_steps.proofs.SequenceLaws.{sequence-by-goes, sequence-depth}
@@ -48,7 +48,7 @@ module _ (N : ℕ) (L : Limits) where
 
   -- ---- in tables in order
 
-  module _ {σ : Aut} (g : Good N L σ) {x : ℕ} (l : x < states σ) (s : kind σ x ≡ SEQUENCE) where
+  module _ {σ : Aut} (g : WfAut N L σ) {x : ℕ} (l : x < states σ) (s : kind σ x ≡ SEQUENCE) where
     parts : Two σ x
     unfolding form
     parts = ok-as g SEQUENCE l s
@@ -61,11 +61,11 @@ module _ (N : ℕ) (L : Limits) where
         go : (o : Outcome Aut ℕ) → sequence-by N L d (second σ x) y σ ≡ o → after o (sequence-by N L d (first σ x)) ≡ after o k
         go (refused number) e = refl
         go (given τ z) e =
-            let r = came (subst (Goes N L (Is N (Join (Holds N σ (second σ x)) (Holds N σ y))) σ) e (sequence-by-goes d g (omega (arith, parts .earlier2)) m n)) in
+            let r = came (subst (StepSpec N L (Is N (Join (Holds N σ (second σ x)) (Holds N σ y))) σ) e (sequence-by-goes d g (omega (arith, parts .earlier2)) m n)) in
             let none : kind τ (first σ x) ≢ SEQUENCE = λ q. g .made x l .sequence s .regrouped (sym (kind-grown (r .grown) (first σ x) (omega (arith, parts .earlier1))) ∙ q) in
             by-alone d (first σ x) z τ none ∙ sym (f z τ none)
 
-  by-chained : (d : ℕ) {σ : Aut} → Good N L σ → {x y : ℕ} → x < states σ → y < states σ → is-relation (σ .states .words) y (Rel.oneAt N) ≡ false → is-relation (σ .states .words) y (Rel.zeroAt N) ≡ false
+  by-chained : (d : ℕ) {σ : Aut} → WfAut N L σ → {x y : ℕ} → x < states σ → y < states σ → is-relation (σ .states .words) y (Rel.oneAt N) ≡ false → is-relation (σ .states .words) y (Rel.zeroAt N) ≡ false
       → nesting σ x ≤ d → sequence-by N L d x y σ ≡ chained d x y σ
   unfolding sequence-by chained sequence-with
   by-chained zero g l m a b n = refl
@@ -82,7 +82,7 @@ module _ (N : ℕ) (L : Limits) where
           ∙ ap (λ (o : Outcome Aut ℕ). after o (alone (first σ x))) (ih (omega (arith, t .earlier2)) (omega (arith, t .nested)))
 
   -- x; y goes its own way, or along x's chain: what it calls calls nothing
-  pub mk-sequence-two : {σ : Aut} → Good N L σ → {x y : ℕ} → x < states σ → y < states σ → mk-sequence N L x y σ ≡ sequence-with N L (chained (nesting σ x)) x y σ
+  pub mk-sequence-two : {σ : Aut} → WfAut N L σ → {x y : ℕ} → x < states σ → y < states σ → mk-sequence N L x y σ ≡ sequence-with N L (chained (nesting σ x)) x y σ
   unfolding mk-sequence sequence-by sequence-with
   mk-sequence-two {σ} g {x} {y} l m =
       sequence-depth d (suc d) g l m (omega arith) (omega arith)

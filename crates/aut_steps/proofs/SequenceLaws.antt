@@ -22,9 +22,9 @@ use Rattle.aut_steps.proofs.RelationLaws.{sequence-made}
 use Rattle.aut_steps.proofs.Facts.{and-true, and-false}
 use Rattle.aut_steps.specs.Made.{IsRelation}
 use Rattle.aut_steps.proofs.MadeLaws.{made-sequence}
-use Rattle.aut_steps.specs.Good.{states, kind, first, second, nesting, Two, Good}
+use Rattle.aut_steps.specs.Good.{states, kind, first, second, nesting, Two, WfAut}
 use Rattle.aut_steps.proofs.Good.{nesting-grown, state-grown, ok-as}
-use Rattle.aut_steps.proofs.Goes.{Goes, came, goes-return, goes-bind, goes-map, choose}
+use Rattle.aut_steps.proofs.Goes.{StepSpec, came, goes-return, goes-bind, goes-map, choose}
 use Rattle.aut_steps.specs.Meaning.{Holds}
 use Rattle.aut_steps.proofs.Meaning.{Is, is-same, holds-grown, holds-spp, holds-sequence, holds-top}
 use Rattle.aut_steps.proofs.StateLaws.{handle, zero-goes, mk-top-goes, spp-of-goes, both-spp, not-both, two-goes}
@@ -32,10 +32,10 @@ use Rattle.aut_steps.proofs.StateLaws.{handle, zero-goes, mk-top-goes, 
 -- what is asked of a call on operands of lower nesting
 abbrev Joins : (N : ℕ) (L : Limits) → (ℕ → ℕ → Step Aut ℕ) → ℕ → Type 0
 Joins N L again depth =
-    (τ : Aut) → Good N L τ → (a b : ℕ) → a < states τ → b < states τ → nesting τ a < depth → Goes N L (Is N (Join (Holds N τ a) (Holds N τ b))) τ (again a b τ)
+    (τ : Aut) → WfAut N L τ → (a b : ℕ) → a < states τ → b < states τ → nesting τ a < depth → StepSpec N L (Is N (Join (Holds N τ a) (Holds N τ b))) τ (again a b τ)
 
 module _ {N : ℕ} {L : Limits} where
-  module _ {σ : Aut} (g : Good N L σ) (x y : ℕ) (l : x < states σ) (m : y < states σ) where
+  module _ {σ : Aut} (g : WfAut N L σ) (x y : ℕ) (l : x < states σ) (m : y < states σ) where
     -- the parts of a Sequence
     parts : kind σ x ≡ SEQUENCE → Two σ x
     unfolding form
@@ -56,7 +56,7 @@ module _ {N : ℕ} {L : Limits} where
     one-pairs : (p q : Packet N) → Spp.pairs N (σ .nodes) (Spp.oneAt N) p q ≡ equal p q
     one-pairs = den-one (g .nodes) N (omega arith) .means
 
-    sequence-with-goes : (again : ℕ → ℕ → Step Aut ℕ) → Joins N L again (nesting σ x) → Goes N L (Is N (Join (Holds N σ x) (Holds N σ y))) σ (sequence-with N L again x y σ)
+    sequence-with-goes : (again : ℕ → ℕ → Step Aut ℕ) → Joins N L again (nesting σ x) → StepSpec N L (Is N (Join (Holds N σ x) (Holds N σ y))) σ (sequence-with N L again x y σ)
     unfolding sequence-with form In
     sequence-with-goes again f =
         choose (relations (σ .states .words) x y)
@@ -96,12 +96,12 @@ module _ {N : ℕ} {L : Limits} where
     -- ---- two ways to go on do the same, if they do on operands of lower nesting
 
     with-same : (again other : ℕ → ℕ → Step Aut ℕ) → Joins N L again (nesting σ x)
-        → ((τ : Aut) → Good N L τ → (a b : ℕ) → a < states τ → b < states τ → nesting τ a < nesting σ x → again a b τ ≡ other a b τ)
+        → ((τ : Aut) → WfAut N L τ → (a b : ℕ) → a < states τ → b < states τ → nesting τ a < nesting σ x → again a b τ ≡ other a b τ)
         → sequence-with N L again x y σ ≡ sequence-with N L other x y σ
     unfolding sequence-with
     with-same again other f h = go (eqb (kind σ x) SEQUENCE) refl
       where
-        rest : (o : Outcome Aut ℕ) → Goes N L (Is N (Join (Holds N σ (second σ x)) (Holds N σ y))) σ o → kind σ x ≡ SEQUENCE → after o (again (first σ x)) ≡ after o (other (first σ x))
+        rest : (o : Outcome Aut ℕ) → StepSpec N L (Is N (Join (Holds N σ (second σ x)) (Holds N σ y))) σ o → kind σ x ≡ SEQUENCE → after o (again (first σ x)) ≡ after o (other (first σ x))
         rest (refused e) r s = refl
         rest (given τ z) r s =
             let t : Two σ x = parts s in let l1 : first σ x < states σ = omega (arith, t .earlier1) in let i = came r in
@@ -129,13 +129,13 @@ module _ {N : ℕ} {L : Limits} where
 
   -- ---- every depth that is enough
 
-  pub sequence-by-goes : (depth : ℕ) {σ : Aut} → Good N L σ → {x y : ℕ} → x < states σ → y < states σ → nesting σ x ≤ depth
-      → Goes N L (Is N (Join (Holds N σ x) (Holds N σ y))) σ (sequence-by N L depth x y σ)
+  pub sequence-by-goes : (depth : ℕ) {σ : Aut} → WfAut N L σ → {x y : ℕ} → x < states σ → y < states σ → nesting σ x ≤ depth
+      → StepSpec N L (Is N (Join (Holds N σ x) (Holds N σ y))) σ (sequence-by N L depth x y σ)
   unfolding sequence-by
   sequence-by-goes zero g {x} {y} l m d = sequence-with-goes g x y l m (λ a b. return a) (λ τ v a b i j k. absurd (omega arith))
   sequence-by-goes (suc depth) g {x} {y} l m d = sequence-with-goes g x y l m (sequence-by N L depth) (λ τ v a b i j k. sequence-by-goes depth v i j (omega arith))
 
-  pub sequence-depth : (depth other : ℕ) {σ : Aut} → Good N L σ → {x y : ℕ} → x < states σ → y < states σ → nesting σ x ≤ depth → nesting σ x ≤ other
+  pub sequence-depth : (depth other : ℕ) {σ : Aut} → WfAut N L σ → {x y : ℕ} → x < states σ → y < states σ → nesting σ x ≤ depth → nesting σ x ≤ other
       → sequence-by N L depth x y σ ≡ sequence-by N L other x y σ
   unfolding sequence-by
   sequence-depth zero zero g l m d e = refl
@@ -147,8 +147,8 @@ module _ {N : ℕ} {L : Limits} where
       with-same g x y l m (sequence-by N L depth) (sequence-by N L other) (λ τ v a b i j k. sequence-by-goes depth v i j (omega arith))
       (λ τ v a b i j k. sequence-depth depth other v i j (omega arith) (omega arith))
 
-  module _ {σ : Aut} (g : Good N L σ) {x y : ℕ} (l : x < states σ) (m : y < states σ) where
-    pub mk-sequence-goes : Goes N L (Is N (Join (Holds N σ x) (Holds N σ y))) σ (mk-sequence N L x y σ)
+  module _ {σ : Aut} (g : WfAut N L σ) {x y : ℕ} (l : x < states σ) (m : y < states σ) where
+    pub mk-sequence-goes : StepSpec N L (Is N (Join (Holds N σ x) (Holds N σ y))) σ (mk-sequence N L x y σ)
     unfolding mk-sequence
     mk-sequence-goes = sequence-by-goes (nesting σ x) g l m (omega arith)
 

@@ -11,7 +11,7 @@ use Rattle.common.specs.Packets.{Relation}
 use Rattle.common.specs.Outcome.{Outcome, Step}
 use Rattle.common.specs.Runs.{Table, placed}
 use Rattle.netkat.specs.Rules.{Rule, In, Star, Until, dup, complement, star, xor, difference, until}
-use Rattle.spp_steps.specs.Laws.{At, Den}
+use Rattle.spp_steps.specs.Laws.{ValidAt, Denotes}
 use Rattle.spp_steps.proofs.Laws.{den-ext, den-zero}
 use Rattle.aut_steps.specs.Relations as Spp
 use Rattle.aut_steps.specs.Tables.{SPP, XOR, DIFFERENCE, COMPLEMENT, STAR, DUP, UNTIL, TOP, Limits, Aut, putStates, putNodes, onStates}
@@ -26,27 +26,27 @@ use Rattle.aut_steps.proofs.Decide.{not-not}
 use Rattle.aut_steps.proofs.Facts.{and-true, and-false}
 use Rattle.aut_steps.specs.Made.{IsRelation, NotBoth, MadeOf}
 use Rattle.aut_steps.proofs.MadeLaws.{made-given, made-xor, made-difference, made-complement, made-star}
-use Rattle.aut_steps.specs.Good.{states, kind, first, nesting, Good}
+use Rattle.aut_steps.specs.Good.{states, kind, first, nesting, WfAut}
 use Rattle.aut_steps.proofs.Good.{grown-nodes, ok-as}
-use Rattle.aut_steps.proofs.Goes.{no-node, Goes, stops, comes, goes-return, goes-bind, goes-map, good-nodes, choose, choose-in}
+use Rattle.aut_steps.proofs.Goes.{no-node, StepSpec, stops, comes, goes-return, goes-bind, goes-map, good-nodes, choose, choose-in}
 use Rattle.aut_steps.proofs.InternLaws.{Fit, intern0-goes, intern1-goes, intern2-goes}
 use Rattle.aut_steps.specs.Meaning.{shape, rule, Holds}
 use Rattle.aut_steps.proofs.Meaning.{Is, is-same, in-same, rule-is, rule-grown, holds-spp, holds-complement, holds-star, holds-dup, holds-top}
 
-module _ {N : ℕ} {L : Limits} {σ : Aut} (g : Good N L σ) where
+module _ {N : ℕ} {L : Limits} {σ : Aut} (g : WfAut N L σ) where
   -- ---- relations
 
   -- a step on relation nodes
-  pub nodes-goes : {R : Relation N} {o : Outcome Table ℕ} → Makes N R (σ .nodes) o → Goes N L (λ τ h. Den (τ .nodes) N h R) σ (placed putNodes σ o)
+  pub nodes-goes : {R : Relation N} {o : Outcome Table ℕ} → Makes N R (σ .nodes) o → StepSpec N L (λ τ h. Denotes (τ .nodes) N h R) σ (placed putNodes σ o)
   nodes-goes (lacks e w y) = stops (grown-nodes {σ = σ} e) (good-nodes g e w) (no-node y)
   nodes-goes (makes m) = comes (record { grown = grown-nodes {σ = σ} (m .ext); memos = λ i w l k. refl; good = good-nodes g (m .ext) (m .wf); holds = m .den })
 
   -- the handle of an SPP state
-  pub handle : {x : ℕ} → x < states σ → kind σ x ≡ SPP → At (σ .nodes) N (first σ x)
+  pub handle : {x : ℕ} → x < states σ → kind σ x ≡ SPP → ValidAt (σ .nodes) N (first σ x)
   unfolding form
   handle l e = ok-as g SPP l e .handle
 
-  pub spp-state : {h : ℕ} {R : Relation N} → Den (σ .nodes) N h R → Goes N L (λ τ z. Is N (Rel R) τ z × IsRelation (τ .states .words) z h) σ (onStates (mk-spp h) σ)
+  pub spp-state : {h : ℕ} {R : Relation N} → Denotes (σ .nodes) N h R → StepSpec N L (λ τ z. Is N (Rel R) τ z × IsRelation (τ .states .words) z h) σ (onStates (mk-spp h) σ)
   unfolding mk-spp form
   spp-state {h} {R} d = goes-map (intern0-goes g SPP h (λ l. omega arith) (d .at, refl, refl)) (λ τ z w v s. (
     record {
@@ -56,29 +56,29 @@ module _ {N : ℕ} {L : Limits} {σ : Aut} (g : Good N L σ) where
     (s .is .kind, s .is .first),
   ))
 
-  pub mk-spp-goes : {h : ℕ} {R : Relation N} → Den (σ .nodes) N h R → Goes N L (Is N (Rel R)) σ (onStates (mk-spp h) σ)
+  pub mk-spp-goes : {h : ℕ} {R : Relation N} → Denotes (σ .nodes) N h R → StepSpec N L (Is N (Rel R)) σ (onStates (mk-spp h) σ)
   mk-spp-goes d = goes-map (spp-state d) (λ τ z w v s. s .0)
 
-  pub zero-goes : Goes N L (Is N None) σ (onStates (mk-spp (Spp.zeroAt N)) σ)
+  pub zero-goes : StepSpec N L (Is N None) σ (onStates (mk-spp (Spp.zeroAt N)) σ)
   zero-goes = goes-map (mk-spp-goes (den-zero (g .nodes) N (omega arith))) (λ τ z w v i. is-same (rel-none (λ p q. refl)) i)
 
-  pub mk-dup-goes : Goes N L (Is N (In dup)) σ (onStates mk-dup σ)
+  pub mk-dup-goes : StepSpec N L (Is N (In dup)) σ (onStates mk-dup σ)
   unfolding mk-dup form
   mk-dup-goes = goes-map (intern0-goes g DUP 0 (λ l. omega arith) (refl, refl, refl)) (λ τ z w v s. record { state = s .state; strings = holds-dup v (s .state) (s .is .kind) })
 
-  pub mk-top-goes : Goes N L (Is N Whole) σ (onStates mk-top σ)
+  pub mk-top-goes : StepSpec N L (Is N Whole) σ (onStates mk-top σ)
   unfolding mk-top form
   mk-top-goes = goes-map (intern0-goes g TOP 0 (λ l. omega arith) (refl, refl, refl)) (λ τ z w v s. record { state = s .state; strings = holds-top v (s .state) (s .is .kind) })
 
 -- the state of a relation that a step makes
-pub spp-of-goes : {N : ℕ} {L : Limits} {σ : Aut} → Good N L σ → {R : Relation N} (c : Step Table ℕ) → Makes N R (σ .nodes) (c (σ .nodes)) → Goes N L (Is N (Rel R)) σ (spp-of c σ)
+pub spp-of-goes : {N : ℕ} {L : Limits} {σ : Aut} → WfAut N L σ → {R : Relation N} (c : Step Table ℕ) → Makes N R (σ .nodes) (c (σ .nodes)) → StepSpec N L (Is N (Rel R)) σ (spp-of c σ)
 spp-of-goes g c m = goes-bind (nodes-goes g m) (λ τ h w v d. mk-spp-goes v d)
 
-module _ {N : ℕ} {L : Limits} {σ : Aut} (g : Good N L σ) where
+module _ {N : ℕ} {L : Limits} {σ : Aut} (g : WfAut N L σ) where
   -- ---- one and two operands
 
   pub one-goes : (k : ℕ) (c : Rule N → Rule N) → form k ≡ one c → {x : ℕ} → x < states σ → ((xs : List ℕ) → MadeOf N (σ .states .words) k x 0 xs)
-      → Goes N L (Is N (In (c (rule N σ x)))) σ (onStates (intern1 L k x) σ)
+      → StepSpec N L (Is N (In (c (rule N σ x)))) σ (onStates (intern1 L k x) σ)
   one-goes k c q {x} l made =
       goes-map (intern1-goes g k x made l (subst (λ (f : Form N). Fit f σ x 0 (nesting σ x + 1)) (sym q) (l, refl, refl))) (λ τ z w v s. record {
         state = s .state;
@@ -86,7 +86,7 @@ module _ {N : ℕ} {L : Limits} {σ : Aut} (g : Good N L σ) where
       })
 
   pub two-goes : (k : ℕ) (c : Rule N → Rule N → Rule N) → form k ≡ two c → {x y : ℕ} → x < states σ → y < states σ → ((xs : List ℕ) → MadeOf N (σ .states .words) k x y xs)
-      → Goes N L (Is N (In (c (rule N σ x) (rule N σ y)))) σ (onStates (intern2 L k x y) σ)
+      → StepSpec N L (Is N (In (c (rule N σ x) (rule N σ y)))) σ (onStates (intern2 L k x y) σ)
   two-goes k c q {x} {y} l m made =
       goes-map (intern2-goes g k x y made l m (subst (λ (f : Form N). Fit f σ x y (max (nesting σ x) (nesting σ y) + 1)) (sym q) (l, m, refl))) (λ τ z w v s. record {
         state = s .state;
@@ -103,7 +103,7 @@ module _ {N : ℕ} {L : Limits} {σ : Aut} (g : Good N L σ) where
   not-both k x y q a b = and-false (eqb (kind σ x) k) (eqb (kind σ y) k) q (eq-eqb (kind σ x) k a) (eq-eqb (kind σ y) k b)
 
   module _ {x : ℕ} (l : x < states σ) where
-    pub mk-complement-goes : Goes N L (Is N (Not (Holds N σ x))) σ (onStates (mk-complement N L x) σ)
+    pub mk-complement-goes : StepSpec N L (Is N (Not (Holds N σ x))) σ (onStates (mk-complement N L x) σ)
     unfolding mk-complement form In
     mk-complement-goes =
         choose-in putStates σ (eqb (kind σ x) COMPLEMENT) _ _
@@ -114,7 +114,7 @@ module _ {N : ℕ} {L : Limits} {σ : Aut} (g : Good N L σ) where
         goes-map (zero-goes g) (λ τ z w v i. is-same (λ u. (λ a. absurd a, λ n. n (s u .1 tt))) i))
         (λ n′. one-goes COMPLEMENT complement refl l (λ xs. made-complement (eqb-false (kind σ x) COMPLEMENT n) (eqb-false (kind σ x) TOP n′))))
 
-    pub mk-star-goes : Goes N L (Is N (Star (Holds N σ x))) σ (mk-star N L x σ)
+    pub mk-star-goes : StepSpec N L (Is N (Star (Holds N σ x))) σ (mk-star N L x σ)
     unfolding mk-star form In
     mk-star-goes =
         choose (eqb (kind σ x) STAR)
@@ -131,11 +131,11 @@ module _ {N : ℕ} {L : Limits} {σ : Aut} (g : Good N L σ) where
         (λ n″. one-goes STAR star refl l (λ xs. made-star (eqb-false (kind σ x) STAR n) (eqb-false (kind σ x) SPP n′) (eqb-false (kind σ x) TOP n″)))))
 
   module _ {x y : ℕ} (l : x < states σ) (m : y < states σ) where
-    pub mk-until-goes : Goes N L (Is N (Until (Holds N σ x) (Holds N σ y))) σ (onStates (mk-until L x y) σ)
+    pub mk-until-goes : StepSpec N L (Is N (Until (Holds N σ x) (Holds N σ y))) σ (onStates (mk-until L x y) σ)
     unfolding mk-until form In
     mk-until-goes = two-goes UNTIL until refl l m (λ xs. made-given (λ u. omega arith))
 
-    pub mk-xor-goes : Goes N L (Is N (Differ (Holds N σ x) (Holds N σ y))) σ (mk-xor N L x y σ)
+    pub mk-xor-goes : StepSpec N L (Is N (Differ (Holds N σ x) (Holds N σ y))) σ (mk-xor N L x y σ)
     unfolding mk-xor form In
     mk-xor-goes =
         choose (eqb x y)
@@ -161,7 +161,7 @@ module _ {N : ℕ} {L : Limits} {σ : Aut} (g : Good N L σ) where
         swap : Differ (Holds N σ y) (Holds N σ x) ≈ Differ (Holds N σ x) (Holds N σ y)
         swap u = (turn, turn)
 
-    pub mk-difference-goes : Goes N L (Is N (Minus (Holds N σ x) (Holds N σ y))) σ (mk-difference N L x y σ)
+    pub mk-difference-goes : StepSpec N L (Is N (Minus (Holds N σ x) (Holds N σ y))) σ (mk-difference N L x y σ)
     unfolding mk-difference form In
     mk-difference-goes =
         choose (eqb x y)

@@ -13,23 +13,23 @@ use Rattle.common.specs.Outcome.{Outcome, refused, given, if_then_else_}
 use Rattle.common.specs.Runs.{Table, placed}
 use Rattle.netkat.specs.Strings.{Str}
 use Rattle.netkat.specs.Rules.{Rule, Rules, Language, union}
-use Rattle.spp_steps.specs.Laws.{At}
+use Rattle.spp_steps.specs.Laws.{ValidAt}
 use Rattle.spp_steps.proofs.Laws.{den-mem, den-zero}
 use Rattle.aut_steps.specs.Relations as Spp
 use Rattle.aut_steps.specs.Tables.{SPP, UNION, TOP, kindOf, op1, Limits, exprs, Aut, putNodes, putStates, putExprs, onNodes, onStates, onExprs}
 use Rattle.aut_steps.specs.Lists.{sorted}
 use Rattle.aut_steps.specs.Constructors.{opened, extend, Within, within, beyond, Opened, list, top, long, thenOpen, openUnion, each, mk-spp, Parts, parts, uniteOne, addRelation, finish, unite, uniteOpened, mk-union-n, relations, mk-union}
 use Rattle.aut_steps.specs.Kinds.{Form, many, form}
-use Rattle.aut_steps.specs.ListLaws.{All, Rising}
+use Rattle.aut_steps.specs.ListLaws.{All, Increasing}
 use Rattle.aut_steps.proofs.ListLaws.{one-if, Some, all-map, all-append, some-left, some-right, some-split, some-with, some-map, all-with, st-singleton, all-sorted, some-sorted, sorted-length, sorted-rising}
 use Rattle.aut_steps.specs.Made.{IsRelation, Part, Summands}
 use Rattle.aut_steps.proofs.MadeLaws.{made-union}
 use Rattle.aut_steps.specs.Languages.{_≈_}
 use Rattle.aut_steps.proofs.Languages.{_so_, back, same, sum-same, sum-assoc, sum-swap, sum-none, none-sum, sum-turn, ≈-sym, _then_, Rel, None, Either, either-rel, rel-same}
 use Rattle.aut_steps.proofs.RelationLaws.{Makes, union-made}
-use Rattle.aut_steps.specs.Good.{states, kind, first, members, Grown, Ok, Good}
+use Rattle.aut_steps.specs.Good.{states, kind, first, members, ExtAut, Ok, WfAut}
 use Rattle.aut_steps.proofs.Good.{kind-grown, first-grown, state-grown, states-grown, ok-as}
-use Rattle.aut_steps.proofs.Goes.{long-list, Goes, stops-here, goes-return, goes-bind, goes-map, choose, branch-in, nodes-after, placed-map}
+use Rattle.aut_steps.proofs.Goes.{long-list, StepSpec, stops-here, goes-return, goes-bind, goes-map, choose, branch-in, nodes-after, placed-map}
 use Rattle.aut_steps.proofs.InternLaws.{internL-goes}
 use Rattle.aut_steps.specs.Meaning.{Holds}
 use Rattle.aut_steps.proofs.Meaning.{HoldsSome, HoldsAll, Is, is-same, holds-grown, holds-spp, holds-top, holds-union}
@@ -41,7 +41,7 @@ pub record Alike (st : List ℕ) (σ : Aut) (x : ℕ) : Type 0 where
   pub kind-is : kindOf st x ≡ kind σ x
   pub first-is : op1 st x ≡ first σ x
 
-pub alike-grown : (st : List ℕ) {σ τ : Aut} → Grown σ τ → (xs : List ℕ) → All (Alike st σ) xs → All (Alike st τ) xs
+pub alike-grown : (st : List ℕ) {σ τ : Aut} → ExtAut σ τ → (xs : List ℕ) → All (Alike st σ) xs → All (Alike st τ) xs
 alike-grown st g xs a = all-map xs (λ x r. record {
   state = state-grown g (r .state);
   kind-is = r .kind-is ∙ sym (kind-grown g x (r .state));
@@ -52,7 +52,7 @@ pub alike-self : (σ : Aut) (xs : List ℕ) → All (λ x. x < states σ) xs →
 alike-self σ xs a = all-map xs (λ x l. record { state = l; kind-is = refl; first-is = refl }) a
 
 -- what holds of the kinds of some states
-pub kinds-grown : {σ τ : Aut} → Grown σ τ → (P : ℕ → Type 0) (xs : List ℕ) → All (λ x. x < states σ) xs → All (λ x. P (kind σ x)) xs → All (λ x. P (kind τ x)) xs
+pub kinds-grown : {σ τ : Aut} → ExtAut σ τ → (P : ℕ → Type 0) (xs : List ℕ) → All (λ x. x < states σ) xs → All (λ x. P (kind σ x)) xs → All (λ x. P (kind τ x)) xs
 kinds-grown w P xs a b = all-with xs (λ x l p. subst P (sym (kind-grown w x l)) p) a b
 
 -- the kind of a member that is left of a Union's list when it is opened
@@ -83,11 +83,11 @@ extended most acc ys = go (leb (length acc + length ys) most) refl
     go true e = fits (omega (arith, leb-true (length acc + length ys) most e, length-append acc ys))
     go false e = passes (omega (arith, leb-false (length acc + length ys) most e, length-append acc ys))
 
-module _ {N : ℕ} {L : Limits} {σ : Aut} (g : Good N L σ) where
-  pub some-grown : {τ : Aut} → Grown σ τ → (xs : List ℕ) → All (λ x. x < states σ) xs → HoldsSome N τ xs ≈ HoldsSome N σ xs
+module _ {N : ℕ} {L : Limits} {σ : Aut} (g : WfAut N L σ) where
+  pub some-grown : {τ : Aut} → ExtAut σ τ → (xs : List ℕ) → All (λ x. x < states σ) xs → HoldsSome N τ xs ≈ HoldsSome N σ xs
   some-grown w xs a u = (some-with xs (λ x l h. holds-grown g w l u .0 h) a, some-with xs (λ x l h. holds-grown g w l u .1 h) a)
 
-  pub all-grown : {τ : Aut} → Grown σ τ → (xs : List ℕ) → All (λ x. x < states σ) xs → HoldsAll N τ xs ≈ HoldsAll N σ xs
+  pub all-grown : {τ : Aut} → ExtAut σ τ → (xs : List ℕ) → All (λ x. x < states σ) xs → HoldsAll N τ xs ≈ HoldsAll N σ xs
   all-grown w xs a u = (all-with xs (λ x l h. holds-grown g w l u .0 h) a, all-with xs (λ x l h. holds-grown g w l u .1 h) a)
 
   -- ---- opening
@@ -171,7 +171,7 @@ module _ {N : ℕ} {L : Limits} {σ : Aut} (g : Good N L σ) where
 -- ---- the relations united, and the other members
 
 pub record PartsOk (N : ℕ) (τ : Aut) (p : Parts) : Type 0 where
-  pub handle : At (τ .nodes) N (p .relation)
+  pub handle : ValidAt (τ .nodes) N (p .relation)
   pub others : All (λ x. x < states τ) (p .others)
   pub plain : All (λ x. Plain UNION (kind τ x)) (p .others)
 
@@ -193,7 +193,7 @@ record Gathered (N : ℕ) (σ : Aut) (xs : List ℕ) (p : Parts) (τ : Aut) (p�
   strings : Sum N τ p′ ≈ Either (Sum N σ p) (HoldsSome N σ xs)
 
 module _ {N : ℕ} {L : Limits} where
-  unite-one : {σ : Aut} → Good N L σ → (st : List ℕ) (x : ℕ) → Alike st σ x → Bare (kind σ x) → (p : Parts) → PartsOk N σ p → Goes N L (Gathered N σ (x ∷ []) p) σ (onNodes (uniteOne N st x p) σ)
+  unite-one : {σ : Aut} → WfAut N L σ → (st : List ℕ) (x : ℕ) → Alike st σ x → Bare (kind σ x) → (p : Parts) → PartsOk N σ p → StepSpec N L (Gathered N σ (x ∷ []) p) σ (onNodes (uniteOne N st x p) σ)
   unfolding uniteOne
   unite-one {σ} g st x r b p o =
       branch-in putNodes σ (eqb (kindOf st x) SPP) _ _ (σ .nodes)
@@ -220,7 +220,7 @@ module _ {N : ℕ} {L : Limits} where
         strings = λ u. sum-same same (some-append g (p .others) (x ∷ []) u) so sum-assoc;
       }))
 
-  unite-each : {σ : Aut} → Good N L σ → (st xs : List ℕ) → All (Alike st σ) xs → All (λ x. Bare (kind σ x)) xs → (p : Parts) → PartsOk N σ p → Goes N L (Gathered N σ xs p) σ (onNodes (each (uniteOne N st) xs p) σ)
+  unite-each : {σ : Aut} → WfAut N L σ → (st xs : List ℕ) → All (Alike st σ) xs → All (λ x. Bare (kind σ x)) xs → (p : Parts) → PartsOk N σ p → StepSpec N L (Gathered N σ xs p) σ (onNodes (each (uniteOne N st) xs p) σ)
   unfolding each
   unite-each g st [] r b p o = goes-return p g (record { ok = o; few = omega arith; strings = λ u. back sum-none })
   unite-each {σ} g st (x ∷ xs) r d p o =
@@ -236,8 +236,8 @@ module _ {N : ℕ} {L : Limits} where
 
   -- ---- the list's state
 
-  add-relation : {σ : Aut} → Good N L σ → (p : Parts) → PartsOk N σ p
-      → Goes N L (λ τ ys. All (λ y. y < states τ) ys × Summands N (τ .states .words) ys × (length ys ≤ size N p) × (HoldsSome N τ ys ≈ Sum N σ p)) σ (onStates (addRelation N p) σ)
+  add-relation : {σ : Aut} → WfAut N L σ → (p : Parts) → PartsOk N σ p
+      → StepSpec N L (λ τ ys. All (λ y. y < states τ) ys × Summands N (τ .states .words) ys × (length ys ≤ size N p) × (HoldsSome N τ ys ≈ Sum N σ p)) σ (onStates (addRelation N p) σ)
   unfolding addRelation
   add-relation {σ} g p o =
       branch-in putStates σ (eqb (p .relation) (Spp.zeroAt N)) _ _ (σ .states)
@@ -262,7 +262,7 @@ module _ {N : ℕ} {L : Limits} where
       zero-none : eqb (p .relation) (Spp.zeroAt N) ≡ true → (a b : Packet N) → Spp.pairs N (σ .nodes) (p .relation) a b ≡ false
       zero-none q a b = ap (λ (h : ℕ). Spp.pairs N (σ .nodes) h a b) (eqb-true (p .relation) (Spp.zeroAt N) q) ∙ den-zero (g .nodes) N (omega arith) .means a b
 
-  alone : {σ : Aut} → Good N L σ → (xs : List ℕ) → All (λ x. x < states σ) xs → eqb (length xs) 1 ≡ true → Goes N L (Is N (HoldsSome N σ xs)) σ (given σ (getD xs 0 0))
+  alone : {σ : Aut} → WfAut N L σ → (xs : List ℕ) → All (λ x. x < states σ) xs → eqb (length xs) 1 ≡ true → StepSpec N L (Is N (HoldsSome N σ xs)) σ (given σ (getD xs 0 0))
   alone {σ} g xs a q =
       let e : xs ≡ getD xs 0 0 ∷ [] = st-singleton xs (eqb-true (length xs) 1 q) in
       goes-return (getD xs 0 0) g (record {
@@ -270,14 +270,14 @@ module _ {N : ℕ} {L : Limits} where
         strings = λ u. back sum-none so subst (λ (l : List ℕ). HoldsSome N σ (getD xs 0 0 ∷ []) u ↔ HoldsSome N σ l u) (sym e) same;
       })
 
-  list-state : {σ : Aut} → Good N L σ → (xs : List ℕ) → All (λ x. x < states σ) xs → length xs ≤ L .list → Rising 0 xs → Summands N (σ .states .words) xs
-      → Goes N L (Is N (HoldsSome N σ xs)) σ (onExprs (finish N L xs) σ)
+  list-state : {σ : Aut} → WfAut N L σ → (xs : List ℕ) → All (λ x. x < states σ) xs → length xs ≤ L .list → Increasing 0 xs → Summands N (σ .states .words) xs
+      → StepSpec N L (Is N (HoldsSome N σ xs)) σ (onExprs (finish N L xs) σ)
   unfolding finish form
   list-state {σ} g xs a few r summands =
       branch-in putExprs σ (eqb (length xs) 1) _ _ (exprs (σ .states) (σ .members))
       (alone g xs a)
       (λ n1. branch-in putExprs σ (eqb (length xs) 0) _ _ (exprs (σ .states) (σ .members))
-      (λ q. subst (Goes N L (Is N (HoldsSome N σ xs)) σ) (sym (within-exprs (mk-spp (Spp.zeroAt N) (σ .states))))
+      (λ q. subst (StepSpec N L (Is N (HoldsSome N σ xs)) σ) (sym (within-exprs (mk-spp (Spp.zeroAt N) (σ .states))))
       (goes-map (zero-goes g) (λ τ z w v i. is-same (empty xs (eqb-true (length xs) 0 q)) i)))
       (λ n0. goes-map
       (internL-goes g UNION union refl xs a few
@@ -301,7 +301,7 @@ module _ {N : ℕ} {L : Limits} where
       more : (n : ℕ) → (n ≡ 0 → ⊥) → (n ≡ 1 → ⊥) → 2 ≤ n
       more n f h = omega arith
 
-  unite-goes : {σ : Aut} (g : Good N L σ) (xs : List ℕ) → All (λ x. x < states σ) xs → All (λ x. Bare (kind σ x)) xs → length xs ≤ L .list → Goes N L (Is N (HoldsSome N σ xs)) σ (unite N L xs σ)
+  unite-goes : {σ : Aut} (g : WfAut N L σ) (xs : List ℕ) → All (λ x. x < states σ) xs → All (λ x. Bare (kind σ x)) xs → length xs ≤ L .list → StepSpec N L (Is N (HoldsSome N σ xs)) σ (unite N L xs σ)
   unfolding unite
   unite-goes {σ} g xs a bare few =
       let z = den-zero (g .nodes) N (omega arith) in
@@ -324,7 +324,7 @@ module _ {N : ℕ} {L : Limits} where
       nothing f u (inl (h, t)) = subst T (f (u .start) (u .end)) t
       nothing f u (inr h) = h
 
-  pub mk-union-n-goes : {σ : Aut} → Good N L σ → (xs : List ℕ) → All (λ x. x < states σ) xs → Goes N L (Is N (HoldsSome N σ xs)) σ (mk-union-n N L xs σ)
+  pub mk-union-n-goes : {σ : Aut} → WfAut N L σ → (xs : List ℕ) → All (λ x. x < states σ) xs → StepSpec N L (Is N (HoldsSome N σ xs)) σ (mk-union-n N L xs σ)
   unfolding mk-union-n
   mk-union-n-goes {σ} g xs a =
       choose (ltb (L .list) (length xs)) (λ q. stops-here g (long-list xs a (ltb-true (L .list) (length xs) q)))
@@ -332,12 +332,12 @@ module _ {N : ℕ} {L : Limits} where
       (alone g xs a)
       (λ _. go (openUnion (L .list) (σ .states .words) (σ .members .words) xs []) (open-union g (L .list) xs [] a tt tt (omega arith))))
     where
-      go : (o : Opened) → Opens g (L .list) xs [] o → Goes N L (Is N (HoldsSome N σ xs)) σ (uniteOpened N L o σ)
+      go : (o : Opened) → Opens g (L .list) xs [] o → StepSpec N L (Is N (HoldsSome N σ xs)) σ (uniteOpened N L o σ)
       go top t = goes-map (mk-top-goes g) (λ τ z w v i. is-same (λ u. (λ _. some-map xs (λ x (l, e). holds-top g l e u .1 tt) t, λ _. tt)) i)
       go long (zs, c, l) = stops-here g (long-list zs c l)
       go (list ys) (b, d, l, e) = goes-map (unite-goes g ys b d l) (λ τ z w v i. is-same (λ u. e u so none-sum (λ x. x)) i)
 
-  pub mk-union-goes : {σ : Aut} → Good N L σ → {x y : ℕ} → x < states σ → y < states σ → Goes N L (Is N (Either (Holds N σ x) (Holds N σ y))) σ (mk-union N L x y σ)
+  pub mk-union-goes : {σ : Aut} → WfAut N L σ → {x y : ℕ} → x < states σ → y < states σ → StepSpec N L (Is N (Either (Holds N σ x) (Holds N σ y))) σ (mk-union N L x y σ)
   unfolding mk-union
   mk-union-goes {σ} g {x} {y} l m =
       choose (eqb x y)

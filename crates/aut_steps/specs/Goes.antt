@@ -4,7 +4,7 @@ use mathlib.Core.Path.{_≡_}
 use Prim.Native.Nat.{ℕ, _+_, _*_, _≤_, _<_}
 use lib.ListN.{getD}
 use Rattle.aut_steps.specs.Tables.{Limits, Aut}
-use Rattle.aut_steps.specs.Good.{Grown, Good}
+use Rattle.aut_steps.specs.Good.{ExtAut, WfAut}
 
 -- words 4 to 11 of every state are as they were
 abbrev pub Memos : Aut → Aut → Type 0
@@ -12,7 +12,7 @@ Memos σ τ = (i w : ℕ) → 4 ≤ w → w < 12 → getD (τ .states .words) (1
 
 -- The step from σ has given τ and a.
 pub record Gone (N : ℕ) (L : Limits) {A : Type 0} (P : Aut → A → Type 0) (σ τ : Aut) (a : A) : Type 0 where
-  pub grown : Grown σ τ
+  pub grown : ExtAut σ τ
   pub memos : Memos σ τ
-  pub good : Good N L τ
+  pub good : WfAut N L τ
   pub holds : P τ a

@@ -10,12 +10,12 @@ use lib.Dec.{eqb}
 use lib.ListN.{length, getD}
 use Rattle.common.specs.Outcome.{if_then_else_}
 use Rattle.common.specs.Runs.{Table}
-use Rattle.spp_steps.specs.Laws.{Wf, Ext, At}
+use Rattle.spp_steps.specs.Laws.{Wf, Ext, ValidAt}
 use Rattle.aut_steps.specs.Tables.{SPP, UNION, INTERSECT, kindOf, op1, op2, nest, listOf, Limits, stateCap, memberCap, Aut}
 use Rattle.aut_steps.specs.Intern.{nestL}
 use Rattle.aut_steps.specs.Kinds.{Form, leaf, constant, one, two, many, nothing, form, operandsBy}
 use Rattle.aut_steps.specs.Made.{MadeOf}
-use Rattle.aut_steps.specs.ListLaws.{All, Rising}
+use Rattle.aut_steps.specs.ListLaws.{All, Increasing}
 
 -- ---- the words of a state, in a store
 
@@ -53,7 +53,7 @@ pub record ExtM (s t : Table) : Type 0 where
   pub keep : (i : ℕ) → i < s .count → getD (t .words) i 0 ≡ getD (s .words) i 0
   pub beyond : (j : ℕ) → t .count ≤ j → getD (t .words) j 0 ≡ getD (s .words) j 0
 
-pub record Grown (σ τ : Aut) : Type 0 where
+pub record ExtAut (σ τ : Aut) : Type 0 where
   pub nodes : Ext (σ .nodes) (τ .nodes)
   pub states : ExtS (σ .states) (τ .states)
   pub members : ExtM (σ .members) (τ .members)
@@ -61,7 +61,7 @@ pub record Grown (σ τ : Aut) : Type 0 where
 -- ---- a state in order
 
 pub record Leaf (N : ℕ) (σ : Aut) (x : ℕ) : Type 0 where
-  pub handle : At (σ .nodes) N (first σ x)
+  pub handle : ValidAt (σ .nodes) N (first σ x)
   pub unused : second σ x ≡ 0
   pub nested : nesting σ x ≡ 0
 
@@ -96,7 +96,7 @@ Ok nothing σ x = ⊥
 -- a Union's list: two or more, ascending, each once
 pub record United (xs : List ℕ) : Type 0 where
   pub some : 2 ≤ length xs
-  pub rising : Rising 0 xs
+  pub rising : Increasing 0 xs
 
 -- an Intersect's list: one or more that are not SPP, ascending, each once; then an SPP, or nothing
 abbrev pub LastSpp : List ℕ → List ℕ → Type 0
@@ -108,7 +108,7 @@ pub record Meeting (st xs : List ℕ) : Type 0 where
   pub last : List ℕ
   pub parts : xs ≡ others ++ last
   pub some : 1 ≤ length others
-  pub rising : Rising 0 others
+  pub rising : Increasing 0 others
   pub no-spp : All (λ y. kindOf st y ≡ SPP → ⊥) others
   pub spp-last : LastSpp st last
 
@@ -128,7 +128,7 @@ membersBefore σ (suc x) = membersBefore σ x + lengthAs (kind σ x) (second σ 
 abbrev pub operands : ℕ → Aut → ℕ → List ℕ
 operands N σ x = operandsBy (form {N = N} (kind σ x)) (σ .states .words) (σ .members .words) x
 
-pub record Good (N : ℕ) (L : Limits) (σ : Aut) : Type 0 where
+pub record WfAut (N : ℕ) (L : Limits) (σ : Aut) : Type 0 where
   pub nodes : Wf N (σ .nodes)
   pub fits : 12 * states σ ≤ length (σ .states .words)
   pub small : states σ ≤ stateCap

@@ -11,7 +11,7 @@ use borrow.Author.Tests.{eq-eqb, ne-eqb, lt-ltb, le-ltb, eqb-true}
 use Rattle.common.specs.Outcome.{Outcome, refused, given, Step, return, after, _>>=_, Gives, if_then_else_}
 use Rattle.common.proofs.Follow.{given-of}
 use Rattle.common.specs.Runs.{Table, table, placed}
-use Rattle.spp_steps.specs.Laws.{Wf, Ext, At}
+use Rattle.spp_steps.specs.Laws.{Wf, Ext, ValidAt}
 use Rattle.spp_steps.proofs.Laws.{ext-refl, den-zero, den-mem}
 use Rattle.spp.specs.declared.SPP as Spp
 use Rattle.aut_steps.specs.Tables.{SPP, UNION, kindOf, op1, words, Limits, Aut, aut, Exprs, exprs, putNodes, putStates, putExprs, onNodes, onStates, onExprs}
@@ -20,10 +20,10 @@ use Rattle.aut_steps.specs.ListLaws.{All}
 use Rattle.aut_steps.proofs.ListLaws.{all-map, all-append, all-sorted}
 use Rattle.aut_steps.specs.Lists.{sorted}
 use Rattle.aut_steps.proofs.Facts.{words-length, and-true}
-use Rattle.aut_steps.specs.Good.{states, Grown, Good}
+use Rattle.aut_steps.specs.Good.{states, ExtAut, WfAut}
 use Rattle.aut_steps.proofs.Good.{states-grown}
 use Rattle.aut_steps.specs.Goes.{Gone}
-use Rattle.aut_steps.proofs.Goes.{Goes, goes-return, came, good-nodes, branch-in, placed-map}
+use Rattle.aut_steps.proofs.Goes.{StepSpec, goes-return, came, good-nodes, branch-in, placed-map}
 use Rattle.aut_steps.proofs.StateLaws.{mk-spp-goes}
 use Rattle.aut_steps.specs.Constructors as C
 use Rattle.aut_steps.specs.Constructors.{Parts, parts, each, uniteOne, addRelation, mk-spp, mk-top, Opened, list, top, long, openUnion, uniteOpened, relations, spp-of}
@@ -38,9 +38,9 @@ use Rattle.aut.specs.Seen.{limitsOf, Interned, seenState, seenPut, ListReady}
 use Rattle.aut_lists.specs.Seen.{OpenReady, OpenedUnion, openedOf, openedMost, SortReady, Sorts}
 use Rattle.aut_lists.specs.declared.Opened.{Opened as Answer}
 use Rattle.aut_lists.specs.declared.Opened.the-variants as answer
-use Rattle.aut_rel.specs.Behind.{LISTS, Left, Backed}
+use Rattle.aut_rel.specs.Behind.{LISTS, Modifies, CacheReady}
 use Rattle.aut_rel.proofs.Behind.{left-refl, left-any, left-wide, left-trans, left-kept, kept-left}
-use Rattle.aut_rel.specs.Seen.{autOf, seenAut, Beside, LeftBy, Ready, Does, Places, DoesSpp}
+use Rattle.aut_rel.specs.Seen.{autOf, seenAut, Beside, ModifiesBy, Ready, Does, Places, DoesSpp}
 use Rattle.aut_rel.proofs.Join as join
 use Rattle.aut_rel.proofs.Order as order
 use Rattle.aut_rel.proofs.Order.{backed-of, ready-after}
@@ -54,8 +54,8 @@ use Rattle.aut_union.specs.Seen.{seenParts, PartsLeft, PartsMost, Unites
 use Rattle.aut_union.proofs.Gather.{keeps, Held}
 
 -- the list with the relation's state
-added-goes : {N : ℕ} {L : Limits} {σ : Aut} → Good N L σ → (p : Parts) → At (σ .nodes) N (p .relation) → All (λ x. x < states σ) (p .others)
-    → Goes N L (λ τ ys. All (λ y. y < states τ) ys) σ (onStates (addRelation N p) σ)
+added-goes : {N : ℕ} {L : Limits} {σ : Aut} → WfAut N L σ → (p : Parts) → ValidAt (σ .nodes) N (p .relation) → All (λ x. x < states σ) (p .others)
+    → StepSpec N L (λ τ ys. All (λ y. y < states τ) ys) σ (onStates (addRelation N p) σ)
 unfolding addRelation
 added-goes {N} {L} {σ} g p h a =
     branch-in putStates σ (eqb (p .relation) (Rel.zeroAt N)) _ _ (σ .states)
@@ -95,7 +95,7 @@ module _ (N : ℕ) (l : Bounds) (t st mem s : List ℕ) (c : Counts) (k : ℕ) (
     is-1 : first ≡ given (table t1 n) (parts (h .0) (words s1 320 m))
     is-1 = U .is ∙ ap (λ (r : Gathered). seenParts r t1 s1 320) told1
 
-    left-1 : Left N 320 k (table t1 n) s s1
+    left-1 : Modifies N 320 k (table t1 n) s s1
     left-1 = subst (λ (r : Gathered). PartsLeft N 320 k r t1 s s1) told1 (U .left)
 
     few-1 : m ≤ k
@@ -110,7 +110,7 @@ module _ (N : ℕ) (l : Bounds) (t st mem s : List ℕ) (c : Counts) (k : ℕ) (
     abbrev σ1 : Aut
     σ1 = aut (table t1 n) (table st (c .states)) (table mem (c .members))
 
-    good-1 : Good N (limitsOf l) σ1
+    good-1 : WfAut N (limitsOf l) σ1
     good-1 = good-nodes (R .good) (grows .ext) (grows .wf)
 
     abbrev second : Outcome Table (List ℕ)
@@ -137,7 +137,7 @@ module _ (N : ℕ) (l : Bounds) (t st mem s : List ℕ) (c : Counts) (k : ℕ) (
         σ2 = aut (table t1 n) (table st2 n2) (table mem (c .members))
 
         law-2 : Gone N (limitsOf l) (λ τ ys. All (λ y. y < states τ) ys) σ1 σ2 (words s2 320 m2)
-        law-2 = came (subst (Goes N (limitsOf l) (λ τ ys. All (λ y. y < states τ) ys) σ1) (ap (placed putStates σ1) is-2) (added-goes good-1 (parts (h .0) (words s1 320 m)) (grows .holds .0) (grows .holds .1)))
+        law-2 = came (subst (StepSpec N (limitsOf l) (λ τ ys. All (λ y. y < states τ) ys) σ1) (ap (placed putStates σ1) is-2) (added-goes good-1 (parts (h .0) (words s1 320 m)) (grows .holds .0) (grows .holds .1)))
 
         pub sort-ready : SortReady s2 320 m2 448
         sort-ready = record { small = order.small (law-2 .good) (words s2 320 m2) (law-2 .holds); apart = omega (arith, few-1, few-2); room = omega (arith, few-1, few-2, R .room, len1, len2) }
@@ -162,7 +162,7 @@ module _ (N : ℕ) (l : Bounds) (t st mem s : List ℕ) (c : Counts) (k : ℕ) (
               ∙ ap (λ (ys : List ℕ). placed putExprs σ2 (C.finish N (limitsOf l) ys (exprs (table st2 n2) (table mem (c .members))))) (S .is)
               ∙ ap (placed putExprs σ2) e
 
-          left-3 : Left N 320 256 (table t1 n) s s3
+          left-3 : Modifies N 320 256 (table t1 n) s s3
           left-3 =
               left-trans (ext-refl (table t1 n)) (left-wide left-1 (omega arith) (omega arith))
               (left-trans (ext-refl (table t1 n))
@@ -180,8 +180,8 @@ module _ (N : ℕ) (l : Bounds) (t st mem s : List ℕ) (c : Counts) (k : ℕ) (
               counts (Is i e) b = (b .0, b .2)
               counts (Refused e) b = tt
 
-              left-by : (r : State) → Put.Beside r d → LeftBy N 320 256 r t1 s s3
-              left-by (Is i e) b = subst (λ (z : ℕ). Left N 320 256 (table t1 z) s s3) (sym (b .1)) left-3
+              left-by : (r : State) → Put.Beside r d → ModifiesBy N 320 256 r t1 s s3
+              left-by (Is i e) b = subst (λ (z : ℕ). Modifies N 320 256 (table t1 z) s s3) (sym (b .1)) left-3
               left-by (Refused e) b = tt
 
 -- ---- mk_union_n
@@ -226,7 +226,7 @@ module _ (N : ℕ) (l : Bounds) (t st mem s : List ℕ) (c : Counts) (from k : �
       after-open : all-n ≡ uniteOpened N (limitsOf l) (openedOf r1 s1 256) σn
       after-open = is-way false false (le-ltb (l .list) k h) (ne-eqb k 1 p) ∙ ap (λ (o : Opened). uniteOpened N (limitsOf l) o σn) (O .is)
 
-      pub top-left : Left N 256 320 (table t (c .spp)) s s1
+      pub top-left : Modifies N 256 320 (table t (c .spp)) s s1
       top-left = left-wide (left-kept (O .kept) len1 (omega (arith, R .list))) (omega arith) (omega (arith, R .list))
 
       pub too-long : r1 ≡ answer.Long → all-n ≡ refused 6
@@ -256,7 +256,7 @@ module _ (N : ℕ) (l : Bounds) (t st mem s : List ℕ) (c : Counts) (from k : �
           left = left-by r2 (D .left);
         }
           where
-            left-by : (r : State) → LeftBy N 320 256 r t2 s1 s2 → LeftBy N 256 320 r t2 s s2
+            left-by : (r : State) → ModifiesBy N 320 256 r t2 s1 s2 → ModifiesBy N 256 320 r t2 s s2
             left-by (Is i d) v = kept-left (O .kept) len1 (omega arith) (omega (arith, R .list)) (omega arith) (left-wide v (omega arith) (omega arith))
             left-by (Refused e) v = tt
 
@@ -283,7 +283,7 @@ module _ (N : ℕ) (l : Bounds) (t st mem s : List ℕ) (c : Counts) (x y : ℕ)
     pub both-2 : relations st x y ≡ true → {r : State} {t′ st′ s′ : List ℕ} → DoesSpp N (Rel.union N (op1 st x) (op1 st y)) r c t st s t′ st′ s′ → Does N 192 384 all-2 r c t′ st′ mem s s′
     both-2 q {r} {t′} {st′} {s′} D = record { is = is-way-2 false true (ne-eqb x y p) q ∙ D .is mem; beside = D .beside; left = left-by r (D .left) }
       where
-        left-by : (r : State) → LeftBy N 0 0 r t′ s s′ → LeftBy N 192 384 r t′ s s′
+        left-by : (r : State) → ModifiesBy N 0 0 r t′ s s′ → ModifiesBy N 192 384 r t′ s s′
         left-by (Is i d) v = left-any 192 384 v (omega arith)
         left-by (Refused e) v = tt
 
@@ -312,6 +312,6 @@ module _ (N : ℕ) (l : Bounds) (t st mem s : List ℕ) (c : Counts) (x y : ℕ)
       left = left-by r (D .left);
     }
       where
-        left-by : (r : State) → LeftBy N 256 320 r t′ pair s′ → LeftBy N 192 384 r t′ s s′
+        left-by : (r : State) → ModifiesBy N 256 320 r t′ pair s′ → ModifiesBy N 192 384 r t′ s s′
         left-by (Is i d) v = kept-left kept-pair len-pair (omega arith) (omega arith) (omega arith) (left-wide v (omega arith) (omega arith))
         left-by (Refused e) v = tt

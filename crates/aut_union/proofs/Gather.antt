@@ -10,7 +10,7 @@ use borrow.Author.Tests.{eq-eqb, ne-eqb, eqb-true}
 use Rattle.common.specs.Outcome.{Outcome, refused, given, Step, return, after, _>>=_, Gives, refusal, gives, if_then_else_}
 use Rattle.common.proofs.Follow.{call, branch}
 use Rattle.common.specs.Runs.{Table, table, placed}
-use Rattle.spp_steps.specs.Laws.{Wf, Ext, At}
+use Rattle.spp_steps.specs.Laws.{Wf, Ext, ValidAt}
 use Rattle.spp_steps.proofs.Laws.{ext-refl, at-ext, den-zero}
 use Rattle.spp.specs.declared.SPP as Spp
 use Rattle.aut_steps.specs.Tables.{SPP, UNION, kindOf, op1, words, Limits, Exprs, exprs}
@@ -29,7 +29,7 @@ use Rattle.aut.specs.declared.State.{State}
 use Rattle.aut.specs.declared.State.the-variants.{Is, Refused}
 use Rattle.aut.specs.Seen.{Interned, seenState}
 use Rattle.aut.specs.Seen as Put
-use Rattle.aut_rel.specs.Behind.{LISTS, Left, Backed}
+use Rattle.aut_rel.specs.Behind.{LISTS, Modifies, CacheReady}
 use Rattle.aut_rel.proofs.Behind.{left-any, left-kept, words-behind}
 use Rattle.aut_rel.specs.Seen.{RelAt, Beside, SameNodes}
 use Rattle.aut_rel.proofs.Each.{Grows, Keeps, makes-gives}
@@ -46,7 +46,7 @@ module _ (N : ℕ) (st : List ℕ) (P : ℕ → Type 0) where
   Each t x = RelAt N t st x × P x
 
   abbrev pub Held : Table → Parts → Type 0
-  Held t p = At t N (p .relation) × All P (p .others)
+  Held t p = ValidAt t N (p .relation) × All P (p .others)
 
   one : (t : Table) (x : ℕ) (p : Parts) → Wf N t → Held t p → Each t x → Gives (Grows N Held t) (uniteOne N st x p t)
   unfolding uniteOne
@@ -73,7 +73,7 @@ module _ (N : ℕ) (st : List ℕ) (t : Table) (s : List ℕ) (x h to m : ℕ) w
   pub full : getD st (12 * x) 0 ≡ SPP → Rel.union N h (getD st (12 * x + 1) 0) t ≡ refused 21 → (t′ s′ : List ℕ) → Unites N (to + m) 1 (m + 1) out Full t′ s s′ to
   full p q t′ s′ = record { is = is-rel p q; left = tt; few = tt }
 
-  pub united : getD st (12 * x) 0 ≡ SPP → (t′ s′ : List ℕ) (n : ℕ) (u : Spp.SPP) → Rel.union N h (getD st (12 * x + 1) 0) t ≡ given (table t′ n) (u .0) → Left N 0 0 (table t′ n) s s′ → to + m < LISTS
+  pub united : getD st (12 * x) 0 ≡ SPP → (t′ s′ : List ℕ) (n : ℕ) (u : Spp.SPP) → Rel.union N h (getD st (12 * x + 1) 0) t ≡ given (table t′ n) (u .0) → Modifies N 0 0 (table t′ n) s s′ → to + m < LISTS
       → Unites N (to + m) 1 (m + 1) out (Rest u n m) t′ s s′ to
   united p t′ s′ n u q l r = record {
     is = is-rel p q ∙ ap (λ (ys : List ℕ). given (table t′ n) (parts (u .0) ys)) (sym (words-behind to m l (omega arith) (omega arith)));

@@ -5,13 +5,13 @@ use Prim.Native.Nat.{ℕ, _+_, _*_, _≤_, _<_}
 use lib.ListN.{length}
 use Rattle.common.specs.Outcome.{Outcome, refused, given}
 use Rattle.common.specs.Runs.{Table, table}
-use Rattle.spp_steps.specs.Laws.{At}
+use Rattle.spp_steps.specs.Laws.{ValidAt}
 use Rattle.aut_steps.specs.Tables.{words}
 use Rattle.aut_steps.specs.ListLaws.{All}
 use Rattle.aut_steps.specs.Constructors.{Parts, parts}
 use Rattle.aut_steps.specs.Scratch.{Kept}
 use Rattle.aut.specs.Seen.{Fits}
-use Rattle.aut_rel.specs.Behind.{LISTS, Left, Backed}
+use Rattle.aut_rel.specs.Behind.{LISTS, Modifies, CacheReady}
 use Rattle.aut_rel.specs.Seen.{RelAt}
 use Rattle.aut_union.specs.declared.Gathered.{Gathered}
 use Rattle.aut_union.specs.declared.Gathered.the-variants.{Rest, Full}
@@ -25,7 +25,7 @@ seenParts (Rest h n m) t s to = given (table t n) (parts (h .0) (words s to m))
 seenParts Full t s to = refused 21
 
 abbrev pub PartsLeft : ℕ → ℕ → ℕ → Gathered → List ℕ → List ℕ → List ℕ → Type 0
-PartsLeft N a n (Rest h k m) t s s′ = Left N a n (table t k) s s′
+PartsLeft N a n (Rest h k m) t s s′ = Modifies N a n (table t k) s s′
 PartsLeft N a n Full t s s′ = Unit
 
 abbrev pub PartsMost : Gathered → ℕ → Type 0
@@ -38,13 +38,13 @@ pub record Unites (N a n most : ℕ) (o : Outcome Table Parts) (r : Gathered) (t
   pub few : PartsMost r most
 
 pub record UniteReady (N : ℕ) (t : Table) (st s : List ℕ) (h x to m : ℕ) : Type 0 where
-  pub backed : Backed N t s
-  pub at-h : At t N h
+  pub backed : CacheReady N t s
+  pub at-h : ValidAt t N h
   pub at-x : RelAt N t st x
   pub room : to + m < LISTS
 
 pub record UnitesReady (N : ℕ) (t : Table) (st s : List ℕ) (from k to : ℕ) : Type 0 where
-  pub backed : Backed N t s
+  pub backed : CacheReady N t s
   pub at : All (RelAt N t st) (words s from k)
   pub apart : from + k ≤ to
   pub room : to + k ≤ LISTS

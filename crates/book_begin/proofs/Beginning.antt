@@ -27,7 +27,7 @@ use Rattle.spp.specs.declared.Started.the-variants as started
 use Rattle.spp.specs.declared.Constants.{Constants}
 use Rattle.aut_steps.specs.Tables.{aut}
 use Rattle.delta_steps.specs.Delta.{store}
-use Rattle.query_steps.specs.Tables.{Tables, tables, Ordered}
+use Rattle.query_steps.specs.Tables.{Tables, tables, WfTables}
 use Rattle.query_steps.proofs.Tables.{begun-ordered}
 use Rattle.aut.specs.Seen.{limitsOf}
 use Rattle.aut.specs.declared.Counts.{Counts}
@@ -72,7 +72,7 @@ no-lines s = refl
 
 module _ (h : Header) (few : h .fields ≤ 31) (sp nodes : List ℕ) {sp′ nodes′ : List ℕ} {a b x : ℕ} {y : Spp.Constants}
     (e : Sp.constants (h .fields) (table sp 0) ≡ given (table sp′ a) x) (f : Spp.constants (h .fields) (table nodes 0) ≡ given (table nodes′ b) y) where
-  ordered : (lent : Lent) (out′ : List ℕ) → Ordered (h .fields) (limitsOf limits) (tablesAt (fresh lent sp′ nodes′ out′) (countsOf a b))
+  ordered : (lent : Lent) (out′ : List ℕ) → WfTables (h .fields) (limitsOf limits) (tablesAt (fresh lent sp′ nodes′ out′) (countsOf a b))
   ordered lent out′ = begun-ordered sp nodes (zeroed (lent .states)) (zeroed (lent .members)) (zeroed (lent .transitions)) (omega arith) e f (zeros (lent .states))
 
   begins-standing : (lent : Lent) (out′ : List ℕ) (n : ℕ) → n ≤ length out′ → WORK + LISTS ≤ lent .scratch → Standing (settingFor h) (fresh lent sp′ nodes′ out′) (placeAt a b n)

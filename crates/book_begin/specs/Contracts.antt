@@ -50,7 +50,7 @@ pub record PreBegin (a b : List ℕ) (h : Header) : Type 0 where
 abbrev pub fresh : Lent → (sp nodes output : List ℕ) → Memory
 fresh lent sp nodes output = memory sp nodes (zeroed (lent .states)) (zeroed (lent .members)) (zeroed (lent .transitions)) (zeroed (lent .pending)) (zeroed (lent .scratch)) output
 
-abbrev pub begunOf : Begun → Memory → Outcome Run.Place ℕ
+abbrev pub begunOf : Begun → Memory → Outcome Run.RunState ℕ
 begunOf (begun.At p) m = given (placeOf m p) 0
 begunOf (begun.Refused e) m = refused e
 

@@ -24,7 +24,7 @@ use Rattle.book_steps.specs.Answers.{nameOf}
 use Rattle.book_steps.specs.Reader as Reader
 use Rattle.book_steps.specs.Reader.{makes, asks, refuses}
 use Rattle.book_steps.specs.Run as Run
-use Rattle.book_steps.specs.Run.{place, perform, obey, after-making, query}
+use Rattle.book_steps.specs.Run.{place, execute, step, after-making, query}
 use Rattle.aut.specs.Seen.{limitsOf}
 use Rattle.aut.specs.declared.Config.{Config}
 use Rattle.aut.specs.declared.Counts.{Counts}
@@ -158,14 +158,14 @@ module _ (S : Setting) (m : Memory) (p : Place) (Z : Standing S m p) (l : line.L
   made-pre R = record { ready = Z .ready .ready; line = R; more = more }
 
   step-is : {o : Outcome Aut ℕ} → Lines.make (S .config .fields) (limitsOf (S .config .limits)) the-line (σ .base .aut) ≡ o
-      → perform (settingIn S m) (makes the-line) (placeOf m p) ≡ after-making (settingIn S m) (placeOf m p) (placed putBase σ (placed putAut (σ .base) o))
+      → execute (settingIn S m) (makes the-line) (placeOf m p) ≡ after-making (settingIn S m) (placeOf m p) (placed putBase σ (placed putAut (σ .base) o))
   step-is e = ap (λ (o : Outcome Aut ℕ). after-making (settingIn S m) (placeOf m p) (placed putBase σ (placed putAut (σ .base) o))) e
 
   module _ {r : State} {t′ st′ mem′ s′ : List ℕ} (M : PostMake (S .config) (p .lines) l r (p .counts) (m .nodes) (m .states) (m .members) (m .scratch) t′ st′ mem′ s′) where
     abbrev m′ : Memory
     m′ = memory (m .sp) t′ st′ mem′ (m .transitions) (m .pending) s′ (m .output)
 
-    pub makes-refused : {e : ℕ} → r ≡ state.Refused e → Stops e m m′ (perform (settingIn S m) (makes the-line) (placeOf m p))
+    pub makes-refused : {e : ℕ} → r ≡ state.Refused e → Stops e m m′ (execute (settingIn S m) (makes the-line) (placeOf m p))
     makes-refused {e} q = record { is = step-is (M .made .is ∙ ap (λ (x : State). Rel.seenAut x t′ st′ mem′) q); output = refl }
 
     module _ {z : ℕ} {d : Counts} (q : r ≡ state.Is z d) (R : LineReady (S .config .fields) (p .counts .states) (work (m .scratch)) l) (len : length s′ ≡ length (m .scratch)) where
@@ -196,7 +196,7 @@ module _ (S : Setting) (m : Memory) (p : Place) (Z : Standing S m p) (l : line.L
       next-lines : linesOf s′ (p .lines + 1) ≡ linesOf (m .scratch) (p .lines) ++ some z ∷ []
       next-lines = ap (linesOf s′) {x = p .lines + 1} {y = suc (p .lines)} (omega arith) ∙ lines-are
 
-      pub makes-given : Gives S m m′ p (record { counts = d; lines = p .lines + 1; output = p .output }) (perform (settingIn S m) (makes the-line) (placeOf m p))
+      pub makes-given : Gives S m m′ p (record { counts = d; lines = p .lines + 1; output = p .output }) (execute (settingIn S m) (makes the-line) (placeOf m p))
       makes-given = record {
         value = z;
         is = ap (after-making (settingIn S m) (placeOf m p)) step-given ∙ ap (λ (ls : List (Option ℕ)). given (place (tablesAt m′ d) ls (take (p .output) (m .output))) z) (sym next-lines);
@@ -222,11 +222,11 @@ module _ (S : Setting) (m : Memory) (p : Place) (Z : Standing S m p) (q : Query)
     asks-is : {y : Asked} → r ≡ y → PostAsk S (queryOf q) (p .output) (nameOf a) x (tablesAt m (p .counts)) y (tablesAt m′) (work (m′ .scratch)) (m .pending) (m′ .pending) (m .output) (m′ .output)
     asks-is f = subst (λ (y : Asked). PostAsk S (queryOf q) (p .output) (nameOf a) x (tablesAt m (p .counts)) y (tablesAt m′) (work (m′ .scratch)) (m .pending) (m′ .pending) (m .output) (m′ .output)) f (A .asked)
 
-    pub asks-refused : {e : ℕ} → r ≡ asked.Refused e → Stops e m m′ (perform (settingIn S m) (asks (queryOf q) a x) (placeOf m p))
+    pub asks-refused : {e : ℕ} → r ≡ asked.Refused e → Stops e m m′ (execute (settingIn S m) (asks (queryOf q) a x) (placeOf m p))
     asks-refused f = record { is = asks-is f .is (linesOf (m .scratch) (p .lines)); output = asks-is f .then }
 
     pub asks-given : {d : Counts} {e : ℕ} → r ≡ asked.Told d e → length (m′ .output) ≡ length (m .output)
-        → Gives S m m′ p (record { counts = d; lines = p .lines + 1; output = e }) (perform (settingIn S m) (asks (queryOf q) a x) (placeOf m p))
+        → Gives S m m′ p (record { counts = d; lines = p .lines + 1; output = e }) (execute (settingIn S m) (asks (queryOf q) a x) (placeOf m p))
     asks-given {d} {e} f len =
         let g = asks-is f in
         let n : linesOf (m′ .scratch) (p .lines + 1) ≡ linesOf (m .scratch) (p .lines) ++ none ∷ [] = ap (linesOf (m′ .scratch)) {x = p .lines + 1} {y = suc (p .lines)} (omega arith) ∙ subst (λ (y : Asked). AskedLine y (p .lines) (m .scratch) (m′ .scratch)) f (A .lines) in
@@ -249,7 +249,7 @@ module _ (S : Setting) (m : Memory) (p : Place) (Z : Standing S m p) (q : Query)
 
 module _ (S : Setting) (m : Memory) (p : Place) (t : Told) (P : PrePerform S m p t) where
   pub told-refuses : {e : ℕ} → t ≡ told.Refuses e → PostPerform S m p t (obeyed.Refused e) m
-  told-refuses {e} f = record { is = ap (λ (u : Told). perform (settingIn S m) (toldOf (work (m .scratch)) u) (placeOf m p)) f; output = refl }
+  told-refuses {e} f = record { is = ap (λ (u : Told). execute (settingIn S m) (toldOf (work (m .scratch)) u) (placeOf m p)) f; output = refl }
 
   pub line-ready : {l : line.Line} → t ≡ told.Makes l → LineReady (S .config .fields) (p .counts .states) (work (m .scratch)) l
   line-ready f = subst (λ (u : Told). ToldReady (S .config .fields) (p .counts .states) (work (m .scratch)) u) f (P .ready)
@@ -287,7 +287,7 @@ module _ (S : Setting) (m : Memory) (p : Place) (t : Told) (P : PrePerform S m p
 
 -- ---- a line that is read
 
-module _ (book : List ℕ) (S : Setting) (m : Memory) (p : Place) (c : Cursor) (P : PreObey book S m p c) {r : Said} (R : Says book (Reader.said (rest book c)) r) where
+module _ (book : List ℕ) (S : Setting) (m : Memory) (p : Place) (c : Cursor) (P : PreObey book S m p c) {r : Said} (R : Says book (Reader.parse (rest book c)) r) where
   pub obey-told : PreTold book (m .scratch) (p .lines) (S .config) r
   obey-told = record { lines = P .standing .lines; room = omega (arith, P .standing .ready .ready .room, length-drop WORK (m .scratch)); few = P .standing .ready .ready .list; listed = R .listed }
 
@@ -315,11 +315,11 @@ module _ (book : List ℕ) (S : Setting) (m : Memory) (p : Place) (c : Cursor) (
     pub obey-perform : PrePerform S m₁ p t
     obey-perform = record { standing = standing-kept; ready = T .ready (p .counts .states) (P .standing .named); more = P .more }
 
-    same-step : obey (settingIn S m) (Reader.said (rest book c)) (placeOf m p) ≡ perform (settingIn S m₁) (toldOf (work s′) t) (placeOf m₁ p)
+    same-step : step (settingIn S m) (Reader.parse (rest book c)) (placeOf m p) ≡ execute (settingIn S m₁) (toldOf (work s′) t) (placeOf m₁ p)
     same-step =
-        ap (λ (o : Option Reader.Said). obey (settingIn S m) o (placeOf m p)) (R .is)
+        ap (λ (o : Option Reader.Instruction). step (settingIn S m) o (placeOf m p)) (R .is)
         ∙ T .is (S .budget) (length (m .pending) / 2) (length (m .output)) (tablesAt m (p .counts)) (take (p .output) (m .output))
-        ∙ ap (λ (q : Run.Place). perform (settingIn S m₁) (toldOf (work s′) t) q) (sym place-kept)
+        ∙ ap (λ (q : Run.RunState). execute (settingIn S m₁) (toldOf (work s′) t) q) (sym place-kept)
 
     pub obeyed-so : (z : Obeyed) (m′ : Memory) → PostPerform S m₁ p t z m′ → PostObey book S m p c z m′
     obeyed-so (obeyed.Next q) m′ Q = record { value = Q .value; is = same-step ∙ Q .is; standing = Q .standing; lines = Q .lines; from = Q .from; beyond = Q .beyond }

@@ -32,9 +32,9 @@ use Rattle.book_line.proofs.Scratch.{kept-lines}
 -- ---- what follows of all names
 
 abbrev Goal : Type 0
-Goal = List ℕ → Reader.Told ℕ
+Goal = List ℕ → Reader.Resolved ℕ
 
-given-same : (N : ℕ) (lines : List (Option ℕ)) (o : Option ℕ) {K J : ℕ → Reader.Told ℕ} → ((x : ℕ) → K x ≡ J x) → given N lines o K ≡ given N lines o J
+given-same : (N : ℕ) (lines : List (Option ℕ)) (o : Option ℕ) {K J : ℕ → Reader.Resolved ℕ} → ((x : ℕ) → K x ≡ J x) → given N lines o K ≡ given N lines o J
 given-same N lines none f = refl
 given-same N lines (some x) f = f x
 

@@ -18,8 +18,8 @@ use Rattle.line_steps.specs.Lines as Lines
 use Rattle.delta_steps.specs.Delta.{putAut}
 use Rattle.query_steps.specs.Tables.{putBase}
 use Rattle.book_steps.specs.Reader as Reader
-use Rattle.book_steps.specs.Reader.{given, tell, makes, asks, refuses, numbers}
-use Rattle.book_steps.specs.Run.{place, perform, obey, after-making}
+use Rattle.book_steps.specs.Reader.{given, resolve, makes, asks, refuses, numbers}
+use Rattle.book_steps.specs.Run.{place, execute, step, after-making}
 use Rattle.aut.specs.Seen.{limitsOf}
 use Rattle.aut.specs.declared.Config.{Config}
 use Rattle.line.specs.Seen.{constantOf, bitOf, singleOf, pairOf, listedOf}
@@ -57,8 +57,8 @@ a-state s k a l n = line-named s k a l ∙ stands-some (getD s (LINES + a) 0) n
 -- ---- test, set
 
 module _ (N : ℕ) (w : Bit) (f v : ℕ) where
-  bit-by : {b : Bool} → (ltb f N && ltb v 2) ≡ b → (lines : List (Option ℕ)) → tell N lines (Reader.bit (bitOf w) f v) ≡ (if b then makes (Lines.bit (bitOf w) f (eqb v 1)) else refuses 5)
-  unfolding tell
+  bit-by : {b : Bool} → (ltb f N && ltb v 2) ≡ b → (lines : List (Option ℕ)) → resolve N lines (Reader.bit (bitOf w) f v) ≡ (if b then makes (Lines.bit (bitOf w) f (eqb v 1)) else refuses 5)
+  unfolding resolve
   bit-by e lines = ap (λ (b : Bool). if b then makes (Lines.bit (bitOf w) f (eqb v 1)) else refuses 5) e
 
   pub bit-field : N ≤ f → TellsBit N w f v (told.Refuses 5)
@@ -86,8 +86,8 @@ module _ (s : List ℕ) (k a : ℕ) {r : Named} (M : NamedIs s k a r) where
 
 module _ (s : List ℕ) (k : ℕ) (w : Pair) (a b : ℕ) where
   pair-by : (N : ℕ) {o p : Option ℕ} → getD (linesOf s k) a none ≡ o → getD (linesOf s k) b none ≡ p
-      → tell N (linesOf s k) (Reader.pair (pairOf w) a b) ≡ given N (linesOf s k) o (λ x. given N (linesOf s k) p (λ y. makes (Lines.pair (pairOf w) x y)))
-  unfolding tell
+      → resolve N (linesOf s k) (Reader.pair (pairOf w) a b) ≡ given N (linesOf s k) o (λ x. given N (linesOf s k) p (λ y. makes (Lines.pair (pairOf w) x y)))
+  unfolding resolve
   pair-by N e f = ap₂ (λ (o p : Option ℕ). given N (linesOf s k) o (λ x. given N (linesOf s k) p (λ y. makes (Lines.pair (pairOf w) x y)))) e f
 
   module _ {q : Named} (A : NamedIs s k a q) where
@@ -111,12 +111,12 @@ unfolding mk-union-n mk-intersect-n
 list-long N L listed.Union xs σ l = simp (lt-ltb (L .list) (length xs) l)
 list-long N L listed.Inter xs σ l = simp (lt-ltb (L .list) (length xs) l)
 
-list-tell : (N : ℕ) (lines : List (Option ℕ)) (w : Listed) (l : List ℕ) → tell N lines (Reader.listed (listedOf w) l) ≡ Reader.giving N lines l (λ xs. makes (Lines.listed (listedOf w) xs))
-unfolding tell
+list-tell : (N : ℕ) (lines : List (Option ℕ)) (w : Listed) (l : List ℕ) → resolve N lines (Reader.listed (listedOf w) l) ≡ Reader.giving N lines l (λ xs. makes (Lines.listed (listedOf w) xs))
+unfolding resolve
 list-tell N lines w l = refl
 
-pub alike : (N : ℕ) (L : Limits) (lines : List (Option ℕ)) {t u : Reader.Told ℕ} → t ≡ u → Alike N L lines t u
-alike N L lines e b i r τ out = ap (λ (t : Reader.Told ℕ). perform (settingBy N b L i r) t (place τ lines out)) e
+pub alike : (N : ℕ) (L : Limits) (lines : List (Option ℕ)) {t u : Reader.Resolved ℕ} → t ≡ u → Alike N L lines t u
+alike N L lines e b i r τ out = ap (λ (t : Reader.Resolved ℕ). execute (settingBy N b L i r) t (place τ lines out)) e
 
 module _ (book : List ℕ) (k most : ℕ) (w : Listed) (c : Cursor) {n : ℕ} {r : Bool} {s s′ : List ℕ} (P : PostOperands book k most c n r s s′) where
   pub list-bad : r ≡ false → TellsList book k most w c (told.Refuses 4) s s′
@@ -130,7 +130,7 @@ module _ (book : List ℕ) (k most : ℕ) (w : Listed) (c : Cursor) {n : ℕ} {r
     list-found : Found book k most c n s s′
     list-found = subst (λ (b : Bool). FoundBy b book k most c n s s′) e (P .is)
 
-    list-is-told : (N : ℕ) (l : List ℕ) → numbers (rest book c) ≡ some l → tell N (linesOf s k) (Reader.listed (listedOf w) l) ≡ makes (Lines.listed (listedOf w) (list-found .states))
+    list-is-told : (N : ℕ) (l : List ℕ) → numbers (rest book c) ≡ some l → resolve N (linesOf s k) (Reader.listed (listedOf w) l) ≡ makes (Lines.listed (listedOf w) (list-found .states))
     list-is-told N l q = list-tell N (linesOf s k) w l ∙ list-found .is N l q (λ xs. makes (Lines.listed (listedOf w) xs))
 
     pub list-too-long : most < n → TellsList book k most w c (told.Refuses 6) s s′
@@ -153,27 +153,27 @@ module _ (book : List ℕ) (k most : ℕ) (w : Listed) (c : Cursor) {n : ℕ} {r
 -- ---- all of it
 
 module _ (book : List ℕ) (k : ℕ) (config : Config) (s : List ℕ) where
-  single-by : (w : Single) (a : ℕ) {o : Option ℕ} → getD (linesOf s k) a none ≡ o → tell (config .fields) (linesOf s k) (Reader.single (singleOf w) a) ≡ given (config .fields) (linesOf s k) o (λ x. makes (Lines.single (singleOf w) x))
-  unfolding tell
+  single-by : (w : Single) (a : ℕ) {o : Option ℕ} → getD (linesOf s k) a none ≡ o → resolve (config .fields) (linesOf s k) (Reader.single (singleOf w) a) ≡ given (config .fields) (linesOf s k) o (λ x. makes (Lines.single (singleOf w) x))
+  unfolding resolve
   single-by w a f = ap (λ (o : Option ℕ). given (config .fields) (linesOf s k) o (λ x. makes (Lines.single (singleOf w) x))) f
 
-  query-by : (q : Query) (a : ℕ) {o : Option ℕ} → getD (linesOf s k) a none ≡ o → tell (config .fields) (linesOf s k) (Reader.query (queryOf q) a) ≡ given (config .fields) (linesOf s k) o (λ x. asks (queryOf q) a x)
-  unfolding tell
+  query-by : (q : Query) (a : ℕ) {o : Option ℕ} → getD (linesOf s k) a none ≡ o → resolve (config .fields) (linesOf s k) (Reader.query (queryOf q) a) ≡ given (config .fields) (linesOf s k) o (λ x. asks (queryOf q) a x)
+  unfolding resolve
   query-by q a f = ap (λ (o : Option ℕ). given (config .fields) (linesOf s k) o (λ x. asks (queryOf q) a x)) f
 
   module _ {r : Said} where
     -- a line that writes no list
-    plain : {t : Told} (x : Reader.Said) → saidOf book r ≡ some x → ((s′ : List ℕ) → tell (config .fields) (linesOf s k) x ≡ toldOf s′ t) → ((n : ℕ) → Below n (linesOf s k) → ToldReady (config .fields) n (work s) t)
+    plain : {t : Told} (x : Reader.Instruction) → saidOf book r ≡ some x → ((s′ : List ℕ) → resolve (config .fields) (linesOf s k) x ≡ toldOf s′ t) → ((n : ℕ) → Below n (linesOf s k) → ToldReady (config .fields) n (work s) t)
         → PostTold book k config r t s s
     plain {t} x e f g = record {
       kept = kept-refl WORK 64 s;
-      is = λ b i m τ out. ap (λ (o : Option Reader.Said). obey (settingBy (config .fields) b (limitsOf (config .limits)) i m) o (place τ (linesOf s k) out)) e
+      is = λ b i m τ out. ap (λ (o : Option Reader.Instruction). step (settingBy (config .fields) b (limitsOf (config .limits)) i m) o (place τ (linesOf s k) out)) e
           ∙ alike (config .fields) (limitsOf (config .limits)) (linesOf s k) (f (work s)) b i m τ out;
       ready = g;
     }
 
     pub told-constant : {w : Constant} → r ≡ said.Constant w → PostTold book k config r (told.Makes (line.Constant w)) s s
-    unfolding tell
+    unfolding resolve
     told-constant {w} e = plain (Reader.constant (constantOf w)) (ap (saidOf book) e) (λ s′. refl) (λ n B. record { asked = record { states = tt; field = tt }; short = tt })
 
     pub told-bit : {w : Bit} {f v : ℕ} {t : Told} → r ≡ said.Bit w f v → TellsBit (config .fields) w f v t → PostTold book k config r t s s
@@ -199,7 +199,7 @@ module _ (book : List ℕ) (k : ℕ) (config : Config) (s : List ℕ) where
     pub told-none : r ≡ said.Bad → PostTold book k config r (told.Refuses 3) s s
     told-none e = record {
       kept = kept-refl WORK 64 s;
-      is = λ b i m τ out. ap (λ (o : Option Reader.Said). obey (settingBy (config .fields) b (limitsOf (config .limits)) i m) o (place τ (linesOf s k) out)) (ap (saidOf book) e);
+      is = λ b i m τ out. ap (λ (o : Option Reader.Instruction). step (settingBy (config .fields) b (limitsOf (config .limits)) i m) o (place τ (linesOf s k) out)) (ap (saidOf book) e);
       ready = λ n B. tt;
     }
 
@@ -213,7 +213,7 @@ module _ (book : List ℕ) (k : ℕ) (config : Config) (s : List ℕ) where
       told-listed T = let m = list-is (list-ready .counted) in record {
         kept = T .kept;
         is = λ b i n τ out.
-            ap (λ (o : Option Reader.Said). obey (settingBy (config .fields) b (limitsOf (config .limits)) i n) o (place τ (linesOf s k) out)) (ap (saidOf book) e ∙ ap (Reader.map (λ l. Reader.listed (listedOf w) l)) (m .is))
+            ap (λ (o : Option Reader.Instruction). step (settingBy (config .fields) b (limitsOf (config .limits)) i n) o (place τ (linesOf s k) out)) (ap (saidOf book) e ∙ ap (Reader.map (λ l. Reader.listed (listedOf w) l)) (m .is))
             ∙ T .is (config .fields) (limitsOf (config .limits)) (m .list) refl (m .is) b i n τ out;
         ready = T .ready (config .fields);
       }

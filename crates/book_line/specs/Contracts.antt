@@ -1,4 +1,4 @@
--- 01, "The book and its answers": a line behind the first, in code. What the table of lines says, when a place of a book that runs is in order, and what a line does: its step (book_steps, `obey`), or 01's number.
+-- 01, "The book and its answers": a line behind the first, in code. What the table of lines says, when a place of a book that runs is in order, and what a line does: its step (book_steps, `step`), or 01's number.
 use mathlib.Core.Path.{_≡_}
 use mathlib.Core.Bool.{Bool, true, false}
 use mathlib.Core.List.{List, [], _∷_, _++_}
@@ -12,10 +12,10 @@ use Rattle.aut_steps.specs.ListLaws.{All}
 use Rattle.aut_steps.specs.Scratch.{Kept}
 use Rattle.query_steps.specs.Tables.{Tables}
 use Rattle.book_steps.specs.Reader as Reader
-use Rattle.book_steps.specs.Reader.{giving, tell, makes, asks, refuses, numbers}
+use Rattle.book_steps.specs.Reader.{giving, resolve, makes, asks, refuses, numbers}
 use Rattle.book_steps.specs.Answers.{nameOf}
 use Rattle.book_steps.specs.Run as Run
-use Rattle.book_steps.specs.Run.{place, perform, obey}
+use Rattle.book_steps.specs.Run.{place, execute, step}
 use Rattle.aut.specs.Seen.{limitsOf}
 use Rattle.aut.specs.declared.Config.{Config}
 use Rattle.aut.specs.declared.Counts.{Counts}
@@ -114,14 +114,14 @@ pub record PreOperands (book s : List ℕ) (k most : ℕ) (c : Cursor) (n : ℕ)
 -- the n operands stand for xs, whose first words are written
 pub record Found (book : List ℕ) (k most : ℕ) (c : Cursor) (n : ℕ) (s s′ : List ℕ) : Type 0 where
   pub states : List ℕ
-  pub is : (N : ℕ) (l : List ℕ) → numbers (rest book c) ≡ some l → (K : List ℕ → Reader.Told ℕ) → giving N (linesOf s k) l K ≡ K states
+  pub is : (N : ℕ) (l : List ℕ) → numbers (rest book c) ≡ some l → (K : List ℕ → Reader.Resolved ℕ) → giving N (linesOf s k) l K ≡ K states
   pub size : length states ≡ n
   pub words : n ≤ most → words (work s′) 0 n ≡ states
   pub below : (b : ℕ) → Below b (linesOf s k) → All (λ x. x < b) states
 
 abbrev pub FoundBy : Bool → List ℕ → ℕ → ℕ → Cursor → ℕ → List ℕ → List ℕ → Type 0
 FoundBy true book k most c n s s′ = Found book k most c n s s′
-FoundBy false book k most c n s s′ = (N : ℕ) (l : List ℕ) → numbers (rest book c) ≡ some l → (K : List ℕ → Reader.Told ℕ) → giving N (linesOf s k) l K ≡ refuses 4
+FoundBy false book k most c n s s′ = (N : ℕ) (l : List ℕ) → numbers (rest book c) ≡ some l → (K : List ℕ → Reader.Resolved ℕ) → giving N (linesOf s k) l K ≡ refuses 4
 
 pub record PostOperands (book : List ℕ) (k most : ℕ) (c : Cursor) (n : ℕ) (r : Bool) (s s′ : List ℕ) : Type 0 where
   pub kept : Kept WORK 64 s s′
@@ -130,7 +130,7 @@ pub record PostOperands (book : List ℕ) (k most : ℕ) (c : Cursor) (n : ℕ) 
 -- ---- what a line is told to do
 
 -- the members of a list are the first words of s
-abbrev pub toldOf : List ℕ → Told → Reader.Told ℕ
+abbrev pub toldOf : List ℕ → Told → Reader.Resolved ℕ
 toldOf s (told.Makes l) = makes (Line.lineOf s l)
 toldOf s (told.Asks q a x) = asks (queryOf q) a x
 toldOf s (told.Refuses e) = refuses e
@@ -145,20 +145,20 @@ abbrev pub settingBy : (N budget : ℕ) → Limits → (entries room : ℕ) → 
 settingBy N b L e r = record { fields = N; budget = b; limits = L; entries = e; room = r }
 
 -- the line does the same by both
-abbrev pub Alike : ℕ → Limits → List (Option ℕ) → Reader.Told ℕ → Reader.Told ℕ → Type 0
-Alike N L lines t u = (b e r : ℕ) (τ : Tables) (out : List ℕ) → perform (settingBy N b L e r) t (place τ lines out) ≡ perform (settingBy N b L e r) u (place τ lines out)
+abbrev pub Alike : ℕ → Limits → List (Option ℕ) → Reader.Resolved ℕ → Reader.Resolved ℕ → Type 0
+Alike N L lines t u = (b e r : ℕ) (τ : Tables) (out : List ℕ) → execute (settingBy N b L e r) t (place τ lines out) ≡ execute (settingBy N b L e r) u (place τ lines out)
 
 pub record TellsBit (N : ℕ) (w : Bit) (f v : ℕ) (r : Told) : Type 0 where
-  pub is : (lines : List (Option ℕ)) (s : List ℕ) → tell N lines (Reader.bit (bitOf w) f v) ≡ toldOf s r
+  pub is : (lines : List (Option ℕ)) (s : List ℕ) → resolve N lines (Reader.bit (bitOf w) f v) ≡ toldOf s r
   pub ready : (n : ℕ) (s : List ℕ) → ToldReady N n s r
 
 pub record TellsPair (s : List ℕ) (k : ℕ) (w : Pair) (a b : ℕ) (r : Told) : Type 0 where
-  pub is : (N : ℕ) (s′ : List ℕ) → tell N (linesOf s k) (Reader.pair (pairOf w) a b) ≡ toldOf s′ r
+  pub is : (N : ℕ) (s′ : List ℕ) → resolve N (linesOf s k) (Reader.pair (pairOf w) a b) ≡ toldOf s′ r
   pub ready : (N n : ℕ) (s′ : List ℕ) → Below n (linesOf s k) → ToldReady N n s′ r
 
 pub record TellsList (book : List ℕ) (k most : ℕ) (w : Listed) (c : Cursor) (r : Told) (s s′ : List ℕ) : Type 0 where
   pub kept : Kept WORK 64 s s′
-  pub is : (N : ℕ) (L : Limits) (l : List ℕ) → L .list ≡ most → numbers (rest book c) ≡ some l → Alike N L (linesOf s k) (tell N (linesOf s k) (Reader.listed (listedOf w) l)) (toldOf (work s′) r)
+  pub is : (N : ℕ) (L : Limits) (l : List ℕ) → L .list ≡ most → numbers (rest book c) ≡ some l → Alike N L (linesOf s k) (resolve N (linesOf s k) (Reader.listed (listedOf w) l)) (toldOf (work s′) r)
   pub ready : (N n : ℕ) → Below n (linesOf s k) → ToldReady N n (work s′) r
 
 pub record PreTold (book s : List ℕ) (k : ℕ) (config : Config) (said : Said) : Type 0 where
@@ -169,8 +169,8 @@ pub record PreTold (book s : List ℕ) (k : ℕ) (config : Config) (said : Said)
 
 pub record PostTold (book : List ℕ) (k : ℕ) (config : Config) (said : Said) (r : Told) (s s′ : List ℕ) : Type 0 where
   pub kept : Kept WORK 64 s s′
-  pub is : (b e m : ℕ) (τ : Tables) (out : List ℕ) → obey (settingBy (config .fields) b (limitsOf (config .limits)) e m) (saidOf book said) (place τ (linesOf s k) out)
-      ≡ perform (settingBy (config .fields) b (limitsOf (config .limits)) e m) (toldOf (work s′) r) (place τ (linesOf s k) out)
+  pub is : (b e m : ℕ) (τ : Tables) (out : List ℕ) → step (settingBy (config .fields) b (limitsOf (config .limits)) e m) (saidOf book said) (place τ (linesOf s k) out)
+      ≡ execute (settingBy (config .fields) b (limitsOf (config .limits)) e m) (toldOf (work s′) r) (place τ (linesOf s k) out)
   pub ready : (n : ℕ) → Below n (linesOf s k) → ToldReady (config .fields) n (work s′) r
 
 -- ---- a constructor line
@@ -210,7 +210,7 @@ abbrev pub settingIn : Setting → Memory → Run.Setting
 settingIn S m = settingOf S (length (m .pending) / 2) (length (m .output))
 
 -- the place in the words of the steps
-abbrev pub placeOf : Memory → Place → Run.Place
+abbrev pub placeOf : Memory → Place → Run.RunState
 placeOf m p = place (tablesAt m (p .counts)) (linesOf (m .scratch) (p .lines)) (take (p .output) (m .output))
 
 -- tables and scratch are in order for any line, the pending entries are zero, and each line stands for one of the states
@@ -239,7 +239,7 @@ pub record PostAskLine (S : Setting) (m : Memory) (p : Place) (q : Query) (a x :
 -- ---- a line
 
 -- The step o has given the next place, which is in order; of the output, only bytes between the two places were written.
-pub record Gives (S : Setting) (m m′ : Memory) (p q : Place) (o : Outcome Run.Place ℕ) : Type 0 where
+pub record Gives (S : Setting) (m m′ : Memory) (p q : Place) (o : Outcome Run.RunState ℕ) : Type 0 where
   pub value : ℕ
   pub is : o ≡ given (placeOf m′ q) value
   pub standing : Standing S m′ q
@@ -247,11 +247,11 @@ pub record Gives (S : Setting) (m m′ : Memory) (p q : Place) (o : Outcome Run.
   pub from : p .output ≤ q .output
   pub beyond : (i : ℕ) → q .output ≤ i → getD (m′ .output) i 0 ≡ getD (m .output) i 0
 
-pub record Stops (e : ℕ) (m m′ : Memory) (o : Outcome Run.Place ℕ) : Type 0 where
+pub record Stops (e : ℕ) (m m′ : Memory) (o : Outcome Run.RunState ℕ) : Type 0 where
   pub is : o ≡ refused e
   pub output : m′ .output ≡ m .output
 
-abbrev pub ObeyedBy : Setting → Memory → Memory → Place → Obeyed → Outcome Run.Place ℕ → Type 0
+abbrev pub ObeyedBy : Setting → Memory → Memory → Place → Obeyed → Outcome Run.RunState ℕ → Type 0
 ObeyedBy S m m′ p (obeyed.Next q) o = Gives S m m′ p q o
 ObeyedBy S m m′ p (obeyed.Refused e) o = Stops e m m′ o
 
@@ -261,7 +261,7 @@ pub record PrePerform (S : Setting) (m : Memory) (p : Place) (t : Told) : Type 0
   pub more : LINES + p .lines < WORK
 
 abbrev pub PostPerform : Setting → Memory → Place → Told → Obeyed → Memory → Type 0
-PostPerform S m p t r m′ = ObeyedBy S m m′ p r (perform (settingIn S m) (toldOf (work (m .scratch)) t) (placeOf m p))
+PostPerform S m p t r m′ = ObeyedBy S m m′ p r (execute (settingIn S m) (toldOf (work (m .scratch)) t) (placeOf m p))
 
 pub record PreObey (book : List ℕ) (S : Setting) (m : Memory) (p : Place) (c : Cursor) : Type 0 where
   pub within : Within book c
@@ -270,4 +270,4 @@ pub record PreObey (book : List ℕ) (S : Setting) (m : Memory) (p : Place) (c :
 
 -- the line whose words are still to be read at c
 abbrev pub PostObey : List ℕ → Setting → Memory → Place → Cursor → Obeyed → Memory → Type 0
-PostObey book S m p c r m′ = ObeyedBy S m m′ p r (obey (settingIn S m) (Reader.said (rest book c)) (placeOf m p))
+PostObey book S m p c r m′ = ObeyedBy S m m′ p r (step (settingIn S m) (Reader.parse (rest book c)) (placeOf m p))

@@ -20,7 +20,7 @@ use Rattle.sp_steps.specs.Laws as SpLaws
 use Rattle.st_steps.specs.Edges.{edges}
 use Rattle.st_steps.proofs.Places.{edge-at, edges-length}
 use Rattle.st.specs.Seen.{RESULT}
-use Rattle.query_steps.specs.Tables.{Tables, Later}
+use Rattle.query_steps.specs.Tables.{Tables, ExtTables}
 use Rattle.query_steps.proofs.Tables.{later-refl}
 use Rattle.query_steps.specs.Search.{is-empty}
 use Rattle.query_steps.specs.Live.{live-packets}
@@ -85,7 +85,7 @@ ask-full S q pos name x σ at {s′} {p} {p′} {out} {τ} {bs} e l {r} {out′}
     go : (length out < pos + length bs) × (out′ ≡ out) → PostAsk S q pos name x σ (asked.Refused 27) at s′ p p′ out out′
     go (m, w) = record { is = λ lines. asking S q pos name x σ p out e lines (lt-leb (length (take pos out ++ bs)) (length out) (omega (arith, size pos out bs l))); then = w }
 
-pub ask-told : (S : Setting) (q : Reader.Query) (pos : ℕ) (name : List ℕ) (x : ℕ) (σ : Tables) (at : Counts → Tables) {s′ p p′ out : List ℕ} {d : Counts} {bs : List ℕ} → query (settingOf S (length p / 2) (length out)) q name x σ ≡ given (at d) bs → Later σ (at d)
+pub ask-told : (S : Setting) (q : Reader.Query) (pos : ℕ) (name : List ℕ) (x : ℕ) (σ : Tables) (at : Counts → Tables) {s′ p p′ out : List ℕ} {d : Counts} {bs : List ℕ} → query (settingOf S (length p / 2) (length out)) q name x σ ≡ given (at d) bs → ExtTables σ (at d)
     → QueryReady (S .config .fields) (S .config .limits) (at d) s′ → Zeroed p′ → {r : Answered} {end : ℕ} {out′ : List ℕ} → r ≡ answered.At end → Answers bs pos r out out′ → PostAsk S q pos name x σ (asked.Told d end) at s′ p p′ out out′
 ask-told S q pos name x σ at {s′} {p} {p′} {out} {d} {bs} e w R z {r} {end} {out′} f a = go (subst (λ (v : Answered). Answers bs pos v out out′) f a)
   where
@@ -139,7 +139,7 @@ empty-told {S} {pos} {name} {x} {σ} {c} {at} {p′ = p′} {out = out} P e w f 
 -- ---- `live`
 
 abbrev LooksLive : (S : Setting) (x : ℕ) (σ : Tables) (c : Counts) (at : Counts → Tables) (s s′ p : List ℕ) → Lived → Type 0
-LooksLive S x σ c at s s′ p v = Post (queryLayer (S .config .fields) (S .config .limits)) 0 1088 (λ τ h. SpLaws.At (τ .sets) (S .config .fields) h) (live-packets (S .config .fields) (limitsOf (S .config .limits)) (length p / 2) x σ) σ c (Live.livedOf v) at s s′
+LooksLive S x σ c at s s′ p v = Post (queryLayer (S .config .fields) (S .config .limits)) 0 1088 (λ τ h. SpLaws.ValidAt (τ .sets) (S .config .fields) h) (live-packets (S .config .fields) (limitsOf (S .config .limits)) (length p / 2) x σ) σ c (Live.livedOf v) at s s′
 
 abbrev tells-live : ℕ → List ℕ → Outcome Tables ℕ → Outcome Tables (List ℕ)
 tells-live N name o = after o (λ h τ. given τ (liveAnswer N name (Sp.size (τ .sets .words) N h)))

@@ -5,11 +5,11 @@ use Prim.Native.Nat.{ℕ, suc, _+_, _*_, _-_, _≤_, _<_}
 use native.Mathlib.Omega.{arith}
 use lib.ListN.{length, getD, length-append}
 use Rattle.common.specs.Runs.{Table}
-use Rattle.cache.specs.Cache.{Valid, Own}
+use Rattle.cache.specs.Cache.{Valid, OnlyCodes}
 use Rattle.cache.proofs.Cache.{notes-refl, notes-trans, sound-own}
 use Rattle.netkat.specs.ListSteps.{Edge}
 use Rattle.spp_steps.specs.Model as Spp
-use Rattle.spp_steps.specs.Laws.{At}
+use Rattle.spp_steps.specs.Laws.{ValidAt}
 use Rattle.spp_img.specs.Reuse.{Counted}
 use Rattle.st_steps.specs.Edges.{edges}
 use Rattle.st_steps.proofs.Places.{edges-on, edges-done, edges-same, edges-length}
@@ -30,7 +30,7 @@ notes-on p q = record { below = λ i l. q .below i l ∙ p .below i l; notes = n
 
 module _ (N : ℕ) (t : Table) (m : ℕ) where
   abbrev noted : List ℕ → List ℕ → Type 0
-  noted s s′ = NotesBehind (Own 17 17 (Counted t)) s s′
+  noted s s′ = NotesBehind (OnlyCodes 17 17 (Counted t)) s s′
 
   pub pairs-later : {s s′ : List ℕ} → PrePairs N t s m → noted s s′ → length s′ ≡ length s → PrePairs N t s′ m
   pairs-later {s} {s′} p n len = record {
@@ -39,7 +39,7 @@ module _ (N : ℕ) (t : Table) (m : ℕ) where
     room = omega (arith, p .room);
     sound = sound-own (λ o x y z v. v) (p .sound) (n .notes);
     most = p .most;
-    labels = λ i l. subst (At t N) (sym (n .below (2 * (RESULT + i) + 1) (omega (arith, p .most)))) (p .labels i l);
+    labels = λ i l. subst (ValidAt t N) (sym (n .below (2 * (RESULT + i) + 1) (omega (arith, p .most)))) (p .labels i l);
   }
 
   pub edges-noted : {s s′ : List ℕ} → m ≤ 64 → noted s s′ → edges s′ RESULT m ≡ edges s RESULT m

@@ -7,18 +7,18 @@ use Prim.Native.Nat.{ℕ, _+_, _*_, _/_, _≤_, _<_}
 use lib.ListN.{length, getD, take}
 use Rattle.common.specs.Outcome.{Outcome, refused, given}
 use Rattle.common.specs.Runs.{Table}
-use Rattle.cache.specs.Cache.{Of, Own, Sound}
+use Rattle.cache.specs.Cache.{OnCodes, OnlyCodes, Sound}
 use Rattle.netkat.specs.ListSteps.{Edge}
 use Rattle.spp_steps.specs.Model as Spp
-use Rattle.spp_steps.specs.Laws.{Wf, At}
+use Rattle.spp_steps.specs.Laws.{Wf, ValidAt}
 use Rattle.spp_img.specs.Reuse.{Counted}
 use Rattle.st_steps.specs.Edges.{edges}
 use Rattle.st.specs.Seen.{RESULT}
-use Rattle.query_steps.specs.Tables.{Tables, Later}
+use Rattle.query_steps.specs.Tables.{Tables, ExtTables}
 use Rattle.book_steps.specs.Answers.{Pairs, pairLines, prunedAnswer}
 use Rattle.book_steps.specs.Reader as Reader
 use Rattle.book_steps.specs.Run as Run
-use Rattle.book_steps.specs.Run.{Place, place, query, after-asking}
+use Rattle.book_steps.specs.Run.{RunState, place, query, after-asking}
 use Rattle.aut.specs.Seen.{limitsOf}
 use Rattle.aut.specs.declared.Counts.{Counts}
 use Rattle.aut_rel.specs.Behind.{LISTS, cached}
@@ -45,18 +45,18 @@ pub record PrePairs (N : ℕ) (t : Table) (s : List ℕ) (m : ℕ) : Type 0 wher
   pub few : N ≤ 31
   pub wf : Wf N t
   pub room : LISTS ≤ length s
-  pub sound : Sound (Of 17 17 (Counted t)) (cached s)
+  pub sound : Sound (OnCodes 17 17 (Counted t)) (cached s)
   pub most : m ≤ 64
-  pub labels : (i : ℕ) → i < m → At t N (getD s (2 * (RESULT + i) + 1) 0)
+  pub labels : (i : ℕ) → i < m → ValidAt t N (getD s (2 * (RESULT + i) + 1) 0)
 
 pub record PostNumber (N : ℕ) (t : Table) (i r : ℕ) (s s′ : List ℕ) : Type 0 where
   pub is : r ≡ Spp.size (t .words) N (getD s (2 * (RESULT + i) + 1) 0)
-  pub left : NotesBehind (Own 17 17 (Counted t)) s s′
+  pub left : NotesBehind (OnlyCodes 17 17 (Counted t)) s s′
 
 pub record PostLength (N : ℕ) (t : Table) (m r : ℕ) (s s′ : List ℕ) : Type 0 where
   pub is : r ≡ length (pairLines (told N t (edges s RESULT m)))
   pub most : r ≤ 47 * m
-  pub left : NotesBehind (Own 17 17 (Counted t)) s s′
+  pub left : NotesBehind (OnlyCodes 17 17 (Counted t)) s s′
 
 pub record PrePut (N : ℕ) (t : Table) (s out : List ℕ) (at m : ℕ) : Type 0 where
   pub pairs : PrePairs N t s m
@@ -64,11 +64,11 @@ pub record PrePut (N : ℕ) (t : Table) (s out : List ℕ) (at m : ℕ) : Type 0
 
 pub record PostPairs (N : ℕ) (t : Table) (at m r : ℕ) (s s′ out out′ : List ℕ) : Type 0 where
   pub put : Put at (pairLines (told N t (edges s RESULT m))) r out out′
-  pub left : NotesBehind (Own 17 17 (Counted t)) s s′
+  pub left : NotesBehind (OnlyCodes 17 17 (Counted t)) s s′
 
 pub record PostPruned (N : ℕ) (t : Table) (at : ℕ) (name : List ℕ) (m : ℕ) (r : Answered) (s s′ out out′ : List ℕ) : Type 0 where
   pub answers : Answers (prunedAnswer name (told N t (edges s RESULT m))) at r out out′
-  pub left : NotesBehind (Own 17 17 (Counted t)) s s′
+  pub left : NotesBehind (OnlyCodes 17 17 (Counted t)) s s′
 
 -- ---- a query
 
@@ -78,13 +78,13 @@ pub record PreAsk (S : Setting) (σ : Tables) (s p out : List ℕ) (at x : ℕ) 
   pub room : at ≤ length out
 
 -- the place behind the query, whatever the lines before it are; `at` is what the tables are then
-abbrev pub askedOf : Asked → List (Option ℕ) → (Counts → Tables) → List ℕ → Outcome Place ℕ
+abbrev pub askedOf : Asked → List (Option ℕ) → (Counts → Tables) → List ℕ → Outcome RunState ℕ
 askedOf (asked.Told d e) lines at out = given (place (at d) (lines ++ none ∷ []) (take e out)) 0
 askedOf (asked.Refused n) lines at out = refused n
 
 -- The tables are in order again and have come further; of the output, only the answer's bytes were written.
 pub record Goes (S : Setting) (pos e : ℕ) (σ τ : Tables) (s′ p′ out out′ : List ℕ) : Type 0 where
-  pub later : Later σ τ
+  pub later : ExtTables σ τ
   pub ready : QueryReady (S .config .fields) (S .config .limits) τ s′
   pub pending : Zeroed p′
   pub from : pos ≤ e

@@ -8,7 +8,7 @@ use Rattle.common.specs.Outcome.{Outcome}
 use Rattle.book_steps.specs.Text.{cut}
 use Rattle.book_steps.specs.Reader as Reader
 use Rattle.book_steps.specs.Run as Run
-use Rattle.book_steps.specs.Run.{with-line, onward, answered, stopped, obey}
+use Rattle.book_steps.specs.Run.{with-line, onward, answered, stopped, step as obey}
 use Rattle.reader.specs.Seen.{Begins, BeginsBy, Cuts, cutOf, rest}
 use Rattle.reader.specs.declared.Cursor.{Cursor}
 use Rattle.reader.specs.declared.Cut.{Cut}
@@ -36,7 +36,7 @@ module _ (book : List ℕ) (S : Setting) (m : Memory) (p : Place) (at : ℕ) (P 
   pub turn-unended : r ≡ cut-read.Unended → PostTurn book S m p at (turned.Refused 3) m
   turn-unended e = record {
     is = general (length (m .pending)) (length (m .output))
-        (λ (a b : ℕ). (k : ℕ) (go : List ℕ → ℕ → Run.Place → Run.Ran (lending S a b)) → with-line (lending S a b) go k (placeOf m p) (cut (drop at book)) ≡ stopped 3 k (take (p .output) (m .output)))
+        (λ (a b : ℕ). (k : ℕ) (go : List ℕ → ℕ → Run.RunState → Run.Ran (lending S a b)) → with-line (lending S a b) go k (placeOf m p) (cut (drop at book)) ≡ stopped 3 k (take (p .output) (m .output)))
         (λ k go. ap (with-line (lending S (length (m .pending)) (length (m .output))) go k (placeOf m p)) (C .is ∙ ap (cutOf book) e));
     output = refl;
   }
@@ -51,11 +51,11 @@ module _ (book : List ℕ) (S : Setting) (m : Memory) (p : Place) (at : ℕ) (P 
     pub turn-obey : PreObey book S m p c
     turn-obey = record { within = begins .within; standing = P .standing; more = P .more }
 
-    line-by : (k : ℕ) (go : List ℕ → ℕ → Run.Place → Run.Ran (settingIn S m)) {o : Outcome Run.Place ℕ} → obey (settingIn S m) (Reader.said (rest book c)) (placeOf m p) ≡ o
+    line-by : (k : ℕ) (go : List ℕ → ℕ → Run.RunState → Run.Ran (settingIn S m)) {o : Outcome Run.RunState ℕ} → obey (settingIn S m) (Reader.parse (rest book c)) (placeOf m p) ≡ o
         → with-line (settingIn S m) go k (placeOf m p) (cut (drop at book)) ≡ onward (settingIn S m) (go (drop (c .end + 1) book)) k (placeOf m p) o
     line-by k go f =
         ap (with-line (settingIn S m) go k (placeOf m p)) (C .is ∙ ap (cutOf book) e)
-        ∙ ap (λ (ws : List (List ℕ)). onward (settingIn S m) (go (drop (c .end + 1) book)) k (placeOf m p) (obey (settingIn S m) (Reader.said ws) (placeOf m p))) (sym (begins .all))
+        ∙ ap (λ (ws : List (List ℕ)). onward (settingIn S m) (go (drop (c .end + 1) book)) k (placeOf m p) (obey (settingIn S m) (Reader.parse ws) (placeOf m p))) (sym (begins .all))
         ∙ ap (onward (settingIn S m) (go (drop (c .end + 1) book)) k (placeOf m p)) f
 
     module _ (d : Obeyed) (m′ : Memory) (D : PostObey book S m p c d m′) where
@@ -65,7 +65,7 @@ module _ (book : List ℕ) (S : Setting) (m : Memory) (p : Place) (at : ℕ) (P 
       pub turn-refused : {n : ℕ} → d ≡ obeyed.Refused n → PostTurn book S m p at (turned.Refused n) m′
       turn-refused {n} f = record {
         is = general (length (m .pending)) (length (m .output))
-            (λ (a b : ℕ). (k : ℕ) (go : List ℕ → ℕ → Run.Place → Run.Ran (lending S a b)) → with-line (lending S a b) go k (placeOf m p) (cut (drop at book)) ≡ stopped n k (take (p .output) (m .output)))
+            (λ (a b : ℕ). (k : ℕ) (go : List ℕ → ℕ → Run.RunState → Run.Ran (lending S a b)) → with-line (lending S a b) go k (placeOf m p) (cut (drop at book)) ≡ stopped n k (take (p .output) (m .output)))
             (λ k go. line-by k go (by f .is));
         output = by f .output;
       }
@@ -73,7 +73,7 @@ module _ (book : List ℕ) (S : Setting) (m : Memory) (p : Place) (at : ℕ) (P 
       pub turn-next : {q : Place} → d ≡ obeyed.Next q → PostTurn book S m p at (turned.Next q (c .end + 1)) m′
       turn-next {q} f = let g = by f in record {
         is = general (length (m .pending)) (length (m .output))
-            (λ (a b : ℕ). (k : ℕ) (go : List ℕ → ℕ → Run.Place → Run.Ran (lending S a b)) → with-line (lending S a b) go k (placeOf m p) (cut (drop at book)) ≡ go (drop (c .end + 1) book) (suc k) (placeOf m′ q))
+            (λ (a b : ℕ). (k : ℕ) (go : List ℕ → ℕ → Run.RunState → Run.Ran (lending S a b)) → with-line (lending S a b) go k (placeOf m p) (cut (drop at book)) ≡ go (drop (c .end + 1) book) (suc k) (placeOf m′ q))
             (λ k go. line-by k go (g .is));
         standing = g .standing;
         lines = g .lines;
@@ -86,20 +86,20 @@ module _ (book : List ℕ) (S : Setting) (m : Memory) (p : Place) (at : ℕ) (P 
 -- ---- the lines
 
 module _ (S : Run.Setting) where
-  run-step : (left : ℕ) (text : List ℕ) (k : ℕ) (p : Run.Place) → 0 < left → 0 < length text → Run.run S left text k p ≡ with-line S (Run.run S (left - 1)) k p (cut text)
+  run-step : (left : ℕ) (text : List ℕ) (k : ℕ) (p : Run.RunState) → 0 < left → 0 < length text → Run.run S left text k p ≡ with-line S (Run.run S (left - 1)) k p (cut text)
   unfolding Run.run
   run-step zero text k p a b = absurd (omega arith)
   run-step (suc left) [] k p a b = absurd (omega arith)
   run-step (suc left) (x ∷ text) k p a b = ap (λ (l : ℕ). with-line S (Run.run S l) k p (cut (x ∷ text))) {x = left} {y = suc left - 1} (omega arith)
 
-  run-end : (left : ℕ) (text : List ℕ) (k : ℕ) (p : Run.Place) → length text ≡ 0 → Run.run S left text k p ≡ answered p
+  run-end : (left : ℕ) (text : List ℕ) (k : ℕ) (p : Run.RunState) → length text ≡ 0 → Run.run S left text k p ≡ answered p
   unfolding Run.run
   run-end zero [] k p e = refl
   run-end (suc left) [] k p e = refl
   run-end zero (x ∷ text) k p e = absurd (omega arith)
   run-end (suc left) (x ∷ text) k p e = absurd (omega arith)
 
-  run-many : (left : ℕ) (text : List ℕ) (k : ℕ) (p : Run.Place) → left ≡ 0 → 0 < length text → Run.run S left text k p ≡ stopped 3 k (p .output)
+  run-many : (left : ℕ) (text : List ℕ) (k : ℕ) (p : Run.RunState) → left ≡ 0 → 0 < length text → Run.run S left text k p ≡ stopped 3 k (p .output)
   unfolding Run.run
   run-many zero (x ∷ text) k p e b = refl
   run-many zero [] k p e b = absurd (omega arith)

@@ -17,7 +17,7 @@ use Rattle.book_steps.specs.Text.{cut}
 use Rattle.book_steps.specs.Reader as Reader
 use Rattle.book_steps.specs.Run as Run
 use Rattle.book_steps.specs.Run.{Lent, zeroed, Result, refusal, finish, headed, opened, outcome}
-use Rattle.book_steps.specs.Claim.{Slices, Written, Comes, EntrySpec}
+use Rattle.book_steps.specs.Claim.{Slices, WritesOnly, Refines, EntrySpec}
 use Rattle.book_steps.proofs.Claim as Claim
 use Rattle.reader.specs.Seen.{Begins, BeginsBy, Cuts, cutOf, Within, rest, headingOf}
 use Rattle.reader.specs.declared.Cursor.{Cursor}
@@ -174,7 +174,7 @@ lent-same {m} {m₁} s =
     ∙ ap₂ (λ (a b : ℕ). lentBy (length (m .sp)) (length (m .nodes)) (length (m .states)) (length (m .members)) a b (length (m₁ .scratch)) (length (m₁ .output))) (s .transitions) (s .pending)
     ∙ ap₂ (λ (a b : ℕ). lentBy (length (m .sp)) (length (m .nodes)) (length (m .states)) (length (m .members)) (length (m .transitions)) (length (m .pending)) a b) (s .scratch) (s .output)
 
-written-is : {n : ℕ} {out out′ : List ℕ} → length out′ ≡ length out → Wrote n out out′ → Written (take n out′) out out′
+written-is : {n : ℕ} {out out′ : List ℕ} → length out′ ≡ length out → Wrote n out out′ → WritesOnly (take n out′) out out′
 written-is {n} {out} {out′} len w =
     let e : length (take n out′) ≡ n = length-take-le n out′ (omega (arith, w .fits)) in
     record {
@@ -204,7 +204,7 @@ module _ {book : List ℕ} (m m₁ m₂ m₃ : Memory) {w : Went} {r : Ran} (Z :
   size : length (m₃ .output) ≡ length (m .output)
   size = ap length o ∙ s₂ .output ∙ s₁ .output
 
-  comes : (v : Went) → w ≡ v → Comes (resultOf (lengthsOf m) v m₂) (numberOf (ranOf v)) (textLineOf (ranOf v)) (lengthOf (ranOf v)) (m .output) (m₃ .output) (m₃ .sp) (m₃ .nodes) (m₃ .states) (m₃ .members) (m₃ .transitions) (m₃ .pending) (m₃ .scratch)
+  comes : (v : Went) → w ≡ v → Refines (resultOf (lengthsOf m) v m₂) (numberOf (ranOf v)) (textLineOf (ranOf v)) (lengthOf (ranOf v)) (m .output) (m₃ .output) (m₃ .sp) (m₃ .nodes) (m₃ .states) (m₃ .members) (m₃ .transitions) (m₃ .pending) (m₃ .scratch)
   comes (went.End q) e =
       let b : Wrote (q .output) (m .output) (m₃ .output) = subst (λ (v : Went). Wrote (writtenBy v) (m .output) (m₃ .output)) e bytes in
       let t : SameTables (bare m₂) (bare m₃) = subst (λ (v : Went). TablesBy v (bare m₂) (bare m₃)) e (F .tables) in
@@ -212,7 +212,7 @@ module _ {book : List ℕ} (m m₁ m₂ m₃ : Memory) {w : Went} {r : Ran} (Z :
         number-is = refl;
         line-is = refl;
         length-is = taken-length size b ∙ ap (λ (x : List ℕ). length (take (q .output) x)) o;
-        output-is = subst (λ (x : List ℕ). Written (take (q .output) x) (m .output) (m₃ .output)) o (written-is size b);
+        output-is = subst (λ (x : List ℕ). WritesOnly (take (q .output) x) (m .output) (m₃ .output)) o (written-is size b);
         sp-is = t .sp;
         spp-is = t .nodes;
         states-are = t .states;
@@ -228,7 +228,7 @@ module _ {book : List ℕ} (m m₁ m₂ m₃ : Memory) {w : Went} {r : Ran} (Z :
         number-is = refl;
         line-is = refl;
         length-is = taken-length size b ∙ ap (λ (z : List ℕ). length (take n z)) o;
-        output-is = subst (λ (z : List ℕ). Written (take n z) (m .output) (m₃ .output)) o (written-is size b);
+        output-is = subst (λ (z : List ℕ). WritesOnly (take n z) (m .output) (m₃ .output)) o (written-is size b);
         sp-is = t .sp ∙ ap zeroed (s₂ .sp ∙ s₁ .sp);
         spp-is = t .nodes ∙ ap zeroed (s₂ .nodes ∙ s₁ .nodes);
         states-are = t .states ∙ ap zeroed (s₂ .states ∙ s₁ .states);
@@ -241,8 +241,8 @@ module _ {book : List ℕ} (m m₁ m₂ m₃ : Memory) {w : Went} {r : Ran} (Z :
   pub runs : EntrySpec (lengthsOf m) book (slicesOf m) (numberOf r) (textLineOf r) (lengthOf r) (slicesOf m₃)
   runs = Claim.entry
       (record { sp = refl; spp = refl; states = refl; members = refl; transitions = refl; pending = refl; scratch = refl; output = refl })
-      (subst (λ (x : Result). Comes x (numberOf r) (textLineOf r) (lengthOf r) (m .output) (m₃ .output) (m₃ .sp) (m₃ .nodes) (m₃ .states) (m₃ .members) (m₃ .transitions) (m₃ .pending) (m₃ .scratch)) (sym outcome-is)
-      (subst (λ (y : Ran). Comes (resultOf (lengthsOf m) w m₂) (numberOf y) (textLineOf y) (lengthOf y) (m .output) (m₃ .output) (m₃ .sp) (m₃ .nodes) (m₃ .states) (m₃ .members) (m₃ .transitions) (m₃ .pending) (m₃ .scratch)) (sym (F .is)) (comes w refl)))
+      (subst (λ (x : Result). Refines x (numberOf r) (textLineOf r) (lengthOf r) (m .output) (m₃ .output) (m₃ .sp) (m₃ .nodes) (m₃ .states) (m₃ .members) (m₃ .transitions) (m₃ .pending) (m₃ .scratch)) (sym outcome-is)
+      (subst (λ (y : Ran). Refines (resultOf (lengthsOf m) w m₂) (numberOf y) (textLineOf y) (lengthOf y) (m .output) (m₃ .output) (m₃ .sp) (m₃ .nodes) (m₃ .states) (m₃ .members) (m₃ .transitions) (m₃ .pending) (m₃ .scratch)) (sym (F .is)) (comes w refl)))
 
 -- ---- the end
 

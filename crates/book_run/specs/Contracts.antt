@@ -47,7 +47,7 @@ abbrev pub lending : Setting → ℕ → ℕ → Run.Setting
 lending S pending output = settingOf S (pending / 2) output
 
 pub record TurnsTo (book : List ℕ) (S : Setting) (m m′ : Memory) (p q : Place) (at next : ℕ) : Type 0 where
-  pub is : (pending output : ℕ) → pending ≡ length (m .pending) → output ≡ length (m .output) → (k : ℕ) (go : List ℕ → ℕ → Run.Place → Run.Ran (lending S pending output))
+  pub is : (pending output : ℕ) → pending ≡ length (m .pending) → output ≡ length (m .output) → (k : ℕ) (go : List ℕ → ℕ → Run.RunState → Run.Ran (lending S pending output))
       → with-line (lending S pending output) go k (placeOf m p) (cut (drop at book)) ≡ go (drop next book) (suc k) (placeOf m′ q)
   pub standing : Standing S m′ q
   pub lines : q .lines ≡ p .lines + 1
@@ -57,7 +57,7 @@ pub record TurnsTo (book : List ℕ) (S : Setting) (m m′ : Memory) (p q : Plac
   pub beyond : (i : ℕ) → q .output ≤ i → getD (m′ .output) i 0 ≡ getD (m .output) i 0
 
 pub record TurnsDown (book : List ℕ) (S : Setting) (m m′ : Memory) (p : Place) (at e : ℕ) : Type 0 where
-  pub is : (pending output : ℕ) → pending ≡ length (m .pending) → output ≡ length (m .output) → (k : ℕ) (go : List ℕ → ℕ → Run.Place → Run.Ran (lending S pending output))
+  pub is : (pending output : ℕ) → pending ≡ length (m .pending) → output ≡ length (m .output) → (k : ℕ) (go : List ℕ → ℕ → Run.RunState → Run.Ran (lending S pending output))
       → with-line (lending S pending output) go k (placeOf m p) (cut (drop at book)) ≡ stopped e k (take (p .output) (m .output))
   pub output : m′ .output ≡ m .output
 

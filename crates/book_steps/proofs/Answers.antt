@@ -18,12 +18,12 @@ use Rattle.sp_steps.proofs.Size as SpSize
 use Rattle.spp_steps.proofs.Laws.{by-test}
 use Rattle.spp_steps.proofs.Size as SppSize
 use Rattle.aut_steps.specs.Tables.{Limits, Aut}
-use Rattle.aut_steps.proofs.Goes.{Why}
+use Rattle.aut_steps.proofs.Goes.{RefusalReason}
 use Rattle.delta_steps.proofs.DeltaRuns.{listing, no-transitions}
 use Rattle.delta_steps.specs.Fits.{tables as readings}
-use Rattle.query_steps.specs.Tables.{Tables, Ordered}
+use Rattle.query_steps.specs.Tables.{Tables, WfTables}
 use Rattle.query_steps.proofs.Tables.{is-live-same}
-use Rattle.query_steps.proofs.Steps.{WhyQuery, no-packet-node, working, no-entry}
+use Rattle.query_steps.proofs.Steps.{QueryReason, no-packet-node, working, no-entry}
 use Rattle.query_steps.proofs.SearchLaws.{Searched}
 use Rattle.query_steps.proofs.LiveLaws.{Lived}
 use Rattle.query_steps.proofs.PrunedLaws.{PrunedTo}
@@ -90,12 +90,12 @@ module _ (S : Setting) where
       within (is e) = omega (arith, spent-count e)
       within (is-not n) = by-test (ltb (S .budget) c) (λ t. absurd (n (over n (ltb-true (S .budget) c t)))) (λ t. ltb-false (S .budget) c t)
 
-  pub live-spec : {σ τ : Tables} {x l : ℕ} {r : Rule N} → Ordered N (S .limits) σ → Same N (σ .base .aut) x r → Lived N (S .limits) x σ τ l → LiveSpec S r (Sp.size (τ .sets .words) N l)
+  pub live-spec : {σ τ : Tables} {x l : ℕ} {r : Rule N} → WfTables N (S .limits) σ → Same N (σ .base .aut) x r → Lived N (S .limits) x σ τ l → LiveSpec S r (Sp.size (τ .sets .words) N l)
   live-spec {τ = τ} {x} {r = r} o s d =
       let t : Same N (τ .base .aut) x r = same-grown (o .worked .good) (d .later .grown) s in
       record { set = d .set .set; is = is-live-same (t .strings) (d .set .is); counted = SpSize.size-den (d .set .den) }
 
-  pub pruned-spec : {σ τ : Tables} {x : ℕ} {r : Rule N} {es : List Edge} → Ordered N (S .limits) σ → Same N (σ .base .aut) x r → PrunedTo N (S .limits) x σ τ es
+  pub pruned-spec : {σ τ : Tables} {x : ℕ} {r : Rule N} {es : List Edge} → WfTables N (S .limits) σ → Same N (σ .base .aut) x r → PrunedTo N (S .limits) x σ τ es
       → PrunedSpec S τ x r (told S τ es)
   pruned-spec {τ = τ} {x} {r} o s d =
       let t : Same N (τ .base .aut) x r = same-grown (o .worked .good) (d .later .grown) s in
@@ -122,16 +122,16 @@ Asking = 6 ∷ 7 ∷ 8 ∷ 9 ∷ 20 ∷ 21 ∷ 22 ∷ 23 ∷ 24 ∷ 25 ∷ []
 past : {n a b c d e : ℕ} {l : List ℕ} → List·Memᴰ n l → List·Memᴰ n (a ∷ b ∷ c ∷ d ∷ e ∷ l)
 past m = List·Memᴰ·tail (List·Memᴰ·tail (List·Memᴰ·tail (List·Memᴰ·tail (List·Memᴰ·tail m))))
 
-asking-why : {L : Limits} {τ : Aut} {number : ℕ} → Why L τ number → List·Memᴰ number Asking
-asking-why (Why.long-list xs a l) = List·Memᴰ·head refl
-asking-why (Why.many-products xs a l) = List·Memᴰ·tail (List·Memᴰ·head refl)
-asking-why (Why.too-deep xs a l) = List·Memᴰ·tail (List·Memᴰ·tail (List·Memᴰ·head refl))
-asking-why (Why.full-list es l) = List·Memᴰ·tail (List·Memᴰ·tail (List·Memᴰ·tail (List·Memᴰ·head refl)))
-asking-why (Why.no-node l) = past (List·Memᴰ·head (l .number-is))
-asking-why (Why.no-state e) = past (List·Memᴰ·tail (List·Memᴰ·head refl))
-asking-why (Why.no-members xs a l e) = past (List·Memᴰ·tail (List·Memᴰ·tail (List·Memᴰ·head refl)))
+asking-why : {L : Limits} {τ : Aut} {number : ℕ} → RefusalReason L τ number → List·Memᴰ number Asking
+asking-why (RefusalReason.long-list xs a l) = List·Memᴰ·head refl
+asking-why (RefusalReason.many-products xs a l) = List·Memᴰ·tail (List·Memᴰ·head refl)
+asking-why (RefusalReason.too-deep xs a l) = List·Memᴰ·tail (List·Memᴰ·tail (List·Memᴰ·head refl))
+asking-why (RefusalReason.full-list es l) = List·Memᴰ·tail (List·Memᴰ·tail (List·Memᴰ·tail (List·Memᴰ·head refl)))
+asking-why (RefusalReason.no-node l) = past (List·Memᴰ·head (l .number-is))
+asking-why (RefusalReason.no-state e) = past (List·Memᴰ·tail (List·Memᴰ·head refl))
+asking-why (RefusalReason.no-members xs a l e) = past (List·Memᴰ·tail (List·Memᴰ·tail (List·Memᴰ·head refl)))
 
-pub asking-number : {N : ℕ} {L : Limits} {entries : ℕ} {τ : Tables} {number : ℕ} → WhyQuery N L entries τ number → List·Memᴰ number Asking
+pub asking-number : {N : ℕ} {L : Limits} {entries : ℕ} {τ : Tables} {number : ℕ} → QueryReason N L entries τ number → List·Memᴰ number Asking
 asking-number (no-packet-node l) = List·Memᴰ·tail (List·Memᴰ·tail (List·Memᴰ·tail (List·Memᴰ·tail (List·Memᴰ·head (l .number-is)))))
 asking-number (working (listing y)) = asking-why y
 asking-number (working (no-transitions es a e)) = past (List·Memᴰ·tail (List·Memᴰ·tail (List·Memᴰ·tail (List·Memᴰ·tail (List·Memᴰ·head refl)))))

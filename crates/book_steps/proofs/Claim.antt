@@ -25,12 +25,12 @@ use Rattle.book_steps.specs.Text.{Cut, line, unended, cut, words}
 use Rattle.book_steps.specs.Reader.{Header, header}
 use Rattle.book_steps.specs.Answers.{fieldsAnswer}
 use Rattle.book_steps.specs.Run as Run
-use Rattle.book_steps.specs.Run.{Lent, Place, place, zeroed, begin, Result, started, headed, opened, outcome}
+use Rattle.book_steps.specs.Run.{Lent, RunState, place, zeroed, begin, Result, started, headed, opened, outcome}
 use Rattle.book_steps.specs.Meaning as Meaning
 use Rattle.book_steps.specs.Demands.{TableSpec, RoomSpec, InOrder}
 use Rattle.book_steps.specs.Claim as Claim
 use Rattle.book_steps.specs.RunSpec.{Refused, Point, Final}
-use Rattle.book_steps.specs.Claim.{setting01, Begun, begun, HeaderRefusal, first, Headed, Headless, BookSpec, Slices, Lends, Comes, EntrySpec}
+use Rattle.book_steps.specs.Claim.{setting01, Begun, begun, HeaderRefusal, first, Headed, Headless, BookSpec, Slices, Lends, Refines, EntrySpec}
 use Rattle.book_steps.proofs.Conditions.{conditions}
 use Rattle.book_steps.proofs.Header.{headed-small}
 use Rattle.book_steps.proofs.Printed.{printed}
@@ -55,7 +55,7 @@ table-from {room} e w c b =
 table-none : (room size most : ℕ) → TableSpec room size most (table (zeroed room) 0)
 table-none room size most = record { len = length-replicate {A = ℕ} room 0; whole = omega arith; cap = omega arith; beyond = λ j k. zero-at room j }
 
-pub begun-in-order : {lent : Lent} (h : Header) {p : Place} → Begun lent (h .fields) p → InOrder (setting01 lent h) lent p []
+pub begun-in-order : {lent : Lent} (h : Header) {p : RunState} → Begun lent (h .fields) p → InOrder (setting01 lent h) lent p []
 begun-in-order {lent} h (begun {s} {t} l a b f) =
     let sp = given-of (SpStart.begun (h .fields) (zeroed (lent .sp))) a in
     let spp = given-of (SppBegin.begun (h .fields) (zeroed (lent .spp))) b in
@@ -75,9 +75,9 @@ module _ (lent : Lent) (h : Header) where
   abbrev N : ℕ
   N = h .fields
 
-  data Start : Outcome Place ℕ → Type 0 where
+  data Start : Outcome RunState ℕ → Type 0 where
     refuses-at : {number : ℕ} → HeaderRefusal lent N number → Start (refused number)
-    begins-at : {p : Place} {x : ℕ} → Begun lent N p → Start (given p x)
+    begins-at : {p : RunState} {x : ℕ} → Begun lent N p → Start (given p x)
 
   start : Start (begin lent h)
   unfolding begin
@@ -126,7 +126,7 @@ module _ (lent : Lent) (h : Header) where
   header-one (HeaderRefusal.no-room a b c d) (HeaderRefusal.no-relations e f g) = absurd (omega arith)
   header-one (HeaderRefusal.no-room a b c d) (HeaderRefusal.no-room e f g i) = refl
 
-  not-both : {p : Place} {number : ℕ} → Begun lent N p → HeaderRefusal lent N number → ⊥
+  not-both : {p : RunState} {number : ℕ} → Begun lent N p → HeaderRefusal lent N number → ⊥
   not-both (begun l a b f) (HeaderRefusal.wide m) = omega arith
   not-both (begun {s} {z = z} l a b f) (HeaderRefusal.no-sets k m) = SpStart.begun-fits (h .fields) (zeroed (lent .sp)) s z a (inl (omega (arith, length-replicate {A = ℕ} (lent .sp) 0)))
   not-both (begun {t = t} {c = c} l a b f) (HeaderRefusal.no-relations k m n) = SppBegin.begun-fits (h .fields) (zeroed (lent .spp)) t c b (inl (omega (arith, length-replicate {A = ℕ} (lent .spp) 0)))
@@ -135,11 +135,11 @@ module _ (lent : Lent) (h : Header) where
   pub begin-refused : (number : ℕ) → HeaderRefusal lent N number → begin lent h ≡ refused number
   begin-refused number y = go (begin lent h) refl start
     where
-      go : (c : Outcome Place ℕ) → begin lent h ≡ c → Start c → begin lent h ≡ refused number
+      go : (c : Outcome RunState ℕ) → begin lent h ≡ c → Start c → begin lent h ≡ refused number
       go (refused e) q (refuses-at z) = q ∙ ap (λ (n : ℕ). refused n) (header-one z y)
       go (given p x) q (begins-at z) = absurd (not-both z y)
 
-  pub begin-given : {p : Place} → Begun lent N p → begin lent h ≡ given p 0
+  pub begin-given : {p : RunState} → Begun lent N p → begin lent h ≡ given p 0
   unfolding begin
   begin-given (begun {s} {t} l a b f) =
       ap (λ (c : Bool). if c then refused 2 else Run.begun lent h (Sp.constants (h .fields) (table (zeroed (lent .sp)) 0)) (Spp.constants (h .fields) (table (zeroed (lent .spp)) 0)))
@@ -155,7 +155,7 @@ module _ (lent : Lent) (book : List ℕ) where
   unfolding outcome
   whole-book = long (ltb (lent .scratch) 6144) refl
     where
-      begins : 6144 ≤ lent .scratch → (h : Header) (text : List ℕ) → Headed book h text → (c : Outcome Place ℕ) → Start lent h c → BookSpec lent book (started lent h text c)
+      begins : 6144 ≤ lent .scratch → (h : Header) (text : List ℕ) → Headed book h text → (c : Outcome RunState ℕ) → Start lent h c → BookSpec lent book (started lent h text c)
       begins w h text i (refused e) (refuses-at y) = BookSpec.not-begun w i y refl
       begins w h text i (given p x) (begins-at y) = BookSpec.ran w i y (begun-in-order h y) (run-spec (setting01 lent h) lent 2048 text 2 (begun-in-order h y))
 
@@ -251,7 +251,7 @@ book-sized {lent} (BookSpec.ran {h} w i y t (d, v, z)) = run-sized (setting01 le
 
 -- it is enough that the slices have the lengths and that the outcome is the defined one
 pub entry : {lent : Lent} {book : List ℕ} {m n : Slices} {number k len : ℕ} → Lends lent m
-    → Comes (outcome lent book) number k len (m .output) (n .output) (n .sp) (n .spp) (n .states) (n .members) (n .transitions) (n .pending) (n .scratch) → EntrySpec lent book m number k len n
+    → Refines (outcome lent book) number k len (m .output) (n .output) (n .sp) (n .spp) (n .states) (n .members) (n .transitions) (n .pending) (n .scratch) → EntrySpec lent book m number k len n
 entry {lent} {book} l c =
     let z = book-sized (whole-book lent book) in
     record {

@@ -7,16 +7,16 @@ use Prim.Native.String.{String}
 use Rattle.line_steps.specs.Lines as Lines
 use Rattle.line_steps.specs.Lines.{test, seq, union}
 use Rattle.book_steps.specs.Text.{bytes, line, words, same, digits, reading, number, decimalBy, decimal}
-use Rattle.book_steps.specs.Reader.{header, Said, bit, pair, listed, query, empty, find, numbers, exact, said, makes, refuses, giving, tell}
+use Rattle.book_steps.specs.Reader.{header, Instruction, bit, pair, listed, query, empty, find, numbers, exact, parse, makes, refuses, giving, resolve}
 
-abbrev read : String → Option Said
-read t = said (words (bytes t))
+abbrev read : String → Option Instruction
+read t = parse (words (bytes t))
 
 pub record Row : Type 0 where
   pub text : String
-  pub says : Option Said
+  pub says : Option Instruction
 
-abbrev row : String → Option Said → Row
+abbrev row : String → Option Instruction → Row
 row t r = record { text = t; says = r }
 
 abbrev pub rows : List Row
@@ -44,7 +44,7 @@ AllRead [] = Unit
 AllRead (r ∷ rs) = (read (r .text) ≡ r .says) × AllRead rs
 
 pub all-read : AllRead rows
-unfolding words same digits reading number find numbers exact said
+unfolding words same digits reading number find numbers exact parse
 all-read = (refl, (refl, (refl, (refl, (refl, (refl, (refl, (refl, (refl, (refl, (refl, (refl, (refl, (refl, (refl, (refl, tt))))))))))))))))
 
 -- the first line
@@ -56,24 +56,24 @@ first-line = refl
 abbrev before : List (Option ℕ)
 before = some 7 ∷ none ∷ []
 
-pub names-query : tell 3 before (pair seq 0 1) ≡ refuses 4
-unfolding tell
+pub names-query : resolve 3 before (pair seq 0 1) ≡ refuses 4
+unfolding resolve
 names-query = refl
 
-pub names-itself : tell 3 before (listed union (0 ∷ 2 ∷ [])) ≡ refuses 4
-unfolding tell giving
+pub names-itself : resolve 3 before (listed union (0 ∷ 2 ∷ [])) ≡ refuses 4
+unfolding resolve giving
 names-itself = refl
 
-pub names-line : tell 3 before (pair seq 0 0) ≡ makes (Lines.pair seq 7 7)
-unfolding tell
+pub names-line : resolve 3 before (pair seq 0 0) ≡ makes (Lines.pair seq 7 7)
+unfolding resolve
 names-line = refl
 
-pub field-past : tell 3 before (bit test 3 0) ≡ refuses 5
-unfolding tell
+pub field-past : resolve 3 before (bit test 3 0) ≡ refuses 5
+unfolding resolve
 field-past = refl
 
-pub value-past : tell 3 before (bit test 2 2) ≡ refuses 5
-unfolding tell
+pub value-past : resolve 3 before (bit test 2 2) ≡ refuses 5
+unfolding resolve
 value-past = refl
 
 -- numbers are written as they are read

@@ -18,7 +18,7 @@ use Rattle.aut_steps.specs.Tables.{Aut}
 use Rattle.aut_steps.proofs.Languages.{_then_}
 use Rattle.aut_steps.specs.Good.{states}
 use Rattle.aut_steps.proofs.Goes as Goes
-use Rattle.aut_steps.proofs.Goes.{Goes}
+use Rattle.aut_steps.proofs.Goes.{StepSpec}
 use Rattle.aut_steps.specs.Meaning.{rule, Holds}
 use Rattle.aut_steps.proofs.Meaning.{Is}
 use Rattle.line_steps.specs.Lines.{Line, means, make}
@@ -27,7 +27,7 @@ use Rattle.delta_steps.specs.Delta.{putAut}
 use Rattle.delta_steps.specs.Fits.{Since}
 use Rattle.delta_steps.proofs.Worked.{worked-since}
 use Rattle.delta_steps.proofs.Stored.{went-since}
-use Rattle.query_steps.specs.Tables.{Tables, putBase, Ordered, Later}
+use Rattle.query_steps.specs.Tables.{Tables, putBase, WfTables, ExtTables}
 use Rattle.query_steps.proofs.Tables.{gone-later}
 use Rattle.query_steps.specs.Search.{is-empty}
 use Rattle.query_steps.specs.Live.{live-packets}
@@ -39,9 +39,9 @@ use Rattle.query_steps.proofs.SearchEnds.{search-ends}
 use Rattle.query_steps.proofs.LiveLaws.{live-ends}
 use Rattle.query_steps.proofs.PrunedLaws.{pruned-ends}
 use Rattle.book_steps.specs.Reader as Reader
-use Rattle.book_steps.specs.Reader.{Query, Said, Told, makes, asks, refuses, tell}
+use Rattle.book_steps.specs.Reader.{Query, Instruction, Resolved, makes, asks, refuses, resolve}
 use Rattle.book_steps.specs.Answers.{nameOf, emptyAnswer, liveAnswer, prunedAnswer}
-use Rattle.book_steps.specs.Run.{Lent, Setting, Place, place, after-making, after-asking, perform, obey}
+use Rattle.book_steps.specs.Run.{Lent, Setting, RunState, place, after-making, after-asking, execute, step}
 use Rattle.book_steps.proofs.Meaning as Meaning
 use Rattle.book_steps.specs.Meaning.{Matched, Same}
 use Rattle.book_steps.proofs.MeaningLaws.{noted}
@@ -67,7 +67,7 @@ module _ (S : Setting) (lent : Lent) where
   abbrev Meant : Type 0
   Meant = List (Option (Rule N))
 
-  pub room-later : {σ τ : Tables} → RoomSpec lent σ → Later σ τ → Ordered N (S .limits) τ → RoomSpec lent τ
+  pub room-later : {σ τ : Tables} → RoomSpec lent σ → ExtTables σ τ → WfTables N (S .limits) τ → RoomSpec lent τ
   room-later r z o =
       let g = o .worked .good in
       record {
@@ -80,7 +80,7 @@ module _ (S : Setting) (lent : Lent) where
         zero = λ x w l m. z .others x w l m ∙ r .zero x w l m;
       }
 
-  pub in-order : {p : Place} {R : Meant} → Ordered N (S .limits) (p .tables) → RoomSpec lent (p .tables) → Matched N (p .tables .base .aut) (p .lines) R → InOrder S lent p R
+  pub in-order : {p : RunState} {R : Meant} → WfTables N (S .limits) (p .tables) → RoomSpec lent (p .tables) → Matched N (p .tables .base .aut) (p .lines) R → InOrder S lent p R
   in-order {p} o r m = record {
     ordered = o;
     tables = record { room = r; state = state; once = o .worked .good .once; matched = m };
@@ -105,13 +105,13 @@ module _ (S : Setting) (lent : Lent) where
 
   -- ---- a line
 
-  pub data Lined (c : Point S) (s : Said) : Outcome Place ℕ → Type 0 where
+  pub data Lined (c : Point S) (s : Instruction) : Outcome RunState ℕ → Type 0 where
     stops : {number : ℕ} → LineRefusal S c number → Lined c s (refused number)
-    comes : {q : Place} {x : ℕ} → LineSpec S (c .place) (c .rules) s q (noted (c .rules) (tell N (c .rules) s)) → InOrder S lent q (noted (c .rules) (tell N (c .rules) s))
-        → Later (c .place .tables) (q .tables) → Lined c s (given q x)
+    comes : {q : RunState} {x : ℕ} → LineSpec S (c .place) (c .rules) s q (noted (c .rules) (resolve N (c .rules) s)) → InOrder S lent q (noted (c .rules) (resolve N (c .rules) s))
+        → ExtTables (c .place .tables) (q .tables) → Lined c s (given q x)
 
-  module _ (c : Point S) (i : InOrder S lent (c .place) (c .rules)) (rest : List ℕ) (s : Said) (reading : Reads S c rest (some s)) where
-    abbrev p : Place
+  module _ (c : Point S) (i : InOrder S lent (c .place) (c .rules)) (rest : List ℕ) (s : Instruction) (reading : Reads S c rest (some s)) where
+    abbrev p : RunState
     p = c .place
 
     abbrev R : Meant
@@ -120,32 +120,32 @@ module _ (S : Setting) (lent : Lent) where
     abbrev σ : Tables
     σ = p .tables
 
-    o : Ordered N (S .limits) σ
+    o : WfTables N (S .limits) σ
     o = i .ordered
 
     matched : Matched N (σ .base .aut) (p .lines) R
     matched = i .tables .matched
 
     -- a constructor line
-    made-lined : {l : Line ℕ} {m : Line (Rule N)} → tell N (p .lines) s ≡ makes l → tell N R s ≡ makes m → LineAlike N (σ .base .aut) l m → (b : Outcome Aut ℕ)
-        → make N (S .limits) l (σ .base .aut) ≡ b → Goes N (S .limits) (Is N (In (means (rule N (σ .base .aut)) l))) (σ .base .aut) b
+    made-lined : {l : Line ℕ} {m : Line (Rule N)} → resolve N (p .lines) s ≡ makes l → resolve N R s ≡ makes m → LineAlike N (σ .base .aut) l m → (b : Outcome Aut ℕ)
+        → make N (S .limits) l (σ .base .aut) ≡ b → StepSpec N (S .limits) (Is N (In (means (rule N (σ .base .aut)) l))) (σ .base .aut) b
         → Lined c s (after-making S p (placed putBase σ (placed putAut (σ .base) b)))
     made-lined {l} t u a (refused number) e (Goes.stops w g y) = stops (LineRefusal.making reading t e (make-number N (S .limits) l (σ .base .aut) e))
     made-lined {l} {m} t u a (given τ z) e (Goes.comes r) =
         let w : Since N (S .limits) (σ .base .aut) τ = record { grown = r .grown; memos = r .memos; good = r .good } in
         let y : Same N τ z (means (λ r. r) m) = record { state = r .holds .state; strings = r .holds .strings then alike-means a } in
-        let k : Later σ (putBase (putAut τ (σ .base)) σ) = gone-later (gone-base (went-since w)) in
-        let q : Place = place (putBase (putAut τ (σ .base)) σ) (p .lines ++ some z ∷ []) (p .output) in
-        let n : R ++ some (means (λ r. r) m) ∷ [] ≡ noted R (tell N R s) = ap (noted R) (sym u) in
+        let k : ExtTables σ (putBase (putAut τ (σ .base)) σ) = gone-later (gone-base (went-since w)) in
+        let q : RunState = place (putBase (putAut τ (σ .base)) σ) (p .lines ++ some z ∷ []) (p .output) in
+        let n : R ++ some (means (λ r. r) m) ∷ [] ≡ noted R (resolve N R s) = ap (noted R) (sym u) in
         let v = ordered-base o (went-since w) (worked-since (o .worked) w) in
         comes (subst (λ (Q : Meant). LineSpec S p R s q Q) n (made t u e y))
         (subst (λ (Q : Meant). InOrder S lent q Q) n (in-order v (room-later (i .tables .room) k v) (matched-more (matched-grown (o .worked .good) (r .grown) matched) (both y))))
         k
 
     -- a query
-    asked-lined : {A : Type 0} {P : Tables → A → Type 0} {q : Query} {a x : ℕ} {r : Rule N} (b : Outcome Tables A) (f : A → Tables → List ℕ) → tell N (p .lines) s ≡ asks q a x → tell N R s ≡ asks q a r
+    asked-lined : {A : Type 0} {P : Tables → A → Type 0} {q : Query} {a x : ℕ} {r : Rule N} (b : Outcome Tables A) (f : A → Tables → List ℕ) → resolve N (p .lines) s ≡ asks q a x → resolve N R s ≡ asks q a r
         → ((number : ℕ) → b ≡ refused number → QueryRefused S σ q x number)
-        → ((τ : Tables) (y : A) → b ≡ given τ y → P τ y → QuerySpec S σ (nameOf a) x r τ q (f y τ) × Ordered N (S .limits) τ × Later σ τ)
+        → ((τ : Tables) (y : A) → b ≡ given τ y → P τ y → QuerySpec S σ (nameOf a) x r τ q (f y τ) × WfTables N (S .limits) τ × ExtTables σ τ)
         → Ends N (S .limits) (S .entries) P σ b → Lined c s (after-asking S p (after b (λ y τ. given τ (f y τ))))
     asked-lined {A} {P} {q} {a} {x} {r} b f t u bad good d = go b refl d
       where
@@ -153,17 +153,17 @@ module _ (S : Setting) (lent : Lent) where
         go (refused number) e (Steps.halts z) = stops (LineRefusal.asking reading t (bad number e) (asking-number (z .why)))
         go (given τ y) e (Steps.comes z) = fits (good τ y e z) (leb (length (p .output ++ f y τ)) (S .room)) refl
           where
-            fits : QuerySpec S σ (nameOf a) x r τ q (f y τ) × Ordered N (S .limits) τ × Later σ τ → (b : Bool) → leb (length (p .output ++ f y τ)) (S .room) ≡ b
+            fits : QuerySpec S σ (nameOf a) x r τ q (f y τ) × WfTables N (S .limits) τ × ExtTables σ τ → (b : Bool) → leb (length (p .output ++ f y τ)) (S .room) ≡ b
                 → Lined c s (if b then given (place τ (p .lines ++ none ∷ []) (p .output ++ f y τ)) 0 else refused 27)
             fits (m, k, l) true e =
-                let z : Place = place τ (p .lines ++ none ∷ []) (p .output ++ f y τ) in
-                let n : R ++ none ∷ [] ≡ noted R (tell N R s) = ap (noted R) (sym u) in
+                let z : RunState = place τ (p .lines ++ none ∷ []) (p .output ++ f y τ) in
+                let n : R ++ none ∷ [] ≡ noted R (resolve N R s) = ap (noted R) (sym u) in
                 comes (subst (λ (Q : Meant). LineSpec S p R s z Q) n (answered t u m (leb-true (length (p .output ++ f y τ)) (S .room) e)))
                 (subst (λ (Q : Meant). InOrder S lent z Q) n (in-order k (room-later (i .tables .room) l k) (matched-more (matched-grown (o .worked .good) (l .grown) matched) neither)))
                 l
             fits (m, k, l) false e = stops (LineRefusal.no-room reading t u m (leb-false (length (p .output ++ f y τ)) (S .room) e))
 
-    query-lined : (q : Query) (a x : ℕ) (r : Rule N) → tell N (p .lines) s ≡ asks q a x → tell N R s ≡ asks q a r → Same N (σ .base .aut) x r → Lined c s (perform S (asks q a x) p)
+    query-lined : (q : Query) (a x : ℕ) (r : Rule N) → resolve N (p .lines) s ≡ asks q a x → resolve N R s ≡ asks q a r → Same N (σ .base .aut) x r → Lined c s (execute S (asks q a x) p)
     query-lined Reader.empty a x r t u y =
         asked-lined (is-empty N (S .limits) (S .entries) (S .budget) x σ) (λ z τ. emptyAnswer (nameOf a) (z .0) (z .1)) t u (λ number e. e)
         (λ τ z e d. (QuerySpec.emptied e (search-spec S y d), d .ordered, gone-later (d .gone)))
@@ -177,7 +177,7 @@ module _ (S : Setting) (lent : Lent) where
         (λ τ es e d. (QuerySpec.pruned e (pruned-spec S o y d), d .ordered, d .later))
         (pruned-ends (S .entries) o (y .state))
 
-    performed : {t : Told ℕ} {u : Told (Rule N)} → tell N (p .lines) s ≡ t → tell N R s ≡ u → Meaning.Alike N (σ .base .aut) t u → Lined c s (perform S t p)
+    performed : {t : Resolved ℕ} {u : Resolved (Rule N)} → resolve N (p .lines) s ≡ t → resolve N R s ≡ u → Meaning.Alike N (σ .base .aut) t u → Lined c s (execute S t p)
     performed t u (Meaning.makes {l} a) = made-lined t u a (make N (S .limits) l (σ .base .aut)) refl (make-goes (o .worked .good) l (alike-asked a))
     performed t u (Meaning.asks {q} {a} {x} {r} y) = query-lined q a x r t u y
     performed t u (Meaning.refuses {e}) = ⊎-elim
@@ -185,5 +185,5 @@ module _ (S : Setting) (lent : Lent) where
         (λ q. subst (λ (n : ℕ). Lined c s (refused n)) (sym q) (stops (LineRefusal.out-of-range reading (reads N (p .lines) s .five .0 (t ∙ ap (λ (n : ℕ). refuses n) q)))))
         (reads N (p .lines) s .other e t)
 
-    pub lined : Lined c s (obey S (some s) p)
+    pub lined : Lined c s (step S (some s) p)
     lined = performed refl refl (tell-alike matched s)

@@ -13,14 +13,14 @@ use Rattle.aut_steps.specs.Tables.{Limits, Aut}
 use Rattle.aut_steps.specs.ListLaws.{All}
 use Rattle.aut_steps.specs.Languages.{_≈_}
 use Rattle.aut_steps.proofs.Languages.{_then_, either-same, both-same, join-same, star-same, until-same, not-same, minus-same, differ-same}
-use Rattle.aut_steps.specs.Good.{states, Grown, Good}
+use Rattle.aut_steps.specs.Good.{states, ExtAut, WfAut}
 use Rattle.aut_steps.proofs.Good.{state-grown}
 use Rattle.aut_steps.specs.Meaning.{rule, Holds}
 use Rattle.aut_steps.proofs.Meaning.{holds-grown}
 use Rattle.line_steps.specs.Lines as Lines
 use Rattle.line_steps.specs.Lines.{Line, Constant, Bit, Single, Pair, Listed, each, means, Asked}
 use Rattle.book_steps.specs.Reader as Reader
-use Rattle.book_steps.specs.Reader.{Query, Said, Told, given, giving, tell}
+use Rattle.book_steps.specs.Reader.{Query, Instruction, Resolved, given, giving, resolve}
 use Rattle.book_steps.specs.Meaning.{Same, Matched, done, asked, made}
 
 -- what a line stands for, by state and by rule
@@ -42,10 +42,10 @@ module _ {N : ℕ} {σ : Aut} where
   matched-more (asked m) b = asked (matched-more m b)
   matched-more (made s m) b = made s (matched-more m b)
 
-pub same-grown : {N : ℕ} {L : Limits} {σ τ : Aut} → Good N L σ → Grown σ τ → {x : ℕ} {r : Rule N} → Same N σ x r → Same N τ x r
+pub same-grown : {N : ℕ} {L : Limits} {σ τ : Aut} → WfAut N L σ → ExtAut σ τ → {x : ℕ} {r : Rule N} → Same N σ x r → Same N τ x r
 same-grown g w s = record { state = state-grown w (s .state); strings = holds-grown g w (s .state) then s .strings }
 
-pub matched-grown : {N : ℕ} {L : Limits} {σ τ : Aut} → Good N L σ → Grown σ τ → {lines : List (Option ℕ)} {R : List (Option (Rule N))} → Matched N σ lines R → Matched N τ lines R
+pub matched-grown : {N : ℕ} {L : Limits} {σ τ : Aut} → WfAut N L σ → ExtAut σ τ → {lines : List (Option ℕ)} {R : List (Option (Rule N))} → Matched N σ lines R → Matched N τ lines R
 matched-grown g w done = done
 matched-grown g w (asked m) = asked (matched-grown g w m)
 matched-grown g w (made s m) = made (same-grown g w s) (matched-grown g w m)
@@ -63,18 +63,18 @@ pub data LineAlike (N : ℕ) (σ : Aut) : Line ℕ → Line (Rule N) → Type 0 
   pair : {w : Pair} {x y : ℕ} {r s : Rule N} → Same N σ x r → Same N σ y s → LineAlike N σ (Lines.pair w x y) (Lines.pair w r s)
   listed : {w : Listed} {xs : List ℕ} {rs : List (Rule N)} → AllSame N σ xs rs → LineAlike N σ (Lines.listed w xs) (Lines.listed w rs)
 
-pub data Alike (N : ℕ) (σ : Aut) : Told ℕ → Told (Rule N) → Type 0 where
+pub data Alike (N : ℕ) (σ : Aut) : Resolved ℕ → Resolved (Rule N) → Type 0 where
   makes : {l : Line ℕ} {m : Line (Rule N)} → LineAlike N σ l m → Alike N σ (Reader.makes l) (Reader.makes m)
   asks : {q : Query} {a x : ℕ} {r : Rule N} → Same N σ x r → Alike N σ (Reader.asks q a x) (Reader.asks q a r)
   refuses : {e : ℕ} → Alike N σ (Reader.refuses e) (Reader.refuses e)
 
 module _ {N : ℕ} {σ : Aut} {lines : List (Option ℕ)} {R : List (Option (Rule N))} (m : Matched N σ lines R) where
-  given-alike : {x : Option ℕ} {r : Option (Rule N)} {k : ℕ → Told ℕ} {j : Rule N → Told (Rule N)} → Both N σ x r
+  given-alike : {x : Option ℕ} {r : Option (Rule N)} {k : ℕ → Resolved ℕ} {j : Rule N → Resolved (Rule N)} → Both N σ x r
       → ((x : ℕ) (r : Rule N) → Same N σ x r → Alike N σ (k x) (j r)) → Alike N σ (given N lines x k) (given N R r j)
   given-alike neither f = refuses
   given-alike (both {x} {r} s) f = f x r s
 
-  giving-alike : (l : List ℕ) {k : List ℕ → Told ℕ} {j : List (Rule N) → Told (Rule N)} → ((xs : List ℕ) (rs : List (Rule N)) → AllSame N σ xs rs → Alike N σ (k xs) (j rs))
+  giving-alike : (l : List ℕ) {k : List ℕ → Resolved ℕ} {j : List (Rule N) → Resolved (Rule N)} → ((xs : List ℕ) (rs : List (Rule N)) → AllSame N σ xs rs → Alike N σ (k xs) (j rs))
       → Alike N σ (giving N lines l k) (giving N R l j)
   unfolding giving
   giving-alike [] f = f [] [] nothing
@@ -84,8 +84,8 @@ module _ {N : ℕ} {σ : Aut} {lines : List (Option ℕ)} {R : List (Option (Rul
   bit-alike w f v true l = makes (bit (l refl))
   bit-alike w f v false l = refuses
 
-  pub tell-alike : (s : Said) → Alike N σ (tell N lines s) (tell N R s)
-  unfolding tell
+  pub tell-alike : (s : Instruction) → Alike N σ (resolve N lines s) (resolve N R s)
+  unfolding resolve
   tell-alike (Reader.constant w) = makes constant
   tell-alike (Reader.bit w f v) = bit-alike w f v (ltb f N && ltb v 2) (λ e. ltb-true f N (left (ltb f N) (ltb v 2) e))
     where

@@ -29,7 +29,7 @@ use Rattle.aut_steps.specs.Good.{states}
 use Rattle.aut_steps.specs.Meaning.{Holds}
 use Rattle.aut_steps.proofs.Meaning.{holds-grown}
 use Rattle.delta_steps.specs.Delta.{putAut}
-use Rattle.query_steps.specs.Tables.{Tables, putBase, Ordered, Later}
+use Rattle.query_steps.specs.Tables.{Tables, putBase, WfTables, ExtTables}
 use Rattle.query_steps.proofs.Tables.{is-live-same, later-refl, later-trans}
 use Rattle.query_steps.specs.Search.{is-empty}
 use Rattle.query_steps.specs.Live.{live-packets}
@@ -37,10 +37,10 @@ use Rattle.query_steps.proofs.SearchLaws.{search-goes}
 use Rattle.query_steps.proofs.LiveLaws.{live-goes}
 use Rattle.book_steps.specs.Text.{Cut, line, unended, cut, words}
 use Rattle.book_steps.specs.Reader as Reader
-use Rattle.book_steps.specs.Reader.{Query, Said, said, Told, tell}
+use Rattle.book_steps.specs.Reader.{Query, Instruction, parse, Resolved, resolve}
 use Rattle.book_steps.specs.Answers.{nameOf, emptyAnswer, liveAnswer, prunedAnswer}
 use Rattle.book_steps.specs.Run as Run
-use Rattle.book_steps.specs.Run.{Lent, Setting, Place, place, after-making, after-asking, perform, obey, Ran, onward, with-line, run, Result, finish}
+use Rattle.book_steps.specs.Run.{Lent, Setting, RunState, place, after-making, after-asking, execute, step, Ran, onward, with-line, run, Result, finish}
 use Rattle.book_steps.proofs.MeaningLaws.{noted}
 use Rattle.book_steps.proofs.Meaning.{Both, both, matched-at}
 use Rattle.book_steps.specs.Demands.{InOrder}
@@ -85,7 +85,7 @@ module _ (S : Setting) where
   abbrev Meant : Type 0
   Meant = List (Option (Rule N))
 
-  abbrev point : ℕ → List ℕ → ℕ → Place → Meant → Point S
+  abbrev point : ℕ → List ℕ → ℕ → RunState → Meant → Point S
   point left text k p R = record { left = left; text = text; line = k; place = p; rules = R }
 
   point-one : (d e : Point S) → d .left ≡ e .left → d .text ≡ e .text → d .line ≡ e .line → d .place ≡ e .place → d .rules ≡ e .rules → d ≡ e
@@ -93,7 +93,7 @@ module _ (S : Setting) where
       ap (λ (x : ℕ). point x (d .text) (d .line) (d .place) (d .rules)) a
       ∙ ap (λ (x : List ℕ). point (e .left) x (d .line) (d .place) (d .rules)) b
       ∙ ap (λ (x : ℕ). point (e .left) (e .text) x (d .place) (d .rules)) c
-      ∙ ap (λ (x : Place). point (e .left) (e .text) (e .line) x (d .rules)) p
+      ∙ ap (λ (x : RunState). point (e .left) (e .text) (e .line) x (d .rules)) p
       ∙ ap (λ (x : Meant). point (e .left) (e .text) (e .line) (e .place) x) q
 
   -- ---- lines as steps of the run
@@ -129,46 +129,46 @@ module _ (S : Setting) where
   lived-of (QuerySpec.lived {l} e k) = record { handle = l; came = e; printed = refl }
 
   -- a line that is done
-  obeyed : {p q : Place} {R Q : Meant} {s : Said} → LineSpec S p R s q Q → (y : ℕ) × (obey S (some s) p ≡ given q y) × (noted R (tell N R s) ≡ Q)
+  obeyed : {p q : RunState} {R Q : Meant} {s : Instruction} → LineSpec S p R s q Q → (y : ℕ) × (step S (some s) p ≡ given q y) × (noted R (resolve N R s) ≡ Q)
   obeyed {p} {R = R} (made {x = x} t u e k) = (
     x,
-    ap (λ (t : Told ℕ). perform S t p) t ∙ ap (λ (c : Outcome Aut ℕ). after-making S p (placed putBase (p .tables) (placed putAut (p .tables .base) c))) e,
+    ap (λ (t : Resolved ℕ). execute S t p) t ∙ ap (λ (c : Outcome Aut ℕ). after-making S p (placed putBase (p .tables) (placed putAut (p .tables .base) c))) e,
     ap (noted R) u,
   )
   obeyed {p} {R = R} (answered {τ = τ} {answer} t u k f) = (
     0,
-    ap (λ (t : Told ℕ). perform S t p) t ∙ ap (after-asking S p) (asked-is k)
+    ap (λ (t : Resolved ℕ). execute S t p) t ∙ ap (after-asking S p) (asked-is k)
         ∙ ap (λ (b : Bool). if b then given (place τ (p .lines ++ none ∷ []) (p .output ++ answer)) 0 else refused 27) (le-leb (length (p .output ++ answer)) (S .room) f),
     ap (noted R) u,
   )
 
   -- ---- the run's next line
 
-  next-line : (left : ℕ) (text : List ℕ) (k : ℕ) (p : Place) {l rest : List ℕ} → 0 < left → cut text ≡ line l rest
-      → (m : ℕ) × (left ≡ suc m) × (run S left text k p ≡ onward S (run S m rest) k p (obey S (said (words l)) p))
+  next-line : (left : ℕ) (text : List ℕ) (k : ℕ) (p : RunState) {l rest : List ℕ} → 0 < left → cut text ≡ line l rest
+      → (m : ℕ) × (left ≡ suc m) × (run S left text k p ≡ onward S (run S m rest) k p (step S (parse (words l)) p))
   unfolding run
   next-line zero text k p z e = absurd (omega arith)
   next-line (suc m) [] k p z e = absurd (cut-none e)
   next-line (suc m) (b ∷ text) k p z e = (m, refl, ap (with-line S (run S m) k p) e)
 
-  said-line : (c : Point S) (rest : List ℕ) (s : Option Said) → Reads S c rest s
-      → (m : ℕ) × (c .left ≡ suc m) × (run S (c .left) (c .text) (c .line) (c .place) ≡ onward S (run S m rest) (c .line) (c .place) (obey S s (c .place)))
+  said-line : (c : Point S) (rest : List ℕ) (s : Option Instruction) → Reads S c rest s
+      → (m : ℕ) × (c .left ≡ suc m) × (run S (c .left) (c .text) (c .line) (c .place) ≡ onward S (run S m rest) (c .line) (c .place) (step S s (c .place)))
   said-line c rest s (z, (l, e, w)) =
       let (m, q, r) = next-line (c .left) (c .text) (c .line) (c .place) z e in
-      (m, q, r ∙ ap (λ (s : Option Said). onward S (run S m rest) (c .line) (c .place) (obey S s (c .place))) w)
+      (m, q, r ∙ ap (λ (s : Option Instruction). onward S (run S m rest) (c .line) (c .place) (step S s (c .place))) w)
 
-  run-none : (text : List ℕ) (k : ℕ) (p : Place) → ¬ (text ≡ []) → run S 0 text k p ≡ Run.stopped 3 k (p .output)
+  run-none : (text : List ℕ) (k : ℕ) (p : RunState) → ¬ (text ≡ []) → run S 0 text k p ≡ Run.stopped 3 k (p .output)
   unfolding run
   run-none [] k p n = absurd (n refl)
   run-none (b ∷ text) k p n = refl
 
-  run-unended : (left : ℕ) (text : List ℕ) (k : ℕ) (p : Place) → ¬ (text ≡ []) → 0 < left → cut text ≡ unended → run S left text k p ≡ Run.stopped 3 k (p .output)
+  run-unended : (left : ℕ) (text : List ℕ) (k : ℕ) (p : RunState) → ¬ (text ≡ []) → 0 < left → cut text ≡ unended → run S left text k p ≡ Run.stopped 3 k (p .output)
   unfolding run
   run-unended zero text k p n z e = absurd (omega arith)
   run-unended (suc left) [] k p n z e = absurd (n refl)
   run-unended (suc left) (b ∷ text) k p n z e = ap (with-line S (run S left) k p) e
 
-  run-end : (left k : ℕ) (p : Place) → run S left [] k p ≡ Run.answered p
+  run-end : (left k : ℕ) (p : RunState) → run S left [] k p ≡ Run.answered p
   unfolding run
   run-end zero k p = refl
   run-end (suc left) k p = refl
@@ -177,7 +177,7 @@ module _ (S : Setting) where
   stopped-at : (c : Point S) (number : ℕ) → LineRefusal S c number → run S (c .left) (c .text) (c .line) (c .place) ≡ Run.stopped number (c .line) (c .place .output)
   stopped-at c number y = go y
     where
-      by : (rest : List ℕ) (s : Option Said) {number : ℕ} → Reads S c rest s → obey S s (c .place) ≡ refused number
+      by : (rest : List ℕ) (s : Option Instruction) {number : ℕ} → Reads S c rest s → step S s (c .place) ≡ refused number
           → run S (c .left) (c .text) (c .line) (c .place) ≡ Run.stopped number (c .line) (c .place .output)
       by rest s w e = let (m, q, r) = said-line c rest s w in r ∙ ap (onward S (run S m rest) (c .line) (c .place)) e
 
@@ -185,15 +185,15 @@ module _ (S : Setting) where
       go (LineRefusal.too-many n e) = ap (λ (left : ℕ). run S left (c .text) (c .line) (c .place)) e ∙ run-none (c .text) (c .line) (c .place) n
       go (LineRefusal.no-end n z e) = run-unended (c .left) (c .text) (c .line) (c .place) n z e
       go (LineRefusal.no-form {rest} w) = by rest none w refl
-      go (LineRefusal.misnamed {rest} {s} w m) = by rest (some s) w (ap (λ (t : Told ℕ). perform S t (c .place)) (reads N (c .place .lines) s .four .1 m))
-      go (LineRefusal.out-of-range {rest} {s} w m) = by rest (some s) w (ap (λ (t : Told ℕ). perform S t (c .place)) (reads N (c .place .lines) s .five .1 m))
+      go (LineRefusal.misnamed {rest} {s} w m) = by rest (some s) w (ap (λ (t : Resolved ℕ). execute S t (c .place)) (reads N (c .place .lines) s .four .1 m))
+      go (LineRefusal.out-of-range {rest} {s} w m) = by rest (some s) w (ap (λ (t : Resolved ℕ). execute S t (c .place)) (reads N (c .place .lines) s .five .1 m))
       go (LineRefusal.making {rest} {s} w t e m) =
           by rest (some s) w
-          (ap (λ (t : Told ℕ). perform S t (c .place)) t ∙ ap (λ (o : Outcome Aut ℕ). after-making S (c .place) (placed putBase (c .place .tables) (placed putAut (c .place .tables .base) o))) e)
-      go (LineRefusal.asking {rest} {s} {q} {a} {x} {number} w t e m) = by rest (some s) w (ap (λ (t : Told ℕ). perform S t (c .place)) t ∙ ap (after-asking S (c .place)) (asked-not (c .place .tables) q (nameOf a) x number e))
+          (ap (λ (t : Resolved ℕ). execute S t (c .place)) t ∙ ap (λ (o : Outcome Aut ℕ). after-making S (c .place) (placed putBase (c .place .tables) (placed putAut (c .place .tables .base) o))) e)
+      go (LineRefusal.asking {rest} {s} {q} {a} {x} {number} w t e m) = by rest (some s) w (ap (λ (t : Resolved ℕ). execute S t (c .place)) t ∙ ap (after-asking S (c .place)) (asked-not (c .place .tables) q (nameOf a) x number e))
       go (LineRefusal.no-room {rest} {s} {τ = τ} {answer} w t u k f) =
           by rest (some s) w
-          (ap (λ (t : Told ℕ). perform S t (c .place)) t ∙ ap (after-asking S (c .place)) (asked-is k)
+          (ap (λ (t : Resolved ℕ). execute S t (c .place)) t ∙ ap (after-asking S (c .place)) (asked-is k)
           ∙ ap (λ (b : Bool). if b then given (place τ (c .place .lines ++ none ∷ []) (c .place .output ++ answer)) 0 else refused 27)
           (by-test (leb (length (c .place .output ++ answer)) (S .room)) (λ b. absurd (omega (arith, leb-true (length (c .place .output ++ answer)) (S .room) b))) (λ b. b)))
 
@@ -224,13 +224,13 @@ module _ (S : Setting) where
         let (z, (l, cut-l, said-l)) = t .reads in
         let (z′, (m, cut-m, said-m)) = u .reads in
         let (l-is, rest-is) = same-line (sym cut-l ∙ cut-m) in
-        let s : t .says ≡ u .says = some-same (sym said-l ∙ ap (λ (l : List ℕ). said (words l)) l-is ∙ said-m) in
+        let s : t .says ≡ u .says = some-same (sym said-l ∙ ap (λ (l : List ℕ). parse (words l)) l-is ∙ said-m) in
         let (y, f, n) = obeyed (t .does) in
         let (y′, g, o) = obeyed (u .does) in
-        let k = sym f ∙ ap (λ (s : Said). obey S (some s) (c .place)) s ∙ g in
-        point-one d e (omega (arith, t .counted, u .counted)) rest-is (t .line-is ∙ sym (u .line-is)) (given-state k) (sym n ∙ ap (λ (s : Said). noted (c .rules) (tell N (c .rules) s)) s ∙ o)
+        let k = sym f ∙ ap (λ (s : Instruction). step S (some s) (c .place)) s ∙ g in
+        point-one d e (omega (arith, t .counted, u .counted)) rest-is (t .line-is ∙ sym (u .line-is)) (given-state k) (sym n ∙ ap (λ (s : Instruction). noted (c .rules) (resolve N (c .rules) s)) s ∙ o)
       where
-        given-state : {p q : Place} {x y : ℕ} → _≡_ {A = Outcome Place ℕ} (given p x) (given q y) → p ≡ q
+        given-state : {p q : RunState} {x y : ℕ} → _≡_ {A = Outcome RunState ℕ} (given p x) (given q y) → p ≡ q
         given-state e = cc
 
     pub linear : {c d e : Point S} → Steps S lent c d → Steps S lent c e → Steps S lent d e ⊎ Steps S lent e d
@@ -240,7 +240,7 @@ module _ (S : Setting) where
 
     -- ---- in order all the way
 
-    came : (c : Point S) {s : Said} {q : Place} {y : ℕ} → Lined S lent c s (given q y) → InOrder S lent q (noted (c .rules) (tell N (c .rules) s)) × Later (c .place .tables) (q .tables)
+    came : (c : Point S) {s : Instruction} {q : RunState} {y : ℕ} → Lined S lent c s (given q y) → InOrder S lent q (noted (c .rules) (resolve N (c .rules) s)) × ExtTables (c .place .tables) (q .tables)
     came c (comes k i l) = (i, l)
 
     next : (c d : Point S) → InOrder S lent (c .place) (c .rules) → LineStep S lent c d → InOrder S lent (d .place) (d .rules)
@@ -253,12 +253,12 @@ module _ (S : Setting) where
     kept i here = i
     kept i (on {c} {d} t w) = kept (next c d i t) w
 
-    later : {c d : Point S} → Steps S lent c d → Later (c .place .tables) (d .place .tables)
+    later : {c d : Point S} → Steps S lent c d → ExtTables (c .place .tables) (d .place .tables)
     later (here {c}) = later-refl (c .place .tables)
     later (on t w) = later-trans (t .later) (later w)
 
     -- the state of a line
-    known : (p : Place) (R : Meant) → InOrder S lent p R → (a x : ℕ) → getD (p .lines) a none ≡ some x → x < states (p .tables .base .aut)
+    known : (p : RunState) (R : Meant) → InOrder S lent p R → (a x : ℕ) → getD (p .lines) a none ≡ some x → x < states (p .tables .base .aut)
     known p R i a x e = go (subst (λ (o : Option ℕ). Both N (p .tables .base .aut) o (getD R a none)) e (matched-at (i .tables .matched) a))
       where
         go : {r : Option (Rule N)} → Both N (p .tables .base .aut) (some x) r → x < states (p .tables .base .aut)
@@ -300,7 +300,7 @@ module _ (S : Setting) where
 
     -- ---- the run
 
-    pub run-spec : (left : ℕ) (text : List ℕ) (k : ℕ) {p : Place} {R : Meant} → InOrder S lent p R → RunSpec S lent (point left text k p R) (finish lent (run S left text k p))
+    pub run-spec : (left : ℕ) (text : List ℕ) (k : ℕ) {p : RunState} {R : Meant} → InOrder S lent p R → RunSpec S lent (point left text k p R) (finish lent (run S left text k p))
     unfolding run
     run-spec zero [] k i = (_, here, Final.ends refl refl)
     run-spec zero (b ∷ text) k i = (_, here, Final.stops (LineRefusal.too-many (λ e. let z : _≡_ {A = ℕ} 0 1 = cc in omega arith) refl) refl)
@@ -311,22 +311,22 @@ module _ (S : Setting) where
         c = point (suc left) (b ∷ text) k p R
 
         Rest : List ℕ → Type 0
-        Rest rest = (k : ℕ) (q : Place) (Q : Meant) → InOrder S lent q Q → RunSpec S lent (point left rest k q Q) (finish lent (run S left rest k q))
+        Rest rest = (k : ℕ) (q : RunState) (Q : Meant) → InOrder S lent q Q → RunSpec S lent (point left rest k q Q) (finish lent (run S left rest k q))
 
-        at-line : (rest : List ℕ) → Rest rest → (s : Said) → Reads S c rest (some s) → (o : Outcome Place ℕ) → Lined S lent c s o → RunSpec S lent c (finish lent (onward S (run S left rest) k p o))
+        at-line : (rest : List ℕ) → Rest rest → (s : Instruction) → Reads S c rest (some s) → (o : Outcome RunState ℕ) → Lined S lent c s o → RunSpec S lent c (finish lent (onward S (run S left rest) k p o))
         at-line rest f s w (refused number) (stops y) = (c, here, Final.stops y refl)
         at-line rest f s w (given q x) (comes y j g) =
-            let (d, v, z) = f (suc k) q (noted R (tell N R s)) j in
-            let t : LineStep S lent c (point left rest (suc k) q (noted R (tell N R s))) = record { says = s; reads = w; counted = refl; line-is = refl; does = y; later = g; tables = j .tables } in
+            let (d, v, z) = f (suc k) q (noted R (resolve N R s)) j in
+            let t : LineStep S lent c (point left rest (suc k) q (noted R (resolve N R s))) = record { says = s; reads = w; counted = refl; line-is = refl; does = y; later = g; tables = j .tables } in
             (d, on t v, z)
 
-        at-said : (rest l : List ℕ) → cut (b ∷ text) ≡ line l rest → Rest rest → (s : Option Said) → said (words l) ≡ s → RunSpec S lent c (finish lent (onward S (run S left rest) k p (obey S s p)))
+        at-said : (rest l : List ℕ) → cut (b ∷ text) ≡ line l rest → Rest rest → (s : Option Instruction) → parse (words l) ≡ s → RunSpec S lent c (finish lent (onward S (run S left rest) k p (step S s p)))
         at-said rest l e f none w = (c, here, Final.stops (LineRefusal.no-form {rest = rest} (omega arith, (l, e, w))) refl)
-        at-said rest l e f (some s) w = at-line rest f s (omega arith, (l, e, w)) (obey S (some s) p) (lined S lent c i rest s (omega arith, (l, e, w)))
+        at-said rest l e f (some s) w = at-line rest f s (omega arith, (l, e, w)) (step S (some s) p) (lined S lent c i rest s (omega arith, (l, e, w)))
 
         at-cut : ((text : List ℕ) → Rest text) → (b′ : Cut) → cut (b ∷ text) ≡ b′ → RunSpec S lent c (finish lent (with-line S (run S left) k p b′))
         at-cut f unended e = (c, here, Final.stops (LineRefusal.no-end (λ e. let z : _≡_ {A = ℕ} 0 1 = cc in omega arith) (omega arith) e) refl)
-        at-cut f (line l rest) e = at-said rest l e (f rest) (said (words l)) refl
+        at-cut f (line l rest) e = at-said rest l e (f rest) (parse (words l)) refl
 
     pub runs : (c : Point S) → InOrder S lent (c .place) (c .rules) → RunClaim S lent c
     runs c i = record {

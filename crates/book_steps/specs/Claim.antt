@@ -16,11 +16,11 @@ use Rattle.aut_steps.specs.Tables.{Limits, aut}
 use Rattle.delta_steps.specs.Delta.{store}
 use Rattle.query_steps.specs.Tables.{tables}
 use Rattle.book_steps.specs.Text.{bytes, line, unended, cut, words, decimal}
-use Rattle.book_steps.specs.Reader.{Header, header, Said}
+use Rattle.book_steps.specs.Reader.{Header, header, Instruction}
 use Rattle.book_steps.specs.Answers.{say, fieldsAnswer}
 use Rattle.book_steps.specs.Conditions.{ReadSpec, Conditions}
 use Rattle.book_steps.specs.Demands.{InOrder}
-use Rattle.book_steps.specs.Run.{Lent, Setting, Place, place, Result, outcome}
+use Rattle.book_steps.specs.Run.{Lent, Setting, RunState, place, Result, outcome}
 use Rattle.book_steps.specs.RunSpec.{Refused, Point, RunSpec, RunClaim, PrintedSpec}
 
 -- ---- the whole book
@@ -45,7 +45,7 @@ setting01 lent h = record {
 }
 
 -- "Every table is zeroed first": the constants of N fields, in zeroed tables; and the line `fields N`
-pub data Begun (lent : Lent) (N : ℕ) : Place → Type 0 where
+pub data Begun (lent : Lent) (N : ℕ) : RunState → Type 0 where
   begun : {s t : Table} {z : ℕ} {c : Spp.Constants} → N ≤ 31
       → Sp.constants N (table (replicate (lent .sp) 0) 0) ≡ given s z
       → Spp.constants N (table (replicate (lent .spp) 0) 0) ≡ given t c → length (fieldsAnswer N) ≤ lent .output
@@ -61,7 +61,7 @@ pub data HeaderRefusal (lent : Lent) (N : ℕ) : ℕ → Type 0 where
       → HeaderRefusal lent N 27
 
 -- 2,048 instructions from text line 2 on
-abbrev pub first : (S : Setting) → List ℕ → Place → Point S
+abbrev pub first : (S : Setting) → List ℕ → RunState → Point S
 first S text p = record { left = 2048; text = text; line = 2; place = p; rules = [] }
 
 -- 01, promise 5: "a single claim about a whole book, not one for each line: constructors and queries in any order, from
@@ -71,7 +71,7 @@ pub data BookSpec (lent : Lent) (book : List ℕ) (r : Result) : Type 0 where
   headless : 6144 ≤ lent .scratch → Headless book → Refused lent 1 1 [] r → BookSpec lent book r
   not-begun : {h : Header} {text : List ℕ} {number : ℕ} → 6144 ≤ lent .scratch → Headed book h text
       → HeaderRefusal lent (h .fields) number → Refused lent number 1 [] r → BookSpec lent book r
-  ran : {h : Header} {text : List ℕ} {p : Place} → 6144 ≤ lent .scratch → Headed book h text → Begun lent (h .fields) p
+  ran : {h : Header} {text : List ℕ} {p : RunState} → 6144 ≤ lent .scratch → Headed book h text → Begun lent (h .fields) p
       → InOrder (setting01 lent h) lent p [] → RunSpec (setting01 lent h) lent (first (setting01 lent h) text p) r
       → BookSpec lent book r
 
@@ -81,8 +81,8 @@ pub record Claim (lent : Lent) (book : List ℕ) : Type 0 where
   pub whole : BookSpec lent book (outcome lent book)
   pub only : (r : Result) → BookSpec lent book r → r ≡ outcome lent book
   pub runs : (S : Setting) (c : Point S) → InOrder S lent (c .place) (c .rules) → RunClaim S lent c
-  pub begins : (h : Header) (p : Place) → Begun lent (h .fields) p → InOrder (setting01 lent h) lent p []
-  pub reads : (N : ℕ) (lines : List (Option ℕ)) (s : Said) → ReadSpec N lines s
+  pub begins : (h : Header) (p : RunState) → Begun lent (h .fields) p → InOrder (setting01 lent h) lent p []
+  pub reads : (N : ℕ) (lines : List (Option ℕ)) (s : Instruction) → ReadSpec N lines s
   pub printed : PrintedSpec
   pub budget : (h : Header) (text : List ℕ) → Headed book h text → h .budget < 2 ^ 64
   pub conditions : (N : ℕ) (L : Limits) → Conditions N L
@@ -112,19 +112,19 @@ pub record Lends (lent : Lent) (m : Slices) : Type 0 where
   pub output : length (m .output) ≡ lent .output
 
 -- "output bytes past the returned length are untouched"
-pub record Written (bytes before after : List ℕ) : Type 0 where
+pub record WritesOnly (bytes before after : List ℕ) : Type 0 where
   pub len : length after ≡ length before
   pub fits : length bytes ≤ length before
   pub is : (i : ℕ) → i < length bytes → getD after i 0 ≡ getD bytes i 0
   pub untouched : (i : ℕ) → length bytes ≤ i → getD after i 0 ≡ getD before i 0
 
 -- What is returned, and each table as it is left: the outcome r.
-pub record Comes (r : Result) (number line len : ℕ)
+pub record Refines (r : Result) (number line len : ℕ)
     (before output sp spp states members transitions pending scratch : List ℕ) : Type 0 where
   pub number-is : number ≡ r .number
   pub line-is : line ≡ r .line
   pub length-is : len ≡ length (r .output)
-  pub output-is : Written (r .output) before output
+  pub output-is : WritesOnly (r .output) before output
   pub sp-is : sp ≡ r .sp
   pub spp-is : spp ≡ r .spp
   pub states-are : states ≡ r .states
@@ -137,7 +137,7 @@ pub record Comes (r : Result) (number line len : ℕ)
 -- table." What the entry returns and leaves, of the slices m that it was lent.
 pub record EntrySpec (lent : Lent) (book : List ℕ) (m : Slices) (number line len : ℕ) (n : Slices) : Type 0 where
   pub lends : Lends lent m
-  pub refines : Comes (outcome lent book) number line len (m .output) (n .output) (n .sp) (n .spp) (n .states)
+  pub refines : Refines (outcome lent book) number line len (m .output) (n .output) (n .sp) (n .spp) (n .states)
       (n .members) (n .transitions) (n .pending) (n .scratch)
   pub leaves : Lends lent n
   pub claim : Claim lent book

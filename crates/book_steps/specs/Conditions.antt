@@ -31,12 +31,12 @@ use Rattle.query_steps.specs.Tables.{Tables}
 use Rattle.query_steps.specs.Search.{machine}
 use Rattle.query_steps.specs.Live.{found, Work, enqueue, explore, settled, enlarge, live-sets}
 use Rattle.book_steps.specs.Reader as Reader
-use Rattle.book_steps.specs.Reader.{Said, refuses, tell}
+use Rattle.book_steps.specs.Reader.{Instruction, refuses, resolve}
 
 -- ---- a line that is read
 
 -- "4 a named line is not an earlier constructor line": the lines that a line names; one stands for no state
-abbrev pub named : Said → List ℕ
+abbrev pub named : Instruction → List ℕ
 named (Reader.constant w) = []
 named (Reader.bit w f v) = []
 named (Reader.single w a) = a ∷ []
@@ -44,17 +44,17 @@ named (Reader.pair w a b) = a ∷ b ∷ []
 named (Reader.listed w l) = l
 named (Reader.query q a) = a ∷ []
 
-abbrev pub Misnamed : List (Option ℕ) → Said → Type 0
+abbrev pub Misnamed : List (Option ℕ) → Instruction → Type 0
 Misnamed lines s = (a : ℕ) × List·Memᴰ a (named s) × (getD lines a none ≡ none)
 
 -- "5 f is N or more, or v above 1"
-abbrev pub OutOfRange : ℕ → Said → Type 0
+abbrev pub OutOfRange : ℕ → Instruction → Type 0
 OutOfRange N s = (w : Bit) × (f : ℕ) × (v : ℕ) × (s ≡ Reader.bit w f v) × ((N ≤ f) ⊎ (1 < v))
 
-pub record ReadSpec (N : ℕ) (lines : List (Option ℕ)) (s : Said) : Type 0 where
-  pub four : (tell N lines s ≡ refuses 4) ↔ Misnamed lines s
-  pub five : (tell N lines s ≡ refuses 5) ↔ OutOfRange N s
-  pub other : (number : ℕ) → tell N lines s ≡ refuses number → (number ≡ 4) ⊎ (number ≡ 5)
+pub record ReadSpec (N : ℕ) (lines : List (Option ℕ)) (s : Instruction) : Type 0 where
+  pub four : (resolve N lines s ≡ refuses 4) ↔ Misnamed lines s
+  pub five : (resolve N lines s ≡ refuses 5) ↔ OutOfRange N s
+  pub other : (number : ℕ) → resolve N lines s ≡ refuses number → (number ≡ 4) ⊎ (number ≡ 5)
 
 -- ---- what the conditions speak of
 

@@ -14,7 +14,7 @@ use Rattle.netkat.specs.Rules.{Rule, In}
 use Rattle.netkat.specs.Hops.{IsEpsilon}
 use Rattle.netkat.specs.Lists.{State, Transition, Ascending, IsDelta}
 use Rattle.netkat.specs.Search.{Log, Verdict, yes, no, spent, search}
-use Rattle.netkat.specs.Promise.{Once, Needs}
+use Rattle.netkat.specs.Promise.{Distinct, Needs}
 use Rattle.netkat.specs.Live as Live
 use Rattle.netkat.specs.Live.{IsLive}
 use Rattle.sp_steps.specs.Model as Sp
@@ -29,10 +29,10 @@ use Rattle.aut_steps.specs.Meaning.{Holds}
 use Rattle.delta_steps.specs.Epsilon.{epsilonOf}
 use Rattle.delta_steps.specs.Delta.{startOf, countOf, Store, listAt}
 use Rattle.delta_steps.specs.PlainSearch.{decoded, answers}
-use Rattle.query_steps.specs.Tables.{Tables, liveOf, Ordered}
+use Rattle.query_steps.specs.Tables.{Tables, liveOf, WfTables}
 use Rattle.book_steps.specs.Answers.{Pairs}
 use Rattle.book_steps.specs.Meaning.{Same, Matched}
-use Rattle.book_steps.specs.Run.{Lent, Setting, Place}
+use Rattle.book_steps.specs.Run.{Lent, Setting, RunState}
 
 -- "Capacity is whole records, at most 32,768 states and 2^24 records of any other table; words beyond stay zero": a
 -- table of `size` words a record, of which `room` words are lent
@@ -66,7 +66,7 @@ module _ (S : Setting) where
     pub log : Log N
     pub plain : search (answers N (S .limits)) (S .budget) x (σ .base) ≡ given end (v, log)
     pub count : c ≡ log .count
-    pub once : Once (log .expanded)
+    pub once : Distinct (log .expanded)
     pub bound : c ≤ 1 + length (log .expanded) * 2 ^ N * log .longest
     pub enough : 1 + length (log .expanded) * 2 ^ N * log .longest ≤ S .budget → ¬ (v ≡ spent)
     pub exactly : ¬ (v ≡ spent) → (v ≡ yes) ↔ ((w : Str N) → ¬ In r w)
@@ -114,7 +114,7 @@ module _ (S : Setting) where
     pub live : (l : ℕ) → liveOf st x ≡ l + 1 → IsLive (Sp.mem (σ .sets .words) N l) (Holds N A x)
 
   -- .. of each state; no state twice; and each line's state holds exactly its rule's strings
-  pub record TablesSpec (lent : Lent) (p : Place) (R : List (Option (Rule N))) : Type 0 where
+  pub record TablesSpec (lent : Lent) (p : RunState) (R : List (Option (Rule N))) : Type 0 where
     pub room : RoomSpec lent (p .tables)
     pub state : (x : ℕ) → x < states (p .tables .base .aut)
         → StateSpec (p .tables) (p .tables .base .aut) (p .tables .base .aut .states .words) x
@@ -122,8 +122,8 @@ module _ (S : Setting) where
         → kind A x ≡ kind A y → operands N A x ≡ operands N A y → x ≡ y
     pub matched : Matched N (p .tables .base .aut) (p .lines) R
 
-  -- A place from which a run is as Claim says: tables in order (`Ordered`: the invariant of the steps) that mean the
+  -- A place from which a run is as Claim says: tables in order (`WfTables`: the invariant of the steps) that mean the
   -- rules.
-  pub record InOrder (lent : Lent) (p : Place) (R : List (Option (Rule N))) : Type 0 where
-    pub ordered : Ordered N (S .limits) (p .tables)
+  pub record InOrder (lent : Lent) (p : RunState) (R : List (Option (Rule N))) : Type 0 where
+    pub ordered : WfTables N (S .limits) (p .tables)
     pub tables : TablesSpec lent p R

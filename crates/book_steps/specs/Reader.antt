@@ -37,13 +37,13 @@ header (f ∷ n ∷ b ∷ m ∷ l ∷ ls) = none
 pub data Query : Type 0 where
   empty live pruned : Query
 
-pub data Said : Type 0 where
-  constant : Constant → Said
-  bit : Bit → ℕ → ℕ → Said
-  single : Single → ℕ → Said
-  pair : Pair → ℕ → ℕ → Said
-  listed : Listed → List ℕ → Said
-  query : Query → ℕ → Said
+pub data Instruction : Type 0 where
+  constant : Constant → Instruction
+  bit : Bit → ℕ → ℕ → Instruction
+  single : Single → ℕ → Instruction
+  pair : Pair → ℕ → ℕ → Instruction
+  listed : Listed → List ℕ → Instruction
+  query : Query → ℕ → Instruction
 
 pub record Named (A : Type 0) : Type 0 where
   pub word : String
@@ -93,46 +93,46 @@ numbers [] = some []
 numbers (w ∷ ws) = inFront (number w) (numbers ws)
 
 -- a word that takes so many numbers
-unfoldable pub exact : List ℕ → List ℕ → Option Said
+unfoldable pub exact : List ℕ → List ℕ → Option Instruction
 exact w [] = map constant (find constants w)
 exact w (a ∷ []) = orElse (map (λ k. single k a) (find singles w)) (map (λ k. query k a) (find queries w))
 exact w (a ∷ b ∷ []) = orElse (map (λ k. bit k a b) (find bits w)) (map (λ k. pair k a b) (find pairs w))
 exact w (a ∷ b ∷ c ∷ l) = none
 
 -- .. or any number of them
-abbrev pub saying : List ℕ → Option (List ℕ) → Option Said
+abbrev pub saying : List ℕ → Option (List ℕ) → Option Instruction
 saying w none = none
 saying w (some l) = orElse (exact w l) (map (λ k. listed k l) (find lists w))
 
 -- what a line's words say, if it is of its form
-unfoldable pub said : List (List ℕ) → Option Said
-said [] = none
-said (w ∷ ws) = saying w (numbers ws)
+unfoldable pub parse : List (List ℕ) → Option Instruction
+parse [] = none
+parse (w ∷ ws) = saying w (numbers ws)
 
 -- ---- instructions, by the lines before: each constructor line stands for something, a state or a rule; a query for nothing
 
-pub data Told (A : Type 0) : Type 0 where
-  makes : Line A → Told A
-  asks : Query → ℕ → A → Told A  -- of the line named
-  refuses : ℕ → Told A
+pub data Resolved (A : Type 0) : Type 0 where
+  makes : Line A → Resolved A
+  asks : Query → ℕ → A → Resolved A  -- of the line named
+  refuses : ℕ → Resolved A
 
 module _ {A : Type 0} (N : ℕ) (lines : List (Option A)) where
   abbrev pub named-by : ℕ → Option A
   named-by a = getD lines a none
 
-  abbrev pub given : Option A → (A → Told A) → Told A
+  abbrev pub given : Option A → (A → Resolved A) → Resolved A
   given none k = refuses 4
   given (some x) k = k x
 
   -- every line of a list, in its order
-  unfoldable pub giving : List ℕ → (List A → Told A) → Told A
+  unfoldable pub giving : List ℕ → (List A → Resolved A) → Resolved A
   giving [] k = k []
   giving (a ∷ l) k = given (named-by a) (λ x. giving l (λ xs. k (x ∷ xs)))
 
-  unfoldable pub tell : Said → Told A
-  tell (constant w) = makes (Lines.constant w)
-  tell (bit w f v) = if ltb f N && ltb v 2 then makes (Lines.bit w f (eqb v 1)) else refuses 5
-  tell (single w a) = given (named-by a) (λ x. makes (Lines.single w x))
-  tell (pair w a b) = given (named-by a) (λ x. given (named-by b) (λ y. makes (Lines.pair w x y)))
-  tell (listed w l) = giving l (λ xs. makes (Lines.listed w xs))
-  tell (query q a) = given (named-by a) (λ x. asks q a x)
+  unfoldable pub resolve : Instruction → Resolved A
+  resolve (constant w) = makes (Lines.constant w)
+  resolve (bit w f v) = if ltb f N && ltb v 2 then makes (Lines.bit w f (eqb v 1)) else refuses 5
+  resolve (single w a) = given (named-by a) (λ x. makes (Lines.single w x))
+  resolve (pair w a b) = given (named-by a) (λ x. given (named-by b) (λ y. makes (Lines.pair w x y)))
+  resolve (listed w l) = giving l (λ xs. makes (Lines.listed w xs))
+  resolve (query q a) = given (named-by a) (λ x. asks q a x)

@@ -18,7 +18,7 @@ use Rattle.query_steps.specs.Search.{is-empty}
 use Rattle.query_steps.specs.Live.{live-packets}
 use Rattle.query_steps.specs.Pruned.{delta-pruned}
 use Rattle.book_steps.specs.Text.{Cut, line, unended, cut, words}
-use Rattle.book_steps.specs.Reader.{Header, header, Query, empty, live, pruned, Said, said, Told, makes, asks, refuses, tell}
+use Rattle.book_steps.specs.Reader.{Header, header, Query, empty, live, pruned, Instruction, parse, Resolved, makes, asks, refuses, resolve}
 use Rattle.book_steps.specs.Answers.{nameOf, fieldsAnswer, emptyAnswer, liveAnswer, prunedAnswer}
 
 -- ---- what is lent: words of each table, bytes of the output
@@ -44,12 +44,12 @@ pub record Setting : Type 0 where
 -- ---- the place in a book that runs
 
 -- the tables; what each line so far stands for, a constructor line for a state, a query for nothing; the output
-pub record Place : Type 0 where
+pub record RunState : Type 0 where
   pub tables : Tables
   pub lines : List (Option ℕ)
   pub output : List ℕ
 
-abbrev pub place : Tables → List (Option ℕ) → List ℕ → Place
+abbrev pub place : Tables → List (Option ℕ) → List ℕ → RunState
 place σ lines out = record { tables = σ; lines = lines; output = out }
 
 -- the answer to a query of the line that is named so, whose state is x
@@ -61,43 +61,43 @@ module _ (S : Setting) where
       given σ (prunedAnswer name (map (λ (e : Edge). record { target = e .target; number = Spp.size (σ .base .aut .nodes .words) (S .fields) (e .label) }) es))
 
   -- a line's step: a number that refuses it, or the next place
-  abbrev pub after-making : Place → Outcome Tables ℕ → Outcome Place ℕ
+  abbrev pub after-making : RunState → Outcome Tables ℕ → Outcome RunState ℕ
   after-making p (refused e) = refused e
   after-making p (given σ x) = given (place σ (p .lines ++ some x ∷ []) (p .output)) x
 
   -- 27: the output cannot hold the answer's lines
-  abbrev pub after-asking : Place → Outcome Tables (List ℕ) → Outcome Place ℕ
+  abbrev pub after-asking : RunState → Outcome Tables (List ℕ) → Outcome RunState ℕ
   after-asking p (refused e) = refused e
   after-asking p (given σ answer) =
       if leb (length (p .output ++ answer)) (S .room) then given (place σ (p .lines ++ none ∷ []) (p .output ++ answer)) 0 else refused 27
 
-  abbrev pub perform : Told ℕ → Place → Outcome Place ℕ
-  perform (refuses e) p = refused e
-  perform (makes l) p = after-making p (onBase (onAut (make (S .fields) (S .limits) l)) (p .tables))
-  perform (asks q a x) p = after-asking p (query q (nameOf a) x (p .tables))
+  abbrev pub execute : Resolved ℕ → RunState → Outcome RunState ℕ
+  execute (refuses e) p = refused e
+  execute (makes l) p = after-making p (onBase (onAut (make (S .fields) (S .limits) l)) (p .tables))
+  execute (asks q a x) p = after-asking p (query q (nameOf a) x (p .tables))
 
   -- 3: the line is not of its form
-  abbrev pub obey : Option Said → Place → Outcome Place ℕ
-  obey none p = refused 3
-  obey (some s) p = perform (tell (S .fields) (p .lines) s) p
+  abbrev pub step : Option Instruction → RunState → Outcome RunState ℕ
+  step none p = refused 3
+  step (some s) p = execute (resolve (S .fields) (p .lines) s) p
 
   -- ---- the lines, one after the other
 
   -- the place at the end; or a number, a text line, and the output of the lines before
   pub data Ran : Type 0 where
-    answered : Place → Ran
+    answered : RunState → Ran
     stopped : (number line : ℕ) → List ℕ → Ran
 
-  abbrev pub onward : (ℕ → Place → Ran) → (k : ℕ) → Place → Outcome Place ℕ → Ran
+  abbrev pub onward : (ℕ → RunState → Ran) → (k : ℕ) → RunState → Outcome RunState ℕ → Ran
   onward go k p (refused e) = stopped e k (p .output)
   onward go k p (given q x) = go (suc k) q
 
-  abbrev pub with-line : (List ℕ → ℕ → Place → Ran) → (k : ℕ) → Place → Cut → Ran
+  abbrev pub with-line : (List ℕ → ℕ → RunState → Ran) → (k : ℕ) → RunState → Cut → Ran
   with-line go k p unended = stopped 3 k (p .output)
-  with-line go k p (line l rest) = onward (go rest) k p (obey (said (words l)) p)
+  with-line go k p (line l rest) = onward (go rest) k p (step (parse (words l)) p)
 
   -- at most `left` instructions from text line k on
-  unfoldable pub run : (left : ℕ) → List ℕ → (k : ℕ) → Place → Ran
+  unfoldable pub run : (left : ℕ) → List ℕ → (k : ℕ) → RunState → Ran
   run zero [] k p = answered p
   run zero (b ∷ text) k p = stopped 3 k (p .output)
   run (suc left) [] k p = answered p
@@ -113,7 +113,7 @@ abbrev pub instructions : ℕ
 instructions = 2048
 
 -- begun tables, and the first line of the output
-abbrev pub begun : Lent → Header → Outcome Table ℕ → Outcome Table Spp.Constants → Outcome Place ℕ
+abbrev pub begun : Lent → Header → Outcome Table ℕ → Outcome Table Spp.Constants → Outcome RunState ℕ
 begun lent h (refused e) r = refused e
 begun lent h (given s z) (refused e) = refused e
 begun lent h (given s z) (given r c) =
@@ -121,7 +121,7 @@ begun lent h (given s z) (given r c) =
     then given (place (tables s (store (aut r (table (zeroed (lent .states)) 0) (table (zeroed (lent .members)) 0)) (table (zeroed (lent .transitions)) 0))) [] (fieldsAnswer (h .fields))) 0
     else refused 27
 
-unfoldable pub begin : Lent → Header → Outcome Place ℕ
+unfoldable pub begin : Lent → Header → Outcome RunState ℕ
 begin lent h =
     if ltb 31 (h .fields) then refused 2
     else begun lent h (Sp.constants (h .fields) (table (zeroed (lent .sp)) 0)) (Spp.constants (h .fields) (table (zeroed (lent .spp)) 0))
@@ -160,7 +160,7 @@ module _ (lent : Lent) where
   }
 
   -- Answered: the tables hold what the steps made; pending and scratch are zero. Success returns 0 and line 0.
-  abbrev pub success : Place → Result
+  abbrev pub success : RunState → Result
   success p = record {
     number = 0;
     line = 0;
@@ -179,7 +179,7 @@ module _ (lent : Lent) where
   finish (stopped e k out) = refusal e k out
 
   -- the instructions begin in text line 2
-  abbrev pub started : Header → List ℕ → Outcome Place ℕ → Result
+  abbrev pub started : Header → List ℕ → Outcome RunState ℕ → Result
   started h text (refused e) = refusal e 1 []
   started h text (given p x) = finish (run (settingOf lent h) instructions text 2 p)
 

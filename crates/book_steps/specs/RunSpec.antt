@@ -17,18 +17,18 @@ use Rattle.spp_steps.specs.Model as Spp
 use Rattle.aut_steps.specs.Tables.{Aut}
 use Rattle.line_steps.specs.Lines.{Line, means, make}
 use Rattle.delta_steps.specs.Delta.{putAut}
-use Rattle.query_steps.specs.Tables.{Tables, putBase, Later}
+use Rattle.query_steps.specs.Tables.{Tables, putBase, ExtTables}
 use Rattle.query_steps.specs.Search.{is-empty}
 use Rattle.query_steps.specs.Live.{live-packets}
 use Rattle.query_steps.specs.Pruned.{delta-pruned}
 use Rattle.book_steps.specs.Text.{line, unended, cut, words}
 use Rattle.book_steps.specs.Reader as Reader
-use Rattle.book_steps.specs.Reader.{Query, Said, said, makes, asks, tell}
+use Rattle.book_steps.specs.Reader.{Query, Instruction, parse, makes, asks, resolve}
 use Rattle.book_steps.specs.Answers.{nameOf, emptyAnswer, liveAnswer, Pairs, prunedAnswer}
 use Rattle.book_steps.specs.Meaning.{Same}
 use Rattle.book_steps.specs.Conditions.{Misnamed, OutOfRange}
 use Rattle.book_steps.specs.Demands.{SearchSpec, LiveSpec, PrunedSpec, TablesSpec, InOrder}
-use Rattle.book_steps.specs.Run.{Lent, Setting, Place, place, Result, run, finish}
+use Rattle.book_steps.specs.Run.{Lent, Setting, RunState, place, Result, run, finish}
 
 -- "number, line, output, each word of each table"; "pending and scratch are zero" in both
 abbrev pub leaves : Lent → (number at : ℕ) → (output sp spp states members transitions : List ℕ) → Result
@@ -51,7 +51,7 @@ Refused lent number k output r = r ≡ leaves lent number k output (replicate (l
     (replicate (lent .states) 0) (replicate (lent .members) 0) (replicate (lent .transitions) 0)
 
 -- "Answered: the tables hold what the Rust's steps make"; "Success returns 0 and line 0"
-abbrev pub Answered : Lent → Place → Result → Type 0
+abbrev pub Answered : Lent → RunState → Result → Type 0
 Answered lent p r = r ≡ leaves lent 0 0 (p .output) (p .tables .sets .words) (p .tables .base .aut .nodes .words)
     (p .tables .base .aut .states .words) (p .tables .base .aut .members .words) (p .tables .base .transitions .words)
 
@@ -65,7 +65,7 @@ module _ (S : Setting) where
 
   -- ---- a line
 
-  -- the targets and the numbers of pairs that a list's lines tell
+  -- the targets and the numbers of pairs that a list's lines resolve
   abbrev pub told : Tables → List Edge → List Pairs
   told τ es =
       map (λ (e : Edge). record { target = e .target; number = Spp.size (τ .base .aut .nodes .words) N (e .label) }) es
@@ -87,14 +87,14 @@ module _ (S : Setting) where
 
   -- What the line s has done: "constructors and queries in any order, .. each on what the last one left". The place and
   -- the rules behind it.
-  pub data LineSpec (p : Place) (R : Meant) (s : Said) : Place → Meant → Type 0 where
-    made : {l : Line ℕ} {m : Line (Rule N)} {x : ℕ} {τ : Aut} → tell N (p .lines) s ≡ makes l → tell N R s ≡ makes m
+  pub data LineSpec (p : RunState) (R : Meant) (s : Instruction) : RunState → Meant → Type 0 where
+    made : {l : Line ℕ} {m : Line (Rule N)} {x : ℕ} {τ : Aut} → resolve N (p .lines) s ≡ makes l → resolve N R s ≡ makes m
         → make N (S .limits) l (p .tables .base .aut) ≡ given τ x → Same N τ x (means (λ r. r) m)
         → LineSpec p R s
         (place (putBase (putAut τ (p .tables .base)) (p .tables)) (p .lines ++ some x ∷ []) (p .output))
         (R ++ some (means (λ r. r) m) ∷ [])
-    answered : {q : Query} {a x : ℕ} {r : Rule N} {τ : Tables} {answer : List ℕ} → tell N (p .lines) s ≡ asks q a x
-        → tell N R s ≡ asks q a r → QuerySpec (p .tables) (nameOf a) x r τ q answer → length (p .output ++ answer) ≤ S .room
+    answered : {q : Query} {a x : ℕ} {r : Rule N} {τ : Tables} {answer : List ℕ} → resolve N (p .lines) s ≡ asks q a x
+        → resolve N R s ≡ asks q a r → QuerySpec (p .tables) (nameOf a) x r τ q answer → length (p .output ++ answer) ≤ S .room
         → LineSpec p R s (place τ (p .lines ++ none ∷ []) (p .output ++ answer)) (R ++ none ∷ [])
 
   -- Where a run stands: at most `left` instructions in the text, which begins with text line `line`; place; rules.
@@ -102,11 +102,11 @@ module _ (S : Setting) where
     pub left : ℕ
     pub text : List ℕ
     pub line : ℕ
-    pub place : Place
+    pub place : RunState
     pub rules : Meant
 
-  abbrev pub Reads : Point → (rest : List ℕ) → Option Said → Type 0
-  Reads c rest s = (0 < c .left) × ((l : List ℕ) × (cut (c .text) ≡ line l rest) × (said (words l) ≡ s))
+  abbrev pub Reads : Point → (rest : List ℕ) → Option Instruction → Type 0
+  Reads c rest s = (0 < c .left) × ((l : List ℕ) × (cut (c .text) ≡ line l rest) × (parse (words l) ≡ s))
 
   -- Why the next line is refused: "3 a line is not of its form, lacks byte 10, or is instruction 2,049"; "by line 3, 4,
   -- 5, then whichever the steps meet first, 27 last". The steps' number is that of the line's own step (Conditions).
@@ -114,30 +114,30 @@ module _ (S : Setting) where
     too-many : ¬ (c .text ≡ []) → c .left ≡ 0 → LineRefusal c 3
     no-end : ¬ (c .text ≡ []) → 0 < c .left → cut (c .text) ≡ unended → LineRefusal c 3
     no-form : {rest : List ℕ} → Reads c rest none → LineRefusal c 3
-    misnamed : {rest : List ℕ} {s : Said} → Reads c rest (some s) → Misnamed (c .place .lines) s → LineRefusal c 4
-    out-of-range : {rest : List ℕ} {s : Said} → Reads c rest (some s) → OutOfRange N s → LineRefusal c 5
-    making : {rest : List ℕ} {s : Said} {l : Line ℕ} {number : ℕ} → Reads c rest (some s)
-        → tell N (c .place .lines) s ≡ makes l → make N (S .limits) l (c .place .tables .base .aut) ≡ refused number
+    misnamed : {rest : List ℕ} {s : Instruction} → Reads c rest (some s) → Misnamed (c .place .lines) s → LineRefusal c 4
+    out-of-range : {rest : List ℕ} {s : Instruction} → Reads c rest (some s) → OutOfRange N s → LineRefusal c 5
+    making : {rest : List ℕ} {s : Instruction} {l : Line ℕ} {number : ℕ} → Reads c rest (some s)
+        → resolve N (c .place .lines) s ≡ makes l → make N (S .limits) l (c .place .tables .base .aut) ≡ refused number
         → List·Memᴰ number (6 ∷ 7 ∷ 8 ∷ 21 ∷ 22 ∷ 23 ∷ []) → LineRefusal c number
-    asking : {rest : List ℕ} {s : Said} {q : Query} {a x number : ℕ} → Reads c rest (some s)
-        → tell N (c .place .lines) s ≡ asks q a x → QueryRefused (c .place .tables) q x number
+    asking : {rest : List ℕ} {s : Instruction} {q : Query} {a x number : ℕ} → Reads c rest (some s)
+        → resolve N (c .place .lines) s ≡ asks q a x → QueryRefused (c .place .tables) q x number
         → List·Memᴰ number (6 ∷ 7 ∷ 8 ∷ 9 ∷ 20 ∷ 21 ∷ 22 ∷ 23 ∷ 24 ∷ 25 ∷ []) → LineRefusal c number
-    no-room : {rest : List ℕ} {s : Said} {q : Query} {a x : ℕ} {r : Rule N} {τ : Tables} {answer : List ℕ}
-        → Reads c rest (some s) → tell N (c .place .lines) s ≡ asks q a x → tell N (c .rules) s ≡ asks q a r
+    no-room : {rest : List ℕ} {s : Instruction} {q : Query} {a x : ℕ} {r : Rule N} {τ : Tables} {answer : List ℕ}
+        → Reads c rest (some s) → resolve N (c .place .lines) s ≡ asks q a x → resolve N (c .rules) s ≡ asks q a r
         → QuerySpec (c .place .tables) (nameOf a) x r τ q answer → S .room < length (c .place .output ++ answer)
         → LineRefusal c 27
 
   -- ---- the lines of a book
 
   module _ (lent : Lent) where
-    -- The next line is done, from c to d; what was there and worked out is as it was (`Later`).
+    -- The next line is done, from c to d; what was there and worked out is as it was (`ExtTables`).
     pub record LineStep (c d : Point) : Type 0 where
-      pub says : Said
+      pub says : Instruction
       pub reads : Reads c (d .text) (some says)
       pub counted : c .left ≡ suc (d .left)
       pub line-is : d .line ≡ suc (c .line)
       pub does : LineSpec (c .place) (c .rules) says (d .place) (d .rules)
-      pub later : Later (c .place .tables) (d .place .tables)
+      pub later : ExtTables (c .place .tables) (d .place .tables)
       pub tables : TablesSpec S lent (d .place) (d .rules)
 
     -- lines done one after the other, from the first point to the second

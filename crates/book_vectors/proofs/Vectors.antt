@@ -164,7 +164,7 @@ rows-1 =
     ∷ []
 
 pub all-come-1 : AllCome rows-1
-unfolding outcome run begin Text.cut Text.words Text.same Text.digits Text.reading Text.number Text.decimalBy Text.decimal Reader.header Reader.find Reader.numbers Reader.exact Reader.said Reader.giving Reader.tell Answers.say Answers.share Answers.pairLines Sp.size Spp.size Spp.assign is-empty Handles.search Handles.run Handles.turn Handles.expand Handles.walk flip Sp.kid Sp.child Sp.same Sp.seek Sp.room Sp.put Sp.intern Sp.mk Sp.exit Sp.join Sp.both Sp.apply Sp.union Sp.complement Sp.difference Sp.isZero Sp.isUniversal Images.fwdNode Images.fwd Images.ledExit Images.pushNode Images.push Images.hasExit Images.hasImage mk-spp mk-dup mk-top mk-union mk-union-n mk-intersect-n mk-intersect mk-intersect-n-base mk-complement mk-sequence sequence-by sequence-with mk-star mk-until unite meet openUnion openAll opened extend each countAll countOne product base bases finish addRelation uniteOne meetOne meetFinish addLast intern0 intern1 intern2 internL putL put seek same2 sameAt sameL storeMembers nestL roomS roomM put4 kindOf op1 op2 nest words least rise test Spp.field Spp.apply Spp.exit Spp.each Spp.complement Spp.sequence Spp.seqExit Spp.product Spp.star Spp.starExit Spp.blocks Spp.mk Spp.seek Spp.same Spp.kids Spp.kid Spp.room Spp.put Spp.zeroAt Spp.oneAt Spp.topAt ListSteps.unite ListSteps.enter ListSteps.enterIn ListSteps.place ListSteps.st-singleton ListSteps.split ListSteps.insert ListSteps.insertEach ListSteps.insertPairs ListSteps.st-union ListSteps.st-intersect ListSteps.coverAll ListSteps.st-complement ListSteps.st-postcompose ListSteps.st-precompose ListSteps.st-intersect-expr epsilonOf setWord keepEpsilon eachOf uniteAll meetAll epsilon-by-kind epsilon-with epsilon-by epsilon startOf countOf edges flat roomT append listAt keepList unionAll intersectAll sequenceList starList untilList dupList topList delta-by-kind delta-with delta-by delta Sp.constants Spp.constants Spp.zeros Spp.ones Spp.tops enqueue labelTo enlarge keepIn explore pullBack pullFrom pullAll settle live-anew live-sets live-packets liveOf viable prune delta-pruned Images.bwdNode Images.bwd Images.ifwdNode Images.ifwd Images.pullNode Images.pull mk-difference mk-xor ListSteps.subtractRow ListSteps.subtractRows ListSteps.st-difference ListSteps.st-xor
+unfolding outcome run begin Text.cut Text.words Text.same Text.digits Text.reading Text.number Text.decimalBy Text.decimal Reader.header Reader.find Reader.numbers Reader.exact Reader.parse Reader.giving Reader.resolve Answers.say Answers.share Answers.pairLines Sp.size Spp.size Spp.assign is-empty Handles.search Handles.run Handles.turn Handles.expand Handles.walk flip Sp.kid Sp.child Sp.same Sp.seek Sp.room Sp.put Sp.intern Sp.mk Sp.exit Sp.join Sp.both Sp.apply Sp.union Sp.complement Sp.difference Sp.isZero Sp.isUniversal Images.fwdNode Images.fwd Images.ledExit Images.pushNode Images.push Images.hasExit Images.hasImage mk-spp mk-dup mk-top mk-union mk-union-n mk-intersect-n mk-intersect mk-intersect-n-base mk-complement mk-sequence sequence-by sequence-with mk-star mk-until unite meet openUnion openAll opened extend each countAll countOne product base bases finish addRelation uniteOne meetOne meetFinish addLast intern0 intern1 intern2 internL putL put seek same2 sameAt sameL storeMembers nestL roomS roomM put4 kindOf op1 op2 nest words least rise test Spp.field Spp.apply Spp.exit Spp.each Spp.complement Spp.sequence Spp.seqExit Spp.product Spp.star Spp.starExit Spp.blocks Spp.mk Spp.seek Spp.same Spp.kids Spp.kid Spp.room Spp.put Spp.zeroAt Spp.oneAt Spp.topAt ListSteps.unite ListSteps.enter ListSteps.enterIn ListSteps.place ListSteps.st-singleton ListSteps.split ListSteps.insert ListSteps.insertEach ListSteps.insertPairs ListSteps.st-union ListSteps.st-intersect ListSteps.coverAll ListSteps.st-complement ListSteps.st-postcompose ListSteps.st-precompose ListSteps.st-intersect-expr epsilonOf setWord keepEpsilon eachOf uniteAll meetAll epsilon-by-kind epsilon-with epsilon-by epsilon startOf countOf edges flat roomT append listAt keepList unionAll intersectAll sequenceList starList untilList dupList topList delta-by-kind delta-with delta-by delta Sp.constants Spp.constants Spp.zeros Spp.ones Spp.tops enqueue labelTo enlarge keepIn explore pullBack pullFrom pullAll settle live-anew live-sets live-packets liveOf viable prune delta-pruned Images.bwdNode Images.bwd Images.ifwdNode Images.ifwd Images.pullNode Images.pull mk-difference mk-xor ListSteps.subtractRow ListSteps.subtractRows ListSteps.st-difference ListSteps.st-xor
 all-come-1 = (refl, (refl, (refl, (refl, (refl, (refl, (refl, (refl, (refl, (refl, tt))))))))))
 
 abbrev pub rows-2 : List Row
@@ -272,7 +272,7 @@ rows-2 =
     ∷ []
 
 pub all-come-2 : AllCome rows-2
-unfolding outcome run begin Text.cut Text.words Text.same Text.digits Text.reading Text.number Text.decimalBy Text.decimal Reader.header Reader.find Reader.numbers Reader.exact Reader.said Reader.giving Reader.tell Answers.say Answers.share Answers.pairLines Sp.size Spp.size Spp.assign is-empty Handles.search Handles.run Handles.turn Handles.expand Handles.walk flip Sp.kid Sp.child Sp.same Sp.seek Sp.room Sp.put Sp.intern Sp.mk Sp.exit Sp.join Sp.both Sp.apply Sp.union Sp.complement Sp.difference Sp.isZero Sp.isUniversal Images.fwdNode Images.fwd Images.ledExit Images.pushNode Images.push Images.hasExit Images.hasImage mk-spp mk-dup mk-top mk-union mk-union-n mk-intersect-n mk-intersect mk-intersect-n-base mk-complement mk-sequence sequence-by sequence-with mk-star mk-until unite meet openUnion openAll opened extend each countAll countOne product base bases finish addRelation uniteOne meetOne meetFinish addLast intern0 intern1 intern2 internL putL put seek same2 sameAt sameL storeMembers nestL roomS roomM put4 kindOf op1 op2 nest words least rise test Spp.field Spp.apply Spp.exit Spp.each Spp.complement Spp.sequence Spp.seqExit Spp.product Spp.star Spp.starExit Spp.blocks Spp.mk Spp.seek Spp.same Spp.kids Spp.kid Spp.room Spp.put Spp.zeroAt Spp.oneAt Spp.topAt ListSteps.unite ListSteps.enter ListSteps.enterIn ListSteps.place ListSteps.st-singleton ListSteps.split ListSteps.insert ListSteps.insertEach ListSteps.insertPairs ListSteps.st-union ListSteps.st-intersect ListSteps.coverAll ListSteps.st-complement ListSteps.st-postcompose ListSteps.st-precompose ListSteps.st-intersect-expr epsilonOf setWord keepEpsilon eachOf uniteAll meetAll epsilon-by-kind epsilon-with epsilon-by epsilon startOf countOf edges flat roomT append listAt keepList unionAll intersectAll sequenceList starList untilList dupList topList delta-by-kind delta-with delta-by delta Sp.constants Spp.constants Spp.zeros Spp.ones Spp.tops enqueue labelTo enlarge keepIn explore pullBack pullFrom pullAll settle live-anew live-sets live-packets liveOf viable prune delta-pruned Images.bwdNode Images.bwd Images.ifwdNode Images.ifwd Images.pullNode Images.pull mk-difference mk-xor ListSteps.subtractRow ListSteps.subtractRows ListSteps.st-difference ListSteps.st-xor
+unfolding outcome run begin Text.cut Text.words Text.same Text.digits Text.reading Text.number Text.decimalBy Text.decimal Reader.header Reader.find Reader.numbers Reader.exact Reader.parse Reader.giving Reader.resolve Answers.say Answers.share Answers.pairLines Sp.size Spp.size Spp.assign is-empty Handles.search Handles.run Handles.turn Handles.expand Handles.walk flip Sp.kid Sp.child Sp.same Sp.seek Sp.room Sp.put Sp.intern Sp.mk Sp.exit Sp.join Sp.both Sp.apply Sp.union Sp.complement Sp.difference Sp.isZero Sp.isUniversal Images.fwdNode Images.fwd Images.ledExit Images.pushNode Images.push Images.hasExit Images.hasImage mk-spp mk-dup mk-top mk-union mk-union-n mk-intersect-n mk-intersect mk-intersect-n-base mk-complement mk-sequence sequence-by sequence-with mk-star mk-until unite meet openUnion openAll opened extend each countAll countOne product base bases finish addRelation uniteOne meetOne meetFinish addLast intern0 intern1 intern2 internL putL put seek same2 sameAt sameL storeMembers nestL roomS roomM put4 kindOf op1 op2 nest words least rise test Spp.field Spp.apply Spp.exit Spp.each Spp.complement Spp.sequence Spp.seqExit Spp.product Spp.star Spp.starExit Spp.blocks Spp.mk Spp.seek Spp.same Spp.kids Spp.kid Spp.room Spp.put Spp.zeroAt Spp.oneAt Spp.topAt ListSteps.unite ListSteps.enter ListSteps.enterIn ListSteps.place ListSteps.st-singleton ListSteps.split ListSteps.insert ListSteps.insertEach ListSteps.insertPairs ListSteps.st-union ListSteps.st-intersect ListSteps.coverAll ListSteps.st-complement ListSteps.st-postcompose ListSteps.st-precompose ListSteps.st-intersect-expr epsilonOf setWord keepEpsilon eachOf uniteAll meetAll epsilon-by-kind epsilon-with epsilon-by epsilon startOf countOf edges flat roomT append listAt keepList unionAll intersectAll sequenceList starList untilList dupList topList delta-by-kind delta-with delta-by delta Sp.constants Spp.constants Spp.zeros Spp.ones Spp.tops enqueue labelTo enlarge keepIn explore pullBack pullFrom pullAll settle live-anew live-sets live-packets liveOf viable prune delta-pruned Images.bwdNode Images.bwd Images.ifwdNode Images.ifwd Images.pullNode Images.pull mk-difference mk-xor ListSteps.subtractRow ListSteps.subtractRows ListSteps.st-difference ListSteps.st-xor
 all-come-2 = (refl, (refl, (refl, (refl, (refl, (refl, (refl, (refl, (refl, (refl, tt))))))))))
 
 abbrev pub rows-3 : List Row
@@ -380,7 +380,7 @@ rows-3 =
     ∷ []
 
 pub all-come-3 : AllCome rows-3
-unfolding outcome run begin Text.cut Text.words Text.same Text.digits Text.reading Text.number Text.decimalBy Text.decimal Reader.header Reader.find Reader.numbers Reader.exact Reader.said Reader.giving Reader.tell Answers.say Answers.share Answers.pairLines Sp.size Spp.size Spp.assign is-empty Handles.search Handles.run Handles.turn Handles.expand Handles.walk flip Sp.kid Sp.child Sp.same Sp.seek Sp.room Sp.put Sp.intern Sp.mk Sp.exit Sp.join Sp.both Sp.apply Sp.union Sp.complement Sp.difference Sp.isZero Sp.isUniversal Images.fwdNode Images.fwd Images.ledExit Images.pushNode Images.push Images.hasExit Images.hasImage mk-spp mk-dup mk-top mk-union mk-union-n mk-intersect-n mk-intersect mk-intersect-n-base mk-complement mk-sequence sequence-by sequence-with mk-star mk-until unite meet openUnion openAll opened extend each countAll countOne product base bases finish addRelation uniteOne meetOne meetFinish addLast intern0 intern1 intern2 internL putL put seek same2 sameAt sameL storeMembers nestL roomS roomM put4 kindOf op1 op2 nest words least rise test Spp.field Spp.apply Spp.exit Spp.each Spp.complement Spp.sequence Spp.seqExit Spp.product Spp.star Spp.starExit Spp.blocks Spp.mk Spp.seek Spp.same Spp.kids Spp.kid Spp.room Spp.put Spp.zeroAt Spp.oneAt Spp.topAt ListSteps.unite ListSteps.enter ListSteps.enterIn ListSteps.place ListSteps.st-singleton ListSteps.split ListSteps.insert ListSteps.insertEach ListSteps.insertPairs ListSteps.st-union ListSteps.st-intersect ListSteps.coverAll ListSteps.st-complement ListSteps.st-postcompose ListSteps.st-precompose ListSteps.st-intersect-expr epsilonOf setWord keepEpsilon eachOf uniteAll meetAll epsilon-by-kind epsilon-with epsilon-by epsilon startOf countOf edges flat roomT append listAt keepList unionAll intersectAll sequenceList starList untilList dupList topList delta-by-kind delta-with delta-by delta Sp.constants Spp.constants Spp.zeros Spp.ones Spp.tops enqueue labelTo enlarge keepIn explore pullBack pullFrom pullAll settle live-anew live-sets live-packets liveOf viable prune delta-pruned Images.bwdNode Images.bwd Images.ifwdNode Images.ifwd Images.pullNode Images.pull mk-difference mk-xor ListSteps.subtractRow ListSteps.subtractRows ListSteps.st-difference ListSteps.st-xor
+unfolding outcome run begin Text.cut Text.words Text.same Text.digits Text.reading Text.number Text.decimalBy Text.decimal Reader.header Reader.find Reader.numbers Reader.exact Reader.parse Reader.giving Reader.resolve Answers.say Answers.share Answers.pairLines Sp.size Spp.size Spp.assign is-empty Handles.search Handles.run Handles.turn Handles.expand Handles.walk flip Sp.kid Sp.child Sp.same Sp.seek Sp.room Sp.put Sp.intern Sp.mk Sp.exit Sp.join Sp.both Sp.apply Sp.union Sp.complement Sp.difference Sp.isZero Sp.isUniversal Images.fwdNode Images.fwd Images.ledExit Images.pushNode Images.push Images.hasExit Images.hasImage mk-spp mk-dup mk-top mk-union mk-union-n mk-intersect-n mk-intersect mk-intersect-n-base mk-complement mk-sequence sequence-by sequence-with mk-star mk-until unite meet openUnion openAll opened extend each countAll countOne product base bases finish addRelation uniteOne meetOne meetFinish addLast intern0 intern1 intern2 internL putL put seek same2 sameAt sameL storeMembers nestL roomS roomM put4 kindOf op1 op2 nest words least rise test Spp.field Spp.apply Spp.exit Spp.each Spp.complement Spp.sequence Spp.seqExit Spp.product Spp.star Spp.starExit Spp.blocks Spp.mk Spp.seek Spp.same Spp.kids Spp.kid Spp.room Spp.put Spp.zeroAt Spp.oneAt Spp.topAt ListSteps.unite ListSteps.enter ListSteps.enterIn ListSteps.place ListSteps.st-singleton ListSteps.split ListSteps.insert ListSteps.insertEach ListSteps.insertPairs ListSteps.st-union ListSteps.st-intersect ListSteps.coverAll ListSteps.st-complement ListSteps.st-postcompose ListSteps.st-precompose ListSteps.st-intersect-expr epsilonOf setWord keepEpsilon eachOf uniteAll meetAll epsilon-by-kind epsilon-with epsilon-by epsilon startOf countOf edges flat roomT append listAt keepList unionAll intersectAll sequenceList starList untilList dupList topList delta-by-kind delta-with delta-by delta Sp.constants Spp.constants Spp.zeros Spp.ones Spp.tops enqueue labelTo enlarge keepIn explore pullBack pullFrom pullAll settle live-anew live-sets live-packets liveOf viable prune delta-pruned Images.bwdNode Images.bwd Images.ifwdNode Images.ifwd Images.pullNode Images.pull mk-difference mk-xor ListSteps.subtractRow ListSteps.subtractRows ListSteps.st-difference ListSteps.st-xor
 all-come-3 = (refl, (refl, (refl, (refl, (refl, (refl, (refl, (refl, (refl, (refl, tt))))))))))
 
 abbrev pub rows-4 : List Row
@@ -488,7 +488,7 @@ rows-4 =
     ∷ []
 
 pub all-come-4 : AllCome rows-4
-unfolding outcome run begin Text.cut Text.words Text.same Text.digits Text.reading Text.number Text.decimalBy Text.decimal Reader.header Reader.find Reader.numbers Reader.exact Reader.said Reader.giving Reader.tell Answers.say Answers.share Answers.pairLines Sp.size Spp.size Spp.assign is-empty Handles.search Handles.run Handles.turn Handles.expand Handles.walk flip Sp.kid Sp.child Sp.same Sp.seek Sp.room Sp.put Sp.intern Sp.mk Sp.exit Sp.join Sp.both Sp.apply Sp.union Sp.complement Sp.difference Sp.isZero Sp.isUniversal Images.fwdNode Images.fwd Images.ledExit Images.pushNode Images.push Images.hasExit Images.hasImage mk-spp mk-dup mk-top mk-union mk-union-n mk-intersect-n mk-intersect mk-intersect-n-base mk-complement mk-sequence sequence-by sequence-with mk-star mk-until unite meet openUnion openAll opened extend each countAll countOne product base bases finish addRelation uniteOne meetOne meetFinish addLast intern0 intern1 intern2 internL putL put seek same2 sameAt sameL storeMembers nestL roomS roomM put4 kindOf op1 op2 nest words least rise test Spp.field Spp.apply Spp.exit Spp.each Spp.complement Spp.sequence Spp.seqExit Spp.product Spp.star Spp.starExit Spp.blocks Spp.mk Spp.seek Spp.same Spp.kids Spp.kid Spp.room Spp.put Spp.zeroAt Spp.oneAt Spp.topAt ListSteps.unite ListSteps.enter ListSteps.enterIn ListSteps.place ListSteps.st-singleton ListSteps.split ListSteps.insert ListSteps.insertEach ListSteps.insertPairs ListSteps.st-union ListSteps.st-intersect ListSteps.coverAll ListSteps.st-complement ListSteps.st-postcompose ListSteps.st-precompose ListSteps.st-intersect-expr epsilonOf setWord keepEpsilon eachOf uniteAll meetAll epsilon-by-kind epsilon-with epsilon-by epsilon startOf countOf edges flat roomT append listAt keepList unionAll intersectAll sequenceList starList untilList dupList topList delta-by-kind delta-with delta-by delta Sp.constants Spp.constants Spp.zeros Spp.ones Spp.tops enqueue labelTo enlarge keepIn explore pullBack pullFrom pullAll settle live-anew live-sets live-packets liveOf viable prune delta-pruned Images.bwdNode Images.bwd Images.ifwdNode Images.ifwd Images.pullNode Images.pull mk-difference mk-xor ListSteps.subtractRow ListSteps.subtractRows ListSteps.st-difference ListSteps.st-xor
+unfolding outcome run begin Text.cut Text.words Text.same Text.digits Text.reading Text.number Text.decimalBy Text.decimal Reader.header Reader.find Reader.numbers Reader.exact Reader.parse Reader.giving Reader.resolve Answers.say Answers.share Answers.pairLines Sp.size Spp.size Spp.assign is-empty Handles.search Handles.run Handles.turn Handles.expand Handles.walk flip Sp.kid Sp.child Sp.same Sp.seek Sp.room Sp.put Sp.intern Sp.mk Sp.exit Sp.join Sp.both Sp.apply Sp.union Sp.complement Sp.difference Sp.isZero Sp.isUniversal Images.fwdNode Images.fwd Images.ledExit Images.pushNode Images.push Images.hasExit Images.hasImage mk-spp mk-dup mk-top mk-union mk-union-n mk-intersect-n mk-intersect mk-intersect-n-base mk-complement mk-sequence sequence-by sequence-with mk-star mk-until unite meet openUnion openAll opened extend each countAll countOne product base bases finish addRelation uniteOne meetOne meetFinish addLast intern0 intern1 intern2 internL putL put seek same2 sameAt sameL storeMembers nestL roomS roomM put4 kindOf op1 op2 nest words least rise test Spp.field Spp.apply Spp.exit Spp.each Spp.complement Spp.sequence Spp.seqExit Spp.product Spp.star Spp.starExit Spp.blocks Spp.mk Spp.seek Spp.same Spp.kids Spp.kid Spp.room Spp.put Spp.zeroAt Spp.oneAt Spp.topAt ListSteps.unite ListSteps.enter ListSteps.enterIn ListSteps.place ListSteps.st-singleton ListSteps.split ListSteps.insert ListSteps.insertEach ListSteps.insertPairs ListSteps.st-union ListSteps.st-intersect ListSteps.coverAll ListSteps.st-complement ListSteps.st-postcompose ListSteps.st-precompose ListSteps.st-intersect-expr epsilonOf setWord keepEpsilon eachOf uniteAll meetAll epsilon-by-kind epsilon-with epsilon-by epsilon startOf countOf edges flat roomT append listAt keepList unionAll intersectAll sequenceList starList untilList dupList topList delta-by-kind delta-with delta-by delta Sp.constants Spp.constants Spp.zeros Spp.ones Spp.tops enqueue labelTo enlarge keepIn explore pullBack pullFrom pullAll settle live-anew live-sets live-packets liveOf viable prune delta-pruned Images.bwdNode Images.bwd Images.ifwdNode Images.ifwd Images.pullNode Images.pull mk-difference mk-xor ListSteps.subtractRow ListSteps.subtractRows ListSteps.st-difference ListSteps.st-xor
 all-come-4 = (refl, (refl, (refl, (refl, (refl, (refl, (refl, (refl, (refl, (refl, tt))))))))))
 
 abbrev pub rows-5 : List Row
@@ -596,7 +596,7 @@ rows-5 =
     ∷ []
 
 pub all-come-5 : AllCome rows-5
-unfolding outcome run begin Text.cut Text.words Text.same Text.digits Text.reading Text.number Text.decimalBy Text.decimal Reader.header Reader.find Reader.numbers Reader.exact Reader.said Reader.giving Reader.tell Answers.say Answers.share Answers.pairLines Sp.size Spp.size Spp.assign is-empty Handles.search Handles.run Handles.turn Handles.expand Handles.walk flip Sp.kid Sp.child Sp.same Sp.seek Sp.room Sp.put Sp.intern Sp.mk Sp.exit Sp.join Sp.both Sp.apply Sp.union Sp.complement Sp.difference Sp.isZero Sp.isUniversal Images.fwdNode Images.fwd Images.ledExit Images.pushNode Images.push Images.hasExit Images.hasImage mk-spp mk-dup mk-top mk-union mk-union-n mk-intersect-n mk-intersect mk-intersect-n-base mk-complement mk-sequence sequence-by sequence-with mk-star mk-until unite meet openUnion openAll opened extend each countAll countOne product base bases finish addRelation uniteOne meetOne meetFinish addLast intern0 intern1 intern2 internL putL put seek same2 sameAt sameL storeMembers nestL roomS roomM put4 kindOf op1 op2 nest words least rise test Spp.field Spp.apply Spp.exit Spp.each Spp.complement Spp.sequence Spp.seqExit Spp.product Spp.star Spp.starExit Spp.blocks Spp.mk Spp.seek Spp.same Spp.kids Spp.kid Spp.room Spp.put Spp.zeroAt Spp.oneAt Spp.topAt ListSteps.unite ListSteps.enter ListSteps.enterIn ListSteps.place ListSteps.st-singleton ListSteps.split ListSteps.insert ListSteps.insertEach ListSteps.insertPairs ListSteps.st-union ListSteps.st-intersect ListSteps.coverAll ListSteps.st-complement ListSteps.st-postcompose ListSteps.st-precompose ListSteps.st-intersect-expr epsilonOf setWord keepEpsilon eachOf uniteAll meetAll epsilon-by-kind epsilon-with epsilon-by epsilon startOf countOf edges flat roomT append listAt keepList unionAll intersectAll sequenceList starList untilList dupList topList delta-by-kind delta-with delta-by delta Sp.constants Spp.constants Spp.zeros Spp.ones Spp.tops enqueue labelTo enlarge keepIn explore pullBack pullFrom pullAll settle live-anew live-sets live-packets liveOf viable prune delta-pruned Images.bwdNode Images.bwd Images.ifwdNode Images.ifwd Images.pullNode Images.pull mk-difference mk-xor ListSteps.subtractRow ListSteps.subtractRows ListSteps.st-difference ListSteps.st-xor
+unfolding outcome run begin Text.cut Text.words Text.same Text.digits Text.reading Text.number Text.decimalBy Text.decimal Reader.header Reader.find Reader.numbers Reader.exact Reader.parse Reader.giving Reader.resolve Answers.say Answers.share Answers.pairLines Sp.size Spp.size Spp.assign is-empty Handles.search Handles.run Handles.turn Handles.expand Handles.walk flip Sp.kid Sp.child Sp.same Sp.seek Sp.room Sp.put Sp.intern Sp.mk Sp.exit Sp.join Sp.both Sp.apply Sp.union Sp.complement Sp.difference Sp.isZero Sp.isUniversal Images.fwdNode Images.fwd Images.ledExit Images.pushNode Images.push Images.hasExit Images.hasImage mk-spp mk-dup mk-top mk-union mk-union-n mk-intersect-n mk-intersect mk-intersect-n-base mk-complement mk-sequence sequence-by sequence-with mk-star mk-until unite meet openUnion openAll opened extend each countAll countOne product base bases finish addRelation uniteOne meetOne meetFinish addLast intern0 intern1 intern2 internL putL put seek same2 sameAt sameL storeMembers nestL roomS roomM put4 kindOf op1 op2 nest words least rise test Spp.field Spp.apply Spp.exit Spp.each Spp.complement Spp.sequence Spp.seqExit Spp.product Spp.star Spp.starExit Spp.blocks Spp.mk Spp.seek Spp.same Spp.kids Spp.kid Spp.room Spp.put Spp.zeroAt Spp.oneAt Spp.topAt ListSteps.unite ListSteps.enter ListSteps.enterIn ListSteps.place ListSteps.st-singleton ListSteps.split ListSteps.insert ListSteps.insertEach ListSteps.insertPairs ListSteps.st-union ListSteps.st-intersect ListSteps.coverAll ListSteps.st-complement ListSteps.st-postcompose ListSteps.st-precompose ListSteps.st-intersect-expr epsilonOf setWord keepEpsilon eachOf uniteAll meetAll epsilon-by-kind epsilon-with epsilon-by epsilon startOf countOf edges flat roomT append listAt keepList unionAll intersectAll sequenceList starList untilList dupList topList delta-by-kind delta-with delta-by delta Sp.constants Spp.constants Spp.zeros Spp.ones Spp.tops enqueue labelTo enlarge keepIn explore pullBack pullFrom pullAll settle live-anew live-sets live-packets liveOf viable prune delta-pruned Images.bwdNode Images.bwd Images.ifwdNode Images.ifwd Images.pullNode Images.pull mk-difference mk-xor ListSteps.subtractRow ListSteps.subtractRows ListSteps.st-difference ListSteps.st-xor
 all-come-5 = (refl, (refl, (refl, (refl, (refl, (refl, (refl, (refl, (refl, (refl, tt))))))))))
 
 abbrev pub rows-6 : List Row
@@ -704,7 +704,7 @@ rows-6 =
     ∷ []
 
 pub all-come-6 : AllCome rows-6
-unfolding outcome run begin Text.cut Text.words Text.same Text.digits Text.reading Text.number Text.decimalBy Text.decimal Reader.header Reader.find Reader.numbers Reader.exact Reader.said Reader.giving Reader.tell Answers.say Answers.share Answers.pairLines Sp.size Spp.size Spp.assign is-empty Handles.search Handles.run Handles.turn Handles.expand Handles.walk flip Sp.kid Sp.child Sp.same Sp.seek Sp.room Sp.put Sp.intern Sp.mk Sp.exit Sp.join Sp.both Sp.apply Sp.union Sp.complement Sp.difference Sp.isZero Sp.isUniversal Images.fwdNode Images.fwd Images.ledExit Images.pushNode Images.push Images.hasExit Images.hasImage mk-spp mk-dup mk-top mk-union mk-union-n mk-intersect-n mk-intersect mk-intersect-n-base mk-complement mk-sequence sequence-by sequence-with mk-star mk-until unite meet openUnion openAll opened extend each countAll countOne product base bases finish addRelation uniteOne meetOne meetFinish addLast intern0 intern1 intern2 internL putL put seek same2 sameAt sameL storeMembers nestL roomS roomM put4 kindOf op1 op2 nest words least rise test Spp.field Spp.apply Spp.exit Spp.each Spp.complement Spp.sequence Spp.seqExit Spp.product Spp.star Spp.starExit Spp.blocks Spp.mk Spp.seek Spp.same Spp.kids Spp.kid Spp.room Spp.put Spp.zeroAt Spp.oneAt Spp.topAt ListSteps.unite ListSteps.enter ListSteps.enterIn ListSteps.place ListSteps.st-singleton ListSteps.split ListSteps.insert ListSteps.insertEach ListSteps.insertPairs ListSteps.st-union ListSteps.st-intersect ListSteps.coverAll ListSteps.st-complement ListSteps.st-postcompose ListSteps.st-precompose ListSteps.st-intersect-expr epsilonOf setWord keepEpsilon eachOf uniteAll meetAll epsilon-by-kind epsilon-with epsilon-by epsilon startOf countOf edges flat roomT append listAt keepList unionAll intersectAll sequenceList starList untilList dupList topList delta-by-kind delta-with delta-by delta Sp.constants Spp.constants Spp.zeros Spp.ones Spp.tops enqueue labelTo enlarge keepIn explore pullBack pullFrom pullAll settle live-anew live-sets live-packets liveOf viable prune delta-pruned Images.bwdNode Images.bwd Images.ifwdNode Images.ifwd Images.pullNode Images.pull mk-difference mk-xor ListSteps.subtractRow ListSteps.subtractRows ListSteps.st-difference ListSteps.st-xor
+unfolding outcome run begin Text.cut Text.words Text.same Text.digits Text.reading Text.number Text.decimalBy Text.decimal Reader.header Reader.find Reader.numbers Reader.exact Reader.parse Reader.giving Reader.resolve Answers.say Answers.share Answers.pairLines Sp.size Spp.size Spp.assign is-empty Handles.search Handles.run Handles.turn Handles.expand Handles.walk flip Sp.kid Sp.child Sp.same Sp.seek Sp.room Sp.put Sp.intern Sp.mk Sp.exit Sp.join Sp.both Sp.apply Sp.union Sp.complement Sp.difference Sp.isZero Sp.isUniversal Images.fwdNode Images.fwd Images.ledExit Images.pushNode Images.push Images.hasExit Images.hasImage mk-spp mk-dup mk-top mk-union mk-union-n mk-intersect-n mk-intersect mk-intersect-n-base mk-complement mk-sequence sequence-by sequence-with mk-star mk-until unite meet openUnion openAll opened extend each countAll countOne product base bases finish addRelation uniteOne meetOne meetFinish addLast intern0 intern1 intern2 internL putL put seek same2 sameAt sameL storeMembers nestL roomS roomM put4 kindOf op1 op2 nest words least rise test Spp.field Spp.apply Spp.exit Spp.each Spp.complement Spp.sequence Spp.seqExit Spp.product Spp.star Spp.starExit Spp.blocks Spp.mk Spp.seek Spp.same Spp.kids Spp.kid Spp.room Spp.put Spp.zeroAt Spp.oneAt Spp.topAt ListSteps.unite ListSteps.enter ListSteps.enterIn ListSteps.place ListSteps.st-singleton ListSteps.split ListSteps.insert ListSteps.insertEach ListSteps.insertPairs ListSteps.st-union ListSteps.st-intersect ListSteps.coverAll ListSteps.st-complement ListSteps.st-postcompose ListSteps.st-precompose ListSteps.st-intersect-expr epsilonOf setWord keepEpsilon eachOf uniteAll meetAll epsilon-by-kind epsilon-with epsilon-by epsilon startOf countOf edges flat roomT append listAt keepList unionAll intersectAll sequenceList starList untilList dupList topList delta-by-kind delta-with delta-by delta Sp.constants Spp.constants Spp.zeros Spp.ones Spp.tops enqueue labelTo enlarge keepIn explore pullBack pullFrom pullAll settle live-anew live-sets live-packets liveOf viable prune delta-pruned Images.bwdNode Images.bwd Images.ifwdNode Images.ifwd Images.pullNode Images.pull mk-difference mk-xor ListSteps.subtractRow ListSteps.subtractRows ListSteps.st-difference ListSteps.st-xor
 all-come-6 = (refl, (refl, (refl, (refl, (refl, (refl, (refl, (refl, (refl, (refl, tt))))))))))
 
 abbrev pub rows-7 : List Row
@@ -752,5 +752,5 @@ rows-7 =
     ∷ []
 
 pub all-come-7 : AllCome rows-7
-unfolding outcome run begin Text.cut Text.words Text.same Text.digits Text.reading Text.number Text.decimalBy Text.decimal Reader.header Reader.find Reader.numbers Reader.exact Reader.said Reader.giving Reader.tell Answers.say Answers.share Answers.pairLines Sp.size Spp.size Spp.assign is-empty Handles.search Handles.run Handles.turn Handles.expand Handles.walk flip Sp.kid Sp.child Sp.same Sp.seek Sp.room Sp.put Sp.intern Sp.mk Sp.exit Sp.join Sp.both Sp.apply Sp.union Sp.complement Sp.difference Sp.isZero Sp.isUniversal Images.fwdNode Images.fwd Images.ledExit Images.pushNode Images.push Images.hasExit Images.hasImage mk-spp mk-dup mk-top mk-union mk-union-n mk-intersect-n mk-intersect mk-intersect-n-base mk-complement mk-sequence sequence-by sequence-with mk-star mk-until unite meet openUnion openAll opened extend each countAll countOne product base bases finish addRelation uniteOne meetOne meetFinish addLast intern0 intern1 intern2 internL putL put seek same2 sameAt sameL storeMembers nestL roomS roomM put4 kindOf op1 op2 nest words least rise test Spp.field Spp.apply Spp.exit Spp.each Spp.complement Spp.sequence Spp.seqExit Spp.product Spp.star Spp.starExit Spp.blocks Spp.mk Spp.seek Spp.same Spp.kids Spp.kid Spp.room Spp.put Spp.zeroAt Spp.oneAt Spp.topAt ListSteps.unite ListSteps.enter ListSteps.enterIn ListSteps.place ListSteps.st-singleton ListSteps.split ListSteps.insert ListSteps.insertEach ListSteps.insertPairs ListSteps.st-union ListSteps.st-intersect ListSteps.coverAll ListSteps.st-complement ListSteps.st-postcompose ListSteps.st-precompose ListSteps.st-intersect-expr epsilonOf setWord keepEpsilon eachOf uniteAll meetAll epsilon-by-kind epsilon-with epsilon-by epsilon startOf countOf edges flat roomT append listAt keepList unionAll intersectAll sequenceList starList untilList dupList topList delta-by-kind delta-with delta-by delta Sp.constants Spp.constants Spp.zeros Spp.ones Spp.tops enqueue labelTo enlarge keepIn explore pullBack pullFrom pullAll settle live-anew live-sets live-packets liveOf viable prune delta-pruned Images.bwdNode Images.bwd Images.ifwdNode Images.ifwd Images.pullNode Images.pull mk-difference mk-xor ListSteps.subtractRow ListSteps.subtractRows ListSteps.st-difference ListSteps.st-xor
+unfolding outcome run begin Text.cut Text.words Text.same Text.digits Text.reading Text.number Text.decimalBy Text.decimal Reader.header Reader.find Reader.numbers Reader.exact Reader.parse Reader.giving Reader.resolve Answers.say Answers.share Answers.pairLines Sp.size Spp.size Spp.assign is-empty Handles.search Handles.run Handles.turn Handles.expand Handles.walk flip Sp.kid Sp.child Sp.same Sp.seek Sp.room Sp.put Sp.intern Sp.mk Sp.exit Sp.join Sp.both Sp.apply Sp.union Sp.complement Sp.difference Sp.isZero Sp.isUniversal Images.fwdNode Images.fwd Images.ledExit Images.pushNode Images.push Images.hasExit Images.hasImage mk-spp mk-dup mk-top mk-union mk-union-n mk-intersect-n mk-intersect mk-intersect-n-base mk-complement mk-sequence sequence-by sequence-with mk-star mk-until unite meet openUnion openAll opened extend each countAll countOne product base bases finish addRelation uniteOne meetOne meetFinish addLast intern0 intern1 intern2 internL putL put seek same2 sameAt sameL storeMembers nestL roomS roomM put4 kindOf op1 op2 nest words least rise test Spp.field Spp.apply Spp.exit Spp.each Spp.complement Spp.sequence Spp.seqExit Spp.product Spp.star Spp.starExit Spp.blocks Spp.mk Spp.seek Spp.same Spp.kids Spp.kid Spp.room Spp.put Spp.zeroAt Spp.oneAt Spp.topAt ListSteps.unite ListSteps.enter ListSteps.enterIn ListSteps.place ListSteps.st-singleton ListSteps.split ListSteps.insert ListSteps.insertEach ListSteps.insertPairs ListSteps.st-union ListSteps.st-intersect ListSteps.coverAll ListSteps.st-complement ListSteps.st-postcompose ListSteps.st-precompose ListSteps.st-intersect-expr epsilonOf setWord keepEpsilon eachOf uniteAll meetAll epsilon-by-kind epsilon-with epsilon-by epsilon startOf countOf edges flat roomT append listAt keepList unionAll intersectAll sequenceList starList untilList dupList topList delta-by-kind delta-with delta-by delta Sp.constants Spp.constants Spp.zeros Spp.ones Spp.tops enqueue labelTo enlarge keepIn explore pullBack pullFrom pullAll settle live-anew live-sets live-packets liveOf viable prune delta-pruned Images.bwdNode Images.bwd Images.ifwdNode Images.ifwd Images.pullNode Images.pull mk-difference mk-xor ListSteps.subtractRow ListSteps.subtractRows ListSteps.st-difference ListSteps.st-xor
 all-come-7 = (refl, (refl, (refl, (refl, tt))))

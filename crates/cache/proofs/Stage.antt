@@ -4,9 +4,9 @@ use mathlib.Core.List.{List}
 use Prim.Native.Nat.{ℕ}
 use Rattle.common.specs.Outcome.{Outcome, refused, given, Step, after}
 use Rattle.common.proofs.Follow.{given-of}
-use Rattle.common.specs.Runs.{Theory, Good}
-use Rattle.common.proofs.Runs.{Runs}
-use Rattle.cache.specs.Cache.{Valid, Sound, Notes, Exactly}
+use Rattle.common.specs.Runs.{Theory, StableResult}
+use Rattle.common.proofs.Runs.{StableSpec}
+use Rattle.cache.specs.Cache.{Valid, Sound, WritesValid, Exactly}
 use Rattle.cache.proofs.Cache.{sound-map, sound-notes, notes-map, notes-refl, notes-trans, notes-one}
 
 -- A kind of store, what a slot that is read tells of a store, and what is told by one that is noted.
@@ -21,14 +21,14 @@ pub record Memo : Type 1 where
 -- A call of f at σ, with the cache m, has given σ1 and the value a; the cache is then m1.
 pub record Gave (𝓜 : Memo) {A : Type 0} (f : Step (𝓜 .theory .Store) A) (σ : 𝓜 .theory .Store) (m : List ℕ) (σ1 : 𝓜 .theory .Store) (m1 : List ℕ) (a : A) : Type 0 where
   pub is : f σ ≡ given σ1 a
-  pub notes : Notes (𝓜 .Note σ1) m m1
+  pub notes : WritesValid (𝓜 .Note σ1) m m1
 
 -- A run that does c has come from σ with the cache m to σ′ with m′, and `rest` is left to do.
 pub record Stage (𝓜 : Memo) {A : Type 0} (c rest : Outcome (𝓜 .theory .Store) A) (σ σ′ : 𝓜 .theory .Store) (m m′ : List ℕ) : Type 0 where
   pub ext : 𝓜 .theory .Ext σ σ′
   pub wf : 𝓜 .theory .Wf σ′
   pub sound : Sound (𝓜 .Read σ′) m′
-  pub notes : Notes (𝓜 .Note σ′) m m′
+  pub notes : WritesValid (𝓜 .Note σ′) m m′
   pub left : c ≡ rest
 
 module _ (𝓜 : Memo) where
@@ -40,7 +40,7 @@ module _ (𝓜 : Memo) where
       (s : Stage 𝓜 c (after (f σ′) k) σ σ′ m m′) where
     -- the call has given something
     pub next : {P : 𝓜 .theory .Store → A → Type 0} {σ1 : 𝓜 .theory .Store} {m1 : List ℕ} {a : A}
-        → Runs (𝓜 .theory) f P σ′ → Gave 𝓜 f σ′ m′ σ1 m1 a → Stage 𝓜 c (k a σ1) σ σ1 m m1
+        → StableSpec (𝓜 .theory) f P σ′ → Gave 𝓜 f σ′ m′ σ1 m1 a → Stage 𝓜 c (k a σ1) σ σ1 m m1
     next {P} {σ1} {m1} {a} r g =
         let good = given-of r (g .is) in
         let up = sound-map (𝓜 .read-ext σ′ σ1 (good .ext)) (s .sound) in
@@ -58,7 +58,7 @@ module _ (𝓜 : Memo) where
 
   -- the last call has given something
   pub finish : {A : Type 0} (f : Step (𝓜 .theory .Store) A) {c : Outcome (𝓜 .theory .Store) A} {σ σ′ σ1 : 𝓜 .theory .Store} {m m′ m1 : List ℕ} {a : A} {P : 𝓜 .theory .Store → A → Type 0}
-      → Stage 𝓜 c (f σ′) σ σ′ m m′ → Runs (𝓜 .theory) f P σ′ → Gave 𝓜 f σ′ m′ σ1 m1 a → Stage 𝓜 c (given σ1 a) σ σ1 m m1
+      → Stage 𝓜 c (f σ′) σ σ′ m m′ → StableSpec (𝓜 .theory) f P σ′ → Gave 𝓜 f σ′ m′ σ1 m1 a → Stage 𝓜 c (given σ1 a) σ σ1 m m1
   finish f {σ} {σ′} {σ1} s r g =
       let good = given-of r (g .is) in
       record {
@@ -71,14 +71,14 @@ module _ (𝓜 : Memo) where
 
   -- nothing is left to do but to note the answer
   pub noted : {A : Type 0} {c rest : Outcome (𝓜 .theory .Store) A} {σ σ′ : 𝓜 .theory .Store} {m m′ m1 : List ℕ} {op a b r : ℕ}
-      → Stage 𝓜 c rest σ σ′ m m′ → Notes (Exactly op a b r) m′ m1 → 𝓜 .Note σ′ op a b r → Notes (𝓜 .Note σ′) m m1
+      → Stage 𝓜 c rest σ σ′ m m′ → WritesValid (Exactly op a b r) m′ m1 → 𝓜 .Note σ′ op a b r → WritesValid (𝓜 .Note σ′) m m1
   noted s n v = notes-trans (s .notes) (notes-one n v)
 
 -- ---- four calls
 
 -- f can be called at every store from σ on, and P holds of what it gives
 abbrev pub Can : (𝓜 : Memo) → (𝓜 .theory .Store → ℕ → Type 0) → 𝓜 .theory .Store → Step (𝓜 .theory .Store) ℕ → Type 0
-Can 𝓜 P σ f = (τ : 𝓜 .theory .Store) → 𝓜 .theory .Ext σ τ → 𝓜 .theory .Wf τ → Runs (𝓜 .theory) f P τ
+Can 𝓜 P σ f = (τ : 𝓜 .theory .Store) → 𝓜 .theory .Ext σ τ → 𝓜 .theory .Wf τ → StableSpec (𝓜 .theory) f P τ
 
 -- c is four calls and then k: what each gives has P
 pub record Four (𝓜 : Memo) {A : Type 0} (P : 𝓜 .theory .Store → ℕ → Type 0) (c : Outcome (𝓜 .theory .Store) A) (σ : 𝓜 .theory .Store) (m : List ℕ) : Type 0 where
@@ -99,7 +99,7 @@ module _ {𝓜 : Memo} {A : Type 0} {P : 𝓜 .theory .Store → ℕ → Type 0}
   stuck-1 e = stuck 𝓜 (F .f1) _ (F .start) e
 
   module _ {σ1 : 𝓜 .theory .Store} {m1 : List ℕ} {a : ℕ} (g1 : Gave 𝓜 (F .f1) σ m σ1 m1 a) where
-    run-1 : Good (𝓜 .theory) (F .f1) P σ σ1 a
+    run-1 : StableResult (𝓜 .theory) (F .f1) P σ σ1 a
     run-1 = given-of ((F .can1) σ (F .start .ext) (F .start .wf)) (g1 .is)
 
     pub stage-1 : Stage 𝓜 c (after ((F .f2) σ1) (λ b σ2. after ((F .f3) σ2) (λ d σ3. after ((F .f4) σ3) (λ e. F .k a b d e)))) σ σ1 m m1
@@ -109,7 +109,7 @@ module _ {𝓜 : Memo} {A : Type 0} {P : 𝓜 .theory .Store → ℕ → Type 0}
     stuck-2 e = stuck 𝓜 (F .f2) _ stage-1 e
 
     module _ {σ2 : 𝓜 .theory .Store} {m2 : List ℕ} {b : ℕ} (g2 : Gave 𝓜 (F .f2) σ1 m1 σ2 m2 b) where
-      run-2 : Good (𝓜 .theory) (F .f2) P σ1 σ2 b
+      run-2 : StableResult (𝓜 .theory) (F .f2) P σ1 σ2 b
       run-2 = given-of ((F .can2) σ1 (stage-1 .ext) (stage-1 .wf)) (g2 .is)
 
       pub stage-2 : Stage 𝓜 c (after ((F .f3) σ2) (λ d σ3. after ((F .f4) σ3) (λ e. F .k a b d e))) σ σ2 m m2
@@ -119,7 +119,7 @@ module _ {𝓜 : Memo} {A : Type 0} {P : 𝓜 .theory .Store → ℕ → Type 0}
       stuck-3 e = stuck 𝓜 (F .f3) _ stage-2 e
 
       module _ {σ3 : 𝓜 .theory .Store} {m3 : List ℕ} {d : ℕ} (g3 : Gave 𝓜 (F .f3) σ2 m2 σ3 m3 d) where
-        run-3 : Good (𝓜 .theory) (F .f3) P σ2 σ3 d
+        run-3 : StableResult (𝓜 .theory) (F .f3) P σ2 σ3 d
         run-3 = given-of ((F .can3) σ2 (stage-2 .ext) (stage-2 .wf)) (g3 .is)
 
         pub stage-3 : Stage 𝓜 c (after ((F .f4) σ3) (λ e. F .k a b d e)) σ σ3 m m3
@@ -129,7 +129,7 @@ module _ {𝓜 : Memo} {A : Type 0} {P : 𝓜 .theory .Store → ℕ → Type 0}
         stuck-4 e = stuck 𝓜 (F .f4) _ stage-3 e
 
         module _ {σ4 : 𝓜 .theory .Store} {m4 : List ℕ} {e : ℕ} (g4 : Gave 𝓜 (F .f4) σ3 m3 σ4 m4 e) where
-          run-4 : Good (𝓜 .theory) (F .f4) P σ3 σ4 e
+          run-4 : StableResult (𝓜 .theory) (F .f4) P σ3 σ4 e
           run-4 = given-of ((F .can4) σ3 (stage-3 .ext) (stage-3 .wf)) (g4 .is)
 
           pub stage-4 : Stage 𝓜 c (F .k a b d e σ4) σ σ4 m m4

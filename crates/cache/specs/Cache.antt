@@ -30,7 +30,7 @@ pub record Sound (P : Valid) (m : List ℕ) : Type 0 where
   pub slots : (j : ℕ) → 4 * j + 3 < length m → Slot P m j
 
 -- m′ is m with some slots written, each so that P holds of it
-pub record Notes (P : Valid) (m m′ : List ℕ) : Type 0 where
+pub record WritesValid (P : Valid) (m m′ : List ℕ) : Type 0 where
   pub same : length m′ ≡ length m
   pub slots : (j : ℕ) → 4 * j + 3 < length m → Kept m m′ j ⊎ Slot P m′ j
 
@@ -52,11 +52,11 @@ FoundWide m op a MissWide = Unit
 -- ---- the codes of one user: those from lo to hi
 
 -- to read: valid of these codes, whatever the slots of other users hold
-abbrev pub Of : ℕ → ℕ → Valid → Valid
-Of lo hi P op a b r = lo ≤ op → op ≤ hi → P op a b r
+abbrev pub OnCodes : ℕ → ℕ → Valid → Valid
+OnCodes lo hi P op a b r = lo ≤ op → op ≤ hi → P op a b r
 
 -- to note: one of these codes, and valid
-pub record Own (lo hi : ℕ) (P : Valid) (op a b r : ℕ) : Type 0 where
+pub record OnlyCodes (lo hi : ℕ) (P : Valid) (op a b r : ℕ) : Type 0 where
   pub from : lo ≤ op
   pub to : op ≤ hi
   pub valid : P op a b r

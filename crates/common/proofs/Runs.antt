@@ -2,11 +2,11 @@
 use mathlib.Core.Path.{_≡_, refl, sym, _∙_, ap, subst}
 use Rattle.common.specs.Outcome.{Outcome, refused, given, Step, return, after, _>>=_, Gives, refusal, gives}
 use Rattle.common.proofs.Follow.{it-gives}
-use Rattle.common.specs.Runs.{Theory, Good, placed}
+use Rattle.common.specs.Runs.{Theory, StableResult, placed}
 
 -- The run c from σ is good, unless it is refused.
-abbrev pub Runs : (𝓣 : Theory) {A : Type 0} → Step (𝓣 .Store) A → (𝓣 .Store → A → Type 0) → 𝓣 .Store → Type 0
-Runs 𝓣 c P σ = Gives (Good 𝓣 c P σ) (c σ)
+abbrev pub StableSpec : (𝓣 : Theory) {A : Type 0} → Step (𝓣 .Store) A → (𝓣 .Store → A → Type 0) → 𝓣 .Store → Type 0
+StableSpec 𝓣 c P σ = Gives (StableResult 𝓣 c P σ) (c σ)
 
 gives-map : {S A : Type 0} {P Q : S → A → Type 0} {o : Outcome S A} → ((σ : S) (a : A) → P σ a → Q σ a) → Gives P o → Gives Q o
 gives-map f refusal = refusal
@@ -18,15 +18,15 @@ module _ (𝓣 : Theory) where
   module _ {A : Type 0} where
     -- what holds may be weakened
     pub runs-map : {c : Step Store A} {P Q : Store → A → Type 0} {σ : Store}
-        → ((τ : Store) (a : A) → Ext σ τ → Wf τ → P τ a → Q τ a) → Runs 𝓣 c P σ → Runs 𝓣 c Q σ
+        → ((τ : Store) (a : A) → Ext σ τ → Wf τ → P τ a → Q τ a) → StableSpec 𝓣 c P σ → StableSpec 𝓣 c Q σ
     runs-map {c} {P} {Q} {σ} f r =
         gives-map (λ τ a g. record { ext = g .ext; wf = g .wf; holds = f τ a (g .ext) (g .wf) (g .holds); stable = g .stable }) r
 
     -- a run that does the same as another, in every store from σ on
     pub runs-is : {c c′ : Step Store A} {P : Store → A → Type 0} {σ : Store}
-        → ((τ : Store) → Ext σ τ → c′ τ ≡ c τ) → Runs 𝓣 c P σ → Runs 𝓣 c′ P σ
+        → ((τ : Store) → Ext σ τ → c′ τ ≡ c τ) → StableSpec 𝓣 c P σ → StableSpec 𝓣 c′ P σ
     runs-is {c} {c′} {P} {σ} q r =
-        subst (Gives (Good 𝓣 c′ P σ)) (sym (q σ (ext-refl σ)))
+        subst (Gives (StableResult 𝓣 c′ P σ)) (sym (q σ (ext-refl σ)))
         (gives-map (λ τ a g. record {
           ext = g .ext;
           wf = g .wf;
@@ -35,23 +35,23 @@ module _ (𝓣 : Theory) where
         }) r)
 
     -- an answer with no change
-    pub runs-return : {P : Store → A → Type 0} {σ : Store} (a : A) → Wf σ → P σ a → Runs 𝓣 (return a) P σ
+    pub runs-return : {P : Store → A → Type 0} {σ : Store} (a : A) → Wf σ → P σ a → StableSpec 𝓣 (return a) P σ
     runs-return {P} {σ} a w p = gives (record { ext = ext-refl σ; wf = w; holds = p; stable = λ τ x v. refl })
 
     -- a run that first reads something that no later store changes
     pub runs-read : {X : Type 0} (read : Store → X) (body : X → Step Store A) {P : Store → A → Type 0} {σ : Store}
-        → ((τ : Store) → Ext σ τ → read τ ≡ read σ) → Runs 𝓣 (body (read σ)) P σ → Runs 𝓣 (λ τ. body (read τ) τ) P σ
+        → ((τ : Store) → Ext σ τ → read τ ≡ read σ) → StableSpec 𝓣 (body (read σ)) P σ → StableSpec 𝓣 (λ τ. body (read τ) τ) P σ
     runs-read {X} read body {P} {σ} same r = runs-is (λ τ x. ap (λ (z : X). body z τ) (same τ x)) r
 
     -- one run after another
     pub runs-bind : {B : Type 0} {c : Step Store A} {k : A → Step Store B} {P : Store → A → Type 0} {Q : Store → B → Type 0} {σ : Store}
-        → Runs 𝓣 c P σ → ((τ : Store) (a : A) → Ext σ τ → Wf τ → P τ a → Runs 𝓣 (k a) Q τ) → Runs 𝓣 (c >>= k) Q σ
+        → StableSpec 𝓣 c P σ → ((τ : Store) (a : A) → Ext σ τ → Wf τ → P τ a → StableSpec 𝓣 (k a) Q τ) → StableSpec 𝓣 (c >>= k) Q σ
     runs-bind {B} {c} {k} {P} {Q} {σ} r f = go (c σ) r
       where
-        go : (o : Outcome Store A) → Gives (Good 𝓣 c P σ) o → Gives (Good 𝓣 (c >>= k) Q σ) (after o k)
+        go : (o : Outcome Store A) → Gives (StableResult 𝓣 c P σ) o → Gives (StableResult 𝓣 (c >>= k) Q σ) (after o k)
         go (refused number) g = refusal
         go (given τ a) g =
-            let h : Good 𝓣 c P σ τ a = it-gives g in
+            let h : StableResult 𝓣 c P σ τ a = it-gives g in
             gives-map (λ υ b g2. record {
               ext = ext-trans σ τ υ (h .ext) (g2 .ext);
               wf = g2 .wf;
@@ -76,13 +76,13 @@ abbrev pub on : {𝓢 𝓑 : Theory} → Inside 𝓢 𝓑 → {A : Type 0} → S
 on 𝓘 c σ = placed (𝓘 .put) σ (c (𝓘 .get σ))
 
 pub runs-on : {𝓢 𝓑 : Theory} (𝓘 : Inside 𝓢 𝓑) {A : Type 0} {c : Step (𝓢 .Store) A} {P : 𝓢 .Store → A → Type 0} {σ : 𝓑 .Store}
-    → 𝓑 .Wf σ → Runs 𝓢 c P (𝓘 .get σ) → Runs 𝓑 (on 𝓘 c) (λ τ a. P (𝓘 .get τ) a) σ
+    → 𝓑 .Wf σ → StableSpec 𝓢 c P (𝓘 .get σ) → StableSpec 𝓑 (on 𝓘 c) (λ τ a. P (𝓘 .get τ) a) σ
 runs-on {𝓢} {𝓑} 𝓘 {A} {c} {P} {σ} w r = go (c (𝓘 .get σ)) r
   where
-    go : (o : Outcome (𝓢 .Store) A) → Gives (Good 𝓢 c P (𝓘 .get σ)) o → Gives (Good 𝓑 (on 𝓘 c) (λ τ a. P (𝓘 .get τ) a) σ) (placed (𝓘 .put) σ o)
+    go : (o : Outcome (𝓢 .Store) A) → Gives (StableResult 𝓢 c P (𝓘 .get σ)) o → Gives (StableResult 𝓑 (on 𝓘 c) (λ τ a. P (𝓘 .get τ) a) σ) (placed (𝓘 .put) σ o)
     go (refused number) g = refusal
     go (given s a) g =
-        let h : Good 𝓢 c P (𝓘 .get σ) s a = it-gives g in
+        let h : StableResult 𝓢 c P (𝓘 .get σ) s a = it-gives g in
         gives (record {
           ext = 𝓘 .put-ext s σ (h .ext);
           wf = 𝓘 .put-wf s σ w (h .wf) (h .ext);

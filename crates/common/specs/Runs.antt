@@ -22,7 +22,7 @@ pub record Theory : Type 1 where
   pub ext-trans : (σ τ υ : Store) → Ext σ τ → Ext τ υ → Ext σ υ
 
 -- The run c from σ has given the store σ′ and the value a.
-pub record Good (𝓣 : Theory) {A : Type 0} (c : Step (𝓣 .Store) A) (P : 𝓣 .Store → A → Type 0) (σ σ′ : 𝓣 .Store) (a : A) : Type 0 where
+pub record StableResult (𝓣 : Theory) {A : Type 0} (c : Step (𝓣 .Store) A) (P : 𝓣 .Store → A → Type 0) (σ σ′ : 𝓣 .Store) (a : A) : Type 0 where
   pub ext : 𝓣 .Ext σ σ′
   pub wf : 𝓣 .Wf σ′
   pub holds : P σ′ a

@@ -14,7 +14,7 @@ use Rattle.aut_steps.specs.Kinds.{form}
 use Rattle.aut_steps.proofs.Facts.{words-length}
 use Rattle.aut_steps.specs.ListLaws.{All}
 use Rattle.aut_steps.proofs.ListLaws.{all-map, all-with}
-use Rattle.aut_steps.specs.Good.{Good}
+use Rattle.aut_steps.specs.Good.{WfAut}
 use Rattle.aut_steps.proofs.Good.{ok-as}
 use Rattle.st_steps.specs.Edges.{edges}
 use Rattle.st_steps.specs.ListGoes.{Label}
@@ -98,7 +98,7 @@ module _ {N : ℕ} {l : Limits} {t st mem tr : List ℕ} (c : Counts) {s : List 
   abbrev B : ℕ
   B = getD st (12 * x + 2) 0
 
-  good : Good N (limitsOf l) (σ .aut)
+  good : WfAut N (limitsOf l) (σ .aut)
   good = W .prepared .ready .good
 
   -- ---- a state whose list is stored

@@ -15,8 +15,8 @@ use Rattle.aut_steps.specs.Tables as T
 use Rattle.aut_steps.specs.Tables.{Aut, onStates}
 use Rattle.aut_steps.specs.Relations as Rel
 use Rattle.aut_steps.specs.Constructors.{mk-spp, mk-top}
-use Rattle.aut_steps.specs.Good.{Good}
-use Rattle.aut_steps.proofs.Goes.{Goes, goes-map}
+use Rattle.aut_steps.specs.Good.{WfAut}
+use Rattle.aut_steps.proofs.Goes.{StepSpec, goes-map}
 use Rattle.aut_steps.proofs.StateLaws.{mk-spp-goes, mk-top-goes}
 use Rattle.st_steps.specs.Operations.{ops}
 use Rattle.st_steps.specs.Edges.{edges, EdgeAt, none, also}
@@ -78,7 +78,7 @@ module _ {N : ℕ} {l : Limits} {st s : List ℕ} {c : Counts} (A : AloneReady N
 
       module _ {z : ℕ} {d : Counts} (q1 : r1 ≡ state.Is z d) where
         zero-placed : (t mem : List ℕ) → Ready N l (autOf t st mem c) s → Post (autLayer N l) 0 0 State (onStates (mk-spp zero) (autOf t st mem c)) (autOf t st mem c) c (gave d z) (autOf t st1 mem) s s
-        zero-placed t mem R = state-given t st mem st1 c (mk-spp zero) p q v 0 0 q1 R (subst (λ (z : ℕ). Goes N (limitsOf l) State (autOf t st mem c) (onStates (mk-spp z) (autOf t st mem c))) zero-is (zero-state-goes (R .good)))
+        zero-placed t mem R = state-given t st mem st1 c (mk-spp zero) p q v 0 0 q1 R (subst (λ (z : ℕ). StepSpec N (limitsOf l) State (autOf t st mem c) (onStates (mk-spp z) (autOf t st mem c))) zero-is (zero-state-goes (R .good)))
 
         single-1 : (t mem : List ℕ) → Ready N l (autOf t st mem c) s → Stage (autLayer N l) 0 832 (whole (autOf t st mem c)) (rest z (autOf t st1 mem d)) (autOf t st mem c) (autOf t st1 mem d) c d s s
         single-1 t mem R = next (autLayer N l) 0 832 (zero-placed t mem R) no-list rest (single-0 t mem R)
@@ -103,7 +103,7 @@ module _ {N : ℕ} {l : Limits} {st s : List ℕ} {c : Counts} (A : AloneReady N
 
 -- ---- a state is made, and then st_singleton with the label h
 
-module _ {N : ℕ} {l : Limits} (o : Step Table ℕ) {h : ℕ} (G : (σ : Aut) → Good N (limitsOf l) σ → Goes N (limitsOf l) State σ (onStates o σ)) (H : (σ : Aut) → Good N (limitsOf l) σ → Label N σ h)
+module _ {N : ℕ} {l : Limits} (o : Step Table ℕ) {h : ℕ} (G : (σ : Aut) → WfAut N (limitsOf l) σ → StepSpec N (limitsOf l) State σ (onStates o σ)) (H : (σ : Aut) → WfAut N (limitsOf l) σ → Label N σ h)
     {st s : List ℕ} {c : Counts} (A : AloneReady N l st s c) (p : Put) {r1 : S.State} (st1 : List ℕ) (q : o (table st (c .states)) ≡ seenPut p st1) (v : Places p c r1) where
   abbrev then-single : ℕ → Step Aut (List Edge)
   then-single = St.st-singleton (ops N (limitsOf l)) h
@@ -130,11 +130,11 @@ module _ {N : ℕ} {l : Limits} (o : Step Table ℕ) {h : ℕ} (G : (σ : Aut) �
 
 -- ---- Dup: the identity, and its state
 
-one-label : {N : ℕ} (L : T.Limits) {one : ℕ} → Rel.oneAt N ≡ one → (σ : Aut) → Good N L σ → Label N σ one
+one-label : {N : ℕ} (L : T.Limits) {one : ℕ} → Rel.oneAt N ≡ one → (σ : Aut) → WfAut N L σ → Label N σ one
 one-label {N} L one-is σ g = subst (Label N σ) one-is (record { at = den-one (g .nodes) N (omega arith) .at })
 
-one-goes : {N : ℕ} (L : T.Limits) {one : ℕ} → Rel.oneAt N ≡ one → (σ : Aut) → Good N L σ → Goes N L State σ (onStates (mk-spp one) σ)
-one-goes {N} L one-is σ g = subst (λ (h : ℕ). Goes N L State σ (onStates (mk-spp h) σ)) one-is (goes-map (mk-spp-goes g (den-one (g .nodes) N (omega arith))) (λ τ x w v i. i .state))
+one-goes : {N : ℕ} (L : T.Limits) {one : ℕ} → Rel.oneAt N ≡ one → (σ : Aut) → WfAut N L σ → StepSpec N L State σ (onStates (mk-spp one) σ)
+one-goes {N} L one-is σ g = subst (λ (h : ℕ). StepSpec N L State σ (onStates (mk-spp h) σ)) one-is (goes-map (mk-spp-goes g (den-one (g .nodes) N (omega arith))) (λ τ x w v i. i .state))
 
 module _ {N : ℕ} {l : Limits} {st s : List ℕ} {c : Counts} (A : AloneReady N l st s c) {one : ℕ} (one-is : Rel.oneAt N ≡ one) (p : Put) {r1 : S.State} (st1 : List ℕ) (q : mk-spp one (table st (c .states)) ≡ seenPut p st1) (v : Places p c r1) where
   dup-as : (z : Listed) {st2 s2 : List ℕ} → GivesAlone N l Anything (onStates (mk-spp one) >>= St.st-singleton (ops N (limitsOf l)) one) c z st s st2 s2 → GivesAlone N l Anything (dupList N (limitsOf l)) c z st s st2 s2
@@ -153,10 +153,10 @@ module _ {N : ℕ} {l : Limits} {st s : List ℕ} {c : Counts} (A : AloneReady N
 
 -- ---- Top, and LtlNext: every pair
 
-top-label : {N : ℕ} (L : T.Limits) {top : ℕ} → Rel.topAt N ≡ top → (σ : Aut) → Good N L σ → Label N σ top
+top-label : {N : ℕ} (L : T.Limits) {top : ℕ} → Rel.topAt N ≡ top → (σ : Aut) → WfAut N L σ → Label N σ top
 top-label {N} L top-is σ g = subst (Label N σ) top-is (record { at = den-top (g .nodes) N (omega arith) .at })
 
-top-goes : {N : ℕ} (L : T.Limits) (σ : Aut) → Good N L σ → Goes N L State σ (onStates mk-top σ)
+top-goes : {N : ℕ} (L : T.Limits) (σ : Aut) → WfAut N L σ → StepSpec N L State σ (onStates mk-top σ)
 top-goes L σ g = goes-map (mk-top-goes g) (λ τ x w v i. i .state)
 
 module _ {N : ℕ} {l : Limits} {st s : List ℕ} {c : Counts} {top : ℕ} (top-is : Rel.topAt N ≡ top) where

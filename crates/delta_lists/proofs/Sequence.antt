@@ -4,7 +4,7 @@ use mathlib.Core.List.{List}
 use Prim.Native.Nat.{ℕ}
 use Rattle.netkat.specs.ListSteps as St
 use Rattle.aut_steps.specs.Tables.{Aut}
-use Rattle.aut_steps.specs.Good.{Grown}
+use Rattle.aut_steps.specs.Good.{ExtAut}
 use Rattle.st_steps.specs.Operations.{ops}
 use Rattle.st_steps.specs.Edges.{edges}
 use Rattle.st_steps.proofs.Edges.{edges-grown}
@@ -27,7 +27,7 @@ module _ {N : ℕ} {l : Limits} {σ : Aut} {tr s : List ℕ} {y ε a k b j : ℕ
   unfolding sequenceList
   sequence-joins = record { ready = W .stored .first .ready; limit = W .stored .first .limit; is = refl }
 
-  pub early-ready : {τ : Aut} {s′ : List ℕ} → Ready N l τ s′ → Grown σ τ → BehindReady N l τ tr s′ ε (stored b j)
+  pub early-ready : {τ : Aut} {s′ : List ℕ} → Ready N l τ s′ → ExtAut σ τ → BehindReady N l τ tr s′ ε (stored b j)
   early-ready r w = record {
     list = record { ready = r; limit = W .stored .first .limit; walked = record { within = W .stored .second .within; edges = edges-grown w (W .stored .second .edges) } };
     label = label-grown w (W .label);

@@ -21,9 +21,9 @@ use Rattle.st_steps.proofs.ListGoes.{list-empty}
 use Rattle.delta_steps.specs.Delta.{Store, store, listAt, unionAll, intersectAll, intersectFirst}
 use Rattle.delta_steps.specs.DeltaDown.{Has}
 use Rattle.delta_steps.specs.Fits.{Since}
-use Rattle.delta_steps.specs.Worked.{Worked}
+use Rattle.delta_steps.specs.Worked.{WfStore}
 use Rattle.delta_steps.proofs.Worked.{worked-since, same-list}
-use Rattle.delta_steps.specs.Stored.{Went}
+use Rattle.delta_steps.specs.Stored.{ExtStore}
 use Rattle.delta_steps.proofs.Stored.{went-since}
 use Rattle.delta_stage.specs.OnStore.{storeOf}
 use Rattle.aut.specs.Seen.{limitsOf}
@@ -163,12 +163,12 @@ module _ {N : ℕ} {l : Limits} (j : Join) (t st mem tr : List ℕ) (c : Counts)
       same : store (τ .aut) (σ .transitions) ≡ τ
       same = ap (λ (b : ℕ). store (τ .aut) (table tr b)) (sym (v .stage .beside .1))
 
-      went : Went σ τ
-      went = subst (Went σ) same (went-since since)
+      went : ExtStore σ τ
+      went = subst (ExtStore σ) same (went-since since)
 
       pub all-next : PreNext N l τ s1 m z
       all-next = subst (λ (x : ℕ). PreNext N l τ s1 m x) (sym same-member) (record {
-        prepared = record { ready = v .stage .ready; worked = subst (Worked N L) same (worked-since (W .prepared .worked) since) };
+        prepared = record { ready = v .stage .ready; worked = subst (WfStore N L) same (worked-since (W .prepared .worked) since) };
         limit = W .limit;
         list = v .holds;
         state = state-grown (v .stage .ext .grown) state;

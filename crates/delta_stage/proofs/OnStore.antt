@@ -4,7 +4,7 @@ use mathlib.Core.List.{List}
 use Prim.Native.Nat.{ℕ}
 use Rattle.common.specs.Outcome.{refused, given, Step}
 use Rattle.common.specs.Runs.{table, placed}
-use Rattle.spp_steps.specs.Laws.{At}
+use Rattle.spp_steps.specs.Laws.{ValidAt}
 use Rattle.spp.specs.declared.SPP.{SPP}
 use Rattle.spp.specs.declared.Made.{Made}
 use Rattle.spp.specs.declared.Made.the-variants.{Node, Full}
@@ -12,9 +12,9 @@ use Rattle.aut_steps.specs.Tables.{Aut}
 use Rattle.delta_steps.specs.Epsilon.{epsilon}
 use Rattle.delta_steps.specs.Delta.{Store, store, putAut, onAut}
 use Rattle.delta_steps.specs.Fits.{Since}
-use Rattle.delta_steps.specs.Worked.{Worked}
+use Rattle.delta_steps.specs.Worked.{WfStore}
 use Rattle.delta_steps.proofs.Worked.{worked-since, worked-noted}
-use Rattle.delta_steps.specs.Stored.{Went}
+use Rattle.delta_steps.specs.Stored.{ExtStore}
 use Rattle.delta_steps.proofs.Stored.{went-since, went-noted}
 use Rattle.aut.specs.Seen.{limitsOf}
 use Rattle.aut.specs.declared.Counts.{Counts}
@@ -40,10 +40,10 @@ module _ (t st mem tr : List ℕ) (c : Counts) where
         record {
           is = ap (placed putAut (storeOf t st mem tr c)) (p .is) ∙ ap (λ (τ : Store). given τ x) same;
           then = record {
-            ext = subst (Went (storeOf t st mem tr c)) same (went-since i);
+            ext = subst (ExtStore (storeOf t st mem tr c)) same (went-since i);
             beside = v .beside .0;
             frame = v .frame;
-            ready = record { ready = v .ready; worked = subst (Worked N (limitsOf l)) same (worked-since (R .worked) i) };
+            ready = record { ready = v .ready; worked = subst (WfStore N (limitsOf l)) same (worked-since (R .worked) i) };
             holds = v .holds;
           };
         }
@@ -55,7 +55,7 @@ module _ (t st mem tr : List ℕ) (c : Counts) where
 
   module _ {N x : ℕ} {r : Made} {s t′ st′ s′ : List ℕ} (E : Works N x r c t st mem s t′ st′ s′) where
     pub epsilon-given : {l : Limits} {h : SPP} {n : ℕ} → Prepared N l (storeOf t st mem tr c) s → r ≡ Node h n
-        → Post (storeLayer N l) 0 0 (λ τ e. At (τ .aut .nodes) N e) (onAut (epsilon N x) (storeOf t st mem tr c)) (storeOf t st mem tr c) c (gave (withNodes c n) (h .0)) (storeOf t′ st′ mem tr) s s′
+        → Post (storeLayer N l) 0 0 (λ τ e. ValidAt (τ .aut .nodes) N e) (onAut (epsilon N x) (storeOf t st mem tr c)) (storeOf t st mem tr c) c (gave (withNodes c n) (h .0)) (storeOf t′ st′ mem tr) s s′
     epsilon-given {l} {h} {n} R q =
         let a : After N l x (autOf t st mem c) (autOf t′ st′ mem (withNodes c n)) s′ (h .0) = subst (λ (r : Made). AfterBy N l x r c (autOf t st mem c) t′ st′ mem s′) q (E .after l (R .ready)) in
         let f = a .law .found in

@@ -5,13 +5,13 @@ use mathlib.Core.List.{List}
 use Prim.Native.Nat.{ℕ}
 use Rattle.common.specs.Runs.{table}
 use Rattle.delta_steps.specs.Delta.{Store, store}
-use Rattle.delta_steps.specs.Worked.{Worked}
-use Rattle.delta_steps.specs.Stored.{Went}
+use Rattle.delta_steps.specs.Worked.{WfStore}
+use Rattle.delta_steps.specs.Stored.{ExtStore}
 use Rattle.delta_steps.proofs.Stored.{went-refl, went-trans}
 use Rattle.aut.specs.Seen.{limitsOf}
 use Rattle.aut.specs.declared.Counts.{Counts}
 use Rattle.aut.specs.declared.Limits.{Limits}
-use Rattle.aut_rel.specs.Behind.{LISTS, Left}
+use Rattle.aut_rel.specs.Behind.{LISTS, Modifies}
 use Rattle.aut_rel.proofs.Behind.{left-refl, left-trans, left-wide, left-kept}
 use Rattle.aut_rel.specs.Seen.{autOf, Ready}
 use Rattle.aut_stage.specs.Stage.{Layer}
@@ -23,15 +23,15 @@ storeOf t st mem tr c = store (autOf t st mem c) (table tr (c .transitions))
 -- tables and scratch in order, and what is worked out is true
 pub record Prepared (N : ℕ) (l : Limits) (σ : Store) (s : List ℕ) : Type 0 where
   pub ready : Ready N l (σ .aut) s
-  pub worked : Worked N (limitsOf l) σ
+  pub worked : WfStore N (limitsOf l) σ
 
 abbrev pub storeLayer : ℕ → Limits → Layer
 storeLayer N l = record {
   Store = Store;
   Counts = Counts;
-  Ext = λ σ τ. Went σ τ;
+  Ext = λ σ τ. ExtStore σ τ;
   Beside = λ c d. d .sp ≡ c .sp;
-  Frame = λ a n σ s s′. Left N a n (σ .aut .nodes) s s′;
+  Frame = λ a n σ s s′. Modifies N a n (σ .aut .nodes) s s′;
   Ready = λ σ s. Prepared N l σ s;
   ext-refl = λ σ. went-refl σ;
   ext-trans = λ σ τ υ p q. went-trans p q;

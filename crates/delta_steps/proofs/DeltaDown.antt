@@ -18,9 +18,9 @@ use Rattle.aut_steps.specs.Tables.{SPP, UNION, INTERSECT, XOR, DIFFERENCE, COMP
 use Rattle.aut_steps.specs.Kinds.{form}
 use Rattle.aut_steps.specs.ListLaws.{All}
 use Rattle.aut_steps.proofs.ListLaws.{all-map}
-use Rattle.aut_steps.specs.Good.{states, kind, first, second, nesting, members, Good}
+use Rattle.aut_steps.specs.Good.{states, kind, first, second, nesting, members, WfAut}
 use Rattle.aut_steps.proofs.Good.{kind-grown, first-grown, second-grown, members-grown, state-grown, ok-as}
-use Rattle.aut_steps.proofs.Goes.{Goes, stops, comes, goes-return, goes-bind}
+use Rattle.aut_steps.proofs.Goes.{StepSpec, stops, comes, goes-return, goes-bind}
 use Rattle.aut_steps.proofs.StateLaws.{nodes-goes}
 use Rattle.st_steps.specs.Edges.{EdgesAt}
 use Rattle.st_steps.proofs.Edges.{edges-grown}
@@ -34,13 +34,13 @@ use Rattle.delta_steps.specs.Delta.{countOf, Store, store, putAut, roomT
 use Rattle.delta_steps.proofs.Agree.{Agree, agree-came}
 use Rattle.delta_steps.specs.Noted.{Noted}
 use Rattle.delta_steps.proofs.Noted.{noted-refl, written, written-other}
-use Rattle.delta_steps.specs.Worked.{Worked, Valued, handle, memo, Stored}
+use Rattle.delta_steps.specs.Worked.{WfStore, Valued, handle, memo, Stored}
 use Rattle.delta_steps.proofs.Worked.{valued-reads}
 use Rattle.delta_steps.proofs.Operands.{Below, below-one, below-two}
 use Rattle.delta_steps.specs.EpsilonReads.{workAll}
 use Rattle.delta_steps.specs.EpsilonDown.{First, this, later, Known}
 use Rattle.delta_steps.proofs.EpsilonDown.{first-of, first-open, opens, opens-fewer, known-of, epsilon-known, known-means}
-use Rattle.delta_steps.specs.Stored.{Went}
+use Rattle.delta_steps.specs.Stored.{ExtStore}
 use Rattle.delta_steps.proofs.Stored.{went-refl, went-trans, went-noted}
 use Rattle.delta_steps.proofs.DeltaRuns.{Halted, Deltaed}
 use Rattle.delta_steps.proofs.DeltaLaws.{delta-goes}
@@ -54,9 +54,9 @@ use Rattle.delta_steps.specs.DeltaDown.{Has, HasNot, ListWay, bottom, do
 pub record Entered (N : ℕ) (L : Limits) (σ : Store) (x : ℕ) (τ : Store) : Type 0 where
   pub noted : Noted (σ .aut) (τ .aut)
   pub transitions : τ .transitions ≡ σ .transitions
-  pub worked : Worked N L τ
+  pub worked : WfStore N L τ
   pub known : SEQUENCE ≤ kind (σ .aut) x → kind (σ .aut) x ≤ STAR → Known (τ .aut .states .words) (first (σ .aut) x)
-  pub again : (υ : Store) → Went τ υ → Worked N L υ → enter N x υ ≡ given υ tt
+  pub again : (υ : Store) → ExtStore τ υ → WfStore N L υ → enter N x υ ≡ given υ tt
 
 valued-nodes : {α : Aut} (t : Table) {x e : ℕ} → Valued α x e → Valued (putNodes t α) x e
 valued-nodes t (handle k f) = handle k f
@@ -65,14 +65,14 @@ valued-nodes t (memo k f) = memo k f
 given-first : {A : Type 0} {σ τ : Store} {a b : A} → _≡_ {A = Outcome Store A} (given σ a) (given τ b) → σ ≡ τ
 given-first e = cc
 
-module _ {N : ℕ} {L : Limits} {σ : Store} (W : Worked N L σ) {x : ℕ} (l : x < states (σ .aut)) where
+module _ {N : ℕ} {L : Limits} {σ : Store} (W : WfStore N L σ) {x : ℕ} (l : x < states (σ .aut)) where
   abbrev a : ℕ
   a = first (σ .aut) x
 
-  enter-in : {υ : Store} → Went σ υ → (k : ℕ) → kind (σ .aut) x ≡ k → enter N x υ ≡ placed putAut υ (enterWith N k a (υ .aut))
+  enter-in : {υ : Store} → ExtStore σ υ → (k : ℕ) → kind (σ .aut) x ≡ k → enter N x υ ≡ placed putAut υ (enterWith N k a (υ .aut))
   enter-in {υ} w k e = ap₂ (λ (j a : ℕ). placed putAut υ (enterWith N j a (υ .aut))) (kind-grown (w .grown) x l ∙ e) (first-grown (w .grown) x l)
 
-  epsilon-later : {τ υ : Store} {ε : ℕ} → a < states (τ .aut) → Went τ υ → Worked N L υ → Valued (τ .aut) a ε → epsilon N a (υ .aut) ≡ given (υ .aut) ε
+  epsilon-later : {τ υ : Store} {ε : ℕ} → a < states (τ .aut) → ExtStore τ υ → WfStore N L υ → Valued (τ .aut) a ε → epsilon N a (υ .aut) ≡ given (υ .aut) ε
   epsilon-later {υ = υ} m w B v =
       let u = valued-went w m v in
       epsilon-known (record { good = B .good; epsilons = B .epsilons }) (state-grown (w .grown) m) (known-of u) ∙ ap (given (υ .aut)) (valued-reads u)
@@ -126,7 +126,7 @@ module _ {N : ℕ} {L : Limits} {σ : Store} (W : Worked N L σ) {x : ℕ} (l : 
       (λ t. let e : k ≡ STAR = eqb-true k STAR t in enter-star e (epsilon N a (σ .aut)) refl (sym (enter-in (went-refl σ) STAR e) ∙ p))
       (λ n2. subst (Entered N L σ x) (given-first (sym (nothing n1 n2 (went-refl σ)) ∙ p)) (record { noted = noted-refl (σ .aut); transitions = refl; worked = W; known = λ u v. absurd (omega (arith, eqb-false k SEQUENCE n1, eqb-false k STAR n2)); again = λ υ w B. nothing n1 n2 w })))
     where
-      nothing : eqb (kind (σ .aut) x) SEQUENCE ≡ false → eqb (kind (σ .aut) x) STAR ≡ false → {υ : Store} → Went σ υ → enter N x υ ≡ given υ tt
+      nothing : eqb (kind (σ .aut) x) SEQUENCE ≡ false → eqb (kind (σ .aut) x) STAR ≡ false → {υ : Store} → ExtStore σ υ → enter N x υ ≡ given υ tt
       nothing n1 n2 {υ} w = enter-in w (kind (σ .aut) x) refl ∙ none
         where
           none : placed putAut υ (enterWith N (kind (σ .aut) x) a (υ .aut)) ≡ given υ tt
@@ -134,7 +134,7 @@ module _ {N : ℕ} {L : Limits} {σ : Store} (W : Worked N L σ) {x : ℕ} (l : 
 
 -- ---- tables with the same lists
 
-pub same-list-operands : {N : ℕ} {L : Limits} {σ τ : Store} → Worked N L σ → Went σ τ → {x : ℕ} → x < states (σ .aut) → listOperands τ x ≡ listOperands σ x
+pub same-list-operands : {N : ℕ} {L : Limits} {σ τ : Store} → WfStore N L σ → ExtStore σ τ → {x : ℕ} → x < states (σ .aut) → listOperands τ x ≡ listOperands σ x
 unfolding listOperandsWith form
 same-list-operands {σ = σ} {τ} W w {x} l =
     ap (λ (j : ℕ). listOperandsWith j (members (τ .aut) x) (first (τ .aut) x) (second (τ .aut) x)) (kind-grown (w .grown) x l)
@@ -155,7 +155,7 @@ first-map : {K O K′ O′ : ℕ → Type 0} {z : ℕ} {ys : List ℕ} → ((y :
 first-map {z = z} f g (this o) = this (g z o)
 first-map f g (later {y} k r) = later (f y k) (first-map f g r)
 
-module _ {N : ℕ} {L : Limits} {σ τ : Store} (W : Worked N L σ) (w : Went σ τ) (same : (i : ℕ) → countOf (τ .aut .states .words) i ≡ countOf (σ .aut .states .words) i) where
+module _ {N : ℕ} {L : Limits} {σ τ : Store} (W : WfStore N L σ) (w : ExtStore σ τ) (same : (i : ℕ) → countOf (τ .aut .states .words) i ≡ countOf (σ .aut .states .words) i) where
   has-same : (ys : List ℕ) → All (Has σ) ys → All (Has τ) ys
   has-same ys p = all-map ys (λ y h. omega (arith, same y)) p
 
@@ -170,16 +170,16 @@ module _ {N : ℕ} {L : Limits} {σ : Store} {x : ℕ} {τ : Store} (E : Entered
   unfolding countOf
   enter-count i = E .noted .words i 6 (omega arith) (λ q. omega arith)
 
-  pub enter-went : Went σ τ
-  enter-went = subst (λ (t : Table). Went σ (store (τ .aut) t)) (sym (E .transitions)) (went-noted (E .noted))
+  pub enter-went : ExtStore σ τ
+  enter-went = subst (λ (t : Table). ExtStore σ (store (τ .aut) t)) (sym (E .transitions)) (went-noted (E .noted))
 
 -- ---- a list that is put together
 
-goes-if : {N : ℕ} {L : Limits} {A : Type 0} {P : Aut → A → Type 0} {σ α : Aut} (b : Bool) (f g : Step Aut A) → (b ≡ true → Goes N L P σ (f α)) → (b ≡ false → Goes N L P σ (g α)) → Goes N L P σ ((if b then f else g) α)
+goes-if : {N : ℕ} {L : Limits} {A : Type 0} {P : Aut → A → Type 0} {σ α : Aut} (b : Bool) (f g : Step Aut A) → (b ≡ true → StepSpec N L P σ (f α)) → (b ≡ false → StepSpec N L P σ (g α)) → StepSpec N L P σ ((if b then f else g) α)
 goes-if true f g p q = p refl
 goes-if false f g p q = q refl
 
-module _ {N : ℕ} {L : Limits} {σ : Store} (W : Worked N L σ) where
+module _ {N : ℕ} {L : Limits} {σ : Store} (W : WfStore N L σ) where
   list-of : {z : ℕ} → z < states (σ .aut) → Has σ z → ListAt N L (σ .aut) (listAt σ z)
   list-of {z} l h =
       let d : Deltaed N L z σ σ (listAt σ z) = agree-came (subst (λ o. Agree (Halted N L σ) (Deltaed N L z σ) o (delta N L z σ)) (delta-stored W l h) (delta-goes W l)) in
@@ -201,11 +201,11 @@ module _ {N : ℕ} {L : Limits} {σ : Store} (W : Worked N L σ) where
     two-at : {a b : ℕ} → All (Below (σ .aut) x) (a ∷ b ∷ []) × All (Has σ) (a ∷ b ∷ []) → EdgesAt N (σ .aut) (listAt σ a) × EdgesAt N (σ .aut) (listAt σ b)
     two-at p = (list-of (p .0 .0 .state) (p .1 .0) .edges, list-of (p .0 .1 .0 .state) (p .1 .1 .0) .edges)
 
-    together-goes : Goes N L (ListAt N L) (σ .aut) (togetherWith N L (listAt σ) (valueOf (σ .aut .states .words) (first (σ .aut) x)) (kind (σ .aut) x) x (members (σ .aut) x) (first (σ .aut) x) (second (σ .aut) x) (σ .aut))
+    together-goes : StepSpec N L (ListAt N L) (σ .aut) (togetherWith N L (listAt σ) (valueOf (σ .aut .states .words) (first (σ .aut) x)) (kind (σ .aut) x) x (members (σ .aut) x) (first (σ .aut) x) (second (σ .aut) x) (σ .aut))
     unfolding togetherWith listOperandsWith form
     together-goes =
         let k : ℕ = kind (σ .aut) x in
-        let g : Good N L (σ .aut) = W .good in
+        let g : WfAut N L (σ .aut) = W .good in
         goes-if (eqb k SPP) _ _ (λ q. goes-return [] g (list-empty (σ .aut)))
         (λ n1. goes-if (eqb k UNION) _ _ (λ q. let p = in-list UNION (eqb-true k UNION q) refl in unionAll-goes _ g (lists-of x (members (σ .aut) x) (p .0) (p .1)) (list-empty (σ .aut)))
         (λ n2. goes-if (eqb k INTERSECT) _ _ (λ q. let p = in-list INTERSECT (eqb-true k INTERSECT q) refl in intersectFirst-goes _ g (lists-of x (members (σ .aut) x) (p .0) (p .1)))
@@ -238,15 +238,15 @@ module _ {N : ℕ} {L : Limits} {σ : Store} (W : Worked N L σ) where
     unfolding countOf
     together-count {τ} {es} q i = go together-goes q
       where
-        go : {o : Outcome Aut (List Edge)} → Goes N L (ListAt N L) (σ .aut) o → placed putAut σ o ≡ given τ es → getD (τ .aut .states .words) (12 * i + 6) 0 ≡ getD (σ .aut .states .words) (12 * i + 6) 0
+        go : {o : Outcome Aut (List Edge)} → StepSpec N L (ListAt N L) (σ .aut) o → placed putAut σ o ≡ given τ es → getD (τ .aut .states .words) (12 * i + 6) 0 ≡ getD (σ .aut .states .words) (12 * i + 6) 0
         go (stops w g y) p = absurd (refused≢given p)
         go (comes r) p = ap (λ (υ : Store). getD (υ .aut .states .words) (12 * i + 6) 0) (sym (given-first p)) ∙ r .memos i 6 (omega arith) (omega arith)
 
 -- ---- the list at the end of the way is worked out
 
 pub record Gave (N : ℕ) (L : Limits) (σ : Store) (y : ℕ) (τ : Store) (es : List Edge) : Type 0 where
-  pub went : Went σ τ
-  pub worked : Worked N L τ
+  pub went : ExtStore σ τ
+  pub worked : WfStore N L τ
   pub stored : Stored τ y es
   pub only : (i : ℕ) → (i ≡ y → ⊥) → countOf (τ .aut .states .words) i ≡ countOf (σ .aut .states .words) i
 
@@ -263,15 +263,15 @@ keep-only x es σ {τ} {fs} q i n = go (roomT (σ .transitions) (length es)) q
     go false p = absurd (refused≢given p)
 
 module _ {N : ℕ} {L : Limits} where
-  work-has : {σ : Store} → Worked N L σ → (ys : List ℕ) → All (λ y. y < states (σ .aut)) ys → All (Has σ) ys → workAll (delta N L) ys σ ≡ given σ tt
+  work-has : {σ : Store} → WfStore N L σ → (ys : List ℕ) → All (λ y. y < states (σ .aut)) ys → All (Has σ) ys → workAll (delta N L) ys σ ≡ given σ tt
   unfolding workAll
   work-has W [] a h = refl
   work-has W (y ∷ ys) a h = ap (λ (o : Outcome Store (List Edge)). after o (λ es. workAll (delta N L) ys)) (delta-stored W (a .0) (h .0)) ∙ work-has W ys (a .1) (h .1)
 
-  operands-states : {σ : Store} → Worked N L σ → {x : ℕ} → x < states (σ .aut) → All (λ y. y < states (σ .aut)) (listOperands σ x)
+  operands-states : {σ : Store} → WfStore N L σ → {x : ℕ} → x < states (σ .aut) → All (λ y. y < states (σ .aut)) (listOperands σ x)
   operands-states {σ} W {x} l = all-map (listOperands σ x) (λ y b. b .state) (list-operands-below W l)
 
-  bottom-gave : {σ : Store} → Worked N L σ → {y : ℕ} → y < states (σ .aut) → HasNot σ y → All (Has σ) (listOperands σ y) → {τ : Store} {es : List Edge} → delta N L y σ ≡ given τ es → Gave N L σ y τ es
+  bottom-gave : {σ : Store} → WfStore N L σ → {y : ℕ} → y < states (σ .aut) → HasNot σ y → All (Has σ) (listOperands σ y) → {τ : Store} {es : List Edge} → delta N L y σ ≡ given τ es → Gave N L σ y τ es
   bottom-gave {σ} W {y} l n h {τ} {es} e =
       let d : Deltaed N L y σ τ es = agree-came (subst (λ o. Agree (Halted N L σ) (Deltaed N L y σ) o (delta N L y σ)) e (delta-goes W l)) in
       record { went = d .listed .went; worked = d .listed .worked; stored = d .stored; only = λ i k. go i k (enter N y σ) refl (sym (delta-works W l n) ∙ e) }
@@ -285,8 +285,8 @@ module _ {N : ℕ} {L : Limits} where
       go i k (refused number) p q = absurd (refused≢given q)
       go i k (given υ u) p q =
           let E : Entered N L σ y υ = enter-gives W l p in
-          let w : Went σ υ = enter-went E in
-          let B : Worked N L υ = E .worked in
+          let w : ExtStore σ υ = enter-went E in
+          let B : WfStore N L υ = E .worked in
           let m : y < states (υ .aut) = state-grown (w .grown) l in
           let s : listOperands υ y ≡ listOperands σ y = same-list-operands W w l in
           let hs : All (Has υ) (listOperands υ y) = subst (All (Has υ)) (sym s) (has-same W w (enter-count E) (listOperands σ y) h) in
@@ -295,17 +295,17 @@ module _ {N : ℕ} {L : Limits} where
           (sym (ap (λ (o : Outcome Store Unit). after o (λ u υ. after (together N L y υ) (keepList y))) f) ∙ q)
           ∙ enter-count E i
         where
-          known-in : Entered N L σ y υ → Went σ υ → SEQUENCE ≤ kind (υ .aut) y → kind (υ .aut) y ≤ STAR → Known (υ .aut .states .words) (first (υ .aut) y)
+          known-in : Entered N L σ y υ → ExtStore σ υ → SEQUENCE ≤ kind (υ .aut) y → kind (υ .aut) y ≤ STAR → Known (υ .aut .states .words) (first (υ .aut) y)
           known-in E w c d =
               subst (Known (υ .aut .states .words)) (sym (first-grown (w .grown) y l)) (E .known (omega (arith, kind-grown (w .grown) y l)) (omega (arith, kind-grown (w .grown) y l)))
 
   -- .. after the states above it are entered
-  way-gave : {y x : ℕ} (xs : List ℕ) {σ : Store} → Worked N L σ → x < states (σ .aut) → ListWay σ y xs x → {τ : Store} {es : List Edge} → after (enters N xs σ) (λ u. delta N L y) ≡ given τ es → Gave N L σ y τ es
+  way-gave : {y x : ℕ} (xs : List ℕ) {σ : Store} → WfStore N L σ → x < states (σ .aut) → ListWay σ y xs x → {τ : Store} {es : List Edge} → after (enters N xs σ) (λ u. delta N L y) ≡ given τ es → Gave N L σ y τ es
   unfolding workAll
   way-gave [] W l (bottom n h) e = bottom-gave W l n h e
   way-gave {y} (x ∷ xs) {σ} W l (down {z = z} n f v) {τ} {es} e = go (λ υ B m v q. way-gave xs B m v q) (enter N x σ) refl e
     where
-      go : ((υ : Store) → Worked N L υ → z < states (υ .aut) → ListWay υ y xs z → after (enters N xs υ) (λ u. delta N L y) ≡ given τ es → Gave N L υ y τ es)
+      go : ((υ : Store) → WfStore N L υ → z < states (υ .aut) → ListWay υ y xs z → after (enters N xs υ) (λ u. delta N L y) ≡ given τ es → Gave N L υ y τ es)
           → (o : Outcome Store Unit) → enter N x σ ≡ o → after (after o (λ u. enters N xs)) (λ u. delta N L y) ≡ given τ es → Gave N L σ y τ es
       go ih (refused number) p q = absurd (refused≢given q)
       go ih (given υ u) p q =
@@ -315,7 +315,7 @@ module _ {N : ℕ} {L : Limits} where
           record { went = went-trans (enter-went E) (r .went); worked = r .worked; stored = r .stored; only = λ i k. r .only i k ∙ enter-count E i }
 
   -- the nesting falls
-  pub list-way-state : {σ : Store} → Worked N L σ → {y x : ℕ} {xs : List ℕ} → x < states (σ .aut) → ListWay σ y xs x → (y < states (σ .aut)) × (nesting (σ .aut) y ≤ nesting (σ .aut) x)
+  pub list-way-state : {σ : Store} → WfStore N L σ → {y x : ℕ} {xs : List ℕ} → x < states (σ .aut) → ListWay σ y xs x → (y < states (σ .aut)) × (nesting (σ .aut) y ≤ nesting (σ .aut) x)
   list-way-state W l (bottom n h) = (l, omega arith)
   list-way-state {σ} W {x = x} l (down n f v) =
       let b = first-of (Below (σ .aut) x) f (list-operands-below W l) in
@@ -324,12 +324,12 @@ module _ {N : ℕ} {L : Limits} where
 
   -- ---- the operands of a state above go the same
 
-  work-stuck : {σ : Store} → Worked N L σ → {z number : ℕ} (ys : List ℕ) → All (λ y. y < states (σ .aut)) ys → First (Has σ) (HasNot σ) z ys → delta N L z σ ≡ refused number → workAll (delta N L) ys σ ≡ refused number
+  work-stuck : {σ : Store} → WfStore N L σ → {z number : ℕ} (ys : List ℕ) → All (λ y. y < states (σ .aut)) ys → First (Has σ) (HasNot σ) z ys → delta N L z σ ≡ refused number → workAll (delta N L) ys σ ≡ refused number
   unfolding workAll
   work-stuck W (z ∷ ys) l (this p) d = ap (λ (o : Outcome Store (List Edge)). after o (λ es. workAll (delta N L) ys)) d
   work-stuck W (y ∷ ys) l (later h f) d = ap (λ (o : Outcome Store (List Edge)). after o (λ es. workAll (delta N L) ys)) (delta-stored W (l .0) h) ∙ work-stuck W ys (l .1) f d
 
-  work-same : {σ τ : Store} → Worked N L σ → Worked N L τ → Went σ τ → {z : ℕ} (ys : List ℕ) → All (λ y. y < states (σ .aut)) ys → First (Has σ) (HasNot σ) z ys → delta N L z τ ≡ delta N L z σ
+  work-same : {σ τ : Store} → WfStore N L σ → WfStore N L τ → ExtStore σ τ → {z : ℕ} (ys : List ℕ) → All (λ y. y < states (σ .aut)) ys → First (Has σ) (HasNot σ) z ys → delta N L z τ ≡ delta N L z σ
       → workAll (delta N L) ys τ ≡ workAll (delta N L) ys σ
   unfolding workAll
   work-same W B w (z ∷ ys) l (this p) d = ap (λ (o : Outcome Store (List Edge)). after o (λ es. workAll (delta N L) ys)) d
@@ -341,7 +341,7 @@ module _ {N : ℕ} {L : Limits} where
   -- ---- the law: enter the states of the way, work out the list at its end, and then the state's own
 
   -- one level: x is entered, and the list at the end of the way from z, its first operand without one, is worked out
-  module _ {σ : Store} (W : Worked N L σ) {x y z : ℕ} (l : x < states (σ .aut)) (n : HasNot σ x) (f : First (Has σ) (HasNot σ) z (listOperands σ x)) {xs : List ℕ} (v : ListWay σ y xs z) {υ : Store} (p : enter N x σ ≡ given υ tt) where
+  module _ {σ : Store} (W : WfStore N L σ) {x y z : ℕ} (l : x < states (σ .aut)) (n : HasNot σ x) (f : First (Has σ) (HasNot σ) z (listOperands σ x)) {xs : List ℕ} (v : ListWay σ y xs z) {υ : Store} (p : enter N x σ ≡ given υ tt) where
     b : Below (σ .aut) x z
     b = first-of (Below (σ .aut) x) f (list-operands-below W l)
 
@@ -384,7 +384,7 @@ module _ {N : ℕ} {L : Limits} where
         ∙ ap (λ (o : Outcome Store Unit). after o (λ u υ. after (together N L x υ) (keepList x))) (work-same (E .worked) (r .worked) (r .went) (listOperands σ x) sᵘ fᵘ ih)
         ∙ sym runs
 
-  pub delta-down : {y x : ℕ} (xs : List ℕ) {σ : Store} → Worked N L σ → x < states (σ .aut) → ListWay σ y xs x → after (after (enters N xs σ) (λ u. delta N L y)) (λ es. delta N L x) ≡ delta N L x σ
+  pub delta-down : {y x : ℕ} (xs : List ℕ) {σ : Store} → WfStore N L σ → x < states (σ .aut) → ListWay σ y xs x → after (after (enters N xs σ) (λ u. delta N L y)) (λ es. delta N L x) ≡ delta N L x σ
   unfolding workAll
   delta-down {y} [] {σ} W l (bottom n h) = go (delta N L y σ) refl
     where
@@ -395,7 +395,7 @@ module _ {N : ℕ} {L : Limits} where
           delta-stored (r .worked) (state-grown (r .went .grown) l) (r .stored .marked) ∙ ap (given τ) (r .stored .reads) ∙ sym e
   delta-down {y} (x ∷ xs) {σ} W l (down {z = z} n f v) = go (λ υ B m v. delta-down xs B m v) (enter N x σ) refl
     where
-      go : ((υ : Store) → Worked N L υ → z < states (υ .aut) → ListWay υ y xs z → after (after (enters N xs υ) (λ u. delta N L y)) (λ es. delta N L z) ≡ delta N L z υ)
+      go : ((υ : Store) → WfStore N L υ → z < states (υ .aut) → ListWay υ y xs z → after (after (enters N xs υ) (λ u. delta N L y)) (λ es. delta N L z) ≡ delta N L z υ)
           → (o : Outcome Store Unit) → enter N x σ ≡ o → after (after (after o (λ u. enters N xs)) (λ u. delta N L y)) (λ es. delta N L x) ≡ delta N L x σ
       go ih (refused number) p = sym (delta-works W l n ∙ ap (λ (o : Outcome Store Unit). after o (λ u. finishList N L (listOperands σ x) x)) p)
       go ih (given υ u) p =
@@ -412,17 +412,17 @@ first-one n (later k f) (later h g) = first-one n f g
 -- each state of the way is entered
 module _ (N : ℕ) (L : Limits) where
   abbrev Again : Store → ℕ → Type 0
-  Again υ x = (ω : Store) → Went υ ω → Worked N L ω → enter N x ω ≡ given ω tt
+  Again υ x = (ω : Store) → ExtStore υ ω → WfStore N L ω → enter N x ω ≡ given ω tt
 
   record AllEntered (σ υ : Store) (xs : List ℕ) : Type 0 where
-    went : Went σ υ
-    worked : Worked N L υ
+    went : ExtStore σ υ
+    worked : WfStore N L υ
     again : All (Again υ) xs
     counts : (i : ℕ) → countOf (υ .aut .states .words) i ≡ countOf (σ .aut .states .words) i
 
 module _ {N : ℕ} {L : Limits} where
   -- the way from x, and the one after the list at its end is stored: the states above are the same, as far as the first went
-  module _ {σ τ : Store} (W : Worked N L σ) {y : ℕ} {es : List Edge} (r : Gave N L σ y τ es) (P : ℕ → Type 0) where
+  module _ {σ τ : Store} (W : WfStore N L σ) {y : ℕ} {es : List Edge} (r : Gave N L σ y τ es) (P : ℕ → Type 0) where
     next-same : {x z z′ : ℕ} → x < states (σ .aut) → (z ≡ y → ⊥) → First (Has σ) (HasNot σ) z (listOperands σ x) → First (Has τ) (HasNot τ) z′ (listOperands τ x) → z ≡ z′
     next-same {z = z} l n f g =
         first-one (λ y h e. omega arith) (subst (First (Has τ) (HasNot τ) z) (sym (same-list-operands W (r .went) l)) (still f)) g
@@ -441,12 +441,12 @@ module _ {N : ℕ} {L : Limits} where
         let apart : z ≡ y → ⊥ = λ q. omega (arith, c .lower, list-way-state W (c .state) v .1, ap (nesting (σ .aut)) q) in
         (p .0, way-prefix (b .state) (down n″ f″ v) (subst (ListWay τ y′ xs′) (sym (next-same l apart f f′)) v′) (p .1))
 
-  all-entered : {y x : ℕ} (xs : List ℕ) {σ : Store} → Worked N L σ → x < states (σ .aut) → ListWay σ y xs x → {υ : Store} → enters N xs σ ≡ given υ tt → AllEntered N L σ υ xs
+  all-entered : {y x : ℕ} (xs : List ℕ) {σ : Store} → WfStore N L σ → x < states (σ .aut) → ListWay σ y xs x → {υ : Store} → enters N xs σ ≡ given υ tt → AllEntered N L σ υ xs
   unfolding workAll
   all-entered [] {σ} W l v {υ} e = subst (λ (υ : Store). AllEntered N L σ υ []) (given-first e) (record { went = went-refl σ; worked = W; again = tt; counts = λ i. refl })
   all-entered {y} (x ∷ xs) {σ} W l (down {z = z} n f v) {υ} e = go (λ τ B m w q. all-entered xs B m w q) (enter N x σ) refl e
     where
-      go : ((τ : Store) → Worked N L τ → z < states (τ .aut) → ListWay τ y xs z → enters N xs τ ≡ given υ tt → AllEntered N L τ υ xs) → (o : Outcome Store Unit) → enter N x σ ≡ o → after o (λ u. enters N xs) ≡ given υ tt → AllEntered N L σ υ (x ∷ xs)
+      go : ((τ : Store) → WfStore N L τ → z < states (τ .aut) → ListWay τ y xs z → enters N xs τ ≡ given υ tt → AllEntered N L τ υ xs) → (o : Outcome Store Unit) → enter N x σ ≡ o → after o (λ u. enters N xs) ≡ given υ tt → AllEntered N L σ υ (x ∷ xs)
       go ih (refused number) p q = absurd (refused≢given q)
       go ih (given τ u) p q =
           let E : Entered N L σ x τ = enter-gives W l p in
@@ -465,7 +465,7 @@ list-way-stays h (bottom n k) = refl
 list-way-stays {σ} h (down n f v) = absurd (omega (arith, first-open f, first-of (Has σ) f h))
 
 -- Who is called on the end of a way, when the states above it are entered, calls no further.
-pub delta-calls-last : {N : ℕ} {L : Limits} {σ : Store} → Worked N L σ → {y x : ℕ} {xs : List ℕ} → x < states (σ .aut) → ListWay σ y xs x → {υ : Store} → enters N xs σ ≡ given υ tt
+pub delta-calls-last : {N : ℕ} {L : Limits} {σ : Store} → WfStore N L σ → {y x : ℕ} {xs : List ℕ} → x < states (σ .aut) → ListWay σ y xs x → {υ : Store} → enters N xs σ ≡ given υ tt
     → {r : ℕ} {zs : List ℕ} → ListWay υ r zs y → r ≡ y
 delta-calls-last {N} {L} {σ} W {y} {xs = xs} l v {υ} e w =
     let a : AllEntered N L σ υ xs = all-entered xs W l v e in
@@ -481,7 +481,7 @@ skip-entered N (suc i) [] σ p = refl
 skip-entered N (suc i) (x ∷ xs) σ p = ap (λ (o : Outcome Store Unit). after o (λ u. enters N xs)) (p .0) ∙ skip-entered N i xs σ (p .1)
 
 -- In the next turn, as many states are entered already as the way had above its end: one number is enough.
-pub enters-rest : {N : ℕ} {L : Limits} {σ : Store} → Worked N L σ → {y x : ℕ} {xs : List ℕ} → x < states (σ .aut) → ListWay σ y xs x → {υ : Store} → enters N xs σ ≡ given υ tt → {τ : Store} {es : List Edge} → delta N L y υ ≡ given τ es
+pub enters-rest : {N : ℕ} {L : Limits} {σ : Store} → WfStore N L σ → {y x : ℕ} {xs : List ℕ} → x < states (σ .aut) → ListWay σ y xs x → {υ : Store} → enters N xs σ ≡ given υ tt → {τ : Store} {es : List Edge} → delta N L y υ ≡ given τ es
     → {y′ : ℕ} {xs′ : List ℕ} → ListWay τ y′ xs′ x → enters N xs′ τ ≡ enters N (drop (length xs) xs′) τ
 enters-rest {N} {L} {σ} W {y} {xs = xs} l v {υ} e {τ} {es} d {xs′ = xs′} v′ =
     let a : AllEntered N L σ υ xs = all-entered xs W l v e in
@@ -491,7 +491,7 @@ enters-rest {N} {L} {σ} W {y} {xs = xs} l v {υ} e {τ} {es} d {xs′ = xs′} 
     skip-entered N (length xs) xs′ τ (all-map (take (length xs) xs′) (λ x g. g τ (b .listed .went) (r .worked)) (way-prefix W r (Again N L υ) l v v′ (a .again)))
 
 -- Each turn leaves fewer states without a list among those that were there when it began (a turn may make new states, behind them).
-pub has-more : {N : ℕ} {L : Limits} {σ : Store} → Worked N L σ → {y x : ℕ} {xs : List ℕ} → x < states (σ .aut) → ListWay σ y xs x → {τ : Store} {es : List Edge} → after (enters N xs σ) (λ u. delta N L y) ≡ given τ es
+pub has-more : {N : ℕ} {L : Limits} {σ : Store} → WfStore N L σ → {y x : ℕ} {xs : List ℕ} → x < states (σ .aut) → ListWay σ y xs x → {τ : Store} {es : List Edge} → after (enters N xs σ) (λ u. delta N L y) ≡ given τ es
     → (n : ℕ) → y < n → opens (countOf (τ .aut .states .words)) n < opens (countOf (σ .aut .states .words)) n
 has-more {σ = σ} W {y} {xs = xs} l v {τ} e n m =
     let r = way-gave xs W l v e in

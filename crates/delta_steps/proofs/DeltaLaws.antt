@@ -21,13 +21,13 @@ use Rattle.aut_steps.specs.Tables.{SPP, UNION, INTERSECT, XOR, DIFFERENCE, COMP
 use Rattle.aut_steps.specs.Kinds.{form}
 use Rattle.aut_steps.proofs.Languages.{≈-sym, _then_, same, none-sum, Either, Minus, Differ, Not, join-same, until-same}
 use Rattle.aut_steps.specs.ListLaws.{All}
-use Rattle.aut_steps.specs.Good.{states, kind, first, second, nesting, members, Good}
+use Rattle.aut_steps.specs.Good.{states, kind, first, second, nesting, members, WfAut}
 use Rattle.aut_steps.proofs.Good.{grown-trans, nesting-grown, state-grown}
 use Rattle.aut_steps.specs.Meaning.{Holds}
 use Rattle.aut_steps.proofs.Meaning.{HoldsSome, holds-grown, holds-spp, holds-union, holds-intersect, holds-xor, holds-difference, holds-complement, holds-sequence, holds-star, holds-dup, holds-next, holds-until, holds-top}
 use Rattle.aut_steps.proofs.StateLaws.{nodes-goes}
 use Rattle.st_steps.specs.Operations.{ops}
-use Rattle.aut_steps.proofs.Goes.{Goes}
+use Rattle.aut_steps.proofs.Goes.{StepSpec}
 use Rattle.st_steps.specs.Edges.{EdgesAt}
 use Rattle.st_steps.proofs.Edges.{edges-grown}
 use Rattle.st_steps.specs.ListGoes.{ListAt}
@@ -39,19 +39,19 @@ use Rattle.delta_steps.proofs.Labels.{star-makes}
 use Rattle.delta_steps.specs.Fits.{tables}
 use Rattle.delta_steps.proofs.Fits.{since, list-as, since-refl, fits}
 use Rattle.delta_steps.proofs.Agree.{Agree, stop, come, agree-same, agree-bind, agree-map, agree-if, none, also, all2-map, all2-reads}
-use Rattle.delta_steps.specs.Worked.{Worked}
+use Rattle.delta_steps.specs.Worked.{WfStore}
 use Rattle.delta_steps.proofs.Worked.{later-grown}
 use Rattle.delta_steps.proofs.Operands.{Below, below-one, below-two, below-many, last-kind, no-kind}
 use Rattle.delta_steps.proofs.DeltaLists.{unionAll-true, intersectFirst-true, sequence-true, star-true, until-true, next-true, dup-true, top-true}
-use Rattle.delta_steps.specs.Stored.{Went}
+use Rattle.delta_steps.specs.Stored.{ExtStore}
 use Rattle.delta_steps.proofs.Stored.{edges-length, went-refl, went-trans, before-refl, before-trans, stored-went, keeping-grown, keeping-stored, keeping-worked, keeping-before, keeping-went}
 use Rattle.delta_steps.proofs.DeltaRuns.{Halted, no-transitions, Listed, Deltaed, AskedList, AskedLists, DeltaCalls, halted-from, bind-agree, same-agree, list-step, goes-step, epsilon-step, list-went}
 
 module _ {N : ℕ} {L : Limits} where
   -- ---- calls on operands
 
-  module _ {σ : Store} (W : Worked N L σ) {x : ℕ} (l : x < states (σ .aut)) {again other : ℕ → Step Store (List Edge)} (calls : DeltaCalls N L again other (nesting (σ .aut) x)) where
-    ask : {τ : Store} → Went σ τ → Worked N L τ → {y : ℕ} → Below (σ .aut) x y → Agree (Halted N L τ) (AskedList N L σ x y τ) (again y τ) (other y τ)
+  module _ {σ : Store} (W : WfStore N L σ) {x : ℕ} (l : x < states (σ .aut)) {again other : ℕ → Step Store (List Edge)} (calls : DeltaCalls N L again other (nesting (σ .aut) x)) where
+    ask : {τ : Store} → ExtStore σ τ → WfStore N L τ → {y : ℕ} → Below (σ .aut) x y → Agree (Halted N L τ) (AskedList N L σ x y τ) (again y τ) (other y τ)
     ask {τ} w q {y} b =
         agree-map (calls τ q y (state-grown (w .grown) (b .state)) (omega (arith, nesting-grown (w .grown) y (b .state), b .lower))) (λ k h. h)
         (λ υ es a. record {
@@ -63,7 +63,7 @@ module _ {N : ℕ} {L : Limits} where
           stored = a .stored;
         })
 
-    pub ask-all : (ys : List ℕ) {τ : Store} → Went σ τ → Worked N L τ → All (Below (σ .aut) x) ys → Agree (Halted N L τ) (AskedLists N L σ x ys τ) (eachOf again ys τ) (eachOf other ys τ)
+    pub ask-all : (ys : List ℕ) {τ : Store} → ExtStore σ τ → WfStore N L τ → All (Below (σ .aut) x) ys → Agree (Halted N L τ) (AskedLists N L σ x ys τ) (eachOf again ys τ) (eachOf other ys τ)
     unfolding eachOf
     ask-all [] {τ} w q b = come (record { went = went-refl τ; before = before-refl x τ; worked = q; are = none; neat = empties; stored = none })
     ask-all (y ∷ ys) {τ} w q b =
@@ -81,8 +81,8 @@ module _ {N : ℕ} {L : Limits} where
     -- ---- by the number of operands
 
     one-agree : (C : Language N → Language N) (op : List Edge → Step Aut (List Edge))
-        → ((a : Aut) → Good N L a → (ts : List Edge) (A : Language N) → IsList (since N L a) A a ts → Gives (MadeList (since N L a) (C A) a) (op ts a))
-        → ((a : Aut) → Good N L a → (ts : List Edge) → EdgesAt N a ts → Goes N L (ListAt N L) a (op ts a))
+        → ((a : Aut) → WfAut N L a → (ts : List Edge) (A : Language N) → IsList (since N L a) A a ts → Gives (MadeList (since N L a) (C A) a) (op ts a))
+        → ((a : Aut) → WfAut N L a → (ts : List Edge) → EdgesAt N a ts → StepSpec N L (ListAt N L) a (op ts a))
         → {a : ℕ} → Below (σ .aut) x a
         → Agree (Halted N L σ) (Listed N L x (C (Holds N (σ .aut) a)) σ) ((again a >>= λ ts. onAut (op ts)) σ) ((other a >>= λ ts. onAut (op ts)) σ)
     one-agree C op made end b =
@@ -93,8 +93,8 @@ module _ {N : ℕ} {L : Limits} where
         ))
 
     two-agree : (C : Language N → Language N → Language N) (op : List Edge → List Edge → Step Aut (List Edge))
-        → ((a : Aut) → Good N L a → (ts us : List Edge) (A B : Language N) → IsList (since N L a) A a ts → IsList (since N L a) B a us → Gives (MadeList (since N L a) (C A B) a) (op ts us a))
-        → ((a : Aut) → Good N L a → (ts us : List Edge) → EdgesAt N a ts → EdgesAt N a us → Goes N L (ListAt N L) a (op ts us a))
+        → ((a : Aut) → WfAut N L a → (ts us : List Edge) (A B : Language N) → IsList (since N L a) A a ts → IsList (since N L a) B a us → Gives (MadeList (since N L a) (C A B) a) (op ts us a))
+        → ((a : Aut) → WfAut N L a → (ts us : List Edge) → EdgesAt N a ts → EdgesAt N a us → StepSpec N L (ListAt N L) a (op ts us a))
         → {a b : ℕ} → Below (σ .aut) x a × Below (σ .aut) x b
         → Agree (Halted N L σ) (Listed N L x (C (Holds N (σ .aut) a) (Holds N (σ .aut) b)) σ) ((again a >>= λ ts. again b >>= λ us. onAut (op ts us)) σ)
         ((other a >>= λ ts. other b >>= λ us. onAut (op ts us)) σ)
@@ -112,7 +112,7 @@ module _ {N : ℕ} {L : Limits} where
 
     -- ---- by kind
 
-    abbrev g : Good N L (σ .aut)
+    abbrev g : WfAut N L (σ .aut)
     g = W .good
 
     union-agree : kind (σ .aut) x ≡ UNION → Agree (Halted N L σ) (Listed N L x (Holds N (σ .aut) x) σ)
@@ -302,7 +302,7 @@ module _ {N : ℕ} {L : Limits} where
 
   -- ---- every depth that is enough
 
-  by-agree : (depth more : ℕ) {σ : Store} → Worked N L σ → {x : ℕ} → x < states (σ .aut) → nesting (σ .aut) x ≤ depth → nesting (σ .aut) x ≤ more
+  by-agree : (depth more : ℕ) {σ : Store} → WfStore N L σ → {x : ℕ} → x < states (σ .aut) → nesting (σ .aut) x ≤ depth → nesting (σ .aut) x ≤ more
       → Agree (Halted N L σ) (Deltaed N L x σ) (delta-by N L depth x σ) (delta-by N L more x σ)
   unfolding delta-by
   by-agree zero zero W l d e = delta-with-agree W l {again = λ y. return []} {other = λ y. return []} (λ τ q y m k. absurd (omega arith))
@@ -311,7 +311,7 @@ module _ {N : ℕ} {L : Limits} where
   by-agree (suc depth) (suc more) W l d e =
       delta-with-agree W l {again = delta-by N L depth} {other = delta-by N L more} (λ τ q y m k. by-agree depth more q m (omega arith) (omega arith))
 
-  module _ {σ : Store} (W : Worked N L σ) {x : ℕ} (l : x < states (σ .aut)) where
+  module _ {σ : Store} (W : WfStore N L σ) {x : ℕ} (l : x < states (σ .aut)) where
     pub delta-goes : Agree (Halted N L σ) (Deltaed N L x σ) (delta N L x σ) (delta N L x σ)
     unfolding delta
     delta-goes = by-agree (nesting (σ .aut) x) (nesting (σ .aut) x) W l (omega arith) (omega arith)

@@ -14,7 +14,7 @@ use Rattle.netkat.specs.Hops.{IsEpsilon, Hop, Late}
 use Rattle.netkat.proofs.Laws.Hops.{sequence-hop, star-hop, until-hop, next-hop, dup-hop}
 use Rattle.netkat.specs.ListSteps.{Edge, st-singleton, MadeList, IsList}
 use Rattle.netkat.proofs.Laws.ListSteps.{later-refl, later-trans, list-later, list-same, made-same, made-by, made-from, union-true, intersection-true, st-postcompose-true, st-precompose-true, tail-true, st-singleton-true}
-use Rattle.spp_steps.specs.Laws.{Den}
+use Rattle.spp_steps.specs.Laws.{Denotes}
 use Rattle.spp_steps.proofs.Laws.{den-one, den-top}
 use Rattle.spp_steps.specs.Closure.{closure}
 use Rattle.aut_steps.specs.Relations as Rel
@@ -69,7 +69,7 @@ module _ {N : ℕ} {L : Limits} {σ₀ : Aut} where
   module _ {σ : Aut} (s : Since N L σ₀ σ) where
     -- ---- Sequence and Star
 
-    pub sequence-true : {A : Language N} {R : Relation N} {ε b : ℕ} {ts us : List Edge} → b < states σ → Den (σ .nodes) N ε R → IsEpsilon R A
+    pub sequence-true : {A : Language N} {R : Relation N} {ε b : ℕ} {ts us : List Edge} → b < states σ → Denotes (σ .nodes) N ε R → IsEpsilon R A
         → IsList (since N L σ₀) A σ ts → IsList (since N L σ₀) (Holds N σ b) σ us → Gives (MadeList (since N L σ₀) (Join A (Holds N σ b)) σ) (sequenceList N L b ε ts us σ)
     unfolding sequenceList
     sequence-true {R = R} {ε} {b} l d e i j =
@@ -79,7 +79,7 @@ module _ {N : ℕ} {L : Limits} {σ₀ : Aut} where
         (made-from (since N L σ₀) (later-trans (since N L σ₀) (M .later) (P .later))
         (union-true (since N L σ₀) fits σ₂ (P .later .good) (list-later (since N L σ₀) (P .later) (M .is)) (P .is)))))
 
-    pub star-true : {A : Language N} {R : Relation N} {ε* x : ℕ} {ts : List Edge} → x < states σ → Holds N σ x ≈ Star A → Den (σ .nodes) N ε* (closure R) → IsEpsilon R A
+    pub star-true : {A : Language N} {R : Relation N} {ε* x : ℕ} {ts : List Edge} → x < states σ → Holds N σ x ≈ Star A → Denotes (σ .nodes) N ε* (closure R) → IsEpsilon R A
         → IsList (since N L σ₀) A σ ts → Gives (MadeList (since N L σ₀) (Star A) σ) (starList N L x ε* ts σ)
     unfolding starList
     star-true {A} {R} {ε*} {x} l h d e i =

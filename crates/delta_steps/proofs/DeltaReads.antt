@@ -11,7 +11,7 @@ use Rattle.common.specs.Runs as Runs
 use Rattle.common.specs.Runs.{Table, placed}
 use Rattle.netkat.specs.Rules.{union, intersection, xor, difference, complement, sequence, star, until}
 use Rattle.netkat.specs.ListSteps.{Edge, st-singleton, st-xor, st-difference, st-complement}
-use Rattle.spp_steps.specs.Laws.{Wf, Ext, Den}
+use Rattle.spp_steps.specs.Laws.{Wf, Ext, Denotes}
 use Rattle.spp_steps.proofs.Laws.{sppTheory, by-test}
 use Rattle.spp_steps.proofs.Star.{star-exact}
 use Rattle.spp_steps.specs.Closure.{closure}
@@ -19,7 +19,7 @@ use Rattle.aut_steps.specs.Relations as Rel
 use Rattle.aut_steps.specs.Tables.{SPP, UNION, INTERSECT, XOR, DIFFERENCE, COMPLEMENT, SEQUENCE, STAR, DUP, NEXT, UNTIL, Limits, Aut, putNodes, onNodes}
 use Rattle.aut_steps.specs.Kinds.{form}
 use Rattle.aut_steps.specs.ListLaws.{All}
-use Rattle.aut_steps.specs.Good.{states, kind, first, second, members, Good}
+use Rattle.aut_steps.specs.Good.{states, kind, first, second, members, WfAut}
 use Rattle.aut_steps.proofs.Good.{grown-nodes, kind-grown, first-grown, second-grown, members-grown, state-grown, ok-as}
 use Rattle.st_steps.specs.Operations.{ops}
 use Rattle.delta_steps.specs.Epsilon.{valueOf, eachOf, epsilon}
@@ -27,14 +27,14 @@ use Rattle.delta_steps.specs.Delta.{countOf, Store, store, putAut, onAut
 use Rattle.delta_steps.proofs.Agree.{Agree, agree-came}
 use Rattle.delta_steps.specs.Noted.{Noted}
 use Rattle.delta_steps.proofs.Noted.{noted-trans, noted-nodes, noted-good}
-use Rattle.delta_steps.specs.Worked.{Worked, Valued, handle, memo}
+use Rattle.delta_steps.specs.Worked.{WfStore, Valued, handle, memo}
 use Rattle.delta_steps.proofs.Worked.{epsilons-grown, valued-reads, worked-noted}
 use Rattle.delta_steps.proofs.Operands.{Below, below-one, below-two, below-many}
 use Rattle.delta_steps.specs.EpsilonLaws.{Epsiloned}
 use Rattle.delta_steps.proofs.EpsilonLaws.{Stopped, epsilon-goes}
 use Rattle.delta_steps.specs.EpsilonReads.{workAll}
 use Rattle.delta_steps.proofs.EpsilonReads.{all-if, each-work}
-use Rattle.delta_steps.specs.Stored.{Went}
+use Rattle.delta_steps.specs.Stored.{ExtStore}
 use Rattle.delta_steps.proofs.Stored.{went-refl, went-trans, went-noted}
 use Rattle.delta_steps.proofs.DeltaRuns.{Halted, AskedLists}
 use Rattle.delta_steps.proofs.DeltaLaws.{ask-all, delta-goes, delta-is, lists-read}
@@ -82,18 +82,18 @@ module _ {S A : Type 0} (f : ℕ → Step S (List Edge)) (a : ℕ) (σ : S) wher
 
 -- ---- what is entered stays
 
-pub valued-went : {σ τ : Store} → Went σ τ → {x e : ℕ} → x < states (σ .aut) → Valued (σ .aut) x e → Valued (τ .aut) x e
+pub valued-went : {σ τ : Store} → ExtStore σ τ → {x e : ℕ} → x < states (σ .aut) → Valued (σ .aut) x e → Valued (τ .aut) x e
 valued-went w {x} l (handle k f) = handle (kind-grown (w .grown) x l ∙ k) (first-grown (w .grown) x l ∙ f)
 valued-went w {x} l (memo k m) = memo (λ q. k (sym (kind-grown (w .grown) x l) ∙ q)) (w .epsilons x (omega (arith, m)) ∙ m)
 
-module _ {N : ℕ} {L : Limits} {σ : Store} (W : Worked N L σ) {a : ℕ} (l : a < states (σ .aut)) {α : Aut} {ε : ℕ} (q : epsilon N a (σ .aut) ≡ given α ε) where
+module _ {N : ℕ} {L : Limits} {σ : Store} (W : WfStore N L σ) {a : ℕ} (l : a < states (σ .aut)) {α : Aut} {ε : ℕ} (q : epsilon N a (σ .aut) ≡ given α ε) where
   pub entered : Epsiloned N L a (σ .aut) α ε
   entered = agree-came (subst (λ o. Agree (Stopped N L (σ .aut)) (Epsiloned N L a (σ .aut)) o (epsilon N a (σ .aut))) q (epsilon-goes (record { good = W .good; epsilons = W .epsilons }) l))
 
-  pub entered-went : Went σ (store α (σ .transitions))
+  pub entered-went : ExtStore σ (store α (σ .transitions))
   entered-went = went-noted (entered .found .noted)
 
-  pub entered-worked : Worked N L (store α (σ .transitions))
+  pub entered-worked : WfStore N L (store α (σ .transitions))
   entered-worked = worked-noted W (entered .found .noted) (entered .found .good) (entered .found .epsilons)
 
   pub entered-value : Valued α a ε
@@ -101,16 +101,16 @@ module _ {N : ℕ} {L : Limits} {σ : Store} (W : Worked N L σ) {a : ℕ} (l : 
 
   -- .. and the star of it
   module _ {t : Table} {h : ℕ} (s : Rel.star N ε (α .nodes) ≡ given t h) where
-    star-made : Runs.Good (sppTheory N) (Rel.star N ε) (λ τ h. Den τ N h (closure (entered .found .means .relation))) (α .nodes) t h
+    star-made : Runs.StableResult (sppTheory N) (Rel.star N ε) (λ τ h. Denotes τ N h (closure (entered .found .means .relation))) (α .nodes) t h
     star-made = given-of (star-exact N N (omega arith) (α .nodes) ε _ (entered .found .good .nodes) (entered .found .means .den) .runs) s
 
     pub star-noted : Noted (σ .aut) (putNodes t α)
     star-noted = noted-trans (entered .found .noted) (noted-nodes (star-made .ext))
 
-    pub star-went : Went σ (store (putNodes t α) (σ .transitions))
+    pub star-went : ExtStore σ (store (putNodes t α) (σ .transitions))
     star-went = went-noted star-noted
 
-    pub star-worked : Worked N L (store (putNodes t α) (σ .transitions))
+    pub star-worked : WfStore N L (store (putNodes t α) (σ .transitions))
     star-worked =
         worked-noted W star-noted (noted-good (W .good) star-noted (star-made .wf))
         (epsilons-grown (entered .found .good) (grown-nodes {σ = α} (star-made .ext)) (λ x m. refl) (entered .found .epsilons))
@@ -120,7 +120,7 @@ module _ {N : ℕ} {L : Limits} {σ : Store} (W : Worked N L σ) {a : ℕ} (l : 
 
 -- ---- the law
 
-module _ {N : ℕ} {L : Limits} {σ : Store} (W : Worked N L σ) {x : ℕ} (l : x < states (σ .aut)) where
+module _ {N : ℕ} {L : Limits} {σ : Store} (W : WfStore N L σ) {x : ℕ} (l : x < states (σ .aut)) where
   abbrev D : ℕ → Step Store (List Edge)
   D = delta N L
 
@@ -134,7 +134,7 @@ module _ {N : ℕ} {L : Limits} {σ : Store} (W : Worked N L σ) {x : ℕ} (l : 
   unfolding listOperandsWith form
   list-operands-below =
       let k : ℕ = kind (σ .aut) x in
-      let g : Good N L (σ .aut) = W .good in
+      let g : WfAut N L (σ .aut) = W .good in
       all-if (Below (σ .aut) x) (eqb k UNION) _ _ (λ q. below-many g l UNION (eqb-true k UNION q) union refl)
       (λ n. all-if (Below (σ .aut) x) (eqb k INTERSECT) _ _ (λ q. below-many g l INTERSECT (eqb-true k INTERSECT q) intersection refl)
       (λ n. all-if (Below (σ .aut) x) (eqb k XOR) _ _ (λ q. both (below-two g l XOR (eqb-true k XOR q) xor refl))
@@ -148,12 +148,12 @@ module _ {N : ℕ} {L : Limits} {σ : Store} (W : Worked N L σ) {x : ℕ} (l : 
       both : {a b : ℕ} → Below (σ .aut) x a × Below (σ .aut) x b → All (Below (σ .aut) x) (a ∷ b ∷ [])
       both p = (p .0, (p .1, tt))
 
-  asked : {τ : Store} → Went σ τ → Worked N L τ → Agree (Halted N L τ) (AskedLists N L σ x (listOperands σ x) τ) (eachOf D (listOperands σ x) τ) (eachOf D (listOperands σ x) τ)
+  asked : {τ : Store} → ExtStore σ τ → WfStore N L τ → Agree (Halted N L τ) (AskedLists N L σ x (listOperands σ x) τ) (eachOf D (listOperands σ x) τ) (eachOf D (listOperands σ x) τ)
   asked w q = ask-all W l {again = D} {other = D} (λ τ q y m k. delta-goes q m) (listOperands σ x) w q list-operands-below
 
   -- zs are the operands, K puts the lists together
-  module _ {τ : Store} (w : Went σ τ) (q : Worked N L τ) (zs : List ℕ) (e : listOperands σ x ≡ zs) (K : List (List Edge) → Step Store (List Edge)) where
-    by-list : ((υ : Store) → Went τ υ → Worked N L υ → K (map (listAt υ) zs) υ ≡ together N L x υ) → after (eachOf D zs τ) K ≡ after (workAll D (listOperands σ x) τ) (λ u. together N L x)
+  module _ {τ : Store} (w : ExtStore σ τ) (q : WfStore N L τ) (zs : List ℕ) (e : listOperands σ x ≡ zs) (K : List (List Edge) → Step Store (List Edge)) where
+    by-list : ((υ : Store) → ExtStore τ υ → WfStore N L υ → K (map (listAt υ) zs) υ ≡ together N L x υ) → after (eachOf D zs τ) K ≡ after (workAll D (listOperands σ x) τ) (λ u. together N L x)
     by-list f =
         ap (λ (zs : List ℕ). after (eachOf D zs τ) K) (sym e)
         ∙ each-work D (listOperands σ x) τ (asked w q) K (together N L x) (λ υ es c.
@@ -162,22 +162,22 @@ module _ {N : ℕ} {L : Limits} {σ : Store} (W : Worked N L σ) {x : ℕ} (l : 
         ∙ f υ (c .went) (c .worked))
 
   -- what is put together afterwards, by what x was before
-  together-same : (υ : Store) → Went σ υ → (k : ℕ) → kind (σ .aut) x ≡ k
+  together-same : (υ : Store) → ExtStore σ υ → (k : ℕ) → kind (σ .aut) x ≡ k
       → together N L x υ ≡ placed putAut υ (togetherWith N L (listAt υ) (valueOf (υ .aut .states .words) a) k x (members (υ .aut) x) a b (υ .aut))
   together-same υ w k e =
       ap (λ (j : ℕ). placed putAut υ (togetherWith N L (listAt υ) (valueOf (υ .aut .states .words) (first (υ .aut) x)) j x (members (υ .aut) x) (first (υ .aut) x) (second (υ .aut) x) (υ .aut))) (kind-grown (w .grown) x l ∙ e)
       ∙ ap₂ (λ (a b : ℕ). placed putAut υ (togetherWith N L (listAt υ) (valueOf (υ .aut .states .words) a) k x (members (υ .aut) x) a b (υ .aut))) (first-grown (w .grown) x l) (second-grown (w .grown) x l)
 
   -- with so many operands, of which op makes the list
-  module _ (k : ℕ) (e : kind (σ .aut) x ≡ k) {τ : Store} (w : Went σ τ) (q : Worked N L τ) where
+  module _ (k : ℕ) (e : kind (σ .aut) x ≡ k) {τ : Store} (w : ExtStore σ τ) (q : WfStore N L τ) where
     operands-are : {zs : List ℕ} → listOperandsWith k (members (σ .aut) x) a b ≡ zs → listOperands σ x ≡ zs
     operands-are p = ap (λ (j : ℕ). listOperandsWith j (members (σ .aut) x) a b) e ∙ p
 
     -- op is what is put together
     abbrev Makes : (Store → Step Aut (List Edge)) → Type 0
-    Makes op = (υ : Store) → Went τ υ → Worked N L υ → togetherWith N L (listAt υ) (valueOf (υ .aut .states .words) a) k x (members (υ .aut) x) a b (υ .aut) ≡ op υ (υ .aut)
+    Makes op = (υ : Store) → ExtStore τ υ → WfStore N L υ → togetherWith N L (listAt υ) (valueOf (υ .aut .states .words) a) k x (members (υ .aut) x) a b (υ .aut) ≡ op υ (υ .aut)
 
-    together-is : (op : Store → Step Aut (List Edge)) → Makes op → (υ : Store) → Went τ υ → Worked N L υ → onAut (op υ) υ ≡ together N L x υ
+    together-is : (op : Store → Step Aut (List Edge)) → Makes op → (υ : Store) → ExtStore τ υ → WfStore N L υ → onAut (op υ) υ ≡ together N L x υ
     together-is op m υ v p = sym (together-same υ (went-trans w v) k e ∙ ap (placed putAut υ) (m υ v p))
 
     two-lists : (op : List Edge → List Edge → Step Aut (List Edge)) → listOperandsWith k (members (σ .aut) x) a b ≡ a ∷ b ∷ [] → Makes (λ υ. op (listAt υ a) (listAt υ b))
@@ -206,7 +206,7 @@ module _ {N : ℕ} {L : Limits} {σ : Store} (W : Worked N L σ) {x : ℕ} (l : 
   plain : {o : Outcome Store (List Edge)} → enter N x σ ≡ given σ tt → o ≡ after (workAll D (listOperands σ x) σ) (λ u. together N L x) → Goal o
   plain e p = p ∙ ap (λ (o : Outcome Store Unit). after o (λ u τ. after (workAll D (listOperands σ x) τ) (λ u. together N L x))) (sym e)
 
-  members-same : (k : ℕ) → kind (σ .aut) x ≡ k → (UNION ≤ k) × (k ≤ INTERSECT) → {τ : Store} → Went σ τ → members (τ .aut) x ≡ members (σ .aut) x
+  members-same : (k : ℕ) → kind (σ .aut) x ≡ k → (UNION ≤ k) × (k ≤ INTERSECT) → {τ : Store} → ExtStore σ τ → members (τ .aut) x ≡ members (σ .aut) x
   unfolding form
   members-same k e r w =
       by-test (eqb (kind (σ .aut) x) UNION)
@@ -256,7 +256,7 @@ module _ {N : ℕ} {L : Limits} {σ : Store} (W : Worked N L σ) {x : ℕ} (l : 
   is-kind : {o : Outcome Store (List Edge)} → Goal o → delta-by-kind N L D x σ ≡ o → Goal (delta-by-kind N L D x σ)
   is-kind w q = q ∙ w
 
-  abbrev w₀ : Went σ σ
+  abbrev w₀ : ExtStore σ σ
   w₀ = went-refl σ
 
   -- kinds that enter nothing

@@ -16,7 +16,7 @@ use Rattle.netkat.specs.Rules.{Language, Join, Star, union, intersection, xor, 
 use Rattle.netkat.specs.Hops.{IsEpsilon}
 use Rattle.netkat.proofs.Laws.Hops.{epsilon-same, epsilon-dup, epsilon-union, epsilon-intersection, epsilon-xor, epsilon-difference, epsilon-complement, epsilon-sequence, epsilon-star, epsilon-until, epsilon-next}
 use Rattle.netkat.proofs.Laws.Derivatives.{epsilon-true}
-use Rattle.spp_steps.specs.Laws.{Wf, Den}
+use Rattle.spp_steps.specs.Laws.{Wf, Denotes}
 use Rattle.spp_steps.proofs.Laws.{den-ext, den-mem, den-zero, den-top, by-test}
 use Rattle.spp_steps.proofs.Make.{Lacks}
 use Rattle.spp_steps.specs.Closure.{closure}
@@ -27,9 +27,9 @@ use Rattle.aut_steps.specs.Languages.{_≈_}
 use Rattle.aut_steps.proofs.Languages.{≈-sym, _then_, same, sum-none, sum-assoc, none-sum, None, Either, Both, Minus, Differ, Not}
 use Rattle.aut_steps.specs.ListLaws.{All}
 use Rattle.aut_steps.proofs.RelationLaws.{Makes, lacks, makes}
-use Rattle.aut_steps.specs.Good.{states, kind, first, nesting, members, Grown, Good}
+use Rattle.aut_steps.specs.Good.{states, kind, first, nesting, members, ExtAut, WfAut}
 use Rattle.aut_steps.proofs.Good.{grown-nodes, kind-grown, nesting-grown, state-grown}
-use Rattle.aut_steps.proofs.Goes.{Why, no-node, good-nodes}
+use Rattle.aut_steps.proofs.Goes.{RefusalReason, no-node, good-nodes}
 use Rattle.aut_steps.specs.Meaning.{rule, Holds}
 use Rattle.aut_steps.proofs.Meaning.{HoldsSome, HoldsAll, holds-grown, holds-spp, holds-union, holds-intersect, holds-xor, holds-difference, holds-complement, holds-sequence, holds-star, holds-dup, holds-next, holds-until, holds-top}
 use Rattle.aut_steps.proofs.StateLaws as StateLaws
@@ -51,7 +51,7 @@ module _ (N : ℕ) (L : Limits) where
   pub record Stopped (σ : Aut) (number : ℕ) : Type 0 where
     pub last : Aut
     pub noted : Noted σ last
-    pub good : Good N L last
+    pub good : WfAut N L last
     pub lacking : Lacks number (last .nodes)
 
   -- each is a handle of the relation of the member's strings without hops, as σ has them
@@ -81,7 +81,7 @@ is-as f i = epsilon-same (λ a z. (f _ .1, f _ .0)) i
 
 module _ {N : ℕ} {L : Limits} where
   -- 01's number and its reason, as the constructors have them
-  pub stopped-why : {σ : Aut} {number : ℕ} (s : Stopped N L σ number) → Why L (s .last) number
+  pub stopped-why : {σ : Aut} {number : ℕ} (s : Stopped N L σ number) → RefusalReason L (s .last) number
   stopped-why s = no-node (s .lacking)
 
   pub stopped-21 : {σ : Aut} {number : ℕ} → Stopped N L σ number → number ≡ 21
@@ -109,7 +109,7 @@ module _ {N : ℕ} {L : Limits} where
       → Agree (Stopped N L σ) (Found N L A σ) (placed putNodes σ o) (placed putNodes σ o)
   nodes-agree {σ = σ} r (lacks {t′ = t} e w y) i = stop (record { last = putNodes t σ; noted = noted-nodes e; good = good-nodes (r .good) e w; lacking = y })
   nodes-agree {R = R} {σ = σ} r (makes {t′ = t} {h} m) i =
-      let v : Good N L (putNodes t σ) = good-nodes (r .good) (m .ext) (m .wf) in
+      let v : WfAut N L (putNodes t σ) = good-nodes (r .good) (m .ext) (m .wf) in
       come (record {
         noted = noted-nodes (m .ext);
         good = v;
@@ -178,7 +178,7 @@ module _ {N : ℕ} {L : Limits} where
 
     -- an operation on relations, and on sets of strings
     one-agree : (F : Relation N → Relation N) (C : Language N → Language N) (op : ℕ → Step Table ℕ)
-        → ((t : Table) → Wf N t → (a : ℕ) (R : Relation N) → Den t N a R → Makes N (F R) t (op a t))
+        → ((t : Table) → Wf N t → (a : ℕ) (R : Relation N) → Denotes t N a R → Makes N (F R) t (op a t))
         → ((R : Relation N) (A : Language N) → IsEpsilon R A → IsEpsilon (F R) (C A))
         → {a : ℕ} → Below σ x a
         → Agree (Stopped N L σ) (Found N L (C (Holds N σ a)) σ) ((again a >>= λ p. onNodes (op p)) σ) ((other a >>= λ p. onNodes (op p)) σ)
@@ -186,7 +186,7 @@ module _ {N : ℕ} {L : Limits} where
         bind-agree (ask (noted-refl σ) r b) (λ τ p f. (f .noted, nodes-agree (f .ready) (make _ (f .ready .good .nodes) p _ (f .means .den)) (is _ _ (f .means .is))))
 
     two-agree : (F : Relation N → Relation N → Relation N) (C : Language N → Language N → Language N) (op : ℕ → ℕ → Step Table ℕ)
-        → ((t : Table) → Wf N t → (a : ℕ) (R : Relation N) → Den t N a R → (b : ℕ) (S : Relation N) → Den t N b S → Makes N (F R S) t (op a b t))
+        → ((t : Table) → Wf N t → (a : ℕ) (R : Relation N) → Denotes t N a R → (b : ℕ) (S : Relation N) → Denotes t N b S → Makes N (F R S) t (op a b t))
         → ((R S : Relation N) (A B : Language N) → IsEpsilon R A → IsEpsilon S B → IsEpsilon (F R S) (C A B))
         → {a b : ℕ} → Below σ x a × Below σ x b
         → Agree (Stopped N L σ) (Found N L (C (Holds N σ a) (Holds N σ b)) σ) ((again a >>= λ p. again b >>= λ q. onNodes (op p q)) σ) ((other a >>= λ p. other b >>= λ q. onNodes (op p q)) σ)
@@ -205,7 +205,7 @@ module _ {N : ℕ} {L : Limits} where
     unfolding epsilon-by-kind form
     kind-agree n1 =
         let k : ℕ = kind σ x in
-        let g : Good N L σ = r .good in
+        let g : WfAut N L σ = r .good in
         agree-if (eqb k UNION)
         (λ q. let e : k ≡ UNION = eqb-true k UNION q in
         same-agree (≈-sym (holds-union g l e))
@@ -264,7 +264,7 @@ module _ {N : ℕ} {L : Limits} where
     unfolding epsilonOf
     epsilons-word {τ} {e} n f =
         let m : x < states τ = state-grown (noted-grown (f .noted)) l in
-        let w : Grown τ (written τ x 4 (e + 1)) = written-grown τ x 4 (e + 1) m (omega arith) (omega arith) in
+        let w : ExtAut τ (written τ x 4 (e + 1)) = written-grown τ x 4 (e + 1) m (omega arith) (omega arith) in
         record {
           none = λ y a k. by-test (eqb y x)
               (λ t. absurd (n (sym (kind-grown (noted-grown (f .noted)) x l) ∙ sym (kind-grown w x m) ∙ subst (λ (z : ℕ). kind (written τ x 4 (e + 1)) z ≡ SPP) (eqb-true y x t) k)))
@@ -283,7 +283,7 @@ module _ {N : ℕ} {L : Limits} where
         here : (y : ℕ) → y ≡ x → y < states (written τ x 4 (e + 1)) → (d : ℕ) → getD (written τ x 4 (e + 1) .states .words) (12 * y + 4) 0 ≡ d + 1 → Means N (τ .nodes) d (Holds N (written τ x 4 (e + 1)) y)
         here y t a d q =
             let m : x < states τ = state-grown (noted-grown (f .noted)) l in
-            let w : Grown τ (written τ x 4 (e + 1)) = written-grown τ x 4 (e + 1) m (omega arith) (omega arith) in
+            let w : ExtAut τ (written τ x 4 (e + 1)) = written-grown τ x 4 (e + 1) m (omega arith) (omega arith) in
             let v : d ≡ e = omega (arith, ap (λ (j : ℕ). getD (written τ x 4 (e + 1) .states .words) (12 * j + 4) 0) t, written-here τ x 4 (e + 1) (omega (arith, f .good .fits))) in
             subst (λ (j : ℕ). Means N (τ .nodes) d (Holds N (written τ x 4 (e + 1)) j)) (sym t)
             (subst (λ (j : ℕ). Means N (τ .nodes) j (Holds N (written τ x 4 (e + 1)) x)) (sym v)
@@ -294,7 +294,7 @@ module _ {N : ℕ} {L : Limits} where
     unfolding keepEpsilon epsilonOf
     kept-agree n z τ e f =
         let m : x < states τ = state-grown (noted-grown (f .noted)) l in
-        let w : Grown τ (written τ x 4 (e + 1)) = written-grown τ x 4 (e + 1) m (omega arith) (omega arith) in
+        let w : ExtAut τ (written τ x 4 (e + 1)) = written-grown τ x 4 (e + 1) m (omega arith) (omega arith) in
         come (record {
           found = record {
             noted = noted-word (f .noted) x (e + 1) l z;

@@ -11,14 +11,14 @@ use Rattle.common.specs.Outcome.{Outcome, refused, given, Step, return, after, 
 use Rattle.common.proofs.Follow.{refused≢given}
 use Rattle.common.specs.Runs.{Table, placed}
 use Rattle.netkat.specs.Rules.{union, intersection, xor, difference, complement, sequence, star, until}
-use Rattle.spp_steps.specs.Laws.{At}
+use Rattle.spp_steps.specs.Laws.{ValidAt}
 use Rattle.spp_steps.proofs.Laws.{by-test}
 use Rattle.aut_steps.specs.Relations as Rel
 use Rattle.aut_steps.specs.Tables.{SPP, UNION, INTERSECT, XOR, DIFFERENCE, COMPLEMENT, SEQUENCE, STAR, UNTIL, TOP, words, listOf, Limits, Aut, putNodes, onNodes}
 use Rattle.aut_steps.specs.Kinds.{form}
 use Rattle.aut_steps.specs.ListLaws.{All}
 use Rattle.aut_steps.specs.Constructors.{each}
-use Rattle.aut_steps.specs.Good.{states, kind, first, second, members, Good}
+use Rattle.aut_steps.specs.Good.{states, kind, first, second, members, WfAut}
 use Rattle.aut_steps.proofs.Good.{kind-grown, first-grown, second-grown}
 use Rattle.st_steps.specs.Operations as Ops
 use Rattle.delta_steps.specs.Epsilon.{epsilonOf, valueOf, keepEpsilon, eachOf, uniteAll, meetAll, meetFirst, epsilon-by-kind, epsilon-with, epsilon}
@@ -42,10 +42,10 @@ module _ (N : ℕ) where
 -- y has its value, a relation
 pub record Value (N : ℕ) (σ : Aut) (y : ℕ) : Type 0 where
   pub valued : Valued σ y (valueOf (σ .states .words) y)
-  pub at : At (σ .nodes) N (valueOf (σ .states .words) y)
+  pub at : ValidAt (σ .nodes) N (valueOf (σ .states .words) y)
 
-value-of : {N : ℕ} {σ : Aut} {y e : ℕ} → Valued σ y e → At (σ .nodes) N e → Value N σ y
-value-of {N} {σ} {y} v a = record { valued = subst (Valued σ y) (sym (valued-reads v)) v; at = subst (At (σ .nodes) N) (sym (valued-reads v)) a }
+value-of : {N : ℕ} {σ : Aut} {y e : ℕ} → Valued σ y e → ValidAt (σ .nodes) N e → Value N σ y
+value-of {N} {σ} {y} v a = record { valued = subst (Valued σ y) (sym (valued-reads v)) v; at = subst (ValidAt (σ .nodes) N) (sym (valued-reads v)) a }
 
 pub given-store : {S A : Type 0} {σ τ : S} {a b : A} → _≡_ {A = Outcome S A} (given σ a) (given τ b) → σ ≡ τ
 given-store e = cc
@@ -154,7 +154,7 @@ module _ {N : ℕ} {L : Limits} {σ : Aut} (r : Ready N L σ) {x : ℕ} (l : x <
   unfolding operandsWith form
   operands-below =
       let k : ℕ = kind σ x in
-      let g : Good N L σ = r .good in
+      let g : WfAut N L σ = r .good in
       all-if (Below σ x) (eqb k UNION) _ _ (λ q. below-many g l UNION (eqb-true k UNION q) union refl)
       (λ n. all-if (Below σ x) (eqb k INTERSECT) _ _ (λ q. below-many g l INTERSECT (eqb-true k INTERSECT q) intersection refl)
       (λ n. all-if (Below σ x) (eqb k XOR) _ _ (λ q. both (below-two g l XOR (eqb-true k XOR q) xor refl))

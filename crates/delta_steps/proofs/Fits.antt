@@ -9,16 +9,16 @@ use Rattle.common.specs.Outcome.{Outcome, Gives, refusal, gives}
 use Rattle.common.specs.Runs.{Table, placed}
 use Rattle.netkat.specs.Rules.{Language}
 use Rattle.netkat.specs.Lists.{Transition, State}
-use Rattle.netkat.specs.ListSteps.{Edge, Readings, Later, MadeLabel, MadeState, Fits, Are, none, also, IsList}
-use Rattle.spp_steps.specs.Laws.{Den}
+use Rattle.netkat.specs.ListSteps.{Edge, Readings, Later, MadeLabel, MadeState, LawfulOps, Are, none, also, IsList}
+use Rattle.spp_steps.specs.Laws.{Denotes}
 use Rattle.spp_steps.proofs.Laws.{den-ext, den-zero, agree}
 use Rattle.aut_steps.specs.Tables.{Limits, Aut, putNodes}
 use Rattle.aut_steps.proofs.Languages.{≈-sym}
 use Rattle.aut_steps.proofs.RelationLaws.{Makes}
-use Rattle.aut_steps.specs.Good.{Good}
+use Rattle.aut_steps.specs.Good.{WfAut}
 use Rattle.aut_steps.proofs.Good.{grown-refl, grown-trans, state-grown}
 use Rattle.aut_steps.specs.Goes.{Gone}
-use Rattle.aut_steps.proofs.Goes.{Goes, stops, comes}
+use Rattle.aut_steps.proofs.Goes.{StepSpec, stops, comes}
 use Rattle.aut_steps.proofs.Meaning.{Is, holds-grown}
 use Rattle.aut_steps.proofs.StateLaws.{nodes-goes, zero-goes, mk-top-goes, mk-complement-goes, mk-difference-goes}
 use Rattle.aut_steps.proofs.UnionLaws.{mk-union-goes}
@@ -42,7 +42,7 @@ module _ {N : ℕ} (L : Limits) {G H : Aut → Type 0} {σ : Aut} where
   list-as i = record { list = i .list; are = are-as (i .are); delta = i .delta; ascending = i .ascending }
 
 module _ {N : ℕ} {L : Limits} where
-  pub since-refl : {σ : Aut} → Good N L σ → Since N L σ σ
+  pub since-refl : {σ : Aut} → WfAut N L σ → Since N L σ σ
   since-refl {σ} g = record { grown = grown-refl σ; memos = λ i w l m. refl; good = g }
 
   pub since-trans : {σ τ υ : Aut} → Since N L σ τ → Since N L τ υ → Since N L σ υ
@@ -61,18 +61,18 @@ module _ {N : ℕ} {L : Limits} where
       label = λ h R d. den-ext (r .grown .nodes) d;
     }
 
-    pub fits-state : {B : Language N} {σ : Aut} {o : Outcome Aut ℕ} → Since N L σ₀ σ → Goes N L (Is N B) σ o → Gives (MadeState (since N L σ₀) B σ) o
+    pub fits-state : {B : Language N} {σ : Aut} {o : Outcome Aut ℕ} → Since N L σ₀ σ → StepSpec N L (Is N B) σ o → Gives (MadeState (since N L σ₀) B σ) o
     fits-state s (stops w g y) = refusal
     fits-state s (comes r) = gives (record { later = later s r; known = r .holds .state; strings = r .holds .strings })
 
     pub fits-label : {R : Relation N} {σ : Aut} {o : Outcome Table ℕ} → Since N L σ₀ σ → Makes N R (σ .nodes) o → Gives (MadeLabel (since N L σ₀) R σ) (placed putNodes σ o)
     fits-label {R} {σ} {o} s m = at (placed putNodes σ o) (nodes-goes (s .good) m)
       where
-        at : (o : Outcome Aut ℕ) → Goes N L (λ τ h. Den (τ .nodes) N h R) σ o → Gives (MadeLabel (since N L σ₀) R σ) o
+        at : (o : Outcome Aut ℕ) → StepSpec N L (λ τ h. Denotes (τ .nodes) N h R) σ o → Gives (MadeLabel (since N L σ₀) R σ) o
         at _ (stops w g y) = refusal
         at _ (comes r) = gives (record { later = later s r; is = r .holds })
 
-    pub fits : Fits (since N L σ₀)
+    pub fits : LawfulOps (since N L σ₀)
     fits = record {
       zero-is = λ s. den-zero (s .good .nodes) N (omega arith);
       zero-has-none = λ s d a h t. subst T (agree d (den-zero (s .good .nodes) N (omega arith)) refl a h) t;

@@ -9,7 +9,7 @@ use Rattle.common.specs.Relations.{_∪ʳ_, _∩ʳ_, _∖ʳ_, _⊕ʳ_, ∁ʳ, _
 use Rattle.common.specs.Outcome.{Outcome}
 use Rattle.common.specs.Runs.{Table}
 use Rattle.spp_steps.specs.Model as Spp
-use Rattle.spp_steps.specs.Laws.{Wf, Den}
+use Rattle.spp_steps.specs.Laws.{Wf, Denotes}
 use Rattle.spp_steps.proofs.Laws.{den-is}
 use Rattle.spp_steps.proofs.Apply.{pointwise, apply-exact}
 use Rattle.spp_steps.proofs.Sequence.{sequence-exact}
@@ -26,7 +26,7 @@ module _ {N : ℕ} {t : Table} where
   makes-as (lacks e w y) f = lacks e w y
   makes-as (makes m) f = makes (record { ext = m .ext; wf = m .wf; den = den-is (m .den) f })
 
-  module _ (w : Wf N t) {a : ℕ} {R : Relation N} (x : Den t N a R) where
+  module _ (w : Wf N t) {a : ℕ} {R : Relation N} (x : Denotes t N a R) where
     pub complement-makes : Makes N (∁ʳ R) t (complement N a t)
     unfolding Spp.complement
     complement-makes = made N (apply-exact N Spp.not N (omega arith) t a a R R w x x)
@@ -34,7 +34,7 @@ module _ {N : ℕ} {t : Table} where
     pub star-makes : Makes N (closure R) t (Rel.star N a t)
     star-makes = made N (star-exact N N (omega arith) t a R w x)
 
-    module _ {b : ℕ} {S : Relation N} (y : Den t N b S) where
+    module _ {b : ℕ} {S : Relation N} (y : Denotes t N b S) where
       by : (o : Spp.Op) → Makes N (pointwise o R S) t (Spp.apply N o N a b t)
       by o = made N (apply-exact N o N (omega arith) t a b R S w x y)
 

@@ -9,9 +9,9 @@ use Rattle.netkat.specs.ListSteps.{Edge, Are, none, also, IsList}
 use Rattle.spp_steps.proofs.Laws.{den-one, den-top}
 use Rattle.aut_steps.specs.Relations as Rel
 use Rattle.aut_steps.specs.Tables.{Limits, Aut}
-use Rattle.aut_steps.specs.Good.{Grown, Good}
+use Rattle.aut_steps.specs.Good.{ExtAut, WfAut}
 use Rattle.aut_steps.proofs.Good.{grown-trans}
-use Rattle.aut_steps.proofs.Goes.{Goes, goes-return, goes-bind}
+use Rattle.aut_steps.proofs.Goes.{StepSpec, goes-return, goes-bind}
 use Rattle.aut_steps.proofs.StateLaws.{mk-spp-goes, mk-top-goes, mk-until-goes}
 use Rattle.st_steps.specs.Operations.{ops}
 use Rattle.st_steps.specs.Edges.{EdgesAt}
@@ -34,50 +34,50 @@ pub data ListsAt (N : ℕ) (L : Limits) (σ : Aut) : List (List Edge) → Type 0
   empties : ListsAt N L σ []
   with-list : {es : List Edge} {lists : List (List Edge)} → ListAt N L σ es → ListsAt N L σ lists → ListsAt N L σ (es ∷ lists)
 
-lists-grown : {N : ℕ} {L : Limits} {σ τ : Aut} {lists : List (List Edge)} → Grown σ τ → ListsAt N L σ lists → ListsAt N L τ lists
+lists-grown : {N : ℕ} {L : Limits} {σ τ : Aut} {lists : List (List Edge)} → ExtAut σ τ → ListsAt N L σ lists → ListsAt N L τ lists
 lists-grown w empties = empties
 lists-grown w (with-list t ts) = with-list (list-grown w t) (lists-grown w ts)
 
 module _ {N : ℕ} {L : Limits} where
-  pub unionAll-goes : (lists : List (List Edge)) {σ : Aut} {r : List Edge} → Good N L σ → ListsAt N L σ lists → ListAt N L σ r → Goes N L (ListAt N L) σ (unionAll N L lists r σ)
+  pub unionAll-goes : (lists : List (List Edge)) {σ : Aut} {r : List Edge} → WfAut N L σ → ListsAt N L σ lists → ListAt N L σ r → StepSpec N L (ListAt N L) σ (unionAll N L lists r σ)
   unfolding unionAll
   unionAll-goes [] {r = r} g ts t = goes-return r g t
   unionAll-goes (es ∷ lists) g (with-list u us) t = goes-bind (st-union-goes g (t .edges) (u .edges)) (λ τ r w v p. unionAll-goes lists v (lists-grown w us) p)
 
-  pub intersectAll-goes : (lists : List (List Edge)) {σ : Aut} {r : List Edge} → Good N L σ → ListsAt N L σ lists → ListAt N L σ r → Goes N L (ListAt N L) σ (intersectAll N L lists r σ)
+  pub intersectAll-goes : (lists : List (List Edge)) {σ : Aut} {r : List Edge} → WfAut N L σ → ListsAt N L σ lists → ListAt N L σ r → StepSpec N L (ListAt N L) σ (intersectAll N L lists r σ)
   unfolding intersectAll
   intersectAll-goes [] {r = r} g ts t = goes-return r g t
   intersectAll-goes (es ∷ lists) g (with-list u us) t = goes-bind (st-intersect-goes g (t .edges) (u .edges)) (λ τ r w v p. intersectAll-goes lists v (lists-grown w us) p)
 
-  pub intersectFirst-goes : (lists : List (List Edge)) {σ : Aut} → Good N L σ → ListsAt N L σ lists → Goes N L (ListAt N L) σ (intersectFirst N L lists σ)
+  pub intersectFirst-goes : (lists : List (List Edge)) {σ : Aut} → WfAut N L σ → ListsAt N L σ lists → StepSpec N L (ListAt N L) σ (intersectFirst N L lists σ)
   intersectFirst-goes [] {σ} g ts = goes-return [] g (list-empty σ)
   intersectFirst-goes (es ∷ lists) g (with-list u us) = intersectAll-goes lists g us u
 
-  module _ {σ : Aut} (g : Good N L σ) where
-    pub sequenceList-goes : {b ε : ℕ} {ts us : List Edge} → State σ b → Label N σ ε → EdgesAt N σ ts → EdgesAt N σ us → Goes N L (ListAt N L) σ (sequenceList N L b ε ts us σ)
+  module _ {σ : Aut} (g : WfAut N L σ) where
+    pub sequenceList-goes : {b ε : ℕ} {ts us : List Edge} → State σ b → Label N σ ε → EdgesAt N σ ts → EdgesAt N σ us → StepSpec N L (ListAt N L) σ (sequenceList N L b ε ts us σ)
     unfolding sequenceList
     sequenceList-goes k a t u =
         goes-bind (st-postcompose-goes g t k) (λ σ₁ late w₁ v₁ p₁.
         goes-bind (st-precompose-goes v₁ (label-grown w₁ a) (edges-grown w₁ u)) (λ σ₂ early w₂ v₂ p₂. st-union-goes v₂ (edges-grown w₂ (p₁ .edges)) (p₂ .edges)))
 
-    pub starList-goes : {x ε* : ℕ} {ts : List Edge} → State σ x → Label N σ ε* → EdgesAt N σ ts → Goes N L (ListAt N L) σ (starList N L x ε* ts σ)
+    pub starList-goes : {x ε* : ℕ} {ts : List Edge} → State σ x → Label N σ ε* → EdgesAt N σ ts → StepSpec N L (ListAt N L) σ (starList N L x ε* ts σ)
     unfolding starList
     starList-goes k a t = goes-bind (st-postcompose-goes g t k) (λ σ₁ late w₁ v₁ p₁. st-precompose-goes v₁ (label-grown w₁ a) (p₁ .edges))
 
-    pub untilList-goes : {a b : ℕ} {ts us : List Edge} → State σ a → State σ b → EdgesAt N σ ts → EdgesAt N σ us → Goes N L (ListAt N L) σ (untilList N L a b ts us σ)
+    pub untilList-goes : {a b : ℕ} {ts us : List Edge} → State σ a → State σ b → EdgesAt N σ ts → EdgesAt N σ us → StepSpec N L (ListAt N L) σ (untilList N L a b ts us σ)
     unfolding untilList
     untilList-goes k m t u =
         goes-bind (mk-until-goes g k m) (λ σ₁ x w₁ v₁ p₁.
         goes-bind (st-intersect-expr-goes v₁ (edges-grown w₁ t) (p₁ .state)) (λ σ₂ met w₂ v₂ p₂. st-union-goes v₂ (edges-grown (grown-trans w₁ w₂) u) (p₂ .edges)))
 
     module _ (one : 1 ≤ L .transitions) where
-      pub dupList-goes : Goes N L (ListAt N L) σ (dupList N L σ)
+      pub dupList-goes : StepSpec N L (ListAt N L) σ (dupList N L σ)
       unfolding dupList
       dupList-goes = goes-bind (mk-spp-goes g (den-one (g .nodes) N (omega arith))) (λ σ₁ x w v p. st-singleton-goes v (p .state) (record { at = den-one (v .nodes) N (omega arith) .at }) one)
 
-      pub nextList-goes : {a : ℕ} → State σ a → Goes N L (ListAt N L) σ (ListSteps.st-singleton (ops N L) (Rel.topAt N) a σ)
+      pub nextList-goes : {a : ℕ} → State σ a → StepSpec N L (ListAt N L) σ (ListSteps.st-singleton (ops N L) (Rel.topAt N) a σ)
       nextList-goes k = st-singleton-goes g k (record { at = den-top (g .nodes) N (omega arith) .at }) one
 
-      pub topList-goes : Goes N L (ListAt N L) σ (topList N L σ)
+      pub topList-goes : StepSpec N L (ListAt N L) σ (topList N L σ)
       unfolding topList
       topList-goes = goes-bind (mk-top-goes g) (λ σ₁ x w v p. st-singleton-goes v (p .state) (record { at = den-top (v .nodes) N (omega arith) .at }) one)

@@ -11,7 +11,7 @@ use Rattle.spp_steps.proofs.Laws.{ext-refl, ext-trans}
 use Rattle.aut_steps.specs.Tables.{UNION, INTERSECT, Limits, Aut, putStates, putNodes}
 use Rattle.aut_steps.specs.Kinds.{form, operandsBy}
 use Rattle.aut_steps.proofs.ListLaws.{all-map}
-use Rattle.aut_steps.specs.Good.{states, kind, members, ExtM, Grown, Ok, United, Meeting, membersBefore, operands, Good}
+use Rattle.aut_steps.specs.Good.{states, kind, members, ExtM, ExtAut, Ok, United, Meeting, membersBefore, operands, WfAut}
 use Rattle.aut_steps.proofs.Good.{extm-refl, kind-grown, second-grown, nesting-grown, members-grown, ok-as, ok-grown, operands-grown, meeting-grown}
 use Rattle.aut_steps.proofs.MadeLaws.{before-grown, made-kept, packed-kept}
 use Rattle.delta_steps.specs.Epsilon.{epsilonOf, setWord}
@@ -20,7 +20,7 @@ use Rattle.delta_steps.specs.Noted.{Noted}
 -- ---- tables in order, with other words worked out
 
 -- no state and no member is new
-module _ {N : ℕ} {L : Limits} {σ τ : Aut} (g : Good N L σ) (w : Grown σ τ) (v : Wf N (τ .nodes)) (same : states τ ≡ states σ) (list : τ .members ≡ σ .members) where
+module _ {N : ℕ} {L : Limits} {σ τ : Aut} (g : WfAut N L σ) (w : ExtAut σ τ) (v : Wf N (τ .nodes)) (same : states τ ≡ states σ) (list : τ .members ≡ σ .members) where
   here : {x : ℕ} → x < states τ → x < states σ
   here l = omega (arith, same)
 
@@ -28,7 +28,7 @@ module _ {N : ℕ} {L : Limits} {σ τ : Aut} (g : Good N L σ) (w : Grown σ τ
   operands-same x l =
       ap (λ (j : ℕ). operandsBy (form {N = N} j) (τ .states .words) (τ .members .words) x) (kind-grown w x l) ∙ operands-grown w (form (kind σ x)) x l (g .ok x l)
 
-  pub good-same : Good N L τ
+  pub good-same : WfAut N L τ
   unfolding form
   good-same = record {
     nodes = v;
@@ -78,7 +78,7 @@ module _ (σ : Aut) (x w v : ℕ) where
   written-length = simp length-set
 
   module _ (l : x < states σ) (a : 4 ≤ w) (b : w < 12) where
-    pub written-grown : Grown σ written
+    pub written-grown : ExtAut σ written
     written-grown = record {
       nodes = ext-refl (σ .nodes);
       states = record {
@@ -90,7 +90,7 @@ module _ (σ : Aut) (x w v : ℕ) where
       members = extm-refl (σ .members);
     }
 
-    pub written-good : {N : ℕ} {L : Limits} → Good N L σ → Good N L written
+    pub written-good : {N : ℕ} {L : Limits} → WfAut N L σ → WfAut N L written
     written-good g = good-same g written-grown (g .nodes) written-count refl
 
 pub noted-refl : (σ : Aut) → Noted σ σ
@@ -118,7 +118,7 @@ noted-trans p q = record {
 pub noted-nodes : {σ : Aut} {t : Table} → Ext (σ .nodes) t → Noted σ (putNodes t σ)
 noted-nodes e = record { nodes = e; members = refl; count = refl; len = refl; words = λ i w l n. refl; beyond = λ j l. refl; kept = λ i l. refl }
 
-pub noted-grown : {σ τ : Aut} → Noted σ τ → Grown σ τ
+pub noted-grown : {σ τ : Aut} → Noted σ τ → ExtAut σ τ
 noted-grown {σ} {τ} n = record {
   nodes = n .nodes;
   states = record {
@@ -130,7 +130,7 @@ noted-grown {σ} {τ} n = record {
   members = subst (ExtM (σ .members)) (sym (n .members)) (extm-refl (σ .members));
 }
 
-pub noted-good : {N : ℕ} {L : Limits} {σ τ : Aut} → Good N L σ → Noted σ τ → Wf N (τ .nodes) → Good N L τ
+pub noted-good : {N : ℕ} {L : Limits} {σ τ : Aut} → WfAut N L σ → Noted σ τ → Wf N (τ .nodes) → WfAut N L τ
 noted-good g n v = good-same g (noted-grown n) v (n .count) (n .members)
 
 -- then word 4 of x, which was not worked out before

@@ -13,7 +13,7 @@ use Rattle.aut_steps.specs.Intern.{nestL}
 use Rattle.aut_steps.specs.Kinds.{Form, one, two, many, nothing, form}
 use Rattle.aut_steps.specs.ListLaws.{All}
 use Rattle.aut_steps.proofs.ListLaws.{all-with}
-use Rattle.aut_steps.specs.Good.{states, kind, first, second, nesting, members, One, Two, Many, Ok, Good}
+use Rattle.aut_steps.specs.Good.{states, kind, first, second, nesting, members, One, Two, Many, Ok, WfAut}
 use Rattle.aut_steps.proofs.Good.{ok-as}
 
 -- y may be called from x
@@ -32,7 +32,7 @@ unfolding nestL
 nestL-each st h [] = tt
 nestL-each st h (x ∷ xs) = (omega (arith, nestL-from st (max h (nest st x)) xs), nestL-each st (max h (nest st x)) xs)
 
-module _ {N : ℕ} {L : Limits} {σ : Aut} (g : Good N L σ) {x : ℕ} (l : x < states σ) (k : ℕ) (e : kind σ x ≡ k) where
+module _ {N : ℕ} {L : Limits} {σ : Aut} (g : WfAut N L σ) {x : ℕ} (l : x < states σ) (k : ℕ) (e : kind σ x ≡ k) where
   pub below-one : (c : Rule N → Rule N) → form k ≡ one c → Below σ x (first σ x)
   below-one c q = let o : One σ x = subst (λ (f : Form N). Ok f σ x) q (ok-as g k l e) in record { state = omega (arith, o .earlier); earlier = o .earlier; lower = omega (arith, o .nested) }
 
@@ -53,7 +53,7 @@ unless true x y e = absurd (false-true (sym e))
 unless false x y e = refl
 
 -- it is this one, if it is no other
-pub last-kind : {N : ℕ} {L : Limits} {σ : Aut} → Good N L σ → {x : ℕ} → x < states σ → (form {N = N} (kind σ x) ≡ nothing) → ⊥
+pub last-kind : {N : ℕ} {L : Limits} {σ : Aut} → WfAut N L σ → {x : ℕ} → x < states σ → (form {N = N} (kind σ x) ≡ nothing) → ⊥
 last-kind {N} {σ = σ} g {x} l e = subst (λ (f : Form N). Ok f σ x) e (g .ok x l)
 
 pub no-kind : {N : ℕ} (k : ℕ) → eqb k SPP ≡ false → eqb k UNION ≡ false → eqb k INTERSECT ≡ false → eqb k XOR ≡ false → eqb k DIFFERENCE ≡ false → eqb k COMPLEMENT ≡ false

@@ -13,7 +13,7 @@ use Rattle.netkat.proofs.Laws.Promise.{promise}
 use Rattle.aut_steps.specs.Relations as Rel
 use Rattle.aut_steps.specs.Tables.{Limits, limits01, Aut}
 use Rattle.aut_steps.proofs.Languages.{≈-sym}
-use Rattle.aut_steps.specs.Good.{states, Grown}
+use Rattle.aut_steps.specs.Good.{states, ExtAut}
 use Rattle.aut_steps.proofs.Good.{state-grown}
 use Rattle.aut_steps.specs.Meaning.{Holds}
 use Rattle.aut_steps.proofs.Meaning.{holds-grown}
@@ -23,7 +23,7 @@ use Rattle.delta_steps.specs.Delta.{Store, onAut, delta}
 use Rattle.delta_steps.specs.Examples.{holding}
 use Rattle.delta_steps.specs.Fits.{tables}
 use Rattle.delta_steps.proofs.Agree.{Agree, come}
-use Rattle.delta_steps.specs.Worked.{Means, Worked}
+use Rattle.delta_steps.specs.Worked.{Means, WfStore}
 use Rattle.delta_steps.proofs.Worked.{means-same, begun}
 use Rattle.delta_steps.proofs.DeltaRuns.{Halted, Stepped, Deltaed, epsilon-step}
 use Rattle.delta_steps.proofs.DeltaLaws.{delta-goes, delta-list, delta-of}
@@ -33,13 +33,13 @@ module _ (N : ℕ) where
   module _ (L : Limits) where
     -- what its states hold: the strings of the rules that they stand for
     abbrev pub meaning : Meaning N Store
-    meaning = record { Good = Worked N L; Known = λ σ s. s < states (σ .aut); Holds = λ σ. Holds N (σ .aut) }
+    meaning = record { Good = WfStore N L; Known = λ σ s. s < states (σ .aut); Holds = λ σ. Holds N (σ .aut) }
 
 module _ {N : ℕ} {L : Limits} where
-  kept : {σ τ : Store} → Worked N L σ → Grown (σ .aut) (τ .aut) → Worked N L τ → Kept (meaning N L) σ τ
+  kept : {σ τ : Store} → WfStore N L σ → ExtAut (σ .aut) (τ .aut) → WfStore N L τ → Kept (meaning N L) σ τ
   kept W w W′ = record { good = W′; known = λ s k. state-grown w k; same = λ s k. ≈-sym (holds-grown (W .good) w k) }
 
-  epsilon-answer : (σ : Store) (s : State) → Worked N L σ → s < states (σ .aut) → Gives (λ τ e. Kept (meaning N L) σ τ × IsEpsilon e (Holds N (τ .aut) s)) (answers N L .epsilon s σ)
+  epsilon-answer : (σ : Store) (s : State) → WfStore N L σ → s < states (σ .aut) → Gives (λ τ e. Kept (meaning N L) σ τ × IsEpsilon e (Holds N (τ .aut) s)) (answers N L .epsilon s σ)
   epsilon-answer σ s W l = at (onAut (epsilon N s) σ) (epsilon-step W l)
     where
       at : (o : Outcome Store ℕ) → Agree (Halted N L σ) (Stepped N L (λ τ e. Means N (τ .nodes) e (Holds N (σ .aut) s)) σ) o o
@@ -59,7 +59,7 @@ module _ {N : ℕ} {L : Limits} where
   decodes none = refl
   decodes (also {s} k d a) = ap₂ _∷_ (ap₂ to {x = s} refl (fun-ext (λ p. fun-ext (λ q. d .means p q)))) (decodes a)
 
-  delta-answer : (σ : Store) (s : State) → Worked N L σ → s < states (σ .aut) → Gives (λ τ list. Kept (meaning N L) σ τ × DeltaOf (meaning N L) τ s list) (answers N L .delta s σ)
+  delta-answer : (σ : Store) (s : State) → WfStore N L σ → s < states (σ .aut) → Gives (λ τ list. Kept (meaning N L) σ τ × DeltaOf (meaning N L) τ s list) (answers N L .delta s σ)
   delta-answer σ s W l = at (delta N L s σ) (delta-goes W l)
     where
       at : (o : Outcome Store (List Edge)) → Agree (Halted N L σ) (Deltaed N L s σ) o o
@@ -81,5 +81,5 @@ module _ {N : ℕ} {L : Limits} where
   search-promise = promise (answers N L) (meaning N L) lawful
 
 -- Tables of one field, begun, with no state yet: what the rows of Examples.antt start from.
-pub at-first : Worked 1 limits01 (holding 4 4 4 [] [] [] [])
+pub at-first : WfStore 1 limits01 (holding 4 4 4 [] [] [] [])
 at-first = begun (omega arith) in-order refl refl

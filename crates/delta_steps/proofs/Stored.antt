@@ -17,7 +17,7 @@ use Rattle.spp_steps.proofs.Laws.{by-test}
 use Rattle.aut_steps.specs.Tables.{Limits, Aut}
 use Rattle.aut_steps.proofs.Facts.{and-true, sets-below, sets-above}
 use Rattle.aut_steps.proofs.Languages.{≈-sym}
-use Rattle.aut_steps.specs.Good.{states, Grown, Good}
+use Rattle.aut_steps.specs.Good.{states, ExtAut, WfAut}
 use Rattle.aut_steps.proofs.Good.{grown-refl, grown-trans}
 use Rattle.aut_steps.specs.Meaning.{Holds}
 use Rattle.aut_steps.proofs.Meaning.{holds-grown}
@@ -27,9 +27,9 @@ use Rattle.delta_steps.specs.Delta.{startOf, countOf, Store, store, tran
 use Rattle.delta_steps.specs.Fits.{tables, Since}
 use Rattle.delta_steps.specs.Noted.{Noted}
 use Rattle.delta_steps.proofs.Noted.{noted-grown, written, written-other, written-here, written-count, written-length, written-grown, written-good}
-use Rattle.delta_steps.specs.Worked.{ExtT, Held, InList, Laid, Worked, Stored, SameWords}
+use Rattle.delta_steps.specs.Worked.{ExtT, Held, InList, Laid, WfStore, Stored, SameWords}
 use Rattle.delta_steps.proofs.Worked.{epsilons-grown, later-grown, extt-refl, extt-trans, lists-grown, same-list}
-use Rattle.delta_steps.specs.Stored.{Went}
+use Rattle.delta_steps.specs.Stored.{ExtStore}
 
 -- ---- the words of a list
 
@@ -75,10 +75,10 @@ append-ext es t = record {
   beyond = λ j l. sets-above (flat es) (t .words) (2 * t .count) j (omega (arith, flat-length es));
 }
 
-pub went-refl : (σ : Store) → Went σ σ
+pub went-refl : (σ : Store) → ExtStore σ σ
 went-refl σ = record { grown = grown-refl (σ .aut); epsilons = λ i l. refl; lists = λ i l. (refl, refl); others = λ i w l m. refl; transitions = extt-refl (σ .transitions) }
 
-pub went-trans : {σ τ υ : Store} → Went σ τ → Went τ υ → Went σ υ
+pub went-trans : {σ τ υ : Store} → ExtStore σ τ → ExtStore τ υ → ExtStore σ υ
 went-trans p q = record {
   grown = grown-trans (p .grown) (q .grown);
   epsilons = λ i l. q .epsilons i (omega (arith, p .epsilons i l)) ∙ p .epsilons i l;
@@ -100,7 +100,7 @@ unfolding countOf startOf
 same-noted σ n i = (n .words i 6 (omega arith) (λ q. omega arith), n .words i 5 (omega arith) (λ q. omega arith))
 
 -- .. and what was worked out is as it was.
-pub went-since : {N : ℕ} {L : Limits} {σ : Store} {a : Aut} → Since N L (σ .aut) a → Went σ (store a (σ .transitions))
+pub went-since : {N : ℕ} {L : Limits} {σ : Store} {a : Aut} → Since N L (σ .aut) a → ExtStore σ (store a (σ .transitions))
 unfolding epsilonOf
 went-since {σ = σ} s = record {
   grown = s .grown;
@@ -110,7 +110,7 @@ went-since {σ = σ} s = record {
   transitions = extt-refl (σ .transitions);
 }
 
-pub went-noted : {σ : Store} {a : Aut} → Noted (σ .aut) a → Went σ (store a (σ .transitions))
+pub went-noted : {σ : Store} {a : Aut} → Noted (σ .aut) a → ExtStore σ (store a (σ .transitions))
 went-noted {σ} n = record {
   grown = noted-grown n;
   epsilons = n .kept;
@@ -135,7 +135,7 @@ before-trans p q = record {
 }
 
 -- a stored list stays
-pub stored-went : {N : ℕ} {L : Limits} {σ τ : Store} → Worked N L σ → Went σ τ → {x : ℕ} {es : List Edge} → x < states (σ .aut) → Stored σ x es → Stored τ x es
+pub stored-went : {N : ℕ} {L : Limits} {σ τ : Store} → WfStore N L σ → ExtStore σ τ → {x : ℕ} {es : List Edge} → x < states (σ .aut) → Stored σ x es → Stored τ x es
 stored-went {τ = τ} W w {x} l s = record {
   marked = omega (arith, w .lists x (s .marked) .0, s .marked);
   reads = same-list τ (W .lists) (w .transitions) x l (s .marked) (w .lists x (s .marked)) ∙ s .reads;
@@ -149,7 +149,7 @@ stored-count {σ} {x} s =
 
 -- ---- storing a list
 
-module _ {N : ℕ} {L : Limits} {τ : Store} (W : Worked N L τ) {x : ℕ} (l : x < states (τ .aut)) (es : List Edge) (room : roomT (τ .transitions) (length es) ≡ true) where
+module _ {N : ℕ} {L : Limits} {τ : Store} (W : WfStore N L τ) {x : ℕ} (l : x < states (τ .aut)) (es : List Edge) (room : roomT (τ .transitions) (length es) ≡ true) where
   abbrev n : ℕ
   n = τ .transitions .count
 
@@ -169,10 +169,10 @@ module _ {N : ℕ} {L : Limits} {τ : Store} (W : Worked N L τ) {x : ℕ} (l : 
   l5 : x < states a5
   l5 = omega (arith, written-count (τ .aut) x 5 from)
 
-  pub keeping-grown : Grown (τ .aut) a6
+  pub keeping-grown : ExtAut (τ .aut) a6
   keeping-grown = grown-trans (written-grown (τ .aut) x 5 from l (omega arith) (omega arith)) (written-grown a5 x 6 (length es + 1) l5 (omega arith) (omega arith))
 
-  keeping-good : Good N L a6
+  keeping-good : WfAut N L a6
   keeping-good = written-good a5 x 6 (length es + 1) l5 (omega arith) (omega arith) (written-good (τ .aut) x 5 from l (omega arith) (omega arith) (W .good))
 
   -- only words 5 and 6 of x are written
@@ -253,7 +253,7 @@ module _ {N : ℕ} {L : Limits} {τ : Store} (W : Worked N L τ) {x : ℕ} (l : 
   pub keeping-stored : Stored keeping x es
   keeping-stored = record { marked = omega (arith, count-kept); reads = list-kept }
 
-  pub keeping-worked : countOf (τ .aut .states .words) x ≡ 0 → IsList (tables N L) (Holds N (τ .aut) x) (τ .aut) es → length es ≤ L .transitions → Worked N L keeping
+  pub keeping-worked : countOf (τ .aut .states .words) x ≡ 0 → IsList (tables N L) (Holds N (τ .aut) x) (τ .aut) es → length es ≤ L .transitions → WfStore N L keeping
   unfolding append epsilonOf
   keeping-worked z i m = record {
     good = keeping-good;
@@ -282,7 +282,7 @@ module _ {N : ℕ} {L : Limits} {τ : Store} (W : Worked N L τ) {x : ℕ} (l : 
   }
 
   -- from where nothing of x's list was worked out
-  pub keeping-went : {σ : Store} → Went σ τ → countOf (σ .aut .states .words) x ≡ 0 → Went σ keeping
+  pub keeping-went : {σ : Store} → ExtStore σ τ → countOf (σ .aut .states .words) x ≡ 0 → ExtStore σ keeping
   unfolding epsilonOf
   keeping-went {σ} w z = record {
     grown = grown-trans (w .grown) keeping-grown;

@@ -19,7 +19,7 @@ use Rattle.spp_steps.proofs.Laws.{den-ext, by-test}
 use Rattle.aut_steps.specs.Tables.{SPP, Limits, Aut}
 use Rattle.aut_steps.specs.Languages.{_≈_}
 use Rattle.aut_steps.proofs.Languages.{≈-sym}
-use Rattle.aut_steps.specs.Good.{states, kind, first, Grown, Good}
+use Rattle.aut_steps.specs.Good.{states, kind, first, ExtAut, WfAut}
 use Rattle.aut_steps.proofs.Good.{kind-grown, first-grown, state-grown}
 use Rattle.aut_steps.specs.Meaning.{Holds}
 use Rattle.aut_steps.proofs.Meaning.{holds-grown}
@@ -29,7 +29,7 @@ use Rattle.delta_steps.specs.Delta.{startOf, countOf, Store, store, tran
 use Rattle.delta_steps.specs.Fits.{tables, Since}
 use Rattle.delta_steps.specs.Noted.{Noted}
 use Rattle.delta_steps.proofs.Noted.{noted-grown}
-use Rattle.delta_steps.specs.Worked.{Means, Epsilons, Valued, handle, memo, HasEpsilon, ExtT, Held, InList, Laid, Lists, Worked, SameWords}
+use Rattle.delta_steps.specs.Worked.{Means, Epsilons, Valued, handle, memo, HasEpsilon, ExtT, Held, InList, Laid, Lists, WfStore, SameWords}
 
 pub means-ext : {N : ℕ} {t u : Table} {e : ℕ} {A : Language N} → Ext t u → Means N t e A → Means N u e A
 means-ext x m = record { relation = m .relation; den = den-ext x (m .den); is = m .is }
@@ -54,13 +54,13 @@ pub valued-has : {σ : Aut} {x e : ℕ} → Valued σ x e → HasEpsilon σ x
 valued-has (handle k f) = inl k
 valued-has (memo n m) = inr (omega (arith, m))
 
-pub has-epsilon-grown : {σ τ : Aut} {x : ℕ} → Grown σ τ → x < states σ → (0 < epsilonOf (σ .states .words) x → epsilonOf (τ .states .words) x ≡ epsilonOf (σ .states .words) x)
+pub has-epsilon-grown : {σ τ : Aut} {x : ℕ} → ExtAut σ τ → x < states σ → (0 < epsilonOf (σ .states .words) x → epsilonOf (τ .states .words) x ≡ epsilonOf (σ .states .words) x)
     → HasEpsilon σ x → HasEpsilon τ x
 has-epsilon-grown {x = x} w l same (inl k) = inl (kind-grown w x l ∙ k)
 has-epsilon-grown w l same (inr p) = inr (omega (arith, p, same p))
 
 -- tables that have grown, with words 4 of states in use as they were and of new ones not worked out
-pub epsilons-grown : {N : ℕ} {L : Limits} {σ τ : Aut} → Good N L σ → Grown σ τ
+pub epsilons-grown : {N : ℕ} {L : Limits} {σ τ : Aut} → WfAut N L σ → ExtAut σ τ
     → ((x : ℕ) → x < states τ → epsilonOf (τ .states .words) x ≡ epsilonOf (σ .states .words) x) → Epsilons N σ → Epsilons N τ
 unfolding epsilonOf
 epsilons-grown {N} {σ} {τ} g w same E = record {
@@ -76,13 +76,13 @@ epsilons-grown {N} {σ} {τ} g w same E = record {
     new : (x : ℕ) → x < states τ → states σ ≤ x → getD (τ .states .words) (12 * x + 4) 0 ≡ 0
     new x l m = same x l ∙ g .fresh (12 * x + 4) (omega arith)
 
-pub epsilons-since : {N : ℕ} {L : Limits} {σ τ : Aut} → Good N L σ → Since N L σ τ → Epsilons N σ → Epsilons N τ
+pub epsilons-since : {N : ℕ} {L : Limits} {σ τ : Aut} → WfAut N L σ → Since N L σ τ → Epsilons N σ → Epsilons N τ
 unfolding epsilonOf
 epsilons-since g s E = epsilons-grown g (s .grown) (λ x l. s .memos x 4 (omega arith) (omega arith)) E
 
 -- ---- delta
 
-pub later-grown : {N : ℕ} {L : Limits} {σ τ : Aut} → Good N L σ → Grown σ τ → Good N L τ → Later (tables N L) σ τ
+pub later-grown : {N : ℕ} {L : Limits} {σ τ : Aut} → WfAut N L σ → ExtAut σ τ → WfAut N L τ → Later (tables N L) σ τ
 later-grown g w v = record { good = v; known = λ x l. state-grown w l; same = λ x l. ≈-sym (holds-grown g w l); label = λ h R d. den-ext (w .nodes) d }
 
 pub extt-refl : (t : Table) → ExtT t t
@@ -105,14 +105,14 @@ edges-same s t a (suc k) f =
     ∙ ap (λ (l : List Edge). record { target = getD s (2 * a) 0; label = getD s (2 * a + 1) 0 } ∷ l) (edges-same s t (a + 1) k (λ j l m. f j (omega arith) (omega arith)))
 
 -- only a state in use has a list
-pub list-there : {N : ℕ} {L : Limits} {σ : Aut} → Good N L σ → (x : ℕ) → 0 < countOf (σ .states .words) x → x < states σ
+pub list-there : {N : ℕ} {L : Limits} {σ : Aut} → WfAut N L σ → (x : ℕ) → 0 < countOf (σ .states .words) x → x < states σ
 unfolding countOf
 list-there {σ = σ} g x p = by-test (leb (states σ) x)
     (λ t. absurd (omega (arith, g .fresh (12 * x + 6) (omega (arith, leb-true (states σ) x t)))))
     (λ t. leb-false (states σ) x t)
 
 -- no list is stored: words 5 and 6 of all states are as they were
-pub laid-same : {N : ℕ} {L : Limits} {σ τ : Store} → Good N L (σ .aut) → ((x : ℕ) → SameWords σ τ x) → states (σ .aut) ≤ states (τ .aut) → τ .transitions .count ≡ σ .transitions .count
+pub laid-same : {N : ℕ} {L : Limits} {σ τ : Store} → WfAut N L (σ .aut) → ((x : ℕ) → SameWords σ τ x) → states (σ .aut) ≤ states (τ .aut) → τ .transitions .count ≡ σ .transitions .count
     → Laid σ → Laid τ
 unfolding countOf startOf
 laid-same {σ = σ} {τ} g same more count D = record {
@@ -143,7 +143,7 @@ module _ {N : ℕ} {L : Limits} {σ : Store} (τ : Store) (D : Lists N L σ) (t 
       ∙ ap (λ (j : ℕ). edges (τ .transitions .words) j k) s
       ∙ edges-same (σ .transitions .words) (τ .transitions .words) a k (λ j p q. t .keep j (omega (arith, D .held x l .inside k (omega arith))))
 
-  module _ (g : Good N L (σ .aut)) (w : Grown (σ .aut) (τ .aut)) (v : Good N L (τ .aut)) where
+  module _ (g : WfAut N L (σ .aut)) (w : ExtAut (σ .aut) (τ .aut)) (v : WfAut N L (τ .aut)) where
     held-same : (x : ℕ) → x < states (τ .aut) → SameWords σ τ x → Held N L τ x
     unfolding countOf
     held-same x l e = by-test (leb (states (σ .aut)) x)
@@ -165,7 +165,7 @@ module _ {N : ℕ} {L : Limits} {σ : Store} (τ : Store) (D : Lists N L σ) (t 
     lists-grown f s each m = record { some = D .some; fit = f; small = s; held = λ x l. ⊎-elim (λ e. held-same x l e) (λ h. h) (each x l); laid = m }
 
 -- nothing is worked out: tables with no state and no transition
-pub begun : {N : ℕ} {L : Limits} {σ : Store} → 1 ≤ L .transitions → Good N L (σ .aut) → states (σ .aut) ≡ 0 → σ .transitions .count ≡ 0 → Worked N L σ
+pub begun : {N : ℕ} {L : Limits} {σ : Store} → 1 ≤ L .transitions → WfAut N L (σ .aut) → states (σ .aut) ≡ 0 → σ .transitions .count ≡ 0 → WfStore N L σ
 begun o g z c = record {
   good = g;
   epsilons = record { none = λ x l k. absurd (omega arith); kept = λ x l e q. absurd (omega arith) };
@@ -179,8 +179,8 @@ begun o g z c = record {
 }
 
 -- a step on the tables of the constructors that leaves words 5 and 6 of all states
-pub worked-aut : {N : ℕ} {L : Limits} {σ : Store} {a : Aut} → Worked N L σ → Grown (σ .aut) a → Good N L a → Epsilons N a
-    → ((x w : ℕ) → 5 ≤ w → w < 7 → getD (a .states .words) (12 * x + w) 0 ≡ getD (σ .aut .states .words) (12 * x + w) 0) → Worked N L (store a (σ .transitions))
+pub worked-aut : {N : ℕ} {L : Limits} {σ : Store} {a : Aut} → WfStore N L σ → ExtAut (σ .aut) a → WfAut N L a → Epsilons N a
+    → ((x w : ℕ) → 5 ≤ w → w < 7 → getD (a .states .words) (12 * x + w) 0 ≡ getD (σ .aut .states .words) (12 * x + w) 0) → WfStore N L (store a (σ .transitions))
 unfolding countOf startOf
 worked-aut {σ} {a} W w v E same = record {
   good = v;
@@ -193,8 +193,8 @@ worked-aut {σ} {a} W w v E same = record {
     words x = (same x 6 (omega arith) (omega arith), same x 5 (omega arith) (omega arith))
 
 -- .. one that works nothing out, and one that works out epsilons
-pub worked-since : {N : ℕ} {L : Limits} {σ : Store} {a : Aut} → Worked N L σ → Since N L (σ .aut) a → Worked N L (store a (σ .transitions))
+pub worked-since : {N : ℕ} {L : Limits} {σ : Store} {a : Aut} → WfStore N L σ → Since N L (σ .aut) a → WfStore N L (store a (σ .transitions))
 worked-since W s = worked-aut W (s .grown) (s .good) (epsilons-since (W .good) s (W .epsilons)) (λ x w l m. s .memos x w (omega arith) (omega arith))
 
-pub worked-noted : {N : ℕ} {L : Limits} {σ : Store} {a : Aut} → Worked N L σ → Noted (σ .aut) a → Good N L a → Epsilons N a → Worked N L (store a (σ .transitions))
+pub worked-noted : {N : ℕ} {L : Limits} {σ : Store} {a : Aut} → WfStore N L σ → Noted (σ .aut) a → WfAut N L a → Epsilons N a → WfStore N L (store a (σ .transitions))
 worked-noted W n v E = worked-aut W (noted-grown n) v E (λ x w l m. n .words x w (omega arith) (λ q. omega arith))

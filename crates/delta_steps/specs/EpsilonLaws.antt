@@ -3,7 +3,7 @@
 use Prim.Native.Nat.{ℕ}
 use Rattle.netkat.specs.Rules.{Language}
 use Rattle.aut_steps.specs.Tables.{Limits, Aut}
-use Rattle.aut_steps.specs.Good.{Good}
+use Rattle.aut_steps.specs.Good.{WfAut}
 use Rattle.aut_steps.specs.Meaning.{Holds}
 use Rattle.delta_steps.specs.Noted.{Noted}
 use Rattle.delta_steps.specs.Worked.{Means, Epsilons, Valued}
@@ -14,7 +14,7 @@ module _ (N : ℕ) (L : Limits) where
   -- it has given a handle of the relation of A's strings without hops
   pub record Found (A : Language N) (σ τ : Aut) (e : ℕ) : Type 0 where
     pub noted : Noted σ τ
-    pub good : Good N L τ
+    pub good : WfAut N L τ
     pub epsilons : Epsilons N τ
     pub means : Means N (τ .nodes) e A
 
@@ -25,5 +25,5 @@ module _ (N : ℕ) (L : Limits) where
 
   -- tables in order, with what is worked out
   pub record Ready (σ : Aut) : Type 0 where
-    pub good : Good N L σ
+    pub good : WfAut N L σ
     pub epsilons : Epsilons N σ

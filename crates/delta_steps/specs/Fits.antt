@@ -2,9 +2,9 @@
 -- operations hold of them. Said of all tables since σ₀, which have grown, with words 4 to 11 of every state as they were: so every law hands that on.
 use Prim.Native.Nat.{ℕ, _<_}
 use Rattle.netkat.specs.ListSteps.{Readings}
-use Rattle.spp_steps.specs.Laws.{Den}
+use Rattle.spp_steps.specs.Laws.{Denotes}
 use Rattle.aut_steps.specs.Tables.{Limits, Aut}
-use Rattle.aut_steps.specs.Good.{states, Grown, Good}
+use Rattle.aut_steps.specs.Good.{states, ExtAut, WfAut}
 use Rattle.aut_steps.specs.Goes.{Memos}
 use Rattle.aut_steps.specs.Meaning.{Holds}
 use Rattle.st_steps.specs.Operations.{ops}
@@ -16,15 +16,15 @@ module _ (N : ℕ) (L : Limits) where
     Good = G;
     Known = λ σ s. s < states σ;
     Holds = Holds N;
-    IsLabel = λ σ l R. Den (σ .nodes) N l R;
+    IsLabel = λ σ l R. Denotes (σ .nodes) N l R;
   }
 
   -- the tables of aut.rs
   abbrev pub tables : Readings N (ops N L)
-  tables = readings (Good N L)
+  tables = readings (WfAut N L)
 
   -- τ is in order and has come from σ₀, with nothing worked out in between
   pub record Since (σ₀ τ : Aut) : Type 0 where
-    pub grown : Grown σ₀ τ
+    pub grown : ExtAut σ₀ τ
     pub memos : Memos σ₀ τ
-    pub good : Good N L τ
+    pub good : WfAut N L τ

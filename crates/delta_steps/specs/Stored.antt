@@ -3,7 +3,7 @@
 use mathlib.Core.Path.{_≡_}
 use Prim.Native.Nat.{ℕ, _+_, _*_, _≤_, _<_}
 use lib.ListN.{getD}
-use Rattle.aut_steps.specs.Good.{Grown}
+use Rattle.aut_steps.specs.Good.{ExtAut}
 use Rattle.delta_steps.specs.Epsilon.{epsilonOf}
 use Rattle.delta_steps.specs.Delta.{countOf, Store}
 use Rattle.delta_steps.specs.Worked.{ExtT, SameWords}
@@ -11,8 +11,8 @@ use Rattle.delta_steps.specs.Worked.{ExtT, SameWords}
 -- ---- what a run of delta leaves
 
 -- What was worked out is as it was: words 4, lists and transitions. Words 7 to 11 are not written.
-pub record Went (σ τ : Store) : Type 0 where
-  pub grown : Grown (σ .aut) (τ .aut)
+pub record ExtStore (σ τ : Store) : Type 0 where
+  pub grown : ExtAut (σ .aut) (τ .aut)
   pub epsilons : (i : ℕ) → 0 < epsilonOf (σ .aut .states .words) i → epsilonOf (τ .aut .states .words) i ≡ epsilonOf (σ .aut .states .words) i
   pub lists : (i : ℕ) → 0 < countOf (σ .aut .states .words) i → SameWords σ τ i
   pub others : (i w : ℕ) → 7 ≤ w → w < 12 → getD (τ .aut .states .words) (12 * i + w) 0 ≡ getD (σ .aut .states .words) (12 * i + w) 0

@@ -10,9 +10,9 @@ use Rattle.common.specs.Runs.{Table}
 use Rattle.netkat.specs.Rules.{Language}
 use Rattle.netkat.specs.Hops.{IsEpsilon}
 use Rattle.netkat.specs.ListSteps.{Edge, IsList}
-use Rattle.spp_steps.specs.Laws.{Den}
+use Rattle.spp_steps.specs.Laws.{Denotes}
 use Rattle.aut_steps.specs.Tables.{SPP, Limits, Aut}
-use Rattle.aut_steps.specs.Good.{states, kind, first, Good}
+use Rattle.aut_steps.specs.Good.{states, kind, first, WfAut}
 use Rattle.aut_steps.specs.Meaning.{Holds}
 use Rattle.delta_steps.specs.Epsilon.{epsilonOf}
 use Rattle.delta_steps.specs.Delta.{startOf, countOf, Store, transitionCap, listAt}
@@ -23,7 +23,7 @@ use Rattle.delta_steps.specs.Fits.{tables}
 -- e is a handle of the relation of A's strings without hops
 pub record Means (N : ℕ) (t : Table) (e : ℕ) (A : Language N) : Type 0 where
   pub relation : Relation N
-  pub den : Den t N e relation
+  pub den : Denotes t N e relation
   pub is : IsEpsilon relation A
 
 -- Words 4: an SPP keeps 0; what another state keeps is its epsilon + 1.
@@ -79,8 +79,8 @@ pub record Lists (N : ℕ) (L : Limits) (σ : Store) : Type 0 where
   pub laid : Laid σ
 
 -- tables in order, and all that is worked out is true
-pub record Worked (N : ℕ) (L : Limits) (σ : Store) : Type 0 where
-  pub good : Good N L (σ .aut)
+pub record WfStore (N : ℕ) (L : Limits) (σ : Store) : Type 0 where
+  pub good : WfAut N L (σ .aut)
   pub epsilons : Epsilons N (σ .aut)
   pub lists : Lists N L σ
 

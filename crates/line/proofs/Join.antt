@@ -9,7 +9,7 @@ use Rattle.common.specs.Runs.{Table, table}
 use Rattle.spp.specs.Seen.{FieldAsked}
 use Rattle.aut_steps.specs.Tables.{COMPLEMENT, UNTIL, Aut, onStates}
 use Rattle.aut_steps.specs.Constructors.{spp-of, mk-spp}
-use Rattle.aut_steps.proofs.Goes.{Goes, came}
+use Rattle.aut_steps.proofs.Goes.{StepSpec, came}
 use Rattle.netkat.specs.Rules.{In}
 use Rattle.aut_steps.specs.Meaning.{rule}
 use Rattle.aut_steps.proofs.Meaning.{Is}
@@ -22,7 +22,7 @@ use Rattle.aut.specs.declared.State.{State}
 use Rattle.aut.specs.declared.State.the-variants as state
 use Rattle.aut_rel.specs.Behind.{LISTS}
 use Rattle.aut_rel.proofs.Behind.{left-refl, left-any, left-wide}
-use Rattle.aut_rel.specs.Seen.{autOf, seenAut, LeftBy, Ready, Does, DoesSpp}
+use Rattle.aut_rel.specs.Seen.{autOf, seenAut, ModifiesBy, Ready, Does, DoesSpp}
 use Rattle.aut_rel.proofs.Join.{same-left}
 use Rattle.aut_rel.proofs.Order.{fits, ready-complement, ready-until, ready-after}
 use Rattle.aut_mk.specs.Seen.{Enters, Makes, Asks}
@@ -72,11 +72,11 @@ not-ready a = (ready-complement (a .ready .good) (a .has .0), a .ready .few)
 
 -- ---- answers
 
-wide-by : (N a n : ℕ) (t s s′ : List ℕ) (r : State) → a + n ≤ LISTS → LeftBy N a n r t s s′ → LeftBy N 0 LISTS r t s s′
+wide-by : (N a n : ℕ) (t s s′ : List ℕ) (r : State) → a + n ≤ LISTS → ModifiesBy N a n r t s s′ → ModifiesBy N 0 LISTS r t s s′
 wide-by N a n t s s′ (state.Is z d) l p = left-wide p (omega arith) (omega arith)
 wide-by N a n t s s′ (state.Refused e) l p = tt
 
-any-by : (N : ℕ) (t s s′ : List ℕ) (r : State) → LeftBy N 0 0 r t s s′ → LeftBy N 0 LISTS r t s s′
+any-by : (N : ℕ) (t s s′ : List ℕ) (r : State) → ModifiesBy N 0 0 r t s s′ → ModifiesBy N 0 LISTS r t s s′
 any-by N t s s′ (state.Is z d) p = left-any 0 LISTS p (omega arith)
 any-by N t s s′ (state.Refused e) p = tt
 
@@ -115,9 +115,9 @@ module _ {N : ℕ} {r : State} {c : Counts} {t′ st′ mem′ s s′ : List ℕ
 
 -- the tables are in order again
 module _ {N : ℕ} {l : Limits} {t st mem s : List ℕ} (c : Counts) (R : Ready N l (autOf t st mem c) s) {a : Line} (q : LineReady N (c .states) s a) (t′ st′ mem′ s′ : List ℕ) (len : length s′ ≡ length s) where
-  ready-by : (r : State) → M.make N (limitsOf l) (lineOf s a) (autOf t st mem c) ≡ seenAut r t′ st′ mem′ → LeftBy N 0 LISTS r t′ s s′ → ReadyBy N l r t′ st′ mem′ s′
+  ready-by : (r : State) → M.make N (limitsOf l) (lineOf s a) (autOf t st mem c) ≡ seenAut r t′ st′ mem′ → ModifiesBy N 0 LISTS r t′ s s′ → ReadyBy N l r t′ st′ mem′ s′
   ready-by (state.Is z d) e p =
-      let i = came (subst (Goes N (limitsOf l) (Is N (In (M.means (rule N (autOf t st mem c)) (lineOf s a)))) (autOf t st mem c)) e (make-goes (R .good) (lineOf s a) (q .asked))) in
+      let i = came (subst (StepSpec N (limitsOf l) (Is N (In (M.means (rule N (autOf t st mem c)) (lineOf s a)))) (autOf t st mem c)) e (make-goes (R .good) (lineOf s a) (q .asked))) in
       (ready-after R (i .grown) (i .good) p len, i .holds .state)
   ready-by (state.Refused n) e p = tt
 

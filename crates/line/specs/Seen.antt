@@ -10,7 +10,7 @@ use Rattle.aut.specs.declared.Limits.{Limits}
 use Rattle.aut.specs.declared.State.{State}
 use Rattle.aut.specs.declared.State.the-variants.{Is, Refused}
 use Rattle.aut_rel.specs.Behind.{LISTS}
-use Rattle.aut_rel.specs.Seen.{autOf, seenAut, Beside, LeftBy, Ready}
+use Rattle.aut_rel.specs.Seen.{autOf, seenAut, Beside, ModifiesBy, Ready}
 use Rattle.line.specs.declared.Constant.{Constant}
 use Rattle.line.specs.declared.Constant.the-variants as constant
 use Rattle.line.specs.declared.Bit.{Bit}
@@ -80,5 +80,5 @@ ReadyBy N l (Refused e) t st mem s = Unit
 pub record Made (N : ℕ) (l : Limits) (line : M.Line ℕ) (r : State) (c : Counts) (t st mem s t′ st′ mem′ s′ : List ℕ) : Type 0 where
   pub is : M.make N (limitsOf l) line (autOf t st mem c) ≡ seenAut r t′ st′ mem′
   pub beside : Beside r c
-  pub left : LeftBy N 0 LISTS r t′ s s′
+  pub left : ModifiesBy N 0 LISTS r t′ s s′
   pub ready : ReadyBy N l r t′ st′ mem′ s′

@@ -11,8 +11,8 @@ use Rattle.aut_steps.specs.ListLaws.{All}
 use Rattle.aut_steps.proofs.ListLaws.{Some}
 use Rattle.aut_steps.specs.Languages.{_≈_}
 use Rattle.aut_steps.proofs.Languages.{back, same, sum-same, sum-none, either-same, both-same}
-use Rattle.aut_steps.specs.Good.{states, Good}
-use Rattle.aut_steps.proofs.Goes.{Goes, goes-map}
+use Rattle.aut_steps.specs.Good.{states, WfAut}
+use Rattle.aut_steps.proofs.Goes.{StepSpec, goes-map}
 use Rattle.aut_steps.specs.Meaning.{rule}
 use Rattle.aut_steps.proofs.Meaning.{Is, is-same}
 use Rattle.aut_steps.proofs.RelationLaws.{made}
@@ -33,8 +33,8 @@ module _ {N : ℕ} where
   all-of r [] = λ w. (λ a. a, λ a. a)
   all-of r (x ∷ xs) = both-same (λ w. (λ a. a, λ a. a)) (all-of r xs)
 
-  module _ {L : Limits} {σ : Aut} (g : Good N L σ) where
-    pub make-goes : (line : Line ℕ) → Asked N (states σ) line → Goes N L (Is N (In (means (rule N σ) line))) σ (make N L line σ)
+  module _ {L : Limits} {σ : Aut} (g : WfAut N L σ) where
+    pub make-goes : (line : Line ℕ) → Asked N (states σ) line → StepSpec N L (Is N (In (means (rule N σ) line))) σ (make N L line σ)
     unfolding means In Spp.test Spp.assign
     make-goes (constant zero) a = mk-spp-goes g (den-zero (g .nodes) N (omega arith))
     make-goes (constant one) a = mk-spp-goes g (den-one (g .nodes) N (omega arith))

@@ -57,7 +57,7 @@ stands-long p = stands-put p
 
 -- ---- the output
 
-pub written-take : {bs s s′ : List ℕ} → Claim.Written bs s s′ → take (length bs) s′ ≡ bs
+pub written-take : {bs s s′ : List ℕ} → Claim.WritesOnly bs s s′ → take (length bs) s′ ≡ bs
 written-take {bs} {s} {s′} w =
     ext-getD 0 (take (length bs) s′) bs (length-take-le (length bs) s′ (omega (arith, w .fits, w .len)))
     (λ i l. let m : i < length bs = omega (arith, length-take-le (length bs) s′ (omega (arith, w .fits, w .len))) in getD-take (length bs) s′ i 0 m ∙ w .is i m)

@@ -8,8 +8,8 @@ use native.Mathlib.Omega.{arith}
 use lib.Dec.{ltb}
 use Rattle.common.specs.Outcome.{Outcome, refused, given, if_then_else_}
 use Rattle.book_steps.specs.Text.{Cut, line, unended, cut, words}
-use Rattle.book_steps.specs.Reader.{Header, header, said}
-use Rattle.book_steps.specs.Run.{Lent, Setting, Place, Ran, onward, with-line, obey, run, settingOf, begin, finish, refusal, started, headed, opened, outcome}
+use Rattle.book_steps.specs.Reader.{Header, header, parse}
+use Rattle.book_steps.specs.Run.{Lent, Setting, RunState, Ran, onward, with-line, step, run, settingOf, begin, finish, refusal, started, headed, opened, outcome}
 use Rattle.book_steps.specs.Claim.{Slices, EntrySpec}
 use Rattle.book_run.specs.Contracts.{numberOf, textLineOf, lengthOf}
 use Rattle.book_run.specs.declared.Ran as Code
@@ -22,16 +22,16 @@ module _ (lent : Lent) (S : Setting) where
   abbrev Ends : ℕ → Ran S → Type 0
   Ends m r = finish lent r .line ≤ m
 
-  module _ (go : List ℕ → ℕ → Place → Ran S) (k left : ℕ) (p : Place) (after : (rest : List ℕ) (q : Place) → Ends (suc k + left) (go rest (suc k) q)) where
-    by-step : (rest : List ℕ) (o : Outcome Place ℕ) → Ends (k + suc left) (onward S (go rest) k p o)
+  module _ (go : List ℕ → ℕ → RunState → Ran S) (k left : ℕ) (p : RunState) (after : (rest : List ℕ) (q : RunState) → Ends (suc k + left) (go rest (suc k) q)) where
+    by-step : (rest : List ℕ) (o : Outcome RunState ℕ) → Ends (k + suc left) (onward S (go rest) k p o)
     by-step rest (refused e) = omega arith
     by-step rest (given q x) = omega (arith, after rest q)
 
     by-cut : (c : Cut) → Ends (k + suc left) (with-line S go k p c)
     by-cut unended = omega arith
-    by-cut (line l rest) = by-step rest (obey S (said (words l)) p)
+    by-cut (line l rest) = by-step rest (step S (parse (words l)) p)
 
-  run-line : (left : ℕ) (text : List ℕ) (k : ℕ) (p : Place) → Ends (k + left) (run S left text k p)
+  run-line : (left : ℕ) (text : List ℕ) (k : ℕ) (p : RunState) → Ends (k + left) (run S left text k p)
   unfolding run
   run-line zero [] k p = omega arith
   run-line zero (b ∷ text) k p = omega arith
@@ -39,7 +39,7 @@ module _ (lent : Lent) (S : Setting) where
   run-line (suc left) (b ∷ text) k p = by-cut (run S left) k left p (λ rest q. run-line left rest (suc k) q) (cut (b ∷ text))
 
 module _ (lent : Lent) where
-  started-line : (h : Header) (text : List ℕ) (o : Outcome Place ℕ) → started lent h text o .line ≤ 2050
+  started-line : (h : Header) (text : List ℕ) (o : Outcome RunState ℕ) → started lent h text o .line ≤ 2050
   started-line h text (refused e) = omega arith
   started-line h text (given p x) = run-line lent (settingOf lent h) 2048 text 2 p
 

@@ -18,7 +18,7 @@ use Rattle.netkat.specs.Strings.{Str}
 use Rattle.netkat.specs.Rules.{Rule, relation, sequence, dup, Language, In}
 use Rattle.netkat.specs.Lists.{State, Transition, to, Disjoint, IsDelta, placeIn, place, st-singleton, split, insert, insertEach, st-union, st-postcompose, st-precompose}
 use Rattle.netkat.specs.Search.{Log, Verdict, no, search}
-use Rattle.netkat.specs.Live.{IsLive, Reached, Step, pulled, Added, Worked, begun, added, Finished, pruned}
+use Rattle.netkat.specs.Live.{IsLive, Reached, Step, pulled, Added, Derived, begun, added, Saturated, pruned}
 use Rattle.netkat.proofs.Laws.Hops.{relation-hop}
 use Rattle.netkat.proofs.Laws.Live.{worked-live}
 use Rattle.netkat.proofs.Laws.Tally.{one, tally}
@@ -140,10 +140,10 @@ adds = record { at = λ u p. (there u p (eqb 2 u) refl, from u p (eqb 2 u) refl)
     from u p false e (inl x) = x
     from u p false e (inr x) = absurd (subst (λ b. T b) e (subst (λ u. T (eqb 2 u)) (x .0) tt))
 
-worked : Worked reached live
+worked : Derived reached live
 worked = added begun back (record { reached = List·Memᴰ·head refl; listed = only-listed }) adds
 
-finished : Finished reached live
+finished : Saturated reached live
 finished = record { settled = λ e k. record { nothing-more = λ p t. go (e .source) (e .by) (eqb (e .source) 2) refl (k .listed) p t } }
   where
     at-two : (t : Transition State 1) → t ≡ only → (p : Packet 1) → T (preimage (t .label) (live (t .target)) p) → T (live 2 p)

@@ -11,7 +11,7 @@ use Rattle.common.specs.Outcome.{Outcome, refused, given, return, if_then_else_
 use Rattle.netkat.specs.Rules.{Rule, relation, union, intersection, sequence, complement, dup, top, none, also}
 use Rattle.netkat.specs.Lists.{State, Transition, to, placeIn, place, st-singleton, split, insert, insertEach, insertPairs, st-union, st-intersect, st-complement, st-postcompose, st-precompose}
 use Rattle.netkat.specs.Search.{Automaton, Log, Verdict, yes, no, spent, walk, turn, run, search}
-use Rattle.netkat.specs.Promise.{most}
+use Rattle.netkat.specs.Promise.{pairBound}
 use Rattle.netkat.specs.Live.{pulled, pruned}
 use Rattle.netkat.specs.Handles as Handles
 use Rattle.netkat.specs.Direct.{direct}
@@ -91,7 +91,7 @@ module _ (eps : State → Relation 1) (list : State → List (Transition State 1
 
   abbrev bound-of : Outcome (Unit {0}) (Verdict × Log 1) → ℕ
   bound-of (refused number) = 0
-  bound-of (given σ r) = most (r .1)
+  bound-of (given σ r) = pairBound (r .1)
 
 -- A state without strings: `yes` after the first pair; 1 + S × P × T is 1.
 nowhere : answer (λ s. noneʳ) (λ s. []) 5 ≡ printed yes 1

@@ -14,7 +14,7 @@ use Rattle.common.proofs.RelationLaws.{nonempty-of}
 use Rattle.common.specs.Outcome.{given, Gives, gives, if_then_else_}
 use Rattle.netkat.specs.Strings.{Str}
 use Rattle.netkat.specs.Rules.{Rule, relation, top, Language, In}
-use Rattle.netkat.specs.ListSteps.{Label, Readings, Later, MadeLabel, MadeState, Fits}
+use Rattle.netkat.specs.ListSteps.{Label, Readings, Later, MadeLabel, MadeState, LawfulOps}
 use Rattle.netkat.proofs.WorkshopLaws.{Made, labelAt, ruleAt, newLabel, workshop}
 use Rattle.netkat.proofs.Laws.Derivatives.{rules-hold}
 use Rattle.netkat.proofs.Laws.ListSteps.{later-refl}
@@ -87,7 +87,7 @@ module _ (n limit : ℕ) where
   none-there : {σ : Made n} {r : Relation n} → Begun σ → Is σ 0 r → (a h : Packet n) → ¬ T (r a h)
   none-there {σ} {r} g i a h t = subst (λ q. T (q a h)) (sym (i .is) ∙ g .zero-first) t
 
-  workshop-fits : Fits readings
+  workshop-fits : LawfulOps readings
   workshop-fits = record {
     zero-is = λ g. record { made = g .some; is = g .zero-first };
     zero-has-none = λ g i a h t. none-there g i a h t;

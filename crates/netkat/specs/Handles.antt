@@ -122,7 +122,7 @@ module _ {n : ℕ} {𝓒 : Machine} {𝓐 : Automaton n} (𝓡 : Reading 𝓒 �
     pub right : Right
 
 -- Each operation does what its name says, unless it is refused; and where epsilon and delta are not refused, the automaton's are not.
-pub record Works {n : ℕ} (𝓒 : Machine) (𝓐 : Automaton n) (𝓡 : Reading 𝓒 𝓐) : Type 0 where
+pub record Implements {n : ℕ} (𝓒 : Machine) (𝓐 : Automaton n) (𝓡 : Reading 𝓒 𝓐) : Type 0 where
   pub one-works : {σ : 𝓒 .Store} {τ : 𝓐 .Store} → 𝓡 .Agrees σ τ → 𝓡 .Is σ (𝓒 .one) all
   pub zero-works : {σ : 𝓒 .Store} {τ : 𝓐 .Store} → 𝓡 .Agrees σ τ → 𝓡 .Is σ (𝓒 .zero) nothing
   pub difference-works : {σ : 𝓒 .Store} {τ : 𝓐 .Store} {g h : 𝓒 .Handle} {x y : Set n} → 𝓡 .Agrees σ τ → 𝓡 .Is σ g x → 𝓡 .Is σ h y →

@@ -1,7 +1,7 @@
 -- aut.rs's operations on transition lists (ST) as steps over a store: a target is a state's number, a label the handle of a relation, and each
 -- operation on either may make new records or be refused. 01: a transition list, intermediate ones included, that passes its limit is refused
 -- (9); targets ascend. The order of steps is the Rust's. Laws/ListSteps.antt has the law of each: a layer above only has to say what its own
--- operations on labels and states do (`Fits`).
+-- operations on labels and states do (`LawfulOps`).
 use mathlib.Core.Logic.{_↔_, _⊎_}
 use mathlib.Core.Bool.{Bool}
 use mathlib.Core.List.{List, [], _∷_}
@@ -240,7 +240,7 @@ module _ {n : ℕ} {𝓞 : Operations} (𝓡 : Readings n 𝓞) where
     pub strings : (w : Str n) → Holds σ′ s w ↔ B w
 
   -- Each operation does what its name says, unless it is refused.
-  pub record Fits : Type 0 where
+  pub record LawfulOps : Type 0 where
     pub zero-is : {σ : 𝓞 .Store} → Good σ → IsLabel σ (𝓞 .zero) noneʳ
     pub zero-has-none : {σ : 𝓞 .Store} {r : Relation n} → Good σ → IsLabel σ (𝓞 .zero) r → (a h : Packet n) → ¬ T (r a h)
     pub union-fits : {σ : 𝓞 .Store} {l m : Label} {r s : Relation n} → Good σ → IsLabel σ l r → IsLabel σ m s → Gives (MadeLabel (r ∪ʳ s) σ) (𝓞 .union l m σ)

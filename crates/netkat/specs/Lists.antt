@@ -24,8 +24,8 @@ to t r = record { target = t; label = r }
 -- ---- what a list means
 
 -- The two relations have no pair in common.
-abbrev pub Apart : {n : ℕ} → Relation n → Relation n → Type 0
-Apart {n} r s = (a h : Packet n) → T (r a h) → ¬ T (s a h)
+abbrev pub DisjointRel : {n : ℕ} → Relation n → Relation n → Type 0
+DisjointRel {n} r s = (a h : Packet n) → T (r a h) → ¬ T (s a h)
 
 module _ {Target : Type 0} {n : ℕ} where
   -- the pairs of all labels
@@ -36,7 +36,7 @@ module _ {Target : Type 0} {n : ℕ} where
   -- No pair is in two labels.
   pub data Disjoint : List (Transition Target n) → Type 0 where
     none : Disjoint []
-    also : {t : Transition Target n} {ts : List (Transition Target n)} → Apart (t .label) (covers ts) → Disjoint ts → Disjoint (t ∷ ts)
+    also : {t : Transition Target n} {ts : List (Transition Target n)} → DisjointRel (t .label) (covers ts) → Disjoint ts → Disjoint (t ∷ ts)
 
   -- The strings that take a hop by what r gives for some member of the list and have their tail in what B gives for it.
   abbrev pub Through : (Transition Target n → Relation n) → (Transition Target n → Language n) → List (Transition Target n) → Language n

@@ -55,16 +55,16 @@ module _ {n : ℕ} {Holds : State → Language n} (𝓡 : Reached Holds) where
     pub at : (u : State) (p : Packet n) → T (live′ u p) ↔ (T (live u p) ⊎ ((s ≡ u) × T (x p)))
 
   -- What a work list comes to: it starts from the starts of epsilon, and adds only what a label leads back to from a live packet.
-  pub data Worked : (State → Set n) → Type 0 where
-    begun : Worked (λ s. starts (epsilon s))
-    added : {live live′ : State → Set n} → Worked live → (e : Step) → IsStep e → Added (e .source) (pulled (e .by) live) live live′ → Worked live′
+  pub data Derived : (State → Set n) → Type 0 where
+    begun : Derived (λ s. starts (epsilon s))
+    added : {live live′ : State → Set n} → Derived live → (e : Step) → IsStep e → Added (e .source) (pulled (e .by) live) live live′ → Derived live′
 
   -- The step can add nothing more.
   pub record Settled (live : State → Set n) (e : Step) : Type 0 where
     pub nothing-more : (p : Packet n) → T (pulled (e .by) live p) → T (live (e .source) p)
 
   -- Nothing more can be added.
-  pub record Finished (live : State → Set n) : Type 0 where
+  pub record Saturated (live : State → Set n) : Type 0 where
     pub settled : (e : Step) → IsStep e → Settled live e
 
 -- ---- the pruned list

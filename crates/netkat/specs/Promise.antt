@@ -46,23 +46,23 @@ pub record Lawful {n : ℕ} (𝓐 : Automaton n) (𝓜 : Meaning n (𝓐 .Store)
 -- ---- What is promised of a search that is not refused
 
 -- No state is listed twice.
-abbrev pub Once : List State → Type 0
-Once [] = Unit {0}
-Once (s ∷ l) = (¬ T (any (eqb s) l)) × Once l
+abbrev pub Distinct : List State → Type 0
+Distinct [] = Unit {0}
+Distinct (s ∷ l) = (¬ T (any (eqb s) l)) × Distinct l
 
 module _ {n : ℕ} where
   -- 1 + S × P × T
-  abbrev pub most : Log n → ℕ
-  most log = 1 + length (log .expanded) * 2 ^ n * log .longest
+  abbrev pub pairBound : Log n → ℕ
+  pairBound log = 1 + length (log .expanded) * 2 ^ n * log .longest
 
   -- Of the search for s in σ with a budget, which ended in a verdict.
   pub record Promised {Store : Type 0} (𝓜 : Meaning n Store) (budget : ℕ) (σ : Store) (s : State) (verdict : Verdict) (log : Log n) : Type 0 where
     -- S counts an expanded state once
-    pub once : Once (log .expanded)
+    pub once : Distinct (log .expanded)
     -- none takes more than 1 + S × P × T pairs
-    pub bound : log .count ≤ most log
+    pub bound : log .count ≤ pairBound log
     -- a search whose budget is at least this number, by its own S and T, yields a verdict, yes or no
-    pub enough : most log ≤ budget → ¬ (verdict ≡ spent)
+    pub enough : pairBound log ≤ budget → ¬ (verdict ≡ spent)
     -- each yes or no says "empty" exactly if no string belongs to the state
     pub exactly : ¬ (verdict ≡ spent) → (verdict ≡ yes) ↔ ((w : Str n) → ¬ 𝓜 .Holds σ s w)
     -- and `no` comes with a string

@@ -8,7 +8,7 @@ use native.Mathlib.Omega.{arith}
 use lib.ListN.{length, getD}
 use Rattle.common.specs.Outcome.{Outcome, refused, given, Step}
 use Rattle.common.specs.Runs.{Table, table, placed}
-use Rattle.cache.specs.Cache.{Own}
+use Rattle.cache.specs.Cache.{OnlyCodes}
 use Rattle.cache.proofs.Cache.{sound-map, notes-map}
 use Rattle.netkat.specs.Lists.{State, Transition}
 use Rattle.netkat.specs.ListSteps.{Edge, Are}
@@ -21,7 +21,7 @@ use Rattle.sp_steps.specs.Reuse.{SpNoted}
 use Rattle.sp.specs.Seen as Sets
 use Rattle.sp.specs.declared.SP.{SP}
 use Rattle.sp.specs.declared.Made as sets
-use Rattle.spp_steps.specs.Laws.{At, Den}
+use Rattle.spp_steps.specs.Laws.{ValidAt, Denotes}
 use Rattle.spp_steps.proofs.Laws.{den-mem}
 use Rattle.spp_steps.specs.ImageModel as Images
 use Rattle.spp_steps.specs.ImageModel.{Stores}
@@ -42,7 +42,7 @@ use Rattle.delta_steps.specs.Delta.{Store, putAut, onAut, delta}
 use Rattle.delta_steps.specs.Fits.{tables as readings}
 use Rattle.delta_stage.specs.OnStore.{storeOf, storeLayer}
 use Rattle.delta_stage.proofs.OnStore.{epsilon-given}
-use Rattle.query_steps.specs.Tables.{Tables, tables, diagrams, putSets, putBase, putRelations, onSets, onBase, makingSets, makingRelations, Ordered}
+use Rattle.query_steps.specs.Tables.{Tables, tables, diagrams, putSets, putBase, putRelations, onSets, onBase, makingSets, makingRelations, WfTables}
 use Rattle.query_steps.proofs.Tables.{both-wf, later-refl}
 use Rattle.query_steps.proofs.Steps.{gone-refl, Ends, comes, Steps, ends-map, sets-step, images-step, relations-step, goes-ends, epsilon-ends, delta-ends}
 use Rattle.query_stage.specs.Layer.{tablesOf}
@@ -50,7 +50,7 @@ use Rattle.query_stage.proofs.Layer.{Leaves, query-ready, by-ends}
 use Rattle.aut.specs.Seen.{limitsOf}
 use Rattle.aut.specs.declared.Counts.{Counts}
 use Rattle.aut.specs.declared.Limits.{Limits}
-use Rattle.aut_rel.specs.Behind.{Left}
+use Rattle.aut_rel.specs.Behind.{Modifies}
 use Rattle.aut_rel.specs.Seen.{MadeLeft, RelateReady, Relates}
 use Rattle.aut_eps.specs.Seen.{seenEpsilon, Works}
 use Rattle.aut_stage.specs.Stage.{gave, refusal, Post}
@@ -72,13 +72,13 @@ module _ {N : ℕ} (σ : Tables) {s s′ : List ℕ} where
   pub leaves-images : NotesBehind (Written N (diagrams σ)) s s′ → Leaves N 0 0 σ s s′
   leaves-images p = record { below = λ i x. absurd (omega arith); above = λ i x y. p .below i y; notes = notes-map (λ op x y r v. inr (inl v)) (p .notes) }
 
-  pub leaves-lifts : NotesBehind (Own 10 15 (Kept N (diagrams σ))) s s′ → Leaves N 0 0 σ s s′
+  pub leaves-lifts : NotesBehind (OnlyCodes 10 15 (Kept N (diagrams σ))) s s′ → Leaves N 0 0 σ s s′
   leaves-lifts p = record { below = λ i x. absurd (omega arith); above = λ i x y. p .below i y; notes = notes-map (λ op x y r v. inr (inl (inr v))) (p .notes) }
 
-  pub leaves-counts : NotesBehind (Own 17 17 (Counted (σ .base .aut .nodes))) s s′ → Leaves N 0 0 σ s s′
+  pub leaves-counts : NotesBehind (OnlyCodes 17 17 (Counted (σ .base .aut .nodes))) s s′ → Leaves N 0 0 σ s s′
   leaves-counts p = record { below = λ i x. absurd (omega arith); above = λ i x y. p .below i y; notes = notes-map (λ op x y r v. inr (inr v)) (p .notes) }
 
-  pub leaves-left : {a n : ℕ} → Left N a n (σ .base .aut .nodes) s s′ → Leaves N a n σ s s′
+  pub leaves-left : {a n : ℕ} → Modifies N a n (σ .base .aut .nodes) s s′ → Leaves N a n σ s s′
   leaves-left p = record { below = p .below; above = p .above; notes = notes-map (λ op x y r v. inl v) (p .notes) }
 
 -- ---- a call whose step has a law
@@ -100,12 +100,12 @@ module _ (t st mem tr : List ℕ) (c : Counts) {N : ℕ} {l : Limits} {sp s : Li
   abbrev C : Tables
   C = clearOf sp t st mem tr c
 
-  abbrev order : Ordered N (limitsOf l) C
+  abbrev order : WfTables N (limitsOf l) C
   order = W .ready .ordered
 
   -- ---- packet sets
 
-  module _ (a : ℕ) (x : SpLaws.At (table sp (c .sp)) N a) where
+  module _ (a : ℕ) (x : SpLaws.ValidAt (table sp (c .sp)) N a) where
     pub asks-set : PreSet N (table sp (c .sp)) s a
     asks-set = record { few = W .ready .ready .few; wf = order .sets; room = W .ready .ready .room; sound = sound-map (λ op x y r v. v .images .sets) (W .ready .sound); at-a = x }
 
@@ -120,7 +120,7 @@ module _ (t st mem tr : List ℕ) (c : Counts) {N : ℕ} {l : Limits} {sp s : Li
       pub size-working : length s′ ≡ length s → Working N l σ s′
       size-working len = kept-working W size-leaves len
 
-    module _ (b : ℕ) (y : SpLaws.At (table sp (c .sp)) N b) where
+    module _ (b : ℕ) (y : SpLaws.ValidAt (table sp (c .sp)) N b) where
       pub asks-sets : PreSets N (table sp (c .sp)) s a b
       asks-sets = record { first = asks-set; at-b = y }
 
@@ -144,7 +144,7 @@ module _ (t st mem tr : List ℕ) (c : Counts) {N : ℕ} {l : Limits} {sp s : Li
 
   -- ---- images
 
-  module _ (e : ℕ) (y : At (table t (c .spp)) N e) where
+  module _ (e : ℕ) (y : ValidAt (table t (c .spp)) N e) where
     pub asks-image : PreImage N (diagrams C) s e
     asks-image = record { few = W .ready .ready .few; wf = both-wf order; room = W .ready .ready .room; sound = sound-map (λ op x y r v. v .images) (W .ready .sound); at-r = y }
 
@@ -166,18 +166,18 @@ module _ (t st mem tr : List ℕ) (c : Counts) {N : ℕ} {l : Limits} {sp s : Li
 
       pub bwd-given : PostImage N (Images.bwd N e) (diagrams C) r sp′ s s′ → Ran N l 0 0 (SetIn N) (makingSets (Images.bwd N e) C) σ c (withSets c n) (h .0) (tablesOf sp′ t st mem tr) s s′
       bwd-given A = by-images A (ends-map (λ τ h v. record { gone = v .gone; ordered = v .ordered; holds = v .holds .1 .at })
-          (images-step order (λ u v. SpLaws.Den u N v _) (bwd-exact N N (omega arith) (diagrams C) e _ (both-wf order) (den-mem y))))
+          (images-step order (λ u v. SpLaws.Denotes u N v _) (bwd-exact N N (omega arith) (diagrams C) e _ (both-wf order) (den-mem y))))
 
-      module _ (a : ℕ) (x : SpLaws.At (table sp (c .sp)) N a) where
+      module _ (a : ℕ) (x : SpLaws.ValidAt (table sp (c .sp)) N a) where
         pub push-given : PostImage N (Images.push N N a e) (diagrams C) r sp′ s s′ → Ran N l 0 0 (SetIn N) (makingSets (Images.push N N a e) C) σ c (withSets c n) (h .0) (tablesOf sp′ t st mem tr) s s′
         push-given A = by-images A (ends-map (λ τ h v. record { gone = v .gone; ordered = v .ordered; holds = v .holds .1 .at })
-            (images-step order (λ u v. SpLaws.Den u N v _) (push-exact N N (omega arith) (diagrams C) a e _ _ (both-wf order) (SpLawsProofs.den-mem x) (den-mem y))))
+            (images-step order (λ u v. SpLaws.Denotes u N v _) (push-exact N N (omega arith) (diagrams C) a e _ _ (both-wf order) (SpLawsProofs.den-mem x) (den-mem y))))
 
         pub pull-given : PostImage N (Images.pull N N e a) (diagrams C) r sp′ s s′ → Ran N l 0 0 (SetIn N) (makingSets (Images.pull N N e a) C) σ c (withSets c n) (h .0) (tablesOf sp′ t st mem tr) s s′
         pull-given A = by-images A (ends-map (λ τ h v. record { gone = v .gone; ordered = v .ordered; holds = v .holds .1 .at })
-            (images-step order (λ u v. SpLaws.Den u N v _) (pull-exact N N (omega arith) (diagrams C) a e _ _ (both-wf order) (SpLawsProofs.den-mem x) (den-mem y))))
+            (images-step order (λ u v. SpLaws.Denotes u N v _) (pull-exact N N (omega arith) (diagrams C) a e _ _ (both-wf order) (SpLawsProofs.den-mem x) (den-mem y))))
 
-    module _ (a : ℕ) (x : SpLaws.At (table sp (c .sp)) N a) where
+    module _ (a : ℕ) (x : SpLaws.ValidAt (table sp (c .sp)) N a) where
       pub asks-lead : PreLead N (diagrams C) s a e
       asks-lead = record { image = asks-image; at-a = x }
 
@@ -185,7 +185,7 @@ module _ (t st mem tr : List ℕ) (c : Counts) {N : ℕ} {l : Limits} {sp s : Li
           → Ran N l 0 0 (λ τ b. Unit) (given C (Images.hasImage N N a e (diagrams C))) σ c c b (tablesOf sp t st mem tr) s s′
       has-given {b} {s′} A len = ran W (comes (record { gone = gone-refl C; ordered = order; holds = tt })) (tablesOf sp t st mem tr) (ap (λ (b : Bool). given C b) (sym (A .is))) (leaves-lifts C (A .left)) len (W .fresh) (λ x w i j. refl)
 
-    module _ (f : ℕ) (z : At (table t (c .spp)) N f) where
+    module _ (f : ℕ) (z : ValidAt (table t (c .spp)) N f) where
       pub asks-relate : RelateReady N (table t (c .spp)) s e f
       asks-relate = record { backed = record { few = W .ready .ready .few; wf = order .worked .good .nodes; room = W .ready .ready .room; sound = W .ready .ready .sound }; at-a = y; at-b = z }
 
@@ -205,10 +205,10 @@ module _ (t st mem tr : List ℕ) (c : Counts) {N : ℕ} {l : Limits} {sp s : Li
   pub relations-refused : {o : Step Table ℕ} {r : relations.Made} {t′ s′ : List ℕ} → Relates N o (table t (c .spp)) r t′ s s′ → r ≡ relations.Made.Full → onBase (onAut (onNodes o)) C ≡ refused 21
   relations-refused {t′ = t′} A q = ap (λ (o : Outcome Table ℕ). placed putBase C (placed putAut (C .base) (placed putNodes (C .base .aut) o))) (A .gives ∙ ap (λ (r : relations.Made). SppSeen.seen r t′) q)
 
-  pub ifwd-given : (a : ℕ) → SpLaws.At (table sp (c .sp)) N a → {r : relations.Made} {t′ s′ : List ℕ} {h : SPP} {n : ℕ} → r ≡ relations.Made.Node h n → length s′ ≡ length s → PostLift N (Images.ifwd N a) (diagrams C) r t′ s s′
+  pub ifwd-given : (a : ℕ) → SpLaws.ValidAt (table sp (c .sp)) N a → {r : relations.Made} {t′ s′ : List ℕ} {h : SPP} {n : ℕ} → r ≡ relations.Made.Node h n → length s′ ≡ length s → PostLift N (Images.ifwd N a) (diagrams C) r t′ s s′
       → Ran N l 0 0 (RelIn N) (makingRelations (Images.ifwd N a) C) σ c (withNodes c n) (h .0) (tablesOf sp t′ st mem tr) s s′
   ifwd-given a x {r} {t′} {s′} {h} {n} q len A = ran W
-      (ends-map (λ τ h v. record { gone = v .gone; ordered = v .ordered; holds = v .holds .at }) (relations-step order (λ u v. Den u N v _) (ifwd-exact N N (diagrams C) a _ (both-wf order) (SpLawsProofs.den-mem x))))
+      (ends-map (λ τ h v. record { gone = v .gone; ordered = v .ordered; holds = v .holds .at }) (relations-step order (λ u v. Denotes u N v _) (ifwd-exact N N (diagrams C) a _ (both-wf order) (SpLawsProofs.den-mem x))))
       (tablesOf sp t′ st mem tr)
       (ap (placed (λ s σ. putRelations (s .spp) σ) C) (A .gives ∙ ap (λ (r : relations.Made). Lifts.lifted r t′ (table sp (c .sp))) q))
       (leaves-lifts (clearTables (tablesOf sp t′ st mem tr (withNodes c n))) (subst (λ (r : relations.Made). LiftNotes N r t′ (table sp (c .sp)) s s′) q (A .left))) len (W .fresh) (λ x w i j. refl)

@@ -5,7 +5,7 @@ use Prim.Native.Nat.{ℕ, _+_, _*_, _≤_, _<_}
 use lib.ListN.{getD}
 use Rattle.common.specs.Outcome.{Outcome}
 use Rattle.sp_steps.specs.Laws as SpLaws
-use Rattle.spp_steps.specs.Laws.{At}
+use Rattle.spp_steps.specs.Laws.{ValidAt}
 use Rattle.aut_steps.specs.Good.{states}
 use Rattle.query_steps.specs.Tables.{Tables}
 use Rattle.query_stage.proofs.Layer.{queryLayer}
@@ -32,7 +32,7 @@ withSets c n = record { sp = n; spp = c .spp; states = c .states; members = c .m
 
 -- a packet set, a relation of these tables
 abbrev pub SetIn : ℕ → Tables → ℕ → Type 0
-SetIn N τ h = SpLaws.At (τ .sets) N h
+SetIn N τ h = SpLaws.ValidAt (τ .sets) N h
 
 abbrev pub RelIn : ℕ → Tables → ℕ → Type 0
-RelIn N τ h = At (τ .base .aut .nodes) N h
+RelIn N τ h = ValidAt (τ .base .aut .nodes) N h

@@ -6,11 +6,11 @@ use native.Mathlib.Omega.{arith}
 use lib.ListN.{set}
 use lib.Seq.{getD-set-other}
 use Rattle.spp_steps.proofs.Laws.{ext-refl}
-use Rattle.aut_steps.specs.Good.{states, Grown, Good}
+use Rattle.aut_steps.specs.Good.{states, ExtAut, WfAut}
 use Rattle.aut_steps.proofs.Good.{extm-refl}
 use Rattle.delta_steps.specs.Epsilon.{epsilonOf}
 use Rattle.delta_steps.proofs.Noted.{good-same}
-use Rattle.delta_steps.specs.Worked.{Epsilons, Worked}
+use Rattle.delta_steps.specs.Worked.{Epsilons, WfStore}
 use Rattle.delta_steps.proofs.Worked.{epsilons-grown, worked-aut}
 use Rattle.delta_stage.specs.OnStore.{Prepared}
 use Rattle.query_steps.specs.Tables.{Tables}
@@ -39,10 +39,10 @@ module _ {N : ℕ} {l : Limits} where
     abbrev st : List ℕ
     st = σ .base .aut .states .words
 
-    abbrev W₀ : Worked N (limitsOf l) (clearStore (σ .base))
+    abbrev W₀ : WfStore N (limitsOf l) (clearStore (σ .base))
     W₀ = W .ready .ordered .worked
 
-    grown : Grown (clearAut (σ .base .aut)) (σ .base .aut)
+    grown : ExtAut (clearAut (σ .base .aut)) (σ .base .aut)
     grown = record {
       nodes = ext-refl (σ .base .aut .nodes);
       states = record {
@@ -54,7 +54,7 @@ module _ {N : ℕ} {l : Limits} where
       members = extm-refl (σ .base .aut .members);
     }
 
-    good : Good N (limitsOf l) (σ .base .aut)
+    good : WfAut N (limitsOf l) (σ .base .aut)
     good = good-same (W₀ .good) grown (W₀ .good .nodes) refl refl
 
     epsilons : Epsilons N (σ .base .aut)

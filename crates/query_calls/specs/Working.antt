@@ -5,7 +5,7 @@ use mathlib.Core.List.{List, List·Memᴰ}
 use Prim.Native.Nat.{ℕ, _*_, _≤_, _<_}
 use lib.ListN.{getD}
 use Rattle.netkat.specs.ListSteps.{Edge}
-use Rattle.spp_steps.specs.Laws.{At}
+use Rattle.spp_steps.specs.Laws.{ValidAt}
 use Rattle.aut_steps.specs.Good.{states}
 use Rattle.delta_steps.specs.Worked.{Stored}
 use Rattle.query_steps.specs.Tables.{Tables}
@@ -26,7 +26,7 @@ pub record Working (N : ℕ) (l : Limits) (σ : Tables) (s : List ℕ) : Type 0 
 -- an edge to a state of these tables, by a relation
 pub record EdgeIn (N : ℕ) (τ : Tables) (e : Edge) : Type 0 where
   pub known : e .target < states (τ .base .aut)
-  pub at : At (τ .base .aut .nodes) N (e .label)
+  pub at : ValidAt (τ .base .aut .nodes) N (e .label)
 
 -- the stored list of x
 pub record ListIn (N x : ℕ) (τ : Tables) (es : List Edge) : Type 0 where

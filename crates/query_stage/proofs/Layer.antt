@@ -6,7 +6,7 @@ use Prim.Native.Nat.{ℕ, _+_, _≤_, _<_}
 use native.Mathlib.Omega.{arith}
 use lib.ListN.{length, getD}
 use Rattle.common.specs.Outcome.{Outcome, given}
-use Rattle.cache.specs.Cache.{Valid, Own, Sound, Notes}
+use Rattle.cache.specs.Cache.{Valid, OnlyCodes, Sound, WritesValid}
 use Rattle.cache.proofs.Cache.{sound-map, sound-notes, notes-map, notes-refl, notes-trans}
 use Rattle.sp_steps.specs.Laws as SpLaws
 use Rattle.sp_steps.specs.Reuse.{SpCode}
@@ -16,7 +16,7 @@ use Rattle.spp_steps.proofs.Images.{BothExt}
 use Rattle.spp.proofs.Reuse.{sppMemo}
 use Rattle.spp_img.specs.Reuse.{Written, Counted}
 use Rattle.spp_img.proofs.Reuse.{held-ext, written-ext, written-held, counted-ext}
-use Rattle.query_steps.specs.Tables.{Tables, diagrams, Ordered, Later}
+use Rattle.query_steps.specs.Tables.{Tables, diagrams, WfTables, ExtTables}
 use Rattle.query_steps.proofs.Tables.{later-refl, later-trans, gone-later}
 use Rattle.query_steps.proofs.Steps.{Ends, comes, Steps}
 use Rattle.aut.specs.Seen.{limitsOf}
@@ -31,7 +31,7 @@ use Rattle.query_stage.specs.Layer.{Readable, QueryReady}
 
 -- to note: one of these, and valid
 abbrev pub Notable : (N : ℕ) (σ : Tables) → Valid
-Notable N σ op x y r = Behind.Notable N (σ .base .aut .nodes) op x y r ⊎ (Written N (diagrams σ) op x y r ⊎ Own 17 17 (Counted (σ .base .aut .nodes)) op x y r)
+Notable N σ op x y r = Behind.Notable N (σ .base .aut .nodes) op x y r ⊎ (Written N (diagrams σ) op x y r ⊎ OnlyCodes 17 17 (Counted (σ .base .aut .nodes)) op x y r)
 
 module _ (N : ℕ) (σ τ : Tables) (s : SpLaws.Ext (σ .sets) (τ .sets)) (t : Ext (σ .base .aut .nodes) (τ .base .aut .nodes)) where
   both : BothExt (diagrams σ) (diagrams τ)
@@ -79,15 +79,15 @@ notable-readable {N} σ op x y r (inr (inr v)) = record {
 pub record Leaves (N a n : ℕ) (σ : Tables) (s s′ : List ℕ) : Type 0 where
   pub below : (i : ℕ) → i < a → getD s′ i 0 ≡ getD s i 0
   pub above : (i : ℕ) → a + n ≤ i → i < LISTS → getD s′ i 0 ≡ getD s i 0
-  pub notes : Notes (Notable N σ) (cached s) (cached s′)
+  pub notes : WritesValid (Notable N σ) (cached s) (cached s′)
 
 -- what is noted may be read
-pub sound-leaves : {N a n : ℕ} {σ τ : Tables} {s s′ : List ℕ} → Later σ τ → Leaves N a n τ s s′ → Sound (Readable N σ) (cached s) → Sound (Readable N τ) (cached s′)
+pub sound-leaves : {N a n : ℕ} {σ τ : Tables} {s s′ : List ℕ} → ExtTables σ τ → Leaves N a n τ s s′ → Sound (Readable N σ) (cached s) → Sound (Readable N τ) (cached s′)
 sound-leaves {N} {σ = σ} {τ = τ} w p r =
     sound-notes (sound-map (readable-ext N σ τ (w .sets) (w .grown .nodes)) r) (notes-map (notable-readable τ) (p .notes))
 
 -- later tables in order, and scratch as it is left
-pub query-ready : {N : ℕ} {l : Limits} {a n : ℕ} {σ τ : Tables} {s s′ : List ℕ} → QueryReady N l σ s → Later σ τ → Ordered N (limitsOf l) τ → Leaves N a n τ s s′ → length s′ ≡ length s → QueryReady N l τ s′
+pub query-ready : {N : ℕ} {l : Limits} {a n : ℕ} {σ τ : Tables} {s s′ : List ℕ} → QueryReady N l σ s → ExtTables σ τ → WfTables N (limitsOf l) τ → Leaves N a n τ s s′ → length s′ ≡ length s → QueryReady N l τ s′
 query-ready {N} {σ = σ} {τ = τ} {s′ = s′} R w o p len =
     let b : Sound (Readable N τ) (cached s′) = sound-leaves w p (R .sound) in
     record {
@@ -109,7 +109,7 @@ abbrev pub queryLayer : ℕ → Limits → Layer
 queryLayer N l = record {
   Store = Tables;
   Counts = Counts;
-  Ext = Later;
+  Ext = ExtTables;
   Beside = λ c d. Unit;
   Frame = λ a n σ s s′. Leaves N a n σ s s′;
   Ready = λ σ s. QueryReady N l σ s;
@@ -128,7 +128,7 @@ queryLayer N l = record {
   frame-kept = λ a n σ s s′ x len k. record {
     below = k .below;
     above = λ i y z. k .above i y;
-    notes = subst (λ (m : List ℕ). Notes (Notable N σ) (cached s) m) (sym (cached-kept k len x)) notes-refl;
+    notes = subst (λ (m : List ℕ). WritesValid (Notable N σ) (cached s) m) (sym (cached-kept k len x)) notes-refl;
   };
   ready-kept = λ a n σ s s′ len p r. query-ready r (later-refl σ) (r .ordered) p len;
 }

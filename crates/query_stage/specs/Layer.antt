@@ -5,11 +5,11 @@ use mathlib.Core.List.{List}
 use Prim.Native.Nat.{ℕ, _+_, _*_, _≤_, _<_}
 use lib.ListN.{getD}
 use Rattle.common.specs.Runs.{table}
-use Rattle.cache.specs.Cache.{Of, Sound}
+use Rattle.cache.specs.Cache.{OnCodes, Sound}
 use Rattle.spp_img.specs.Reuse.{Held, Counted}
 use Rattle.aut_steps.specs.Good.{states}
 use Rattle.delta_stage.specs.OnStore.{storeOf}
-use Rattle.query_steps.specs.Tables.{Tables, tables, diagrams, Ordered}
+use Rattle.query_steps.specs.Tables.{Tables, tables, diagrams, WfTables}
 use Rattle.aut.specs.Seen.{limitsOf}
 use Rattle.aut.specs.declared.Counts.{Counts}
 use Rattle.aut.specs.declared.Limits.{Limits}
@@ -27,7 +27,7 @@ tablesOf sp t st mem tr c = tables (table sp (c .sp)) (storeOf t st mem tr c)
 pub record Readable (N : ℕ) (σ : Tables) (op x y r : ℕ) : Type 0 where
   pub relations : Behind.Readable N (σ .base .aut .nodes) op x y r
   pub images : Held N (diagrams σ) op x y r
-  pub numbers : Of 17 17 (Counted (σ .base .aut .nodes)) op x y r
+  pub numbers : OnCodes 17 17 (Counted (σ .base .aut .nodes)) op x y r
 
 -- ---- tables and scratch in order for a query, and after it
 
@@ -37,7 +37,7 @@ Resting st = (x w : ℕ) → 8 ≤ w → w < 12 → getD st (12 * x + w) 0 ≡ 0
 
 pub record QueryReady (N : ℕ) (l : Limits) (σ : Tables) (s : List ℕ) : Type 0 where
   pub ready : Ready N l (σ .base .aut) s
-  pub ordered : Ordered N (limitsOf l) σ
+  pub ordered : WfTables N (limitsOf l) σ
   pub limit : l .transitions ≤ 64
   pub sound : Sound (Readable N σ) (cached s)
   pub resting : Resting (σ .base .aut .states .words)

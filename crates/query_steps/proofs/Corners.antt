@@ -23,7 +23,7 @@ use Rattle.delta_steps.specs.Epsilon.{epsilonOf, setWord, keepEpsilon, eachOf, 
 use Rattle.st_steps.specs.Edges.{edges, flat}
 use Rattle.delta_steps.specs.Delta.{startOf, countOf, onAut, roomT, append, listAt, keepList, unionAll, intersectAll, sequenceList, starList, untilList, dupList, topList, delta-by-kind, delta-with, delta-by, delta}
 use Rattle.delta_steps.specs.Examples.{state}
-use Rattle.query_steps.specs.Tables.{Tables, onBase, Ordered}
+use Rattle.query_steps.specs.Tables.{Tables, onBase, WfTables}
 use Rattle.query_steps.proofs.Tables.{begun-ordered}
 use Rattle.query_steps.specs.Search.{is-empty}
 use Rattle.query_steps.specs.Corners.{holding, room, Row, rows}
@@ -112,5 +112,5 @@ pub begins : (Sp.constants 1 (table (replicate 8 0) 0) ≡ given (room 4 .sets) 
 unfolding flip Sp.constants Sp.mk Sp.intern Sp.seek Sp.same Sp.kid Sp.put Sp.room Spp.constants Spp.zeros Spp.ones Spp.tops Spp.zeroAt Spp.mk Spp.seek Spp.same Spp.kid Spp.put Spp.room
 begins = (refl, refl)
 
-pub in-order : Ordered 1 limits01 (room 4)
+pub in-order : WfTables 1 limits01 (room 4)
 in-order = begun-ordered (replicate 8 0) (replicate 32 0) (replicate 72 0) (replicate 4 0) (replicate 8 0) (omega arith) (begins .0) (begins .1) (zeros 72)

@@ -30,10 +30,10 @@ use Rattle.aut_steps.specs.Meaning.{Holds, rule}
 use Rattle.aut_steps.proofs.Meaning.{rule-grown}
 use Rattle.delta_steps.specs.Delta.{Store}
 use Rattle.delta_steps.specs.Fits.{tables as readings}
-use Rattle.delta_steps.specs.Worked.{Means, HasEpsilon, Worked, Stored}
+use Rattle.delta_steps.specs.Worked.{Means, HasEpsilon, WfStore, Stored}
 use Rattle.delta_steps.proofs.Worked.{has-epsilon-grown, same-list}
-use Rattle.delta_steps.specs.Stored.{Went}
-use Rattle.query_steps.specs.Tables.{Tables, diagrams, Ordered}
+use Rattle.delta_steps.specs.Stored.{ExtStore}
+use Rattle.query_steps.specs.Tables.{Tables, diagrams, WfTables}
 use Rattle.query_steps.proofs.Tables.{both-wf, Gone}
 use Rattle.query_steps.specs.Search.{capacity}
 use Rattle.query_steps.proofs.Steps.{gone-refl, gone-trans, no-entry, stopped-here, Ends, halts, comes, Steps, ends-map, ends-bind, ends-call, ends-with, ends-branch, ends-same, images-step, epsilon-ends, epsilon-kept, delta-ends}
@@ -82,7 +82,7 @@ module _ (room : ℕ) (visited : List ℕ) where
       first s (inl m) = inl m
       first s (inr m) = inr (e, List·Memᴰ·head refl, ⊎-elim (λ q. q) (λ n. absurd (List·Memᴰ·not-nil n)) (List·Memᴰ·cases-cons m))
 
-module _ {N : ℕ} {L : Limits} (lent : ℕ) (visited : List ℕ) {σ : Tables} (o : Ordered N L σ) where
+module _ {N : ℕ} {L : Limits} (lent : ℕ) (visited : List ℕ) {σ : Tables} (o : WfTables N L σ) where
   -- it is refused only if all entries are taken
   pub enqueue-ends : (list : List Edge) (waiting : List ℕ) → ((s : ℕ) → List·Memᴰ s (visited ++ waiting) → s < states (σ .base .aut)) → ((e : Edge) → List·Memᴰ e list → e .target < states (σ .base .aut))
       → Ends N L lent (λ τ w. (τ ≡ σ) × Queued (capacity lent) list visited waiting w) σ (enqueue (capacity lent) list visited waiting σ)
@@ -123,7 +123,7 @@ targets-known {N} {L} {a} i e m = go (i .are) m
     go Are.none m = absurd (List·Memᴰ·not-nil m)
     go (Are.also {s} {l} k d as′) m = ⊎-elim (λ q. omega (arith, ap (λ (e : Edge). e .target) q)) (λ n. go as′ n) (List·Memᴰ·cases-cons m)
 
-linked-went : {N : ℕ} {L : Limits} {b c : Store} {all all′ : List ℕ} {s : ℕ} → Worked N L b → Went b c → ((s : ℕ) → List·Memᴰ s all → List·Memᴰ s all′) → Linked b all s → Linked c all′ s
+linked-went : {N : ℕ} {L : Limits} {b c : Store} {all all′ : List ℕ} {s : ℕ} → WfStore N L b → ExtStore b c → ((s : ℕ) → List·Memᴰ s all → List·Memᴰ s all′) → Linked b all s → Linked c all′ s
 linked-went {c = c} {s = s} W w f k = record {
   known = state-grown (w .grown) (k .known);
   has-epsilon = has-epsilon-grown (w .grown) (k .known) (w .epsilons s) (k .has-epsilon);
@@ -133,27 +133,27 @@ linked-went {c = c} {s = s} W w f k = record {
 
 -- what holds between two visits
 pub record Exploring (N : ℕ) (L : Limits) (room : ℕ) (σ : Tables) (visited waiting : List ℕ) (live : ℕ → ℕ) : Type 0 where
-  pub ordered : Ordered N L σ
+  pub ordered : WfTables N L σ
   pub links : (s : ℕ) → List·Memᴰ s visited → Linked (σ .base) (visited ++ waiting) s
-  pub sets : (s : ℕ) → List·Memᴰ s visited → SpLaws.Den (σ .sets) N (live s) (starts (ends N (σ .base .aut) s))
+  pub sets : (s : ℕ) → List·Memᴰ s visited → SpLaws.Denotes (σ .sets) N (live s) (starts (ends N (σ .base .aut) s))
   pub known : (s : ℕ) → List·Memᴰ s waiting → s < states (σ .base .aut)
-  pub some : (t : ℕ) → SpLaws.At (σ .sets) N (live t)
+  pub some : (t : ℕ) → SpLaws.ValidAt (σ .sets) N (live t)
   pub fits : length (visited ++ waiting) ≤ room
 
 -- what the walk that began with the states `first` comes to
 pub record Explored (N : ℕ) (L : Limits) (room : ℕ) (first : List ℕ) (σ τ : Tables) (f : Found) : Type 0 where
   pub gone : Gone σ τ
-  pub ordered : Ordered N L τ
+  pub ordered : WfTables N L τ
   pub has : (s : ℕ) → List·Memᴰ s first → List·Memᴰ s (f .states)
   pub links : (s : ℕ) → List·Memᴰ s (f .states) → Linked (τ .base) (f .states) s
-  pub sets : (s : ℕ) → List·Memᴰ s (f .states) → SpLaws.Den (τ .sets) N (f .live s) (starts (ends N (τ .base .aut) s))
-  pub some : (t : ℕ) → SpLaws.At (τ .sets) N (f .live t)
+  pub sets : (s : ℕ) → List·Memᴰ s (f .states) → SpLaws.Denotes (τ .sets) N (f .live s) (starts (ends N (τ .base .aut) s))
+  pub some : (t : ℕ) → SpLaws.ValidAt (τ .sets) N (f .live t)
   pub fits : length (f .states) ≤ room
 
 module _ {N : ℕ} {L : Limits} where
   -- the strings of a state are the same in later tables
-  ends-set : {σ τ : Tables} {t : Table} {s h : ℕ} → Ordered N L σ → Gone σ τ → s < states (σ .base .aut) → SpLaws.Den t N h (starts (ends N (σ .base .aut) s)) → SpLaws.Den t N h (starts (ends N (τ .base .aut) s))
-  ends-set {t = t} {s = s} {h = h} o g k d = subst (λ (r : Rule N). SpLaws.Den t N h (starts (Derivatives.epsilon r))) (sym (rule-grown (o .worked .good) (g .went .grown) k)) d
+  ends-set : {σ τ : Tables} {t : Table} {s h : ℕ} → WfTables N L σ → Gone σ τ → s < states (σ .base .aut) → SpLaws.Denotes t N h (starts (ends N (σ .base .aut) s)) → SpLaws.Denotes t N h (starts (ends N (τ .base .aut) s))
+  ends-set {t = t} {s = s} {h = h} o g k d = subst (λ (r : Rule N). SpLaws.Denotes t N h (starts (Derivatives.epsilon r))) (sym (rule-grown (o .worked .good) (g .went .grown) k)) d
 
   module _ (lent : ℕ) where
     -- no state waits
@@ -196,7 +196,7 @@ module _ {N : ℕ} {L : Limits} where
 
       module _ (σ₁ σ₂ σ₃ : Tables) (e h : ℕ) (list : List Edge) (waiting′ : List ℕ)
           (A : Steps N L (λ τ e. Means N (τ .base .aut .nodes) e (Holds N (σ .base .aut) s)) σ σ₁ e) (J : HasEpsilon (σ₁ .base .aut) s)
-          (B : Steps N L (λ τ h. (τ .base ≡ σ₁ .base) × SpLaws.Den (τ .sets) N h (starts (A .holds .relation))) σ₁ σ₂ h)
+          (B : Steps N L (λ τ h. (τ .base ≡ σ₁ .base) × SpLaws.Denotes (τ .sets) N h (starts (A .holds .relation))) σ₁ σ₂ h)
           (D : Steps N L (λ τ es. Stored (τ .base) s es × IsList (readings N L) (Holds N (σ₂ .base .aut) s) (τ .base .aut) es) σ₂ σ₃ list)
           (Q : Queued (capacity lent) list (visited ++ s ∷ []) waiting waiting′)
         where
@@ -214,13 +214,13 @@ module _ {N : ℕ} {L : Limits} where
           before : (t : ℕ) → (s ≡ t → ⊥) → List·Memᴰ t (visited ++ s ∷ []) → List·Memᴰ t visited
           before t n m = ⊎-elim (λ k. k) (λ k. ⊎-elim (λ q. absurd (n (sym q))) (λ j. absurd (List·Memᴰ·not-nil j)) (List·Memᴰ·cases-cons k)) (List·Memᴰ·append-cases visited m)
 
-          set : SpLaws.Den (σ₃ .sets) N h (starts (ends N (σ₃ .base .aut) s))
+          set : SpLaws.Denotes (σ₃ .sets) N h (starts (ends N (σ₃ .base .aut) s))
           set = ends-set (E .ordered) g k (SpLawsProofs.den-map (starts-same (A .holds .is) (ends-are N (σ .base .aut) s)) (SpLawsProofs.den-ext (D .gone .sets) (B .holds .1)))
 
-          set-here : (t : ℕ) → s ≡ t → eqb s t ≡ true → SpLaws.Den (σ₃ .sets) N (liveAt s h live t) (starts (ends N (σ₃ .base .aut) t))
+          set-here : (t : ℕ) → s ≡ t → eqb s t ≡ true → SpLaws.Denotes (σ₃ .sets) N (liveAt s h live t) (starts (ends N (σ₃ .base .aut) t))
           set-here t q b =
-              subst (λ (v : ℕ). SpLaws.Den (σ₃ .sets) N v (starts (ends N (σ₃ .base .aut) t))) (sym (ap (λ (b : Bool). if b then h else live t) b))
-              (subst (λ (t : ℕ). SpLaws.Den (σ₃ .sets) N h (starts (ends N (σ₃ .base .aut) t))) q set)
+              subst (λ (v : ℕ). SpLaws.Denotes (σ₃ .sets) N v (starts (ends N (σ₃ .base .aut) t))) (sym (ap (λ (b : Bool). if b then h else live t) b))
+              (subst (λ (t : ℕ). SpLaws.Denotes (σ₃ .sets) N h (starts (ends N (σ₃ .base .aut) t))) q set)
 
           next : Exploring N L (capacity lent) σ₃ (visited ++ s ∷ []) waiting′ (liveAt s h live)
           next = record {
@@ -231,15 +231,15 @@ module _ {N : ℕ} {L : Limits} where
                 (List·Memᴰ·append-cases visited m);
             sets = λ t m. by-test (eqb s t)
                 (λ q. set-here t (eqb-true s t q) q)
-                (λ q. subst (λ (v : ℕ). SpLaws.Den (σ₃ .sets) N v (starts (ends N (σ₃ .base .aut) t))) (sym (ap (λ (b : Bool). if b then h else live t) q))
+                (λ q. subst (λ (v : ℕ). SpLaws.Denotes (σ₃ .sets) N v (starts (ends N (σ₃ .base .aut) t))) (sym (ap (λ (b : Bool). if b then h else live t) q))
                 (ends-set (E .ordered) g (E .links t (before t (eqb-false s t q) m) .known) (SpLawsProofs.den-ext (g .sets) (E .sets t (before t (eqb-false s t q) m)))));
             known = λ t m. ⊎-elim
                 (λ n. state-grown (g .went .grown) (E .known t (List·Memᴰ·tail n)))
                 (λ n. subst (λ (t : ℕ). t < states (σ₃ .base .aut)) (sym (n .2)) (targets-known (D .holds .1) (n .0) (n .1)))
                 (Q .only t m);
             some = λ t. by-test (eqb s t)
-                (λ q. subst (SpLaws.At (σ₃ .sets) N) (sym (ap (λ (b : Bool). if b then h else live t) q)) (SpLawsProofs.at-ext (D .gone .sets) N h (B .holds .1 .at)))
-                (λ q. subst (SpLaws.At (σ₃ .sets) N) (sym (ap (λ (b : Bool). if b then h else live t) q)) (SpLawsProofs.at-ext (g .sets) N (live t) (E .some t)));
+                (λ q. subst (SpLaws.ValidAt (σ₃ .sets) N) (sym (ap (λ (b : Bool). if b then h else live t) q)) (SpLawsProofs.at-ext (D .gone .sets) N h (B .holds .1 .at)))
+                (λ q. subst (SpLaws.ValidAt (σ₃ .sets) N) (sym (ap (λ (b : Bool). if b then h else live t) q)) (SpLawsProofs.at-ext (g .sets) N (live t) (E .some t)));
             fits = Q .fits (omega (arith, E .fits, length-append visited (s ∷ waiting), length-append (visited ++ s ∷ []) waiting, length-append visited (s ∷ [])));
           }
 
@@ -253,7 +253,7 @@ module _ {N : ℕ} {L : Limits} where
       visit-ends =
           ends-bind (ends-with (epsilon-ends (E .ordered) k) kept) (λ σ₁ e (A, J). (
             A .gone,
-            ends-call (images-step (A .ordered) (λ t h. SpLaws.Den t N h (starts (A .holds .relation))) (bwd-exact N N (omega arith) (diagrams σ₁) e (A .holds .relation) (both-wf (A .ordered)) (A .holds .den))) (λ σ₂ h B.
+            ends-call (images-step (A .ordered) (λ t h. SpLaws.Denotes t N h (starts (A .holds .relation))) (bwd-exact N N (omega arith) (diagrams σ₁) e (A .holds .relation) (both-wf (A .ordered)) (A .holds .den))) (λ σ₂ h B.
                 let g₂ = gone-trans (A .gone) (B .gone) in
                 ends-call (delta-ends (B .ordered) (state-grown (g₂ .went .grown) k)) (λ σ₃ list D.
                 ends-bind (enqueue-ends lent (visited ++ s ∷ []) (D .ordered) list waiting (λ t m. state-grown (gone-trans g₂ (D .gone) .went .grown) (all-known t m)) (targets-known (D .holds .1))) (λ σ₄ waiting′ Q. (

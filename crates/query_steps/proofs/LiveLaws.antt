@@ -22,16 +22,16 @@ use Rattle.spp_steps.proofs.Laws.{by-test}
 use Rattle.spp_steps.proofs.Relations.{tests-equal}
 use Rattle.aut_steps.specs.Tables.{Limits, Aut, putStates}
 use Rattle.aut_steps.proofs.Languages.{≈-sym}
-use Rattle.aut_steps.specs.Good.{states, Grown, Good}
+use Rattle.aut_steps.specs.Good.{states, ExtAut, WfAut}
 use Rattle.aut_steps.proofs.Good.{grown-refl, grown-trans}
 use Rattle.aut_steps.specs.Meaning.{Holds}
 use Rattle.aut_steps.proofs.Meaning.{holds-grown}
 use Rattle.delta_steps.specs.Epsilon.{epsilonOf}
 use Rattle.delta_steps.specs.Delta.{startOf, countOf, Store, listAt}
 use Rattle.delta_steps.proofs.Noted.{written, written-other, written-here, written-count, written-grown, written-good}
-use Rattle.delta_steps.specs.Worked.{HasEpsilon, Worked, SameWords}
+use Rattle.delta_steps.specs.Worked.{HasEpsilon, WfStore, SameWords}
 use Rattle.delta_steps.proofs.Worked.{has-epsilon-grown, epsilons-grown, extt-refl, same-list, worked-aut}
-use Rattle.query_steps.specs.Tables.{Tables, liveOf, LiveSet, Ordered, Later}
+use Rattle.query_steps.specs.Tables.{Tables, liveOf, LiveSet, WfTables, ExtTables}
 use Rattle.query_steps.proofs.Tables.{is-live-same, live-same, live-there, Gone, later-refl, later-trans, gone-later}
 use Rattle.query_steps.specs.Search.{capacity}
 use Rattle.query_steps.proofs.Steps.{gone-trans, no-entry, stopped-here, Ends, halts, comes, ends-gives, ends-bind, ends-branch}
@@ -50,14 +50,14 @@ live-one w a b =
 
 -- of the states xs, and nothing else
 pub record Wrote (N : ℕ) (L : Limits) (xs : List ℕ) (live : ℕ → ℕ) (a c : Aut) : Type 0 where
-  pub good : Good N L c
-  pub grown : Grown a c
+  pub good : WfAut N L c
+  pub grown : ExtAut a c
   pub count : states c ≡ states a
   pub words : (i w : ℕ) → w < 12 → w ≢ 7 → getD (c .states .words) (12 * i + w) 0 ≡ getD (a .states .words) (12 * i + w) 0
   pub each : (i : ℕ) → (List·Memᴰ i xs × (liveOf (c .states .words) i ≡ live i + 1)) ⊎ ((List·Memᴰ i xs → ⊥) × (liveOf (c .states .words) i ≡ liveOf (a .states .words) i))
 
 module _ {N : ℕ} {L : Limits} where
-  pub wrote : (xs : List ℕ) (live : ℕ → ℕ) {a : Aut} → Good N L a → ((x : ℕ) → List·Memᴰ x xs → x < states a) → Wrote N L xs live a (putStates (keepIn xs live (a .states)) a)
+  pub wrote : (xs : List ℕ) (live : ℕ → ℕ) {a : Aut} → WfAut N L a → ((x : ℕ) → List·Memᴰ x xs → x < states a) → Wrote N L xs live a (putStates (keepIn xs live (a .states)) a)
   unfolding keepIn liveOf
   wrote [] live {a} g k = record { good = g; grown = grown-refl a; count = refl; words = λ i w l n. refl; each = λ i. inr (λ m. List·Memᴰ·not-nil m, refl) }
   wrote (x ∷ xs) live {a} g k =
@@ -78,7 +78,7 @@ module _ {N : ℕ} {L : Limits} where
             (W .each i);
       }
 
-  module _ (υ : Tables) (xs : List ℕ) (live : ℕ → ℕ) (o : Ordered N L υ) (links : (s : ℕ) → List·Memᴰ s xs → Linked (υ .base) xs s)
+  module _ (υ : Tables) (xs : List ℕ) (live : ℕ → ℕ) (o : WfTables N L υ) (links : (s : ℕ) → List·Memᴰ s xs → Linked (υ .base) xs s)
       (lives : (s : ℕ) → List·Memᴰ s xs → LiveSet N (υ .sets) (live s) (Holds N (υ .base .aut) s))
     where
       abbrev ω : Tables
@@ -105,10 +105,10 @@ module _ {N : ℕ} {L : Limits} where
       has : (i : ℕ) → List·Memᴰ i xs → liveOf (ω .base .aut .states .words) i ≡ live i + 1
       has i m = ⊎-elim (λ p. p .1) (λ p. absurd (p .0 m)) (W .each i)
 
-      worked-again : Worked N L (ω .base)
+      worked-again : WfStore N L (ω .base)
       worked-again = worked-aut (o .worked) (W .grown) (W .good) (epsilons-grown (o .worked .good) (W .grown) (λ x l. epsilon-word x) (o .worked .epsilons)) (λ x w l m. W .words x w (omega arith) (λ q. omega arith))
 
-      pub kept-ordered : Ordered N L ω
+      pub kept-ordered : WfTables N L ω
       kept-ordered = record {
         sets = o .sets;
         worked = worked-again;
@@ -145,7 +145,7 @@ module _ {N : ℕ} {L : Limits} where
           target x l p e m (inl (k, q)) = omega (arith, has (e .target) (links x k .leads e m))
           target x l p e m (inr (n, q)) = has-live (e .target) (o .lives .onward x l (omega (arith, q)) e m) (W .each (e .target))
 
-      pub kept-later : Later υ ω
+      pub kept-later : ExtTables υ ω
       kept-later = record {
         sets = SpLawsProofs.ext-refl (υ .sets);
         grown = W .grown;
@@ -167,21 +167,21 @@ module _ {N : ℕ} {L : Limits} where
 
 -- The live set of x is given and kept; the tables are in order.
 pub record Lived (N : ℕ) (L : Limits) (x : ℕ) (σ τ : Tables) (l : ℕ) : Type 0 where
-  pub later : Later σ τ
-  pub ordered : Ordered N L τ
+  pub later : ExtTables σ τ
+  pub ordered : WfTables N L τ
   pub kept : liveOf (τ .base .aut .states .words) x ≡ l + 1
   pub set : LiveSet N (τ .sets) l (Holds N (τ .base .aut) x)
 
 -- The states reached from x, each with its list stored and its live set; the tables are in order.
 pub record Reached (N : ℕ) (L : Limits) (room x : ℕ) (σ τ : Tables) (f : Found) : Type 0 where
   pub gone : Gone σ τ
-  pub ordered : Ordered N L τ
+  pub ordered : WfTables N L τ
   pub has : List·Memᴰ x (f .states)
   pub links : (s : ℕ) → List·Memᴰ s (f .states) → Linked (τ .base) (f .states) s
   pub lives : (s : ℕ) → List·Memᴰ s (f .states) → LiveSet N (τ .sets) (f .live s) (Holds N (τ .base .aut) s)
   pub fits : length (f .states) ≤ room
 
-module _ {N : ℕ} {L : Limits} (lent : ℕ) {σ : Tables} (o : Ordered N L σ) {x : ℕ} (k : x < states (σ .base .aut)) where
+module _ {N : ℕ} {L : Limits} (lent : ℕ) {σ : Tables} (o : WfTables N L σ) {x : ℕ} (k : x < states (σ .base .aut)) where
   pub begins : 0 < capacity lent → Exploring N L (capacity lent) σ [] (x ∷ []) (λ t. Sp.zeroAt N)
   begins room = record {
     ordered = o;
@@ -249,8 +249,8 @@ module _ {N : ℕ} {L : Limits} (lent : ℕ) {σ : Tables} (o : Ordered N L σ) 
 
 -- Of one state, the search from σ and the live set that was given in υ, before or after: `yes` exactly if the live set is empty.
 module _ {N : ℕ} {L : Limits} {lent budget s : ℕ} {σ τ : Tables} {r : Verdict × ℕ} (q : Searched N L lent budget s σ τ r) {υ₀ υ : Tables} {l : ℕ} (v : Lived N L s υ₀ υ l) (u : ¬ (r .0 ≡ spent)) where
-  pub live-before : s < states (υ .base .aut) → Later υ σ → (r .0 ≡ yes) ↔ (¬ T (inhabited (v .set .set)))
+  pub live-before : s < states (υ .base .aut) → ExtTables υ σ → (r .0 ≡ yes) ↔ (¬ T (inhabited (v .set .set)))
   live-before k f = q .demanded .live-alike (v .set .set) (is-live-same (≈-sym (holds-grown (v .ordered .worked .good) (f .grown) k)) (v .set .is)) u
 
-  pub live-after : Ordered N L σ → s < states (σ .base .aut) → Later σ υ → (r .0 ≡ yes) ↔ (¬ T (inhabited (v .set .set)))
+  pub live-after : WfTables N L σ → s < states (σ .base .aut) → ExtTables σ υ → (r .0 ≡ yes) ↔ (¬ T (inhabited (v .set .set)))
   live-after o k f = q .demanded .live-alike (v .set .set) (is-live-same (holds-grown (o .worked .good) (f .grown) k) (v .set .is)) u

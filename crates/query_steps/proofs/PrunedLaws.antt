@@ -21,7 +21,7 @@ use Rattle.sp_steps.specs.Model as Sp
 use Rattle.sp_steps.specs.Laws as SpLaws
 use Rattle.sp_steps.proofs.Laws as SpLawsProofs
 use Rattle.sp_steps.proofs.Apply as SpApply
-use Rattle.spp_steps.specs.Laws.{Wf, Den}
+use Rattle.spp_steps.specs.Laws.{Wf, Denotes}
 use Rattle.spp_steps.proofs.Laws.{den-ext, den-zero, den-same, agree, by-test, false-true}
 use Rattle.spp_steps.proofs.Images.{ifwd-exact}
 use Rattle.aut_steps.specs.Relations as Rel
@@ -33,12 +33,12 @@ use Rattle.aut_steps.proofs.StateLaws.{nodes-goes}
 use Rattle.delta_steps.specs.Delta.{Store, countOf, listAt, keepList, delta-by-kind, delta-with, delta}
 use Rattle.delta_steps.specs.Fits.{tables as readings}
 use Rattle.delta_steps.proofs.Labels.{intersect-makes}
-use Rattle.delta_steps.specs.Worked.{Worked, Stored}
+use Rattle.delta_steps.specs.Worked.{WfStore, Stored}
 use Rattle.delta_steps.proofs.Worked.{later-grown}
 use Rattle.delta_steps.proofs.DeltaLaws.{delta-is}
 use Rattle.delta_steps.proofs.Stored.{stored-went}
 use Rattle.delta_steps.specs.PlainSearch.{decoded, answers}
-use Rattle.query_steps.specs.Tables.{Tables, diagrams, liveOf, LiveSet, Ordered, Later}
+use Rattle.query_steps.specs.Tables.{Tables, diagrams, liveOf, LiveSet, WfTables, ExtTables}
 use Rattle.query_steps.proofs.Tables.{both-wf, Gone, later-trans, gone-later, live-word}
 use Rattle.query_steps.proofs.Steps.{gone-refl, gone-trans, Ends, comes, Steps, ends-gives, ends-map, ends-bind, ends-call, ends-later, relations-step, goes-ends, delta-ends}
 use Rattle.query_steps.proofs.ExploreLaws.{targets-known}
@@ -48,11 +48,11 @@ use Rattle.query_steps.specs.Pruned.{viable, prune, delta-pruned}
 
 module _ {N : ℕ} {L : Limits} where
   -- edges in later tables
-  are-gone : {σ τ : Tables} {es : List Edge} {list : List (Transition State N)} → Ordered N L σ → Gone σ τ → Ordered N L τ → Are (readings N L) (σ .base .aut) es list → Are (readings N L) (τ .base .aut) es list
+  are-gone : {σ τ : Tables} {es : List Edge} {list : List (Transition State N)} → WfTables N L σ → Gone σ τ → WfTables N L τ → Are (readings N L) (σ .base .aut) es list → Are (readings N L) (τ .base .aut) es list
   are-gone o g v a = are-later (readings N L) (later-grown (o .worked .good) (g .went .grown) (v .worked .good)) a
 
 -- whether a label has no pair, by its handle
-pub label-zero : {N h : ℕ} {t : Table} {R : Relation N} → Wf N t → Den t N h R → eqb h (Rel.zeroAt N) ≡ not (nonempty R)
+pub label-zero : {N h : ℕ} {t : Table} {R : Relation N} → Wf N t → Denotes t N h R → eqb h (Rel.zeroAt N) ≡ not (nonempty R)
 label-zero {N} {h} {R = R} w d = by-test (nonempty R)
     (λ e. let (p, q, u) = nonempty-to R (subst T (sym e) tt) in
     by-test (eqb h (Rel.zeroAt N)) (λ z. absurd (subst T (agree d (den-zero w N (omega arith)) (eqb-true h (Rel.zeroAt N) z) p q) u)) (λ z. z) ∙ ap not (sym e))
@@ -74,31 +74,31 @@ still {N} υ ω g y a b =
 -- ---- cutting labels
 
 module _ {N : ℕ} {L : Limits} {lent : ℕ} where
-  viable-ends : {σ : Tables} {R : Relation N} {S : Set N} (e : Edge) → Ordered N L σ → Den (σ .base .aut .nodes) N (e .label) R → SpLaws.Den (σ .sets) N (liveOf (σ .base .aut .states .words) (e .target) - 1) S
-      → Ends N L lent (Steps N L (λ τ v. Den (τ .base .aut .nodes) N v (λ a h. R a h && S h)) σ) σ (viable N e σ)
+  viable-ends : {σ : Tables} {R : Relation N} {S : Set N} (e : Edge) → WfTables N L σ → Denotes (σ .base .aut .nodes) N (e .label) R → SpLaws.Denotes (σ .sets) N (liveOf (σ .base .aut .states .words) (e .target) - 1) S
+      → Ends N L lent (Steps N L (λ τ v. Denotes (τ .base .aut .nodes) N v (λ a h. R a h && S h)) σ) σ (viable N e σ)
   unfolding viable
   viable-ends {σ} {R} {S} e o d s =
-      ends-call (relations-step o (λ t v. Den t N v (λ a h. S h)) (ifwd-exact N N (diagrams σ) (liveOf (σ .base .aut .states .words) (e .target) - 1) S (both-wf o) s)) (λ σ₁ allowed A.
+      ends-call (relations-step o (λ t v. Denotes t N v (λ a h. S h)) (ifwd-exact N N (diagrams σ) (liveOf (σ .base .aut .states .words) (e .target) - 1) S (both-wf o) s)) (λ σ₁ allowed A.
       ends-map (λ τ v B. record { gone = gone-trans (A .gone) (B .gone); ordered = B .ordered; holds = B .holds })
       (goes-ends (A .ordered) (nodes-goes (A .ordered .worked .good) (intersect-makes (A .ordered .worked .good .nodes) (den-ext (A .gone .went .grown .nodes) d) (A .holds)))))
 
-  prune-ends : {σ : Tables} (live : State → Set N) (es : List Edge) {list : List (Transition State N)} → Ordered N L σ → Are (readings N L) (σ .base .aut) es list
-      → ((e : Edge) → List·Memᴰ e es → SpLaws.Den (σ .sets) N (liveOf (σ .base .aut .states .words) (e .target) - 1) (live (e .target)))
+  prune-ends : {σ : Tables} (live : State → Set N) (es : List Edge) {list : List (Transition State N)} → WfTables N L σ → Are (readings N L) (σ .base .aut) es list
+      → ((e : Edge) → List·Memᴰ e es → SpLaws.Denotes (σ .sets) N (liveOf (σ .base .aut .states .words) (e .target) - 1) (live (e .target)))
       → Ends N L lent (Steps N L (λ τ fs. Are (readings N L) (τ .base .aut) fs (pruned live list)) σ) σ (prune N es σ)
   unfolding prune pruned
   prune-ends {σ} live [] o Are.none f = comes (record { gone = gone-refl σ; ordered = o; holds = Are.none })
   prune-ends {σ} live (e ∷ es) o (Are.also {s} {l} {r} {ts = ts} k d as′) f =
       ends-call (viable-ends e o d (f e (List·Memᴰ·head refl))) (λ σ₁ v C.
       ends-call (prune-ends live es (C .ordered) (are-gone o (C .gone) (C .ordered) as′)
-      (λ g m. subst (λ (x : ℕ). SpLaws.Den (σ₁ .sets) N (x - 1) (live (g .target))) (sym (live-word (C .gone) (g .target))) (SpLawsProofs.den-ext (C .gone .sets) (f g (List·Memᴰ·tail m))))) (λ σ₂ fs P.
-      let D : Den (σ₂ .base .aut .nodes) N v (cut live (to s r) .label) = den-ext (P .gone .went .grown .nodes) (C .holds) in
+      (λ g m. subst (λ (x : ℕ). SpLaws.Denotes (σ₁ .sets) N (x - 1) (live (g .target))) (sym (live-word (C .gone) (g .target))) (SpLawsProofs.den-ext (C .gone .sets) (f g (List·Memᴰ·tail m))))) (λ σ₂ fs P.
+      let D : Denotes (σ₂ .base .aut .nodes) N v (cut live (to s r) .label) = den-ext (P .gone .went .grown .nodes) (C .holds) in
       comes (record {
         gone = gone-trans (C .gone) (P .gone);
         ordered = P .ordered;
         holds = chosen σ₂ v fs (eqb v (Rel.zeroAt N)) (nonempty (cut live (to s r) .label)) (label-zero (P .ordered .worked .good .nodes) D) D (state-grown (gone-trans (C .gone) (P .gone) .went .grown) k) (P .holds);
       })))
     where
-      chosen : (τ : Tables) (v : ℕ) (fs : List Edge) (c b : Bool) → c ≡ not b → Den (τ .base .aut .nodes) N v (cut live (to s r) .label) → s < states (τ .base .aut)
+      chosen : (τ : Tables) (v : ℕ) (fs : List Edge) (c b : Bool) → c ≡ not b → Denotes (τ .base .aut .nodes) N v (cut live (to s r) .label) → s < states (τ .base .aut)
           → Are (readings N L) (τ .base .aut) fs (pruned live ts)
           → Are (readings N L) (τ .base .aut) (if c then fs else (edge s v ∷ fs)) (if b then (cut live (to s r) ∷ pruned live ts) else pruned live ts)
       chosen τ v fs true true q D j A = absurd (false-true (sym q))
@@ -110,8 +110,8 @@ module _ {N : ℕ} {L : Limits} {lent : ℕ} where
 
 -- The edges are the pruned list of x: what delta gives, cut by the live sets of the targets, empty ones gone. The tables are in order.
 pub record PrunedTo (N : ℕ) (L : Limits) (x : ℕ) (σ τ : Tables) (es : List Edge) : Type 0 where
-  pub later : Later σ τ
-  pub ordered : Ordered N L τ
+  pub later : ExtTables σ τ
+  pub ordered : WfTables N L τ
   pub list : List (Transition State N)
   pub are : Are (readings N L) (τ .base .aut) es list
   pub is : Pruned (Holds N (τ .base .aut)) (Holds N (τ .base .aut) x) list
@@ -124,7 +124,7 @@ pub record PrunedTo (N : ℕ) (L : Limits) (x : ℕ) (σ τ : Tables) (es : List
   pub cut-is : list ≡ pruned live whole
 
 -- a list that is stored is given at once
-stored-delta : {N : ℕ} {L : Limits} {σ : Store} {x : ℕ} {es : List Edge} → Worked N L σ → x < states (σ .aut) → Stored σ x es → delta N L x σ ≡ given σ es
+stored-delta : {N : ℕ} {L : Limits} {σ : Store} {x : ℕ} {es : List Edge} → WfStore N L σ → x < states (σ .aut) → Stored σ x es → delta N L x σ ≡ given σ es
 unfolding delta-with
 stored-delta {N} {L} {σ} {x} W l s =
     delta-is W l
@@ -133,14 +133,14 @@ stored-delta {N} {L} {σ} {x} W l s =
 
 module _ {N : ℕ} {L : Limits} where
   -- what the tables keep of the targets
-  target-live : {σ : Tables} → Ordered N L σ → {x : ℕ} → x < states (σ .base .aut) → 0 < liveOf (σ .base .aut .states .words) x → (e : Edge) → List·Memᴰ e (listAt (σ .base) x)
+  target-live : {σ : Tables} → WfTables N L σ → {x : ℕ} → x < states (σ .base .aut) → 0 < liveOf (σ .base .aut .states .words) x → (e : Edge) → List·Memᴰ e (listAt (σ .base) x)
       → LiveSet N (σ .sets) (liveOf (σ .base .aut .states .words) (e .target) - 1) (Holds N (σ .base .aut) (e .target))
   target-live {σ} o {x} k p e m =
       o .lives .kept (e .target) (targets-known (o .worked .lists .held x k .list (o .lives .listed x k p)) e m) (liveOf (σ .base .aut .states .words) (e .target) - 1) (omega (arith, o .lives .onward x k p e m))
 
   -- The stored list of x in υ, whose live set is kept there; ω is later.
-  module _ {υ ω : Tables} {x : ℕ} {es : List Edge} {list : List (Transition State N)} (o : Ordered N L υ) (k : x < states (υ .base .aut)) (p : 0 < liveOf (υ .base .aut .states .words) x) (S : Stored (υ .base) x es)
-      (a : Are (readings N L) (υ .base .aut) es list) (up : Ascending list) (g : Gone υ ω) (w : Ordered N L ω)
+  module _ {υ ω : Tables} {x : ℕ} {es : List Edge} {list : List (Transition State N)} (o : WfTables N L υ) (k : x < states (υ .base .aut)) (p : 0 < liveOf (υ .base .aut .states .words) x) (S : Stored (υ .base) x es)
+      (a : Are (readings N L) (υ .base .aut) es list) (up : Ascending list) (g : Gone υ ω) (w : WfTables N L ω)
     where
       later-known : x < states (ω .base .aut)
       later-known = state-grown (g .went .grown) k
@@ -178,7 +178,7 @@ module _ {N : ℕ} {L : Limits} where
       later-pruned : Pruned (Holds N (ω .base .aut)) (Holds N (ω .base .aut) x) (pruned (liveIn N υ) list)
       later-pruned = pruned-law (liveIn N υ) later-delta up targets-live
 
-  pub pruned-ends : (lent : ℕ) {σ : Tables} → Ordered N L σ → {x : ℕ} → x < states (σ .base .aut) → Ends N L lent (PrunedTo N L x σ) σ (delta-pruned N L lent x σ)
+  pub pruned-ends : (lent : ℕ) {σ : Tables} → WfTables N L σ → {x : ℕ} → x < states (σ .base .aut) → Ends N L lent (PrunedTo N L x σ) σ (delta-pruned N L lent x σ)
   unfolding delta-pruned
   pruned-ends lent {σ} o {x} k =
       ends-later (live-ends lent o k) (λ τ l C. (
@@ -205,5 +205,5 @@ module _ {N : ℕ} {L : Limits} where
         )),
       ))
 
-  pub pruned-goes : (lent : ℕ) {σ : Tables} → Ordered N L σ → {x : ℕ} → x < states (σ .base .aut) → Gives (PrunedTo N L x σ) (delta-pruned N L lent x σ)
+  pub pruned-goes : (lent : ℕ) {σ : Tables} → WfTables N L σ → {x : ℕ} → x < states (σ .base .aut) → Gives (PrunedTo N L x σ) (delta-pruned N L lent x σ)
   pruned-goes lent o k = ends-gives (pruned-ends lent o k)

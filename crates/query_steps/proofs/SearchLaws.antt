@@ -13,7 +13,7 @@ use Rattle.common.specs.Runs.{Table, placed}
 use Rattle.netkat.specs.Lists.{State, Transition}
 use Rattle.netkat.specs.ListSteps.{Edge, Are}
 use Rattle.netkat.specs.Search.{Verdict}
-use Rattle.netkat.specs.Handles.{Reading, Alike, none, also, IsLink, Grows, Makes, Works}
+use Rattle.netkat.specs.Handles.{Reading, Alike, none, also, IsLink, Grows, Makes, Implements}
 use Rattle.netkat.specs.Demand.{Demand, Demanded}
 use Rattle.netkat.proofs.Laws.Demand.{demand}
 use Rattle.sp_steps.specs.Model as Sp
@@ -21,7 +21,7 @@ use Rattle.sp_steps.specs.Laws as SpLaws
 use Rattle.sp_steps.proofs.Laws as SpLawsProofs
 use Rattle.sp_steps.proofs.Sets as SpSets
 use Rattle.sp_steps.proofs.Refused as SpRefused
-use Rattle.spp_steps.specs.Laws.{Den}
+use Rattle.spp_steps.specs.Laws.{Denotes}
 use Rattle.spp_steps.proofs.Laws.{den-ext, den-mem, by-test}
 use Rattle.spp_steps.proofs.Relations.{uninhabited}
 use Rattle.spp_steps.proofs.Images.{push-exact}
@@ -40,14 +40,14 @@ use Rattle.delta_steps.proofs.DeltaRuns.{Halted, Stepped, Deltaed, epsilon-step
 use Rattle.delta_steps.proofs.DeltaLaws.{delta-goes, delta-list}
 use Rattle.delta_steps.specs.PlainSearch.{decoded, answers}
 use Rattle.delta_steps.proofs.PlainSearch.{meaning, lawful}
-use Rattle.query_steps.specs.Tables.{Tables, putBase, diagrams, onBase, Ordered}
+use Rattle.query_steps.specs.Tables.{Tables, putBase, diagrams, onBase, WfTables}
 use Rattle.query_steps.proofs.Tables.{both-wf, Gone}
 use Rattle.query_steps.specs.Search.{link, machine, is-empty}
 use Rattle.query_steps.proofs.Steps.{gone-refl, gone-trans, gone-base, SetSteps, gives-map, ends-gives, sets-step, images-step}
 pub use Rattle.query_steps.proofs.Steps.{ordered-base}
 
 -- whether a set has no packet, by its handle
-pub zero-is : {N h : ℕ} {t : Table} {x : Set N} → SpLaws.Wf N t → SpLaws.Den t N h x → Sp.isZero N h ≡ not (inhabited x)
+pub zero-is : {N h : ℕ} {t : Table} {x : Set N} → SpLaws.Wf N t → SpLaws.Denotes t N h x → Sp.isZero N h ≡ not (inhabited x)
 zero-is {N} {h} {x = x} w d = by-test (inhabited x)
     (λ e. let (p, u) = inhabited-to x (subst T (sym e) tt) in by-test (Sp.isZero N h) (λ z. absurd (subst T (SpSets.zero-none N N (omega arith) w d z p) u)) (λ z. z) ∙ ap not (sym e))
     (λ e. SpSets.none-zero N N (omega arith) w d (uninhabited x e) ∙ ap not (sym e))
@@ -58,15 +58,15 @@ module _ (N : ℕ) (L : Limits) where
   -- The tables are in order and have come from σ₀; those that epsilon and delta work on are τ.
   pub record Agreed (σ₀ σ : Tables) (τ : Store) : Type 0 where
     pub same : σ .base ≡ τ
-    pub ordered : Ordered N L σ
+    pub ordered : WfTables N L σ
     pub gone : Gone σ₀ σ
 
   abbrev pub reading : (lent : ℕ) → Tables → Reading (machine N L lent) (answers N L)
   reading lent σ₀ = record {
     Agrees = Agreed σ₀;
     Known = λ σ s. s < states (σ .base .aut);
-    Is = λ σ h x. SpLaws.Den (σ .sets) N h x;
-    IsLabel = λ σ l r. Den (σ .base .aut .nodes) N l r;
+    Is = λ σ h x. SpLaws.Denotes (σ .sets) N h x;
+    IsLabel = λ σ l r. Denotes (σ .base .aut .nodes) N l r;
   }
 
 module _ (N : ℕ) (L : Limits) (lent : ℕ) (σ₀ : Tables) where
@@ -81,11 +81,11 @@ module _ (N : ℕ) (L : Limits) (lent : ℕ) (σ₀ : Tables) where
   }
 
   module _ {σ : Tables} {τ : Store} (a : Agreed N L σ₀ σ τ) where
-    makes : {σ′ : Tables} {τ′ : Store} {R : Type 0} → Gone σ σ′ → Ordered N L σ′ → σ′ .base ≡ τ′ → R → Makes 𝓡 σ σ′ τ′ R
+    makes : {σ′ : Tables} {τ′ : Store} {R : Type 0} → Gone σ σ′ → WfTables N L σ′ → σ′ .base ≡ τ′ → R → Makes 𝓡 σ σ′ τ′ R
     makes g o e r = record { grows = grows g; agrees = record { same = e; ordered = o; gone = gone-trans (a .gone) g }; right = r }
 
     -- a step that makes packet nodes only
-    set-works : {x : Set N} {o : Outcome Tables ℕ} → Gives (SetSteps N L (λ t h. SpLaws.Den t N h x) σ) o → Gives (λ σ′ h. Makes 𝓡 σ σ′ τ (SpLaws.Den (σ′ .sets) N h x)) o
+    set-works : {x : Set N} {o : Outcome Tables ℕ} → Gives (SetSteps N L (λ t h. SpLaws.Denotes t N h x) σ) o → Gives (λ σ′ h. Makes 𝓡 σ σ′ τ (SpLaws.Denotes (σ′ .sets) N h x)) o
     set-works r = gives-map (λ σ′ v s. makes (s .gone) (s .ordered) (s .holds .0 ∙ a .same) (s .holds .1)) r
 
     -- nothing is made
@@ -93,11 +93,11 @@ module _ (N : ℕ) (L : Limits) (lent : ℕ) (σ₀ : Tables) where
     still r = makes (gone-refl σ) (a .ordered) (a .same) r
 
     epsilon-work : {s : State} → s < states (σ .base .aut)
-        → Gives (λ σ′ l. (τ′ : Store) × (e : Relation N) × (answers N L .epsilon s τ ≡ given τ′ e) × Makes 𝓡 σ σ′ τ′ (Den (σ′ .base .aut .nodes) N l e)) (onBase (onAut (epsilon N s)) σ)
+        → Gives (λ σ′ l. (τ′ : Store) × (e : Relation N) × (answers N L .epsilon s τ ≡ given τ′ e) × Makes 𝓡 σ σ′ τ′ (Denotes (σ′ .base .aut .nodes) N l e)) (onBase (onAut (epsilon N s)) σ)
     epsilon-work {s} k = go (onAut (epsilon N s) (σ .base)) refl (epsilon-step (a .ordered .worked) k)
       where
         go : (o : Outcome Store ℕ) → onAut (epsilon N s) (σ .base) ≡ o → Agree (Halted N L (σ .base)) (Stepped N L (λ τ e. Means N (τ .nodes) e (Holds N (σ .base .aut) s)) (σ .base)) o o
-            → Gives (λ σ′ l. (τ′ : Store) × (e : Relation N) × (answers N L .epsilon s τ ≡ given τ′ e) × Makes 𝓡 σ σ′ τ′ (Den (σ′ .base .aut .nodes) N l e)) (placed putBase σ o)
+            → Gives (λ σ′ l. (τ′ : Store) × (e : Relation N) × (answers N L .epsilon s τ ≡ given τ′ e) × Makes 𝓡 σ σ′ τ′ (Denotes (σ′ .base .aut .nodes) N l e)) (placed putBase σ o)
         go (refused number) q x = refusal
         go (given b l) q (come f) = gives (
           b,
@@ -127,14 +127,14 @@ module _ (N : ℕ) (L : Limits) (lent : ℕ) (σ₀ : Tables) where
               (links {σ′ = putBase b σ} (delta-list (a .ordered .worked) k d .are)),
         )
 
-  pub works : Works (machine N L lent) (answers N L) 𝓡
+  pub works : Implements (machine N L lent) (answers N L) 𝓡
   works = record {
     one-works = λ a. SpLawsProofs.den-one (a .ordered .sets) N (omega arith);
     zero-works = λ a. SpLawsProofs.den-zero (a .ordered .sets) N (omega arith);
     difference-works = λ a X Y. set-works a (ends-gives {lent = lent} (sets-step (a .ordered) (SpSets.difference-runs N N (omega arith) _ _ _ _ _ (a .ordered .sets) X Y) (SpRefused.difference-stops N N (omega arith) _ _ _ _ _ (a .ordered .sets) X Y)));
     union-works = λ a X Y. set-works a (ends-gives {lent = lent} (sets-step (a .ordered) (SpSets.union-runs N N (omega arith) _ _ _ _ _ (a .ordered .sets) X Y) (SpRefused.union-stops N N (omega arith) _ _ _ _ _ (a .ordered .sets) X Y)));
     isZero-works = λ a X. gives (still a (zero-is (a .ordered .sets) X));
-    push-works = λ {x} {r} a X Y. set-works a (ends-gives {lent = lent} (images-step (a .ordered) (λ t h. SpLaws.Den t N h (image x r)) (push-exact N N (omega arith) _ _ _ x r (both-wf (a .ordered)) X Y)));
+    push-works = λ {x} {r} a X Y. set-works a (ends-gives {lent = lent} (images-step (a .ordered) (λ t h. SpLaws.Denotes t N h (image x r)) (push-exact N N (omega arith) _ _ _ x r (both-wf (a .ordered)) X Y)));
     hasImage-works = λ {σ} a X Y. gives (still a (hasImage-is N N (omega arith) (diagrams σ) _ _ _ _ (both-wf (a .ordered)) X Y));
     epsilon-works = λ a k. epsilon-work a k;
     delta-works = λ a k. delta-work a k;
@@ -149,10 +149,10 @@ module _ (N : ℕ) (L : Limits) (lent : ℕ) where
 -- What a search for s from σ has come to: the plain search's answer and count with all that is promised of it; tables in order, and what was worked out there still.
 pub record Searched (N : ℕ) (L : Limits) (lent budget s : ℕ) (σ τ : Tables) (r : Verdict × ℕ) : Type 0 where
   pub demanded : Demanded (reading N L lent σ) (meaning N L) budget s (σ .base) τ r
-  pub ordered : Ordered N L τ
+  pub ordered : WfTables N L τ
   pub gone : Gone σ τ
 
-pub search-goes : {N : ℕ} {L : Limits} (lent budget s : ℕ) {σ : Tables} → Ordered N L σ → s < states (σ .base .aut) → Gives (Searched N L lent budget s σ) (is-empty N L lent budget s σ)
+pub search-goes : {N : ℕ} {L : Limits} (lent budget s : ℕ) {σ : Tables} → WfTables N L σ → s < states (σ .base .aut) → Gives (Searched N L lent budget s σ) (is-empty N L lent budget s σ)
 unfolding is-empty
 search-goes {N} {L} lent budget s {σ} o k =
     gives-map (λ τ r d. record { demanded = d; ordered = d .reports .agrees .ordered; gone = d .reports .agrees .gone })

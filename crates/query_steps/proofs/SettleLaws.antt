@@ -24,7 +24,7 @@ use Rattle.sp_steps.proofs.Laws as SpLawsProofs
 use Rattle.sp_steps.proofs.Sets as SpSets
 use Rattle.sp_steps.proofs.Apply as SpApply
 use Rattle.sp_steps.proofs.Refused as SpRefused
-use Rattle.spp_steps.specs.Laws.{Den}
+use Rattle.spp_steps.specs.Laws.{Denotes}
 use Rattle.spp_steps.proofs.Laws.{den-mem, by-test}
 use Rattle.spp_steps.proofs.Relations.{uninhabited}
 use Rattle.spp_steps.proofs.Images.{pull-exact}
@@ -34,9 +34,9 @@ use Rattle.aut_steps.specs.Good.{states}
 use Rattle.aut_steps.specs.Meaning.{Holds}
 use Rattle.delta_steps.specs.Delta.{Store, listAt}
 use Rattle.delta_steps.specs.Fits.{tables as readings}
-use Rattle.delta_steps.specs.Worked.{Worked}
+use Rattle.delta_steps.specs.Worked.{WfStore}
 use Rattle.delta_steps.specs.PlainSearch.{decoded}
-use Rattle.query_steps.specs.Tables.{Tables, diagrams, LiveSet, Ordered}
+use Rattle.query_steps.specs.Tables.{Tables, diagrams, LiveSet, WfTables}
 use Rattle.query_steps.proofs.Tables.{both-wf, Gone}
 use Rattle.query_steps.specs.Search.{capacity}
 use Rattle.query_steps.proofs.Steps.{gone-refl, gone-trans, no-entry, stopped-here, Ends, halts, comes, ends-map, ends-bind, ends-call, ends-branch, ends-same, ends-both, images-step, sets-step}
@@ -113,7 +113,7 @@ label-of {N} a t {u} (e ∷ es) (Ascending.also above up) m q = go (List·Memᴰ
 
 -- ---- the states reached
 
-module _ {N : ℕ} {L : Limits} (b : Store) (W : Worked N L b) (ss : List ℕ) (links : (s : ℕ) → List·Memᴰ s ss → Linked b ss s) where
+module _ {N : ℕ} {L : Limits} (b : Store) (W : WfStore N L b) (ss : List ℕ) (links : (s : ℕ) → List·Memᴰ s ss → Linked b ss s) where
   abbrev pub listed : ℕ → List (Transition State N)
   listed s = map (decoded N (b .aut)) (listAt b s)
 
@@ -165,13 +165,13 @@ module _ {N : ℕ} {L : Limits} (b : Store) (W : Worked N L b) (ss : List ℕ) (
   step-is : (t s l : ℕ) → List·Memᴰ s ss → labelTo t (listAt b s) ≡ by l → IsStep reached (stepBy t s l)
   step-is t s l m q = record { reached = m; listed = mem-map (decoded N (b .aut)) (label-in t (listAt b s) q) }
 
-  label-den : (t s l : ℕ) → List·Memᴰ s ss → labelTo t (listAt b s) ≡ by l → Den (b .aut .nodes) N l (Rel.pairs N (b .aut .nodes) l)
+  label-den : (t s l : ℕ) → List·Memᴰ s ss → labelTo t (listAt b s) ≡ by l → Denotes (b .aut .nodes) N l (Rel.pairs N (b .aut .nodes) l)
   label-den t s l m q = go (is-list s m .are) (label-in t (listAt b s) q)
     where
-      go : {es : List Edge} {list : List (Transition State N)} → Are (readings N L) (b .aut) es list → List·Memᴰ (edge t l) es → Den (b .aut .nodes) N l (Rel.pairs N (b .aut .nodes) l)
+      go : {es : List Edge} {list : List (Transition State N)} → Are (readings N L) (b .aut) es list → List·Memᴰ (edge t l) es → Denotes (b .aut .nodes) N l (Rel.pairs N (b .aut .nodes) l)
       go Are.none m = absurd (List·Memᴰ·not-nil m)
       go (Are.also {l = l′} k d as′) m = ⊎-elim
-          (λ r. subst (λ (h : ℕ). Den (b .aut .nodes) N h (Rel.pairs N (b .aut .nodes) h)) (sym (ap (λ (e : Edge). e .label) r)) (den-mem (d .at)))
+          (λ r. subst (λ (h : ℕ). Denotes (b .aut .nodes) N h (Rel.pairs N (b .aut .nodes) h)) (sym (ap (λ (e : Edge). e .label) r)) (den-mem (d .at)))
           (λ n. go as′ n) (List·Memᴰ·cases-cons m)
 
   -- ---- one step into the target
@@ -179,9 +179,9 @@ module _ {N : ℕ} {L : Limits} (b : Store) (W : Worked N L b) (ss : List ℕ) (
   -- `most` states more are enough, and `left` are the steps into the target that are still to be looked at
   pub record Pulls (most : ℕ) (left : List (Step reached)) (σ : Tables) (w : Work) : Type 0 where
     pub base : σ .base ≡ b
-    pub ordered : Ordered N L σ
+    pub ordered : WfTables N L σ
     pub live : ℕ → Set N
-    pub den : (t : ℕ) → SpLaws.Den (σ .sets) N (w .live t) (live t)
+    pub den : (t : ℕ) → SpLaws.Denotes (σ .sets) N (w .live t) (live t)
     pub among : (t : ℕ) → List·Memᴰ t (w .todo) → List·Memᴰ t ss
     pub pulling : Pulling reached live (w .todo) left
     pub enough : length (w .todo) + length ss * 2 ^ N ≤ most + amount reached live
@@ -209,10 +209,10 @@ module _ {N : ℕ} {L : Limits} (b : Store) (W : Worked N L b) (ss : List ℕ) (
           let same : more s x live u p ≡ live u p = ap (λ (c : Bool). (if c then (live s ∪ x) else live u) p) t in
           (λ a. inl (subst T same a), λ a. subst T (sym same) (⊎-elim (λ c. c) (λ c. absurd (n (c .0))) a))
 
-  more-den : {t : Table} {h : ℕ} (s : ℕ) (x : Set N) (handles : ℕ → ℕ) (live : ℕ → Set N) → SpLaws.Den t N h (live s ∪ x) → ((u : ℕ) → SpLaws.Den t N (handles u) (live u)) → (u : ℕ) → SpLaws.Den t N (liveAt s h handles u) (more s x live u)
+  more-den : {t : Table} {h : ℕ} (s : ℕ) (x : Set N) (handles : ℕ → ℕ) (live : ℕ → Set N) → SpLaws.Denotes t N h (live s ∪ x) → ((u : ℕ) → SpLaws.Denotes t N (handles u) (live u)) → (u : ℕ) → SpLaws.Denotes t N (liveAt s h handles u) (more s x live u)
   more-den {t} {h} s x handles live d f u = go (eqb s u)
     where
-      go : (c : Bool) → SpLaws.Den t N (if c then h else handles u) (if c then (live s ∪ x) else live u)
+      go : (c : Bool) → SpLaws.Denotes t N (if c then h else handles u) (if c then (live s ∪ x) else live u)
       go true = d
       go false = f u
 
@@ -233,13 +233,13 @@ module _ {N : ℕ} {L : Limits} (b : Store) (W : Worked N L b) (ss : List ℕ) (
     back-ends most {left} t s l σ w m q P =
         let R : Relation N = Rel.pairs N (b .aut .nodes) l in
         let X : Set N = preimage R (P .live t) in
-        let Y : Den (σ .base .aut .nodes) N l R = subst (λ (b′ : Store). Den (b′ .aut .nodes) N l R) (sym (P .base)) (label-den t s l m q) in
-        ends-call (images-step (P .ordered) (λ u h. SpLaws.Den u N h X) (pull-exact N N (omega arith) (diagrams σ) (w .live t) l (P .live t) R (both-wf (P .ordered)) (P .den t) Y)) (λ σ₁ accepted A.
-        let old : SpLaws.Den (σ₁ .sets) N (w .live s) (P .live s) = SpLawsProofs.den-ext (A .gone .sets) (P .den s) in
+        let Y : Denotes (σ .base .aut .nodes) N l R = subst (λ (b′ : Store). Denotes (b′ .aut .nodes) N l R) (sym (P .base)) (label-den t s l m q) in
+        ends-call (images-step (P .ordered) (λ u h. SpLaws.Denotes u N h X) (pull-exact N N (omega arith) (diagrams σ) (w .live t) l (P .live t) R (both-wf (P .ordered)) (P .den t) Y)) (λ σ₁ accepted A.
+        let old : SpLaws.Denotes (σ₁ .sets) N (w .live s) (P .live s) = SpLawsProofs.den-ext (A .gone .sets) (P .den s) in
         ends-call (sets-step (A .ordered) (SpSets.union-runs N N (omega arith) (σ₁ .sets) (w .live s) accepted (P .live s) X (A .ordered .sets) old (A .holds .1))
         (SpRefused.union-stops N N (omega arith) (σ₁ .sets) (w .live s) accepted (P .live s) X (A .ordered .sets) old (A .holds .1))) (λ σ₂ combined U.
         let g : Gone σ σ₂ = gone-trans (A .gone) (U .gone) in
-        let D : (u : ℕ) → SpLaws.Den (σ₂ .sets) N (w .live u) (P .live u) = λ u. SpLawsProofs.den-ext (g .sets) (P .den u) in
+        let D : (u : ℕ) → SpLaws.Denotes (σ₂ .sets) N (w .live u) (P .live u) = λ u. SpLawsProofs.den-ext (g .sets) (P .den u) in
         let same : σ₂ .base ≡ b = U .holds .0 ∙ A .holds .0 ∙ P .base in
         ends-branch (eqb combined (w .live s)) _ _ σ₂
         (λ e. comes (
@@ -272,7 +272,7 @@ module _ {N : ℕ} {L : Limits} (b : Store) (W : Worked N L b) (ss : List ℕ) (
         (ltb-false (length (w .todo)) (capacity lent) f)))))))
       where
         -- a new packet
-        grew : (τ : Tables) (combined : ℕ) (X : Set N) (live : ℕ → Set N) → SpLaws.Wf N (τ .sets) → SpLaws.Den (τ .sets) N combined (live s ∪ X) → SpLaws.Den (τ .sets) N (w .live s) (live s)
+        grew : (τ : Tables) (combined : ℕ) (X : Set N) (live : ℕ → Set N) → SpLaws.Wf N (τ .sets) → SpLaws.Denotes (τ .sets) N combined (live s ∪ X) → SpLaws.Denotes (τ .sets) N (w .live s) (live s)
             → (combined ≡ w .live s → ⊥) → amount reached live < amount reached (more s X live)
         grew τ combined X live wf d e n =
             by-test (inhabited (X ∖ live s))
@@ -309,7 +309,7 @@ module _ {N : ℕ} {L : Limits} (b : Store) (W : Worked N L b) (ss : List ℕ) (
     pub record SettledTo (σ τ : Tables) (live : ℕ → ℕ) : Type 0 where
       pub base : τ .base ≡ b
       pub gone : Gone σ τ
-      pub ordered : Ordered N L τ
+      pub ordered : WfTables N L τ
       pub lives : (s : ℕ) → List·Memᴰ s ss → LiveSet N (τ .sets) (live s) (Holds N (b .aut) s)
 
     ended : {most : ℕ} {σ : Tables} {w : Work} → Pulls most [] σ w → w .todo ≡ [] → SettledTo σ σ (w .live)
@@ -371,7 +371,7 @@ module _ {N : ℕ} {L : Limits} (b : Store) (W : Worked N L b) (ss : List ℕ) (
             (λ σ₁ w₁ R. rec σ₁ w₁ (R .0 .1) (R .1 .1))
 
     -- it begins with every state on the list, and the starts of their strings without hops
-    pub begins : (σ : Tables) (live : ℕ → ℕ) → σ .base ≡ b → Ordered N L σ → ((t : ℕ) → SpLaws.At (σ .sets) N (live t)) → ((s : ℕ) → List·Memᴰ s ss → SpLaws.Den (σ .sets) N (live s) (starts (ends N (b .aut) s)))
+    pub begins : (σ : Tables) (live : ℕ → ℕ) → σ .base ≡ b → WfTables N L σ → ((t : ℕ) → SpLaws.ValidAt (σ .sets) N (live t)) → ((s : ℕ) → List·Memᴰ s ss → SpLaws.Denotes (σ .sets) N (live s) (starts (ends N (b .aut) s)))
         → Pulls (takes N L lent ss) [] σ (work (reverse ss) live)
     begins σ live q o some sets = record {
       base = q;
@@ -387,6 +387,6 @@ module _ {N : ℕ} {L : Limits} (b : Store) (W : Worked N L b) (ss : List ℕ) (
       enough = omega (arith, length-reverse ss);
     }
 
-    pub settled-ends : (σ : Tables) (live : ℕ → ℕ) → σ .base ≡ b → Ordered N L σ → ((t : ℕ) → SpLaws.At (σ .sets) N (live t)) → ((s : ℕ) → List·Memᴰ s ss → SpLaws.Den (σ .sets) N (live s) (starts (ends N (b .aut) s)))
+    pub settled-ends : (σ : Tables) (live : ℕ → ℕ) → σ .base ≡ b → WfTables N L σ → ((t : ℕ) → SpLaws.ValidAt (σ .sets) N (live t)) → ((s : ℕ) → List·Memᴰ s ss → SpLaws.Denotes (σ .sets) N (live s) (starts (ends N (b .aut) s)))
         → Ends N L lent (SettledTo σ) σ (settle N L lent (takes N L lent ss) ss (work (reverse ss) live) σ)
     settled-ends σ live q o some sets = settle-ends (takes N L lent ss) σ (work (reverse ss) live) (begins σ live q o some sets)

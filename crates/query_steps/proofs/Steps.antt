@@ -8,7 +8,7 @@ use lib.ListN.{length}
 use Rattle.common.specs.Outcome.{Outcome, refused, given, Step, after, Gives, refusal, gives, if_then_else_}
 use Rattle.common.specs.Runs as Runs
 use Rattle.common.specs.Runs.{Table, placed}
-use Rattle.common.proofs.Runs.{Runs}
+use Rattle.common.proofs.Runs.{StableSpec}
 use Rattle.netkat.specs.ListSteps.{Edge, IsList}
 use Rattle.sp_steps.specs.Laws as SpLaws
 use Rattle.sp_steps.proofs.Laws as SpLawsProofs
@@ -18,21 +18,21 @@ use Rattle.spp_steps.proofs.Exact.{Exact, Stops, stuck}
 use Rattle.spp_steps.specs.ImageModel.{Stores}
 use Rattle.spp_steps.proofs.Images.{bothTheory, SetLacks, setLimits, relLimits}
 use Rattle.aut_steps.specs.Tables.{Limits, Aut, putNodes}
-use Rattle.aut_steps.specs.Good.{states, Grown, Good}
+use Rattle.aut_steps.specs.Good.{states, ExtAut, WfAut}
 use Rattle.aut_steps.proofs.Good.{grown-refl, grown-trans, grown-nodes}
-use Rattle.aut_steps.proofs.Goes.{no-node, good-nodes, Goes}
+use Rattle.aut_steps.proofs.Goes.{no-node, good-nodes, StepSpec}
 use Rattle.aut_steps.specs.Meaning.{Holds}
 use Rattle.delta_steps.specs.Epsilon.{epsilon}
 use Rattle.delta_steps.specs.Delta.{Store, putAut, onAut, delta}
 use Rattle.delta_steps.specs.Fits.{tables as readings, Since}
 use Rattle.delta_steps.proofs.Agree.{Agree, stop, come}
-use Rattle.delta_steps.specs.Worked.{Means, HasEpsilon, ExtT, Worked, Stored}
+use Rattle.delta_steps.specs.Worked.{Means, HasEpsilon, ExtT, WfStore, Stored}
 use Rattle.delta_steps.proofs.Worked.{extt-refl, extt-trans, worked-since}
-use Rattle.delta_steps.specs.Stored.{Went}
+use Rattle.delta_steps.specs.Stored.{ExtStore}
 use Rattle.delta_steps.proofs.Stored.{went-refl, went-trans, went-since}
 use Rattle.delta_steps.proofs.DeltaRuns.{WhyDelta, listing, Halted, Stepped, Deltaed, goes-step, epsilon-step, epsilon-has}
 use Rattle.delta_steps.proofs.DeltaLaws.{delta-goes}
-use Rattle.query_steps.specs.Tables.{Tables, diagrams, putSets, putBase, putRelations, onSets, onBase, makingSets, makingRelations, Ordered, Later}
+use Rattle.query_steps.specs.Tables.{Tables, diagrams, putSets, putBase, putRelations, onSets, onBase, makingSets, makingRelations, WfTables, ExtTables}
 use Rattle.query_steps.proofs.Tables.{Gone, gone-later, lives-gone}
 use Rattle.query_steps.specs.Search.{capacity}
 
@@ -49,36 +49,36 @@ pub gone-sets : {σ : Tables} {t : Table} → SpLaws.Ext (σ .sets) t → Gone �
 gone-sets {σ} e = record { sets = e; went = went-refl (σ .base) }
 
 -- the other tables alone
-pub gone-base : {σ : Tables} {b : Store} → Went (σ .base) b → Gone σ (putBase b σ)
+pub gone-base : {σ : Tables} {b : Store} → ExtStore (σ .base) b → Gone σ (putBase b σ)
 gone-base {σ} w = record { sets = SpLawsProofs.ext-refl (σ .sets); went = w }
 
 module _ {N : ℕ} {L : Limits} where
-  pub ordered-sets : {σ : Tables} {t : Table} → Ordered N L σ → SpLaws.Ext (σ .sets) t → SpLaws.Wf N t → Ordered N L (putSets t σ)
+  pub ordered-sets : {σ : Tables} {t : Table} → WfTables N L σ → SpLaws.Ext (σ .sets) t → SpLaws.Wf N t → WfTables N L (putSets t σ)
   ordered-sets o e w = record { sets = w; worked = o .worked; lives = lives-gone (gone-sets e) o }
 
-  pub ordered-base : {σ : Tables} {b : Store} → Ordered N L σ → Went (σ .base) b → Worked N L b → Ordered N L (putBase b σ)
+  pub ordered-base : {σ : Tables} {b : Store} → WfTables N L σ → ExtStore (σ .base) b → WfStore N L b → WfTables N L (putBase b σ)
   ordered-base o w v = record { sets = o .sets; worked = v; lives = lives-gone (gone-base w) o }
 
 -- ---- what a run comes to
 
 -- 01, "Who can cause a refusal": why a query that has come to the tables τ is refused with a number
-pub data WhyQuery (N : ℕ) (L : Limits) (lent : ℕ) (τ : Tables) : ℕ → Type 0 where
+pub data QueryReason (N : ℕ) (L : Limits) (lent : ℕ) (τ : Tables) : ℕ → Type 0 where
   -- a packet node is lacking (20)
-  no-packet-node : {number : ℕ} → SetLacks number (τ .sets) → WhyQuery N L lent τ number
+  no-packet-node : {number : ℕ} → SetLacks number (τ .sets) → QueryReason N L lent τ number
   -- a relation node is lacking (21), or what delta meets
-  working : {number : ℕ} → WhyDelta N L (τ .base) number → WhyQuery N L lent τ number
+  working : {number : ℕ} → WhyDelta N L (τ .base) number → QueryReason N L lent τ number
   -- the pending table is full of these states, and one more is to go in
-  no-entry : (pending : List ℕ) → ((s : ℕ) → List·Memᴰ s pending → s < states (τ .base .aut)) → capacity lent ≤ length pending → WhyQuery N L lent τ 24
+  no-entry : (pending : List ℕ) → ((s : ℕ) → List·Memᴰ s pending → s < states (τ .base .aut)) → capacity lent ≤ length pending → QueryReason N L lent τ 24
 
 -- from σ, it is refused in later tables, with the right number
 pub record Stopped (N : ℕ) (L : Limits) (lent : ℕ) (σ : Tables) (number : ℕ) : Type 0 where
   pub last : Tables
   pub sets : SpLaws.Ext (σ .sets) (last .sets)
-  pub grown : Grown (σ .base .aut) (last .base .aut)
+  pub grown : ExtAut (σ .base .aut) (last .base .aut)
   pub transitions : ExtT (σ .base .transitions) (last .base .transitions)
   pub wf : SpLaws.Wf N (last .sets)
-  pub good : Good N L (last .base .aut)
-  pub why : WhyQuery N L lent last number
+  pub good : WfAut N L (last .base .aut)
+  pub why : QueryReason N L lent last number
 
 pub data Ends (N : ℕ) (L : Limits) (lent : ℕ) {A : Type 0} (Q : Tables → A → Type 0) (σ : Tables) : Outcome Tables A → Type 0 where
   halts : {number : ℕ} → Stopped N L lent σ number → Ends N L lent Q σ (refused number)
@@ -87,7 +87,7 @@ pub data Ends (N : ℕ) (L : Limits) (lent : ℕ) {A : Type 0} (Q : Tables → A
 -- a step from σ has given τ, in order, and a value of which P holds
 pub record Steps (N : ℕ) (L : Limits) {A : Type 0} (P : Tables → A → Type 0) (σ τ : Tables) (a : A) : Type 0 where
   pub gone : Gone σ τ
-  pub ordered : Ordered N L τ
+  pub ordered : WfTables N L τ
   pub holds : P τ a
 
 -- .. a step that makes packet nodes only
@@ -99,7 +99,7 @@ gives-map f refusal = refusal
 gives-map f (gives {σ} {a} p) = gives (f σ a p)
 
 -- what follows from later tables
-pub stopped-later : {N : ℕ} {L : Limits} {lent : ℕ} {σ τ : Tables} {number : ℕ} → Later σ τ → Stopped N L lent τ number → Stopped N L lent σ number
+pub stopped-later : {N : ℕ} {L : Limits} {lent : ℕ} {σ τ : Tables} {number : ℕ} → ExtTables σ τ → Stopped N L lent τ number → Stopped N L lent σ number
 stopped-later g s = record {
   last = s .last;
   sets = SpLawsProofs.ext-trans (g .sets) (s .sets);
@@ -130,11 +130,11 @@ module _ {N : ℕ} {L : Limits} {lent : ℕ} {A : Type 0} where
   ends-bind (comes {τ} {a} p) f = let (g, e) = f τ a p in ends-from g e
 
   pub ends-later : {B : Type 0} {P : Tables → A → Type 0} {Q : Tables → B → Type 0} {σ : Tables} {o : Outcome Tables A} {k : A → Step Tables B} → Ends N L lent P σ o
-      → ((τ : Tables) (a : A) → P τ a → Later σ τ × Ends N L lent Q τ (k a τ)) → Ends N L lent Q σ (after o k)
+      → ((τ : Tables) (a : A) → P τ a → ExtTables σ τ × Ends N L lent Q τ (k a τ)) → Ends N L lent Q σ (after o k)
   ends-later (halts s) f = halts s
   ends-later {Q = Q} {σ = σ} (comes {τ} {a} p) f = let (g, e) = f τ a p in go g e
     where
-      go : {τ : Tables} {o : Outcome Tables _} → Later σ τ → Ends N L lent Q τ o → Ends N L lent Q σ o
+      go : {τ : Tables} {o : Outcome Tables _} → ExtTables σ τ → Ends N L lent Q τ o → Ends N L lent Q σ o
       go g (halts s) = halts (stopped-later g s)
       go g (comes q) = comes q
 
@@ -162,7 +162,7 @@ module _ {N : ℕ} {L : Limits} {lent : ℕ} {A : Type 0} where
   ends-branch false m k σ f g = g refl
 
 -- refused at once
-pub stopped-here : {N : ℕ} {L : Limits} {lent : ℕ} {σ : Tables} {number : ℕ} → Ordered N L σ → WhyQuery N L lent σ number → Stopped N L lent σ number
+pub stopped-here : {N : ℕ} {L : Limits} {lent : ℕ} {σ : Tables} {number : ℕ} → WfTables N L σ → QueryReason N L lent σ number → Stopped N L lent σ number
 stopped-here {σ = σ} o y = record {
   last = σ;
   sets = SpLawsProofs.ext-refl (σ .sets);
@@ -175,12 +175,12 @@ stopped-here {σ = σ} o y = record {
 
 -- ---- the steps
 
-module _ {N : ℕ} {L : Limits} {lent : ℕ} {σ : Tables} (o : Ordered N L σ) where
+module _ {N : ℕ} {L : Limits} {lent : ℕ} {σ : Tables} (o : WfTables N L σ) where
   -- on packet nodes
-  pub sets-step : {c : Step Table ℕ} {P : Table → ℕ → Type 0} → Runs (SpLawsProofs.spTheory N) c P (σ .sets) → SpRefused.Stops N (σ .sets) (c (σ .sets)) → Ends N L lent (SetSteps N L P σ) σ (onSets c σ)
+  pub sets-step : {c : Step Table ℕ} {P : Table → ℕ → Type 0} → StableSpec (SpLawsProofs.spTheory N) c P (σ .sets) → SpRefused.Stops N (σ .sets) (c (σ .sets)) → Ends N L lent (SetSteps N L P σ) σ (onSets c σ)
   sets-step {c} {P} r s = go (c (σ .sets)) r s
     where
-      go : (r : Outcome Table ℕ) → Gives (Runs.Good (SpLawsProofs.spTheory N) c P (σ .sets)) r → SpRefused.Stops N (σ .sets) r → Ends N L lent (SetSteps N L P σ) σ (placed putSets σ r)
+      go : (r : Outcome Table ℕ) → Gives (Runs.StableResult (SpLawsProofs.spTheory N) c P (σ .sets)) r → SpRefused.Stops N (σ .sets) r → Ends N L lent (SetSteps N L P σ) σ (placed putSets σ r)
       go (refused number) g (SpRefused.lacks z) = halts (record {
         last = putSets (z .last) σ;
         sets = z .later;
@@ -196,7 +196,7 @@ module _ {N : ℕ} {L : Limits} {lent : ℕ} {σ : Tables} (o : Ordered N L σ) 
   pub images-step : (P : Table → ℕ → Type 0) {c : Step Stores ℕ} → Exact (setLimits N) c (λ τ h. P (τ .sp) h) (diagrams σ) → Ends N L lent (SetSteps N L P σ) σ (makingSets c σ)
   images-step P {c} x = go (c (diagrams σ)) (x .runs) (x .stops)
     where
-      go : (r : Outcome Stores ℕ) → Gives (Runs.Good (bothTheory N) c (λ τ h. P (τ .sp) h) (diagrams σ)) r → Stops (setLimits N) (diagrams σ) r
+      go : (r : Outcome Stores ℕ) → Gives (Runs.StableResult (bothTheory N) c (λ τ h. P (τ .sp) h) (diagrams σ)) r → Stops (setLimits N) (diagrams σ) r
           → Ends N L lent (SetSteps N L P σ) σ (placed (λ s σ. putSets (s .sp) σ) σ r)
       go (refused number) g (stuck {τ = τ} e w y) = halts (record {
         last = putSets (τ .sp) σ;
@@ -213,7 +213,7 @@ module _ {N : ℕ} {L : Limits} {lent : ℕ} {σ : Tables} (o : Ordered N L σ) 
   pub relations-step : (P : Table → ℕ → Type 0) {c : Step Stores ℕ} → Exact (relLimits N) c (λ τ h. P (τ .spp) h) (diagrams σ) → Ends N L lent (Steps N L (λ τ h. P (τ .base .aut .nodes) h) σ) σ (makingRelations c σ)
   relations-step P {c} x = go (c (diagrams σ)) (x .runs) (x .stops)
     where
-      go : (r : Outcome Stores ℕ) → Gives (Runs.Good (bothTheory N) c (λ τ h. P (τ .spp) h) (diagrams σ)) r → Stops (relLimits N) (diagrams σ) r
+      go : (r : Outcome Stores ℕ) → Gives (Runs.StableResult (bothTheory N) c (λ τ h. P (τ .spp) h) (diagrams σ)) r → Stops (relLimits N) (diagrams σ) r
           → Ends N L lent (Steps N L (λ τ h. P (τ .base .aut .nodes) h) σ) σ (placed (λ s σ. putRelations (s .spp) σ) σ r)
       go (refused number) g (stuck {τ = τ} e w y) = halts (record {
         last = putRelations (τ .spp) σ;
@@ -247,7 +247,7 @@ module _ {N : ℕ} {L : Limits} {lent : ℕ} {σ : Tables} (o : Ordered N L σ) 
   base-step (come f) = comes (record { gone = gone-base (f .went); ordered = ordered-base o (f .went) (f .worked); holds = f .holds })
 
   -- a constructor
-  pub goes-ends : {X : Type 0} {P : Aut → X → Type 0} {r : Outcome Aut X} → Goes N L P (σ .base .aut) r → Ends N L lent (Steps N L (λ τ v. P (τ .base .aut) v) σ) σ (placed putBase σ (placed putAut (σ .base) r))
+  pub goes-ends : {X : Type 0} {P : Aut → X → Type 0} {r : Outcome Aut X} → StepSpec N L P (σ .base .aut) r → Ends N L lent (Steps N L (λ τ v. P (τ .base .aut) v) σ) σ (placed putBase σ (placed putAut (σ .base) r))
   goes-ends g = base-step (goes-step (o .worked) g)
 
   module _ {s : ℕ} (k : s < states (σ .base .aut)) where
@@ -268,7 +268,7 @@ module _ {N : ℕ} {L : Limits} {lent : ℕ} {σ : Tables} (o : Ordered N L σ) 
         })
 
 -- an epsilon that was asked for is kept
-pub epsilon-kept : {N : ℕ} {L : Limits} {σ : Tables} → Ordered N L σ → {s : ℕ} → s < states (σ .base .aut) → Gives (λ τ e. HasEpsilon (τ .base .aut) s) (onBase (onAut (epsilon N s)) σ)
+pub epsilon-kept : {N : ℕ} {L : Limits} {σ : Tables} → WfTables N L σ → {s : ℕ} → s < states (σ .base .aut) → Gives (λ τ e. HasEpsilon (τ .base .aut) s) (onBase (onAut (epsilon N s)) σ)
 epsilon-kept {σ = σ} o {s} k = go (epsilon-has (o .worked) k)
   where
     go : {r : Outcome Store ℕ} → Gives (λ b e. HasEpsilon (b .aut) s) r → Gives (λ τ e. HasEpsilon (τ .base .aut) s) (placed putBase σ r)

@@ -24,14 +24,14 @@ use Rattle.spp_steps.specs.Images.{BothWf}
 use Rattle.aut_steps.specs.Tables.{Limits, Aut, aut}
 use Rattle.aut_steps.specs.Languages.{_≈_}
 use Rattle.aut_steps.proofs.Languages.{≈-sym}
-use Rattle.aut_steps.specs.Good.{states, Good}
+use Rattle.aut_steps.specs.Good.{states, WfAut}
 use Rattle.aut_steps.proofs.Good.{grown-refl, grown-trans}
 use Rattle.aut_steps.proofs.Goes.{good-begun}
 use Rattle.aut_steps.proofs.Meaning.{holds-grown}
 use Rattle.delta_steps.specs.Delta.{countOf, store}
 use Rattle.delta_steps.proofs.Worked.{has-epsilon-grown, extt-refl, extt-trans, same-list, begun}
-use Rattle.delta_steps.specs.Stored.{Went}
-use Rattle.query_steps.specs.Tables.{Tables, tables, diagrams, liveOf, LiveSet, Lives, Ordered, Later}
+use Rattle.delta_steps.specs.Stored.{ExtStore}
+use Rattle.query_steps.specs.Tables.{Tables, tables, diagrams, liveOf, LiveSet, Lives, WfTables, ExtTables}
 
 pub live-ext : {N : ℕ} {t u : Table} {l : ℕ} {A : Language N} → SpLaws.Ext t u → LiveSet N t l A → LiveSet N u l A
 live-ext e m = record { set = m .set; den = SpLawsProofs.den-ext e (m .den); is = m .is }
@@ -47,11 +47,11 @@ is-live-same f i = record {
 pub live-same : {N : ℕ} {t : Table} {l : ℕ} {A B : Language N} → A ≈ B → LiveSet N t l A → LiveSet N t l B
 live-same f m = record { set = m .set; den = m .den; is = is-live-same f (m .is) }
 
-pub both-wf : {N : ℕ} {L : Limits} {σ : Tables} → Ordered N L σ → BothWf N (diagrams σ)
+pub both-wf : {N : ℕ} {L : Limits} {σ : Tables} → WfTables N L σ → BothWf N (diagrams σ)
 both-wf o = record { sp-wf = o .sets; spp-wf = o .worked .good .nodes }
 
 -- only a state in use has a word 7
-pub live-there : {N : ℕ} {L : Limits} {σ : Aut} → Good N L σ → (x : ℕ) → 0 < liveOf (σ .states .words) x → x < states σ
+pub live-there : {N : ℕ} {L : Limits} {σ : Aut} → WfAut N L σ → (x : ℕ) → 0 < liveOf (σ .states .words) x → x < states σ
 unfolding liveOf
 live-there {σ = σ} g x p = by-test (leb (states σ) x)
     (λ t. absurd (omega (arith, g .fresh (12 * x + 7) (omega (arith, leb-true (states σ) x t)))))
@@ -62,9 +62,9 @@ live-there {σ = σ} g x p = by-test (leb (states σ) x)
 -- Steps of epsilon and delta, and packet nodes: words 7 to 11 of the states are as they were.
 pub record Gone (σ τ : Tables) : Type 0 where
   pub sets : SpLaws.Ext (σ .sets) (τ .sets)
-  pub went : Went (σ .base) (τ .base)
+  pub went : ExtStore (σ .base) (τ .base)
 
-pub later-refl : (σ : Tables) → Later σ σ
+pub later-refl : (σ : Tables) → ExtTables σ σ
 later-refl σ = record {
   sets = SpLawsProofs.ext-refl (σ .sets);
   grown = grown-refl (σ .base .aut);
@@ -75,7 +75,7 @@ later-refl σ = record {
   transitions = extt-refl (σ .base .transitions);
 }
 
-pub later-trans : {σ τ υ : Tables} → Later σ τ → Later τ υ → Later σ υ
+pub later-trans : {σ τ υ : Tables} → ExtTables σ τ → ExtTables τ υ → ExtTables σ υ
 later-trans p q = record {
   sets = SpLawsProofs.ext-trans (p .sets) (q .sets);
   grown = grown-trans (p .grown) (q .grown);
@@ -94,7 +94,7 @@ module _ {σ τ : Tables} (g : Gone σ τ) where
   unfolding liveOf
   live-word i = g .went .others i 7 (omega arith) (omega arith)
 
-  pub gone-later : Later σ τ
+  pub gone-later : ExtTables σ τ
   gone-later = record {
     sets = g .sets;
     grown = g .went .grown;
@@ -106,7 +106,7 @@ module _ {σ τ : Tables} (g : Gone σ τ) where
   }
 
   -- live sets that are kept are still right
-  pub lives-gone : {N : ℕ} {L : Limits} → Ordered N L σ → Lives N τ
+  pub lives-gone : {N : ℕ} {L : Limits} → WfTables N L σ → Lives N τ
   lives-gone {N} {L} o = record {
     kept = λ x l v e. let m : x < states (σ .base .aut) = old x (omega (arith, live-word x)) in
         live-same (≈-sym (holds-grown (o .worked .good) (g .went .grown) m)) (live-ext (g .sets) (o .lives .kept x m v (sym (live-word x) ∙ e)));
@@ -132,7 +132,7 @@ module _ {σ τ : Tables} (g : Gone σ τ) where
 -- what holds when the constants of N fields are made in zeroed tables
 pub begun-ordered : {N : ℕ} {L : Limits} {s r : Table} {h : ℕ} {c : Spp.Constants} (sp spp st ms ts : List ℕ) → 1 ≤ L .transitions
     → Sp.constants N (table sp 0) ≡ given s h → Spp.constants N (table spp 0) ≡ given r c → ((j : ℕ) → getD st j 0 ≡ 0)
-    → Ordered N L (tables s (store (aut r (table st 0) (table ms 0)) (table ts 0)))
+    → WfTables N L (tables s (store (aut r (table st 0) (table ms 0)) (table ts 0)))
 begun-ordered {N} sp spp st ms ts some a b z = record {
   sets = given-of (SpStart.begun N sp) a .wf;
   worked = begun some (good-begun st ms (given-of (SppBegin.begun N spp) b .wf) z) refl refl;

@@ -4,7 +4,7 @@ use mathlib.Core.List.{List, List·Memᴰ}
 use Prim.Native.Nat.{ℕ, _<_}
 use Rattle.netkat.specs.Handles.{Entry}
 use Rattle.sp_steps.specs.Laws as SpLaws
-use Rattle.spp_steps.specs.Laws.{At}
+use Rattle.spp_steps.specs.Laws.{ValidAt}
 use Rattle.aut_steps.specs.Good.{states}
 use Rattle.query_steps.specs.Tables.{Tables}
 
@@ -12,7 +12,7 @@ module _ (N : ℕ) where
   -- an entry and a link of these tables
   pub record Pending (σ : Tables) (e : Entry ℕ) : Type 0 where
     pub known : e .state < states (σ .base .aut)
-    pub at : SpLaws.At (σ .sets) N (e .packets)
+    pub at : SpLaws.ValidAt (σ .sets) N (e .packets)
 
   abbrev pub Entries : Tables → List (Entry ℕ) → Type 0
   Entries σ es = (e : Entry ℕ) → List·Memᴰ e es → Pending σ e

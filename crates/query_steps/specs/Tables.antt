@@ -14,11 +14,11 @@ use Rattle.sp_steps.specs.Laws as SpLaws
 use Rattle.spp_steps.specs.Laws.{Wf, Ext}
 use Rattle.spp_steps.specs.ImageModel.{Stores, stores}
 use Rattle.aut_steps.specs.Tables.{Limits, putNodes}
-use Rattle.aut_steps.specs.Good.{states, Grown}
+use Rattle.aut_steps.specs.Good.{states, ExtAut}
 use Rattle.aut_steps.specs.Meaning.{Holds}
 use Rattle.delta_steps.specs.Epsilon.{epsilonOf}
 use Rattle.delta_steps.specs.Delta.{countOf, Store, store, listAt}
-use Rattle.delta_steps.specs.Worked.{HasEpsilon, ExtT, Worked, SameWords}
+use Rattle.delta_steps.specs.Worked.{HasEpsilon, ExtT, WfStore, SameWords}
 
 -- ---- the tables
 
@@ -65,7 +65,7 @@ liveOf st x = getD st (12 * x + 7) 0
 -- l is a handle of the start packets of A's strings
 pub record LiveSet (N : ℕ) (t : Table) (l : ℕ) (A : Language N) : Type 0 where
   pub set : Set N
-  pub den : SpLaws.Den t N l set
+  pub den : SpLaws.Denotes t N l set
   pub is : IsLive set A
 
 -- Word 7 of a state: what it keeps is the state's live set. Then its list is stored, and its epsilon unless it is an SPP; and the live sets of the targets are kept too.
@@ -76,15 +76,15 @@ pub record Lives (N : ℕ) (σ : Tables) : Type 0 where
   pub onward : (x : ℕ) → x < states (σ .base .aut) → 0 < liveOf (σ .base .aut .states .words) x → (e : Edge) → List·Memᴰ e (listAt (σ .base) x)
       → 0 < liveOf (σ .base .aut .states .words) (e .target)
 
-pub record Ordered (N : ℕ) (L : Limits) (σ : Tables) : Type 0 where
+pub record WfTables (N : ℕ) (L : Limits) (σ : Tables) : Type 0 where
   pub sets : SpLaws.Wf N (σ .sets)
-  pub worked : Worked N L (σ .base)
+  pub worked : WfStore N L (σ .base)
   pub lives : Lives N σ
 
 -- Steps of any query: what was worked out, live sets too, is as it was; words 8 to 11 are not written.
-pub record Later (σ τ : Tables) : Type 0 where
+pub record ExtTables (σ τ : Tables) : Type 0 where
   pub sets : SpLaws.Ext (σ .sets) (τ .sets)
-  pub grown : Grown (σ .base .aut) (τ .base .aut)
+  pub grown : ExtAut (σ .base .aut) (τ .base .aut)
   pub epsilons : (i : ℕ) → 0 < epsilonOf (σ .base .aut .states .words) i → epsilonOf (τ .base .aut .states .words) i ≡ epsilonOf (σ .base .aut .states .words) i
   pub lists : (i : ℕ) → 0 < countOf (σ .base .aut .states .words) i → SameWords (σ .base) (τ .base) i
   pub lives : (i : ℕ) → 0 < liveOf (σ .base .aut .states .words) i → liveOf (τ .base .aut .states .words) i ≡ liveOf (σ .base .aut .states .words) i

@@ -322,7 +322,7 @@ module _ (ws : List (List ℕ)) where
 -- ---- instructions
 
 -- what is said in other words
-pub says-so : {book : List ℕ} {o p : Option Reader.Said} {r : Said} → p ≡ o → Says book o r → Says book p r
+pub says-so : {book : List ℕ} {o p : Option Reader.Instruction} {r : Said} → p ≡ o → Says book o r → Says book p r
 says-so e S = record { is = e ∙ S .is; listed = S .listed }
 
 module _ (w : List ℕ) (o : Option (List ℕ)) where
@@ -408,30 +408,30 @@ three w a b (x ∷ xs) h = at (number x) (numbers xs)
     at (some n) (some l) = refl
 
 module _ (book : List ℕ) (c : Cursor) where
-  pub says-no-word : c .more ≡ false → Says book (Reader.said (rest book c)) said.Bad
-  unfolding Reader.said
-  says-no-word m = record { is = ap Reader.said (no-more book c m); listed = tt }
+  pub says-no-word : c .more ≡ false → Says book (Reader.parse (rest book c)) said.Bad
+  unfolding Reader.parse
+  says-no-word m = record { is = ap Reader.parse (no-more book c m); listed = tt }
 
   no-numbers : c .more ≡ false → numbers (rest book c) ≡ some []
   unfolding numbers
   no-numbers m = ap numbers (no-more book c m)
 
 module _ {book : List ℕ} {c : Cursor} {w : Word} (T : TakesWord book c w) where
-  said-is : Reader.said (rest book c) ≡ saying (slice (w .from) (w .to) book) (numbers (rest book (w .next)))
-  unfolding Reader.said
-  said-is = ap Reader.said (T .is)
+  said-is : Reader.parse (rest book c) ≡ saying (slice (w .from) (w .to) book) (numbers (rest book (w .next)))
+  unfolding Reader.parse
+  said-is = ap Reader.parse (T .is)
 
-  pub says-words : {r : Said} → Says book (saying (slice (w .from) (w .to) book) (numbers (rest book (w .next)))) r → Says book (Reader.said (rest book c)) r
+  pub says-words : {r : Said} → Says book (saying (slice (w .from) (w .to) book) (numbers (rest book (w .next)))) r → Says book (Reader.parse (rest book c)) r
   says-words S = says-so said-is S
 
-  bad-numbers : numbers (rest book (w .next)) ≡ none → Says book (Reader.said (rest book c)) said.Bad
+  bad-numbers : numbers (rest book (w .next)) ≡ none → Says book (Reader.parse (rest book c)) said.Bad
   bad-numbers e = record { is = said-is ∙ ap (saying (slice (w .from) (w .to) book)) e; listed = tt }
 
   pub numbers-0 : w .next .more ≡ false → numbers (rest book (w .next)) ≡ some []
   numbers-0 m = no-numbers book (w .next) m
 
   module _ (m : w .next .more ≡ true) {r : Number} (A : TakesNumber book (w .next) r) where
-    pub bad-first : r ≡ number-read.Bad → Says book (Reader.said (rest book c)) said.Bad
+    pub bad-first : r ≡ number-read.Bad → Says book (Reader.parse (rest book c)) said.Bad
     bad-first e = bad-numbers (numbers-bad (rest book (w .next)) (some-more book (w .next) m) (number-by A e))
 
     module _ {a : ℕ} {d : Cursor} (e : r ≡ number-read.Is a d) where
@@ -442,7 +442,7 @@ module _ {book : List ℕ} {c : Cursor} {w : Word} (T : TakesWord book c w) wher
       numbers-1 n = behind-1 ∙ ap (map (λ l. a ∷ l)) (no-numbers book d n)
 
       module _ (n : d .more ≡ true) {s : Number} (B : TakesNumber book d s) where
-        pub bad-second : s ≡ number-read.Bad → Says book (Reader.said (rest book c)) said.Bad
+        pub bad-second : s ≡ number-read.Bad → Says book (Reader.parse (rest book c)) said.Bad
         bad-second f = bad-numbers (behind-1 ∙ ap (map (λ l. a ∷ l)) (numbers-bad (rest book d) (some-more book d n) (number-by B f)))
 
         module _ {b : ℕ} {g : Cursor} (f : s ≡ number-read.Is b g) where
@@ -452,11 +452,11 @@ module _ {book : List ℕ} {c : Cursor} {w : Word} (T : TakesWord book c w) wher
           pub numbers-2 : g .more ≡ false → numbers (rest book (w .next)) ≡ some (a ∷ b ∷ [])
           numbers-2 p = behind-2 ∙ ap (λ (o : Option (List ℕ)). map (λ l. a ∷ l) (map (λ l. b ∷ l) o)) (no-numbers book g p)
 
-          pub says-list : g .more ≡ true → {r : Said} → Says book (listing (slice (w .from) (w .to) book) (numbers (rest book (w .next)))) r → Says book (Reader.said (rest book c)) r
+          pub says-list : g .more ≡ true → {r : Said} → Says book (listing (slice (w .from) (w .to) book) (numbers (rest book (w .next)))) r → Says book (Reader.parse (rest book c)) r
           says-list p S = says-so (said-is ∙ ap (saying (slice (w .from) (w .to) book)) behind-2 ∙ three (slice (w .from) (w .to) book) a b (rest book g) (some-more book g p) ∙ sym (ap (listing (slice (w .from) (w .to) book)) behind-2)) S
 
   module _ {r : Count} (C : counted (rest book (w .next)) ≡ countOf r) where
-    pub bad-count : r ≡ count.Bad → Says book (Reader.said (rest book c)) said.Bad
+    pub bad-count : r ≡ count.Bad → Says book (Reader.parse (rest book c)) said.Bad
     bad-count e = bad-numbers (at (numbers (rest book (w .next))) (C ∙ ap countOf e))
       where
         at : (o : Option (List ℕ)) → map length o ≡ none → o ≡ none

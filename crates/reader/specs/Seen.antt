@@ -186,7 +186,7 @@ foundQuery (found-query.Is w) = some (queryOf w)
 foundQuery found-query.Nothing = none
 
 -- the cursor of a list stands before its numbers
-abbrev pub saidOf : List ℕ → Said → Option Reader.Said
+abbrev pub saidOf : List ℕ → Said → Option Reader.Instruction
 saidOf book (said.Constant w) = some (Reader.constant (constantOf w))
 saidOf book (said.Bit w f v) = some (Reader.bit (bitOf w) f v)
 saidOf book (said.Single w a) = some (Reader.single (singleOf w) a)
@@ -205,11 +205,11 @@ SaidListed book (said.Listed w c k) = Within book c × (counted (rest book c) �
 SaidListed book (said.Query w a) = Unit
 SaidListed book said.Bad = Unit
 
-pub record Says (book : List ℕ) (o : Option Reader.Said) (r : Said) : Type 0 where
+pub record Says (book : List ℕ) (o : Option Reader.Instruction) (r : Said) : Type 0 where
   pub is : o ≡ saidOf book r
   pub listed : SaidListed book r
 
 -- a word that takes any number of numbers
-abbrev pub listing : List ℕ → Option (List ℕ) → Option Reader.Said
+abbrev pub listing : List ℕ → Option (List ℕ) → Option Reader.Instruction
 listing w none = none
 listing w (some l) = map (λ k. Reader.listed k l) (find lists w)

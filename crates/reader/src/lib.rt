@@ -444,7 +444,7 @@ fn with_two(book: &[u8], from: usize, to: usize, c: Cursor, a: u64, b: u64) -> S
 // a line behind the first
 pub fn instruction(book: &[u8], c: Cursor) -> Said
     requires { ⌜ Within (now book) c ⌝ }
-    ensures { λ r. ⌜ Says (now (book .entry)) (Reader.said (rest (now (book .entry)) c)) r ⌝ }
+    ensures { λ r. ⌜ Says (now (book .entry)) (Reader.parse (rest (now (book .entry)) c)) r ⌝ }
 {
     if !c.more {
         return Said::Bad;

@@ -7,7 +7,7 @@ use Prim.Native.Nat.{ℕ, _<_}
 use native.Mathlib.Omega.{arith}
 use lib.ListN.{length, getD}
 use Rattle.common.specs.Runs.{Table}
-use Rattle.cache.specs.Cache.{Valid, Sound, Notes}
+use Rattle.cache.specs.Cache.{Valid, Sound, WritesValid}
 use Rattle.cache.proofs.Cache.{sound-notes, sound-map, notes-map, sound-zero}
 use Rattle.sp_steps.specs.Laws.{Ext}
 use Rattle.sp_steps.specs.Reuse.{SpCode, SpValid, SpNoted}
@@ -18,19 +18,19 @@ module _ {σ τ : Table} (e : Ext σ τ) where
   pub sound-ext : {m : List ℕ} → Sound (SpValid σ) m → Sound (SpValid τ) m
   sound-ext s = sound-map (λ _ _ _ _ v. valid-ext e v) s
 
-  pub notes-ext : {m m′ : List ℕ} → Notes (SpNoted σ) m m′ → Notes (SpNoted τ) m m′
+  pub notes-ext : {m m′ : List ℕ} → WritesValid (SpNoted σ) m m′ → WritesValid (SpNoted τ) m m′
   notes-ext n = notes-map (λ _ _ _ _ v. noted-ext e v) n
 
   -- past an operation on packet sets
-  pub sound-own : {m m′ : List ℕ} → Sound (SpValid σ) m → Notes (SpNoted τ) m m′ → Sound (SpValid τ) m′
+  pub sound-own : {m m′ : List ℕ} → Sound (SpValid σ) m → WritesValid (SpNoted τ) m m′ → Sound (SpValid τ) m′
   sound-own s n = sound-notes (sound-ext s) (notes-map (λ _ _ _ _ v. v .valid) n)
 
 -- what is asked of slots that are not of packet sets holds past an operation on packet sets
-pub other-sound : {P : Valid} {σ : Table} {m m′ : List ℕ} → ((op a b r : ℕ) → SpCode op → P op a b r) → Sound P m → Notes (SpNoted σ) m m′ → Sound P m′
+pub other-sound : {P : Valid} {σ : Table} {m m′ : List ℕ} → ((op a b r : ℕ) → SpCode op → P op a b r) → Sound P m → WritesValid (SpNoted σ) m m′ → Sound P m′
 other-sound f s n = sound-notes s (notes-map (λ op a b r v. f op a b r (v .own)) n)
 
 -- and the slots of packet sets stay past whoever writes none of theirs
-pub sound-past : {P : Valid} {σ : Table} {m m′ : List ℕ} → ((op a b r : ℕ) → P op a b r → SpCode op → ⊥) → Sound (SpValid σ) m → Notes P m m′ → Sound (SpValid σ) m′
+pub sound-past : {P : Valid} {σ : Table} {m m′ : List ℕ} → ((op a b r : ℕ) → P op a b r → SpCode op → ⊥) → Sound (SpValid σ) m → WritesValid P m m′ → Sound (SpValid σ) m′
 sound-past f s n = sound-notes s (notes-map (λ op a b r v. valid-not (λ c. f op a b r v c)) n)
 
 -- a cache of zeros

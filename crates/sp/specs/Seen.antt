@@ -6,10 +6,10 @@ use Prim.Native.Nat.{ℕ, _*_, _/_, _≤_, _<_}
 use lib.ListN.{length}
 use Rattle.common.specs.Outcome.{Outcome, refused, given, Step}
 use Rattle.common.specs.Runs.{Table, table}
-use Rattle.cache.specs.Cache.{Sound, Notes}
+use Rattle.cache.specs.Cache.{Sound, WritesValid}
 use Rattle.sp_steps.specs.Op as steps
 use Rattle.sp_steps.specs.Model.{child, Exit, out, on, ordered, most, size}
-use Rattle.sp_steps.specs.Laws.{WfAny, Rising, At}
+use Rattle.sp_steps.specs.Laws.{WfAny, Rising, ValidAt}
 use Rattle.sp_steps.specs.Reuse.{SpValid, SpNoted}
 use Rattle.sp.specs.declared.Made.{Made}
 use Rattle.sp.specs.declared.Made.the-variants.{Node, Full}
@@ -52,8 +52,8 @@ pub record Kids (t : List ℕ) (h x0 x1 : ℕ) : Type 0 where
 pub record Ready (σ : Table) (d a b : ℕ) : Type 0 where
   pub deep : d ≤ 31
   pub wf : WfAny d σ
-  pub at-a : At σ d a
-  pub at-b : At σ d b
+  pub at-a : ValidAt σ d a
+  pub at-b : ValidAt σ d b
 
 pub record Asked (t m : List ℕ) (n d a b : ℕ) : Type 0 where
   pub ready : Ready (table t n) d a b
@@ -61,7 +61,7 @@ pub record Asked (t m : List ℕ) (n d a b : ℕ) : Type 0 where
 
 -- unless refused, the cache was given only valid slots of packet sets
 abbrev pub Noted : List ℕ → Made → List ℕ → List ℕ → Type 0
-Noted m (Node h n) t m′ = Notes (SpNoted (table t n)) m m′
+Noted m (Node h n) t m′ = WritesValid (SpNoted (table t n)) m m′
 Noted m Full t m′ = Unit
 
 -- the steps `c` from the table t and the cache m have given r, t′ and m′
@@ -72,9 +72,9 @@ pub record Answer (c : Step Table ℕ) (t m : List ℕ) (n : ℕ) (r : Made) (t�
 pub record SizeAsked (t m : List ℕ) (n d a : ℕ) : Type 0 where
   pub deep : d ≤ 31
   pub wf : WfAny d (table t n)
-  pub at-a : At (table t n) d a
+  pub at-a : ValidAt (table t n) d a
   pub sound : Sound (SpValid (table t n)) m
 
 pub record SizeAnswer (t m : List ℕ) (n d a r : ℕ) (m′ : List ℕ) : Type 0 where
   pub is : r ≡ size t d a
-  pub notes : Notes (SpNoted (table t n)) m m′
+  pub notes : WritesValid (SpNoted (table t n)) m m′

@@ -11,12 +11,12 @@ use borrow.Author.Tests.{eqb-true}
 use Rattle.common.specs.Packets.{Packet, bit, Set}
 use Rattle.common.specs.Outcome.{Step, return}
 use Rattle.common.specs.Runs.{Table}
-use Rattle.common.proofs.Runs.{Runs, runs-map, runs-is, runs-return, runs-bind}
+use Rattle.common.proofs.Runs.{StableSpec, runs-map, runs-is, runs-return, runs-bind}
 use Rattle.sp_steps.specs.Word.{flip}
 use Rattle.sp_steps.specs.Op.{Op}
 use Rattle.sp_steps.proofs.Op.{sem}
 use Rattle.sp_steps.specs.Model.{child, zeroAt, oneAt, Exit, out, on, pick, ordered, exit, join, both, follow, last, apply}
-use Rattle.sp_steps.specs.Laws.{WfIn, Ext, At, Den}
+use Rattle.sp_steps.specs.Laws.{WfIn, Ext, ValidAt, Denotes}
 use Rattle.sp_steps.proofs.Laws.{theoryIn, at-low, child-ext, den-ext, den-map, den-child, den-flip, den-zero, den-one}
 use Rattle.sp_steps.proofs.Make.{node, mk-runs}
 
@@ -26,13 +26,13 @@ use Rattle.sp_steps.proofs.Make.{node, mk-runs}
 pub record Going (σ : Table) (d : ℕ) (S : Set d) (o : Op) (x y : ℕ) : Type 0 where
   pub left : Set d
   pub right : Set d
-  pub den-x : Den σ d x left
-  pub den-y : Den σ d y right
+  pub den-x : Denotes σ d x left
+  pub den-y : Denotes σ d y right
   pub makes : (p : Packet d) → sem o (left p) (right p) ≡ S p
 
 -- what an exit leads to is S
 abbrev pub Leads : Table → (d : ℕ) → Set d → Exit → Type 0
-Leads σ d S (out h) = Den σ d h S
+Leads σ d S (out h) = Denotes σ d h S
 Leads σ d S (on o x y) = Going σ d S o x y
 
 pick-leads : (P : Exit → Type 0) (c : Bool) (x y : Exit) → (c ≡ true → P x) → (c ≡ false → P y) → P (pick c x y)
@@ -68,10 +68,10 @@ sem-comm Op.xor false true = refl
 sem-comm Op.xor false false = refl
 
 -- one handle means one set
-pub agree : {σ : Table} {d x y : ℕ} {S T : Set d} → Den σ d x S → Den σ d y T → x ≡ y → (p : Packet d) → S p ≡ T p
-agree {σ} {d} {T} X Y e p = sym (X .means p) ∙ subst (λ (k : ℕ). Den σ d k T) (sym e) Y .means p
+pub agree : {σ : Table} {d x y : ℕ} {S T : Set d} → Denotes σ d x S → Denotes σ d y T → x ≡ y → (p : Packet d) → S p ≡ T p
+agree {σ} {d} {T} X Y e p = sym (X .means p) ∙ subst (λ (k : ℕ). Denotes σ d k T) (sym e) Y .means p
 
-module _ {P : ℕ → Type 0} {N d a b : ℕ} {σ : Table} {A B : Set d} (w : WfIn P N σ) (l : d ≤ N) (X : Den σ d a A) (Y : Den σ d b B) where
+module _ {P : ℕ → Type 0} {N d a b : ℕ} {σ : Table} {A B : Set d} (w : WfIn P N σ) (l : d ≤ N) (X : Denotes σ d a A) (Y : Denotes σ d b B) where
   ordered-leads : (o : Op) → Leads σ d (λ p. sem o (A p) (B p)) (ordered o a b)
   ordered-leads o =
       pick-leads (Leads σ d (λ p. sem o (A p) (B p))) (ltb b a) (on o b a) (on o a b)
@@ -161,7 +161,7 @@ apply-on o d a b u x y σ q = ap (λ (z : Exit). follow z (λ o′. apply o′ d
 -- ---- both sides
 
 -- the children of two handles are what they were
-pub both-ext : (f : ℕ → ℕ → Step Table ℕ) {σ τ : Table} (d a b : ℕ) → Ext σ τ → At σ (suc d) a → At σ (suc d) b
+pub both-ext : (f : ℕ → ℕ → Step Table ℕ) {σ τ : Table} (d a b : ℕ) → Ext σ τ → ValidAt σ (suc d) a → ValidAt σ (suc d) b
     → both f a b τ ≡ join f (child (σ .words) false a) (child (σ .words) false b) (child (σ .words) true a) (child (σ .words) true b) τ
 unfolding both
 both-ext f {σ} {τ} d a b e x y =
@@ -170,11 +170,11 @@ both-ext f {σ} {τ} d a b e x y =
 
 -- f makes the operation o of two sets of depth d
 abbrev pub Makes : (ℕ → Type 0) → ℕ → ℕ → Op → (ℕ → ℕ → Step Table ℕ) → Type 0
-Makes P N d o f = (σ : Table) (a b : ℕ) (A B : Set d) → WfIn P N σ → Den σ d a A → Den σ d b B
-    → Runs (theoryIn P N) (f a b) (λ τ h. Den τ d h (λ p. sem o (A p) (B p))) σ
+Makes P N d o f = (σ : Table) (a b : ℕ) (A B : Set d) → WfIn P N σ → Denotes σ d a A → Denotes σ d b B
+    → StableSpec (theoryIn P N) (f a b) (λ τ h. Denotes τ d h (λ p. sem o (A p) (B p))) σ
 
 pub both-runs : (P : ℕ → Type 0) (N d : ℕ) (o : Op) (f : ℕ → ℕ → Step Table ℕ) → Makes P N d o f → (σ : Table) (a b : ℕ) (A B : Set (suc d))
-    → WfIn P N σ → Den σ (suc d) a A → Den σ (suc d) b B → Runs (theoryIn P N) (both f a b) (λ τ h. Den τ (suc d) h (λ p. sem o (A p) (B p))) σ
+    → WfIn P N σ → Denotes σ (suc d) a A → Denotes σ (suc d) b B → StableSpec (theoryIn P N) (both f a b) (λ τ h. Denotes τ (suc d) h (λ p. sem o (A p) (B p))) σ
 unfolding join
 both-runs P N d o f makes σ a b A B w X Y =
     runs-is (theoryIn P N) (λ τ e. both-ext f d a b e (X .at) (Y .at))
@@ -198,7 +198,7 @@ apply-runs P N o (suc d) l σ a b A B w X Y = at-exit (λ u. apply-runs P N u d 
     S p = sem o (A p) (B p)
 
     at-exit : ((u : Op) → Makes P N d u (apply u d)) → (z : Exit) → exit o (suc d) a b ≡ z → Leads σ (suc d) S z
-        → Runs (theoryIn P N) (follow (exit o (suc d) a b) (λ o′. apply o′ d)) (λ τ h. Den τ (suc d) h S) σ
+        → StableSpec (theoryIn P N) (follow (exit o (suc d) a b) (λ o′. apply o′ d)) (λ τ h. Denotes τ (suc d) h S) σ
     at-exit rec (out h) q m = runs-is (theoryIn P N) (λ τ _. ap (λ (z : Exit). follow z (λ o′. apply o′ d) τ) q) (runs-return (theoryIn P N) h w m)
     at-exit rec (on u x y) q m =
         runs-is (theoryIn P N) (λ τ _. ap (λ (z : Exit). follow z (λ o′. apply o′ d) τ) q)

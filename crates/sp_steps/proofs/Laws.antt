@@ -12,7 +12,7 @@ use Rattle.common.specs.Runs.{Table, Theory}
 use Rattle.sp_steps.specs.Word.{flip}
 use Rattle.sp_steps.proofs.Word.{flip-half, flip-mod, flip-flip, flip-one, flip-zero, halves}
 use Rattle.sp_steps.specs.Model.{kid, child, mem, zeroAt, oneAt}
-use Rattle.sp_steps.specs.Laws.{Ext, At, Level, WfIn, Below, Wf, WfAny, Den}
+use Rattle.sp_steps.specs.Laws.{Ext, ValidAt, Level, WfIn, Below, Wf, WfAny, Denotes}
 
 pub ext-refl : (σ : Table) → Ext σ σ
 ext-refl σ = record { more = omega arith; len = refl; keep = λ b i l. refl; beyond = λ i l. refl }
@@ -38,29 +38,29 @@ pub child-ext : {σ τ : Table} → Ext σ τ → (b : Bool) (h : ℕ) → 2 ≤
 unfolding child
 child-ext e b h l m = ap (flip _) (e .keep b (h / 2 - 1) (omega arith))
 
-pub at-ext : {σ τ : Table} → Ext σ τ → (d h : ℕ) → At σ d h → At τ d h
+pub at-ext : {σ τ : Table} → Ext σ τ → (d h : ℕ) → ValidAt σ d h → ValidAt τ d h
 at-ext e zero h a = a
 at-ext {τ} e (suc d) h a =
-    (a .0, le-trans (a .1) (e .more), λ b. subst (At τ d) (sym (child-ext e b h (a .0) (a .1))) (at-ext e d _ (a .2 b)))
+    (a .0, le-trans (a .1) (e .more), λ b. subst (ValidAt τ d) (sym (child-ext e b h (a .0) (a .1))) (at-ext e d _ (a .2 b)))
 
-pub mem-ext : {σ τ : Table} → Ext σ τ → (d h : ℕ) (p : Packet d) → At σ d h → mem (τ .words) d h p ≡ mem (σ .words) d h p
+pub mem-ext : {σ τ : Table} → Ext σ τ → (d h : ℕ) (p : Packet d) → ValidAt σ d h → mem (τ .words) d h p ≡ mem (σ .words) d h p
 unfolding mem
 mem-ext e d h end a = refl
 mem-ext {σ} {τ} e d h (bit {n} b p) a =
     ap (λ (k : ℕ). mem (τ .words) n k p) (child-ext e b h (a .0) (a .1)) ∙ mem-ext e n _ p (a .2 b)
 
-pub den-ext : {σ τ : Table} {d h : ℕ} {S : Set d} → Ext σ τ → Den σ d h S → Den τ d h S
+pub den-ext : {σ τ : Table} {d h : ℕ} {S : Set d} → Ext σ τ → Denotes σ d h S → Denotes τ d h S
 den-ext {d} {h} e x = record { at = at-ext e d h (x .at); means = λ p. mem-ext e d h p (x .at) ∙ x .means p }
 
-pub den-map : {σ : Table} {d h : ℕ} {S T : Set d} → ((p : Packet d) → S p ≡ T p) → Den σ d h S → Den σ d h T
+pub den-map : {σ : Table} {d h : ℕ} {S T : Set d} → ((p : Packet d) → S p ≡ T p) → Denotes σ d h S → Denotes σ d h T
 den-map f x = record { at = x .at; means = λ p. x .means p ∙ f p }
 
-pub den-child : {σ : Table} {d h : ℕ} {S : Set (suc d)} → Den σ (suc d) h S → (b : Bool) → Den σ d (child (σ .words) b h) (λ p. S (bit b p))
+pub den-child : {σ : Table} {d h : ℕ} {S : Set (suc d)} → Denotes σ (suc d) h S → (b : Bool) → Denotes σ d (child (σ .words) b h) (λ p. S (bit b p))
 unfolding mem
 den-child x b = record { at = x .at .2 b; means = λ p. x .means (bit b p) }
 
 -- what a handle means is a set that it means
-pub den-mem : {σ : Table} {d h : ℕ} → At σ d h → Den σ d h (mem (σ .words) d h)
+pub den-mem : {σ : Table} {d h : ℕ} → ValidAt σ d h → Denotes σ d h (mem (σ .words) d h)
 den-mem a = record { at = a; means = λ p. refl }
 
 -- ---- complement
@@ -72,10 +72,10 @@ child-flip t b h =
     ∙ ap (λ (k : ℕ). flip k (kid t b (h / 2 - 1))) (flip-mod 1 h ∙ omega arith)
     ∙ flip-one (h % 2) (kid t b (h / 2 - 1))
 
-pub at-flip : (σ : Table) (d h : ℕ) → At σ d h → At σ d (flip 1 h)
+pub at-flip : (σ : Table) (d h : ℕ) → ValidAt σ d h → ValidAt σ d (flip 1 h)
 at-flip σ zero h a = omega (arith, flip-half 1 h)
 at-flip σ (suc d) h a =
-    (omega (arith, flip-half 1 h), omega (arith, flip-half 1 h), λ b. subst (At σ d) (sym (child-flip (σ .words) b h)) (at-flip σ d _ (a .2 b)))
+    (omega (arith, flip-half 1 h), omega (arith, flip-half 1 h), λ b. subst (ValidAt σ d) (sym (child-flip (σ .words) b h)) (at-flip σ d _ (a .2 b)))
 
 pub odd-flip : (h : ℕ) → eqb (flip 1 h % 2) 1 ≡ not (eqb (h % 2) 1)
 odd-flip h = go (h % 2) refl
@@ -90,7 +90,7 @@ unfolding mem
 mem-flip t d h end = odd-flip h
 mem-flip t d h (bit {n} b p) = ap (λ (k : ℕ). mem t n k p) (child-flip t b h) ∙ mem-flip t n (child t b h) p
 
-pub den-flip : {σ : Table} {d h : ℕ} {S : Set d} → Den σ d h S → Den σ d (flip 1 h) (λ p. not (S p))
+pub den-flip : {σ : Table} {d h : ℕ} {S : Set d} → Denotes σ d h S → Denotes σ d (flip 1 h) (λ p. not (S p))
 den-flip {σ} {d} {h} x = record { at = at-flip σ d h (x .at); means = λ p. mem-flip (σ .words) d h p ∙ ap not (x .means p) }
 
 -- ---- one handle for a set
@@ -105,7 +105,7 @@ zeros zero = end
 zeros (suc d) = bit false (zeros d)
 
 -- it is in the sets with an odd handle
-pub mem-zeros : {P : ℕ → Type 0} {N : ℕ} {σ : Table} → WfIn P N σ → (d h : ℕ) → At σ d h → mem (σ .words) d h (zeros d) ≡ eqb (h % 2) 1
+pub mem-zeros : {P : ℕ → Type 0} {N : ℕ} {σ : Table} → WfIn P N σ → (d h : ℕ) → ValidAt σ d h → mem (σ .words) d h (zeros d) ≡ eqb (h % 2) 1
 unfolding mem zeros
 mem-zeros w zero h a = refl
 mem-zeros w (suc d) h a = mem-zeros w d _ (a .2 false) ∙ ap (λ (k : ℕ). eqb k 1) (low-child w h (a .0) (a .1))
@@ -134,7 +134,7 @@ unfolding child
 stored-of t x y l c e = flip-inj (y % 2) _ _ (ap (λ (s : ℕ). flip s (kid t c (x / 2 - 1))) (sym l) ∙ e)
 
 -- two handles of one depth with the same packets are one handle
-pub canonical : {P : ℕ → Type 0} {N : ℕ} {σ : Table} → WfIn P N σ → (d x y : ℕ) → At σ d x → At σ d y
+pub canonical : {P : ℕ → Type 0} {N : ℕ} {σ : Table} → WfIn P N σ → (d x y : ℕ) → ValidAt σ d x → ValidAt σ d y
     → ((p : Packet d) → mem (σ .words) d x p ≡ mem (σ .words) d y p) → x ≡ y
 unfolding mem
 canonical w zero x y a b e = let q : x % 2 ≡ y % 2 = odd-eq x y (e end) in omega arith
@@ -144,7 +144,7 @@ canonical {σ} w (suc d) x y a b e =
     let i : x / 2 - 1 ≡ y / 2 - 1 = w .once _ _ (at-lt x (a .0) (a .1)) (at-lt y (b .0) (b .1)) (λ c. stored-of (σ .words) x y low c (kids c)) in
     halves x y (half-of x y (a .0) (b .0) i) low
 
-pub den-same : {P : ℕ → Type 0} {N : ℕ} {σ : Table} {d x y : ℕ} {S T : Set d} → WfIn P N σ → Den σ d x S → Den σ d y T → ((p : Packet d) → S p ≡ T p) → x ≡ y
+pub den-same : {P : ℕ → Type 0} {N : ℕ} {σ : Table} {d x y : ℕ} {S T : Set d} → WfIn P N σ → Denotes σ d x S → Denotes σ d y T → ((p : Packet d) → S p ≡ T p) → x ≡ y
 den-same {d} {x} {y} w a b e = canonical w d x y (a .at) (b .at) (λ p. a .means p ∙ e p ∙ sym (b .means p))
 
 -- ---- the constants
@@ -157,37 +157,37 @@ child-zero {σ} w d l b =
     ∙ ap (kid (σ .words) b) {y = d} (omega arith)
     ∙ w .const d l b
 
-pub zero-at : {P : ℕ → Type 0} {N : ℕ} {σ : Table} → WfIn P N σ → (d : ℕ) → d ≤ N → At σ d (zeroAt d)
+pub zero-at : {P : ℕ → Type 0} {N : ℕ} {σ : Table} → WfIn P N σ → (d : ℕ) → d ≤ N → ValidAt σ d (zeroAt d)
 zero-at w zero l = omega arith
 zero-at {σ} w (suc d) l =
-    (omega arith, omega (arith, w .many), λ b. subst (At σ d) (sym (child-zero w d l b)) (zero-at w d (omega arith)))
+    (omega arith, omega (arith, w .many), λ b. subst (ValidAt σ d) (sym (child-zero w d l b)) (zero-at w d (omega arith)))
 
 pub zero-mem : {P : ℕ → Type 0} {N : ℕ} {σ : Table} → WfIn P N σ → (d : ℕ) → d ≤ N → (p : Packet d) → mem (σ .words) d (zeroAt d) p ≡ false
 unfolding mem
 zero-mem w d l end = refl
 zero-mem {σ} w d l (bit {n} b p) = ap (λ (k : ℕ). mem (σ .words) n k p) (child-zero w n l b) ∙ zero-mem w n (omega arith) p
 
-pub den-zero : {P : ℕ → Type 0} {N : ℕ} {σ : Table} → WfIn P N σ → (d : ℕ) → d ≤ N → Den σ d (zeroAt d) (λ p. false)
+pub den-zero : {P : ℕ → Type 0} {N : ℕ} {σ : Table} → WfIn P N σ → (d : ℕ) → d ≤ N → Denotes σ d (zeroAt d) (λ p. false)
 den-zero w d l = record { at = zero-at w d l; means = zero-mem w d l }
 
 pub one-flip : (d : ℕ) → flip 1 (zeroAt d) ≡ oneAt d
 unfolding flip
 one-flip d = omega arith
 
-pub den-one : {P : ℕ → Type 0} {N : ℕ} {σ : Table} → WfIn P N σ → (d : ℕ) → d ≤ N → Den σ d (oneAt d) (λ p. true)
-den-one {σ} w d l = subst (λ (h : ℕ). Den σ d h (λ p. true)) (one-flip d) (den-flip (den-zero w d l))
+pub den-one : {P : ℕ → Type 0} {N : ℕ} {σ : Table} → WfIn P N σ → (d : ℕ) → d ≤ N → Denotes σ d (oneAt d) (λ p. true)
+den-one {σ} w d l = subst (λ (h : ℕ). Denotes σ d h (λ p. true)) (one-flip d) (den-flip (den-zero w d l))
 
 -- ---- depths
 
 -- a handle has one depth
-pub one-depth : (σ : Table) (d e h : ℕ) → At σ d h → At σ e h → d ≡ e
+pub one-depth : (σ : Table) (d e h : ℕ) → ValidAt σ d h → ValidAt σ e h → d ≡ e
 one-depth σ zero zero h a b = refl
 one-depth σ zero (suc e) h a b = absurd (omega arith)
 one-depth σ (suc d) zero h a b = absurd (omega arith)
 one-depth σ (suc d) (suc e) h a b = ap suc (one-depth σ d e _ (a .2 false) (b .2 false))
 
 -- a handle is of an earlier node than the next, or of depth 0
-pub at-half : (σ : Table) (d h : ℕ) → At σ d h → h / 2 ≤ σ .count
+pub at-half : (σ : Table) (d h : ℕ) → ValidAt σ d h → h / 2 ≤ σ .count
 at-half σ zero h a = omega arith
 at-half σ (suc d) h a = a .1
 
@@ -195,16 +195,16 @@ pub level-ext : {P : ℕ → Type 0} {σ τ : Table} (i : ℕ) → Ext σ τ →
 level-ext {τ} i e l v = record {
   depth = v .depth;
   low = v .low;
-  children = λ b. subst (At τ (v .depth)) (sym (e .keep b i l)) (at-ext e (v .depth) _ (v .children b));
+  children = λ b. subst (ValidAt τ (v .depth)) (sym (e .keep b i l)) (at-ext e (v .depth) _ (v .children b));
 }
 
-pub at-flip-by : (σ : Table) (d h s : ℕ) → s < 2 → At σ d h → At σ d (flip s h)
-at-flip-by σ d h zero l a = subst (At σ d) (sym (flip-zero h)) a
+pub at-flip-by : (σ : Table) (d h s : ℕ) → s < 2 → ValidAt σ d h → ValidAt σ d (flip s h)
+at-flip-by σ d h zero l a = subst (ValidAt σ d) (sym (flip-zero h)) a
 at-flip-by σ d h (suc zero) l a = at-flip σ d h a
 at-flip-by σ d h (suc (suc s)) l a = absurd (omega arith)
 
 -- the depth below that of a handle with children is one of P
-pub at-low : {P : ℕ → Type 0} {N : ℕ} {σ : Table} → WfIn P N σ → (d h : ℕ) → At σ (suc d) h → P d
+pub at-low : {P : ℕ → Type 0} {N : ℕ} {σ : Table} → WfIn P N σ → (d h : ℕ) → ValidAt σ (suc d) h → P d
 unfolding child
 at-low {P} {σ} w d h a =
     subst P (sym (one-depth σ d (v .depth) _ (a .2 false) (at-flip-by σ (v .depth) _ (h % 2) (omega arith) (v .children false)))) (v .low)

@@ -12,12 +12,12 @@ use lib.Seq.{getD-set-same, getD-set-other}
 use borrow.Author.Tests.{eqb-true, eq-eqb, ltb-true, ltb-false}
 use Rattle.common.specs.Packets.{Packet, bit, Set}
 use Rattle.common.specs.Outcome.{Outcome, refused, given, Gives, refusal, gives}
-use Rattle.common.specs.Runs.{Table, Good}
-use Rattle.common.proofs.Runs.{Runs, runs-map}
+use Rattle.common.specs.Runs.{Table, StableResult}
+use Rattle.common.proofs.Runs.{StableSpec, runs-map}
 use Rattle.sp_steps.specs.Word.{flip}
 use Rattle.sp_steps.proofs.Word.{flip-half, flip-mod, flip-flip, halves}
 use Rattle.sp_steps.specs.Model.{kid, child, mem, most, same, seek, room, put, handle, putIf, foundIf, intern, mk}
-use Rattle.sp_steps.specs.Laws.{WfIn, Ext, At, Den}
+use Rattle.sp_steps.specs.Laws.{WfIn, Ext, ValidAt, Denotes}
 use Rattle.sp_steps.proofs.Laws.{theoryIn, ext-refl, at-ext, mem-ext, child-ext, low-child, level-ext, at-half, at-flip-by}
 use Rattle.sp_steps.specs.Make.{side, Missing, Short}
 
@@ -111,11 +111,11 @@ put-ext x y σ = record {
 split : {n i : ℕ} → i < n + 1 → (i ≡ n) ⊎ (i < n)
 split l = eq-or-lt-of-le (omega arith)
 
-at-side : (σ : Table) (d x y : ℕ) → At σ d x → At σ d y → (b : Bool) → At σ d (side b x y)
+at-side : (σ : Table) (d x y : ℕ) → ValidAt σ d x → ValidAt σ d y → (b : Bool) → ValidAt σ d (side b x y)
 at-side σ d x y a c false = a
 at-side σ d x y a c true = c
 
-put-wf : {P : ℕ → Type 0} {N : ℕ} (d x y : ℕ) (σ : Table) → WfIn P N σ → P d → At σ d x → At σ d y → 2 * σ .count + 1 < length (σ .words) → σ .count < most → x % 2 ≡ 0
+put-wf : {P : ℕ → Type 0} {N : ℕ} (d x y : ℕ) (σ : Table) → WfIn P N σ → P d → ValidAt σ d x → ValidAt σ d y → 2 * σ .count + 1 < length (σ .words) → σ .count < most → x % 2 ≡ 0
     → Missing σ x y → WfIn P N (put x y σ)
 put-wf d x y σ w low at-x at-y l c z fresh = record {
   fits = omega (arith, put-len x y σ, put-count x y σ);
@@ -140,12 +140,12 @@ put-wf d x y σ w low at-x at-y l c z fresh = record {
       (λ q. record {
         depth = d;
         low = low;
-        children = λ b. subst (At (put x y σ) d) (sym (ap (kid (put x y σ .words) b) q ∙ put-new x y σ b l)) (at-ext (put-ext x y σ) d (side b x y) (at-sides b));
+        children = λ b. subst (ValidAt (put x y σ) d) (sym (ap (kid (put x y σ .words) b) q ∙ put-new x y σ b l)) (at-ext (put-ext x y σ) d (side b x y) (at-sides b));
       })
       (λ q. level-ext i (put-ext x y σ) q (w .level i q)) (at i m);
 }
   where
-    at-sides : (b : Bool) → At σ d (side b x y)
+    at-sides : (b : Bool) → ValidAt σ d (side b x y)
     at-sides b = at-side σ d x y at-x at-y b
 
     at : (i : ℕ) → i < put x y σ .count → (i ≡ σ .count) ⊎ (i < σ .count)
@@ -185,7 +185,7 @@ unfolding child
 kid-back t h s x b e q = sym (flip-flip s (kid t b (h / 2 - 1))) ∙ ap (flip s) (ap (λ (k : ℕ). flip k (kid t b (h / 2 - 1))) q ∙ e)
 
 -- the handle whose children are at hand is found again
-pub mk-again : {P : ℕ → Type 0} {N : ℕ} {σ : Table} (d h x0 x1 : ℕ) → WfIn P N σ → At σ (suc d) h → ((b : Bool) → child (σ .words) b h ≡ side b x0 x1) → mk x0 x1 σ ≡ given σ h
+pub mk-again : {P : ℕ → Type 0} {N : ℕ} {σ : Table} (d h x0 x1 : ℕ) → WfIn P N σ → ValidAt σ (suc d) h → ((b : Bool) → child (σ .words) b h ≡ side b x0 x1) → mk x0 x1 σ ≡ given σ h
 unfolding mk intern
 mk-again {σ} d h x0 x1 w a k =
     by-test (ltb j n)
@@ -236,14 +236,14 @@ mk-again {σ} d h x0 x1 w a k =
 
 -- what holds of the handle that mk gives from σ
 pub record Made (σ : Table) (d x0 x1 : ℕ) (τ : Table) (h : ℕ) : Type 0 where
-  pub at : At τ (suc d) h
+  pub at : ValidAt τ (suc d) h
   pub kids : (b : Bool) → child (τ .words) b h ≡ side b x0 x1
   pub one-more : τ .count ≤ σ .count + 1
 
 module _ {P : ℕ → Type 0} {N d x0 x1 : ℕ} {σ : Table} where
   -- node i of a later store has the stored children flip s x0 and flip s x1
-  found : (τ : Table) (i s : ℕ) → Ext σ τ → τ .count ≤ σ .count + 1 → WfIn P N τ → At σ d x0 → At σ d x1 → s < 2 → i < τ .count
-      → ((b : Bool) → kid (τ .words) b i ≡ side b (flip s x0) (flip s x1)) → Good (theoryIn P N) (mk x0 x1) (Made σ d x0 x1) σ τ (handle s i)
+  found : (τ : Table) (i s : ℕ) → Ext σ τ → τ .count ≤ σ .count + 1 → WfIn P N τ → ValidAt σ d x0 → ValidAt σ d x1 → s < 2 → i < τ .count
+      → ((b : Bool) → kid (τ .words) b i ≡ side b (flip s x0) (flip s x1)) → StableResult (theoryIn P N) (mk x0 x1) (Made σ d x0 x1) σ τ (handle s i)
   found τ i s e o w a0 a1 l m k = record {
     ext = e;
     wf = w;
@@ -254,10 +254,10 @@ module _ {P : ℕ → Type 0} {N d x0 x1 : ℕ} {σ : Table} where
       ks : (b : Bool) → child (τ .words) b (handle s i) ≡ side b x0 x1
       ks b = child-at (τ .words) b s i l ∙ ap (flip s) (k b) ∙ side-flip b s x0 x1
 
-      at : At τ (suc d) (handle s i)
-      at = (omega (arith, handle-half s i), omega (arith, handle-half s i), λ b. subst (At τ d) (sym (ks b)) (at-ext e d _ (at-side σ d x0 x1 a0 a1 b)))
+      at : ValidAt τ (suc d) (handle s i)
+      at = (omega (arith, handle-half s i), omega (arith, handle-half s i), λ b. subst (ValidAt τ d) (sym (ks b)) (at-ext e d _ (at-side σ d x0 x1 a0 a1 b)))
 
-  pub mk-made : WfIn P N σ → P d → At σ d x0 → At σ d x1 → Runs (theoryIn P N) (mk x0 x1) (Made σ d x0 x1) σ
+  pub mk-made : WfIn P N σ → P d → ValidAt σ d x0 → ValidAt σ d x1 → StableSpec (theoryIn P N) (mk x0 x1) (Made σ d x0 x1) σ
   unfolding mk intern
   mk-made w low a0 a1 = at-test (ltb i n) refl
     where
@@ -280,7 +280,7 @@ module _ {P : ℕ → Type 0} {N d x0 x1 : ℕ} {σ : Table} where
       i = seek t x y 0 n
 
       Is : Outcome Table ℕ → Type 0
-      Is o = Gives (Good (theoryIn P N) (mk x0 x1) (Made σ d x0 x1) σ) o
+      Is o = Gives (StableResult (theoryIn P N) (mk x0 x1) (Made σ d x0 x1) σ) o
 
       at-room : ltb i n ≡ false → (c : Bool) → room σ ≡ c → Is (putIf c s x y σ)
       at-room e false r = refusal
@@ -299,7 +299,7 @@ module _ {P : ℕ → Type 0} {N d x0 x1 : ℕ} {σ : Table} where
 abbrev pub node : {d : ℕ} → Set d → Set d → Set (suc d)
 node S T (bit b p) = side b (S p) (T p)
 
-made-den : {d x0 x1 : ℕ} {σ τ : Table} {h : ℕ} {S T : Set d} → Ext σ τ → Den σ d x0 S → Den σ d x1 T → Made σ d x0 x1 τ h → Den τ (suc d) h (node S T)
+made-den : {d x0 x1 : ℕ} {σ τ : Table} {h : ℕ} {S T : Set d} → Ext σ τ → Denotes σ d x0 S → Denotes σ d x1 T → Made σ d x0 x1 τ h → Denotes τ (suc d) h (node S T)
 unfolding mem
 made-den {d} {x0} {x1} {σ} {τ} {h} {S} {T} e D E m = record { at = m .at; means = means }
   where
@@ -310,8 +310,8 @@ made-den {d} {x0} {x1} {σ} {τ} {h} {S} {T} e D E m = record { at = m .at; mean
     means : (p : Packet (suc d)) → mem (τ .words) (suc d) h p ≡ node S T p
     means (bit b p) = ap (λ (k : ℕ). mem (τ .words) d k p) (m .kids b) ∙ of b p
 
-pub mk-runs : {P : ℕ → Type 0} {N d x0 x1 : ℕ} {σ : Table} {S T : Set d} → WfIn P N σ → P d → Den σ d x0 S → Den σ d x1 T
-    → Runs (theoryIn P N) (mk x0 x1) (λ τ h. Den τ (suc d) h (node S T)) σ
+pub mk-runs : {P : ℕ → Type 0} {N d x0 x1 : ℕ} {σ : Table} {S T : Set d} → WfIn P N σ → P d → Denotes σ d x0 S → Denotes σ d x1 T
+    → StableSpec (theoryIn P N) (mk x0 x1) (λ τ h. Denotes τ (suc d) h (node S T)) σ
 mk-runs {P} {N} w low D E = runs-map (theoryIn P N) (λ τ h e v m. made-den e D E m) (mk-made w low (D .at) (E .at))
 
 refused-same : {number other : ℕ} → _≡_ {A = Outcome Table ℕ} (refused number) (refused other) → number ≡ other

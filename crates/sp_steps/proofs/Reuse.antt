@@ -6,11 +6,11 @@ use native.Mathlib.Omega.{arith}
 use Rattle.common.specs.Packets.{Set}
 use Rattle.common.specs.Outcome.{given}
 use Rattle.common.proofs.Follow.{given-of}
-use Rattle.common.specs.Runs.{Table, Good}
+use Rattle.common.specs.Runs.{Table, StableResult}
 use Rattle.sp_steps.specs.Op.{Op}
 use Rattle.sp_steps.proofs.Op.{sem}
 use Rattle.sp_steps.specs.Model.{mem, both, apply, size}
-use Rattle.sp_steps.specs.Laws.{WfAny, Any, Ext, At, Den}
+use Rattle.sp_steps.specs.Laws.{WfAny, Any, Ext, ValidAt, Denotes}
 use Rattle.sp_steps.proofs.Laws.{theoryIn, ext-refl, ext-trans, at-ext, one-depth, den-mem, wf-down}
 use Rattle.sp_steps.proofs.Size.{size-ext}
 use Rattle.sp_steps.proofs.Apply.{apply-runs, both-runs}
@@ -56,20 +56,20 @@ code-range (counts e) = inr e
 
 -- ---- reuse
 
-pub reuse : (o : Op) (d a b r : ℕ) (σ : Table) → WfAny (suc d) σ → At σ (suc d) a → SpValid σ (code o) a b r → both (apply o d) a b σ ≡ given σ r
+pub reuse : (o : Op) (d a b r : ℕ) (σ : Table) → WfAny (suc d) σ → ValidAt σ (suc d) a → SpValid σ (code o) a b r → both (apply o d) a b σ ≡ given σ r
 reuse o d a b r σ w x v =
     let s = v .applied o refl in
     let e : s .below ≡ d = let q = one-depth σ (suc (s .below)) (suc d) a (s .at-a) x in omega arith in
     subst (λ (k : ℕ). both (apply o k) a b σ ≡ given σ r) e (s .again σ (ext-refl σ) (wf-down w (omega arith)))
 
-pub reuse-count : (d a b r : ℕ) (σ : Table) → At σ d a → SpValid σ countCode a b r → size (σ .words) d a ≡ wide b r
+pub reuse-count : (d a b r : ℕ) (σ : Table) → ValidAt σ d a → SpValid σ countCode a b r → size (σ .words) d a ≡ wide b r
 reuse-count d a b r σ x v =
     let s = v .counted refl in
     ap (λ (k : ℕ). size (σ .words) k a) (one-depth σ d (s .depth) a x (s .at-a)) ∙ s .counts
 
 -- ---- what may be kept
 
-pub keep-applied : (o : Op) (d a b r : ℕ) (σ τ : Table) → WfAny (suc d) σ → At σ (suc d) a → At σ (suc d) b → both (apply o d) a b σ ≡ given τ r → SpNoted τ (code o) a b r
+pub keep-applied : (o : Op) (d a b r : ℕ) (σ τ : Table) → WfAny (suc d) σ → ValidAt σ (suc d) a → ValidAt σ (suc d) b → both (apply o d) a b σ ≡ given τ r → SpNoted τ (code o) a b r
 keep-applied o d a b r σ τ w x y q = record {
   own = applies o refl;
   valid = record {
@@ -84,7 +84,7 @@ keep-applied o d a b r σ τ w x y q = record {
     B : Set (suc d)
     B = mem (σ .words) (suc d) b
 
-    good : Good (theoryIn Any (suc d)) (both (apply o d) a b) (λ υ h. Den υ (suc d) h (λ p. sem o (A p) (B p))) σ τ r
+    good : StableResult (theoryIn Any (suc d)) (both (apply o d) a b) (λ υ h. Denotes υ (suc d) h (λ p. sem o (A p) (B p))) σ τ r
     good = given-of (both-runs Any (suc d) d o (apply o d) (apply-runs Any (suc d) o d (omega arith)) σ a b A B w (den-mem x) (den-mem y)) q
 
     here : Applied o τ a b r
@@ -95,7 +95,7 @@ keep-applied o d a b r σ τ w x y q = record {
       again = λ υ e v. good .stable υ e v;
     }
 
-pub keep-count : (d a b r : ℕ) (σ : Table) → At σ d a → size (σ .words) d a ≡ wide b r → SpNoted σ countCode a b r
+pub keep-count : (d a b r : ℕ) (σ : Table) → ValidAt σ d a → size (σ .words) d a ≡ wide b r → SpNoted σ countCode a b r
 keep-count d a b r σ x q = record {
   own = counts refl;
   valid = record {

@@ -6,11 +6,11 @@ use borrow.Author.Tests.{eqb-true, eq-eqb}
 use Rattle.common.specs.Packets.{Packet, Set, _∖_, _∪_}
 use Rattle.common.specs.Outcome.{Step}
 use Rattle.common.specs.Runs.{Table}
-use Rattle.common.proofs.Runs.{Runs, runs-bind, runs-return}
+use Rattle.common.proofs.Runs.{StableSpec, runs-bind, runs-return}
 use Rattle.sp_steps.specs.Op.{Op}
 use Rattle.sp_steps.proofs.Op.{sem}
 use Rattle.sp_steps.specs.Model.{zeroAt, oneAt, union, xor, complement, intersect, difference, isZero, isUniversal}
-use Rattle.sp_steps.specs.Laws.{Wf, Below, Den}
+use Rattle.sp_steps.specs.Laws.{Wf, Below, Denotes}
 use Rattle.sp_steps.proofs.Laws.{spTheory, den-map, den-flip, den-zero, den-one, den-same}
 use Rattle.sp_steps.proofs.Apply.{apply-runs, agree}
 
@@ -22,13 +22,13 @@ abbrev pub _∩_ : {n : ℕ} → Set n → Set n → Set n
 abbrev pub _⊕_ : {n : ℕ} → Set n → Set n → Set n
 (s ⊕ t) p = sem Op.xor (s p) (t p)
 
-pub complement-den : {σ : Table} {d a : ℕ} {A : Set d} → Den σ d a A → Den σ d (complement a) (λ p. not (A p))
+pub complement-den : {σ : Table} {d a : ℕ} {A : Set d} → Denotes σ d a A → Denotes σ d (complement a) (λ p. not (A p))
 unfolding complement
 complement-den X = den-flip X
 
 -- f is the operation F on sets of depth d
 abbrev pub Does : (N d : ℕ) → (ℕ → ℕ → Step Table ℕ) → (Set d → Set d → Set d) → Type 0
-Does N d f F = (σ : Table) (a b : ℕ) (A B : Set d) → Wf N σ → Den σ d a A → Den σ d b B → Runs (spTheory N) (f a b) (λ τ h. Den τ d h (F A B)) σ
+Does N d f F = (σ : Table) (a b : ℕ) (A B : Set d) → Wf N σ → Denotes σ d a A → Denotes σ d b B → StableSpec (spTheory N) (f a b) (λ τ h. Denotes τ d h (F A B)) σ
 
 not-or-not : (x y : Bool) → not (not x || not y) ≡ (x && y)
 not-or-not true true = refl
@@ -60,7 +60,7 @@ module _ (N d : ℕ) (l : d ≤ N) where
       runs-bind (spTheory N) (union-runs σ _ _ _ _ w (complement-den X) Y)
       (λ τ r _ v R. runs-return (spTheory N) (complement r) v (den-map (λ p. not-or (A p) (B p)) (complement-den R)))
 
-  module _ {σ : Table} {a : ℕ} {A : Set d} (w : Wf N σ) (X : Den σ d a A) where
+  module _ {σ : Table} {a : ℕ} {A : Set d} (w : Wf N σ) (X : Denotes σ d a A) where
     -- a set is tested to be empty exactly if it has no packet
     pub zero-none : isZero d a ≡ true → (p : Packet d) → A p ≡ false
     unfolding isZero

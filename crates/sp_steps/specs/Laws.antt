@@ -17,9 +17,9 @@ pub record Ext (σ τ : Table) : Type 0 where
   pub beyond : (i : ℕ) → 2 * τ .count ≤ i → getD (τ .words) i 0 ≡ getD (σ .words) i 0
 
 -- h is a handle of depth d
-abbrev pub At : Table → ℕ → ℕ → Type 0
-At σ zero h = h < 2
-At σ (suc d) h = (2 ≤ h) × (h / 2 ≤ σ .count) × ((b : Bool) → At σ d (child (σ .words) b h))
+abbrev pub ValidAt : Table → ℕ → ℕ → Type 0
+ValidAt σ zero h = h < 2
+ValidAt σ (suc d) h = (2 ≤ h) × (h / 2 ≤ σ .count) × ((b : Bool) → ValidAt σ d (child (σ .words) b h))
 
 -- each stored child is a handle of an earlier node, or of depth 0
 abbrev pub Rising : List ℕ → ℕ → Type 0
@@ -29,7 +29,7 @@ Rising t n = (b : Bool) (i : ℕ) → i < n → kid t b i / 2 ≤ i
 pub record Level (P : ℕ → Type 0) (σ : Table) (i : ℕ) : Type 0 where
   pub depth : ℕ
   pub low : P depth
-  pub children : (b : Bool) → At σ depth (kid (σ .words) b i)
+  pub children : (b : Bool) → ValidAt σ depth (kid (σ .words) b i)
 
 -- A store with the constants of N fields: the nodes fit, each stored left child is even, no two nodes are equal, the empty sets of depth 1 to N come first,
 -- each child is a handle of an earlier node or of depth 0, and the two children of a node are of one depth, one of P.
@@ -59,6 +59,6 @@ abbrev pub WfAny : ℕ → Table → Type 0
 WfAny N σ = WfIn Any N σ
 
 -- h is a handle of depth d and means the set S
-pub record Den (σ : Table) (d h : ℕ) (S : Set d) : Type 0 where
-  pub at : At σ d h
+pub record Denotes (σ : Table) (d h : ℕ) (S : Set d) : Type 0 where
+  pub at : ValidAt σ d h
   pub means : (p : Packet d) → mem (σ .words) d h p ≡ S p

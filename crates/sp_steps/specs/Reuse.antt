@@ -6,7 +6,7 @@ use Rattle.common.specs.Outcome.{given}
 use Rattle.common.specs.Runs.{Table}
 use Rattle.sp_steps.specs.Op.{Op}
 use Rattle.sp_steps.specs.Model.{both, apply, size}
-use Rattle.sp_steps.specs.Laws.{WfAny, Ext, At}
+use Rattle.sp_steps.specs.Laws.{WfAny, Ext, ValidAt}
 
 -- the operations' codes in the cache
 abbrev pub code : Op → ℕ
@@ -22,13 +22,13 @@ wide high low = 4294967296 * high + low
 
 pub record Applied (o : Op) (σ : Table) (a b r : ℕ) : Type 0 where
   pub below : ℕ
-  pub at-a : At σ (suc below) a
-  pub at-b : At σ (suc below) b
+  pub at-a : ValidAt σ (suc below) a
+  pub at-b : ValidAt σ (suc below) b
   pub again : (τ : Table) → Ext σ τ → WfAny (suc below) τ → both (apply o below) a b τ ≡ given τ r
 
 pub record Counted (σ : Table) (a b r : ℕ) : Type 0 where
   pub depth : ℕ
-  pub at-a : At σ depth a
+  pub at-a : ValidAt σ depth a
   pub counts : size (σ .words) depth a ≡ wide b r
 
 -- a slot of the cache: of another operation, nothing is asked

@@ -8,17 +8,17 @@ use lib.ListN.{length}
 use Rattle.common.specs.Packets.{Packet, bit, Relation}
 use Rattle.common.specs.Outcome.{Outcome, refused, given, Step}
 use Rattle.common.specs.Runs.{Table, table}
-use Rattle.common.proofs.Runs.{Runs, runs-map}
+use Rattle.common.proofs.Runs.{StableSpec, runs-map}
 use Rattle.cache.proofs.Stage.{Gave}
 use Rattle.cache.proofs.Cache.{notes-refl}
 use Rattle.spp_steps.specs.Model.{Op, Quad, quad, kids, mem, mk, apply}
-use Rattle.spp_steps.specs.Laws.{Wf, Ext, At, Den}
+use Rattle.spp_steps.specs.Laws.{Wf, Ext, ValidAt, Denotes}
 use Rattle.spp_steps.proofs.Laws.{sppTheory, at-ext, den-mem}
 use Rattle.spp_steps.proofs.Make.{mk-exact}
 use Rattle.spp_steps.proofs.Apply.{apply-exact}
 use Rattle.spp.specs.Reuse.{Kept}
 use Rattle.spp.proofs.Reuse.{sppMemo}
-use Rattle.spp.specs.Seen.{seen, Noted, Answer, Ats, Fits}
+use Rattle.spp.specs.Seen.{seen, Noted, Answer, AllValidAt, Fits}
 use Rattle.spp.specs.declared.Made.{Made}
 use Rattle.spp.specs.declared.Made.the-variants.{Node, Full}
 use Rattle.spp.specs.declared.SPP.{SPP}
@@ -41,7 +41,7 @@ module _ {N : ℕ} {c : Step Table ℕ} {σ : Table} {m t′ m′ : List ℕ} {r
 pub gave-alone : {N : ℕ} {c : Step Table ℕ} {σ σ1 : Table} {m : List ℕ} {h : ℕ} → c σ ≡ given σ1 h → Gave (sppMemo N) c σ m σ1 m h
 gave-alone e = record { is = e; notes = notes-refl }
 
-pub ats-ext : {σ τ : Table} (d : ℕ) (hs : List ℕ) → Ext σ τ → Ats σ d hs → Ats τ d hs
+pub ats-ext : {σ τ : Table} (d : ℕ) (hs : List ℕ) → Ext σ τ → AllValidAt σ d hs → AllValidAt τ d hs
 ats-ext d [] e a = tt
 ats-ext d (h ∷ hs) e a = (at-ext e d h (a .0), ats-ext d hs e (a .1))
 
@@ -49,14 +49,14 @@ pub fits : {N n : ℕ} {t : List ℕ} → Wf N (table t n) → Fits t n
 fits w = record { fits = w .nodes .fits; small = w .nodes .small; rising = w .nodes .rising }
 
 -- where the children of a handle are
-pub inside : {N n : ℕ} {t : List ℕ} (d h : ℕ) → Wf N (table t n) → At (table t n) (suc d) h → (2 ≤ h) × (4 * h ≤ length t + 4)
+pub inside : {N n : ℕ} {t : List ℕ} (d h : ℕ) → Wf N (table t n) → ValidAt (table t n) (suc d) h → (2 ≤ h) × (4 * h ≤ length t + 4)
 inside d h w a = (a .0, omega (arith, a .1, w .nodes .fits))
 
-pub at-kids : (σ : Table) (d h : ℕ) (A : Quad) → A ≡ kids (σ .words) h → At σ (suc d) h → (i j : Bool) → At σ d (A i j)
-at-kids σ d h A e a i j = subst (λ (X : Quad). At σ d (X i j)) (sym e) (a .2 i j)
+pub at-kids : (σ : Table) (d h : ℕ) (A : Quad) → A ≡ kids (σ .words) h → ValidAt σ (suc d) h → (i j : Bool) → ValidAt σ d (A i j)
+at-kids σ d h A e a i j = subst (λ (X : Quad). ValidAt σ d (X i j)) (sym e) (a .2 i j)
 
 module _ (N d : ℕ) (deep : d ≤ N) {σ : Table} where
-  pub apply-can : (o : Op) (a b : ℕ) → At σ d a → At σ d b → (τ : Table) → Ext σ τ → Wf N τ → Runs (sppTheory N) (apply N o d a b) (λ τ h. At τ d h) τ
+  pub apply-can : (o : Op) (a b : ℕ) → ValidAt σ d a → ValidAt σ d b → (τ : Table) → Ext σ τ → Wf N τ → StableSpec (sppTheory N) (apply N o d a b) (λ τ h. ValidAt τ d h) τ
   apply-can o a b x y τ e w =
       runs-map (sppTheory N) (λ υ h _ _ D. D .at) (apply-exact N o d deep τ a b _ _ w (den-mem (at-ext e d a x)) (den-mem (at-ext e d b y)) .runs)
 
@@ -64,11 +64,11 @@ module _ (N d : ℕ) (deep : d ≤ N) {σ : Table} where
 joined : List ℕ → (d : ℕ) → Quad → Relation (suc d)
 joined t d X (bit i p) (bit j q) = mem t d (X i j) p q
 
-pub mk-can : {N : ℕ} {σ : Table} (d : ℕ) (X : Quad) → d < N → Wf N σ → ((i j : Bool) → At σ d (X i j)) → Runs (sppTheory N) (mk X) (λ τ h. At τ (suc d) h) σ
+pub mk-can : {N : ℕ} {σ : Table} (d : ℕ) (X : Quad) → d < N → Wf N σ → ((i j : Bool) → ValidAt σ d (X i j)) → StableSpec (sppTheory N) (mk X) (λ τ h. ValidAt τ (suc d) h) σ
 unfolding joined
 mk-can {N} {σ} d X l w a = runs-map (sppTheory N) (λ υ h _ _ D. D .at) (mk-exact X (joined (σ .words) d X) w l (λ i j. den-mem (a i j)) .runs)
 
-pub quad-at : (σ : Table) (d a b c e : ℕ) → At σ d a → At σ d b → At σ d c → At σ d e → (i j : Bool) → At σ d (quad a b c e i j)
+pub quad-at : (σ : Table) (d a b c e : ℕ) → ValidAt σ d a → ValidAt σ d b → ValidAt σ d c → ValidAt σ d e → (i j : Bool) → ValidAt σ d (quad a b c e i j)
 quad-at σ d a b c e x y z u false false = x
 quad-at σ d a b c e x y z u false true = y
 quad-at σ d a b c e x y z u true false = z

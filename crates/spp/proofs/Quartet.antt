@@ -7,10 +7,10 @@ use Rattle.common.specs.Runs.{Table, table}
 use Rattle.cache.proofs.Stage as stage
 use Rattle.cache.proofs.Stage.{Gave, Stage}
 use Rattle.spp_steps.specs.Model.{quad, mk}
-use Rattle.spp_steps.specs.Laws.{At, Ext}
+use Rattle.spp_steps.specs.Laws.{ValidAt, Ext}
 use Rattle.spp_steps.proofs.Laws.{at-ext}
 use Rattle.spp.proofs.Reuse.{sppMemo}
-use Rattle.spp.specs.Seen.{seen, Asked, Ats, Noted, Fits}
+use Rattle.spp.specs.Seen.{seen, Asked, AllValidAt, Noted, Fits}
 use Rattle.spp.specs.declared.Made.{Made}
 use Rattle.spp.specs.declared.Made.the-variants.{Node, Full}
 use Rattle.spp.proofs.Calls.{gave-alone, fits, ats-ext, mk-can, quad-at}
@@ -18,13 +18,13 @@ use Rattle.spp.proofs.Calls.{gave-alone, fits, ats-ext, mk-can, quad-at
 -- c is f of four pairs of handles, and then k
 pub record Quartet {A : Type 0} (N d : ℕ) (f : ℕ → ℕ → Step Table ℕ) (k : ℕ → ℕ → ℕ → ℕ → Step Table A) (c : Outcome Table A) (σ : Table) (m : List ℕ)
     (x1 y1 x2 y2 x3 y3 x4 y4 : ℕ) : Type 0 where
-  pub can : (a b : ℕ) → At σ d a → At σ d b → stage.Can (sppMemo N) (λ τ h. At τ d h) σ (f a b)
+  pub can : (a b : ℕ) → ValidAt σ d a → ValidAt σ d b → stage.Can (sppMemo N) (λ τ h. ValidAt τ d h) σ (f a b)
   pub asked : Asked N d σ m (x1 ∷ y1 ∷ x2 ∷ y2 ∷ x3 ∷ y3 ∷ x4 ∷ y4 ∷ [])
   pub is : c ≡ after (f x1 y1 σ) (λ a σ1. after (f x2 y2 σ1) (λ b σ2. after (f x3 y3 σ2) (λ e σ3. after (f x4 y4 σ3) (λ h. k a b e h))))
 
 module _ {A : Type 0} {N d : ℕ} {f : ℕ → ℕ → Step Table ℕ} {k : ℕ → ℕ → ℕ → ℕ → Step Table A} {c : Outcome Table A} {σ : Table} {m : List ℕ}
     {x1 y1 x2 y2 x3 y3 x4 y4 : ℕ} (Q : Quartet N d f k c σ m x1 y1 x2 y2 x3 y3 x4 y4) where
-  calls : stage.Four (sppMemo N) (λ τ h. At τ d h) c σ m
+  calls : stage.Four (sppMemo N) (λ τ h. ValidAt τ d h) c σ m
   calls =
       let at = Q .asked .at in
       record {
@@ -42,7 +42,7 @@ module _ {A : Type 0} {N d : ℕ} {f : ℕ → ℕ → Step Table ℕ} {k : ℕ 
       }
 
   -- two handles of σ, where the run has come
-  asked-at : (x y : ℕ) {rest : Outcome Table A} {σ′ : Table} {m′ : List ℕ} → Stage (sppMemo N) c rest σ σ′ m m′ → At σ d x → At σ d y → Asked N d σ′ m′ (x ∷ y ∷ [])
+  asked-at : (x y : ℕ) {rest : Outcome Table A} {σ′ : Table} {m′ : List ℕ} → Stage (sppMemo N) c rest σ σ′ m m′ → ValidAt σ d x → ValidAt σ d y → Asked N d σ′ m′ (x ∷ y ∷ [])
   asked-at x y s p q =
       record { few = Q .asked .few; deep = Q .asked .deep; wf = s .wf; at = ats-ext d (x ∷ y ∷ []) (s .ext) (p, (q, tt)); sound = s .sound }
 
@@ -85,7 +85,7 @@ module _ {A : Type 0} {N d : ℕ} {f : ℕ → ℕ → Step Table ℕ} {k : ℕ 
           unfolding calls
           last = stage.stage-4 calls g1 g2 g3 g4
 
-          pub held : At σ4 d h1 × At σ4 d h2 × At σ4 d h3 × At σ4 d h4
+          pub held : ValidAt σ4 d h1 × ValidAt σ4 d h2 × ValidAt σ4 d h3 × ValidAt σ4 d h4
           unfolding calls
           held = stage.held calls g1 g2 g3 g4
 

@@ -4,11 +4,11 @@ use mathlib.Core.List.{List}
 use Prim.Native.Nat.{ℕ, suc, _≤_}
 use Rattle.common.specs.Outcome.{given}
 use Rattle.common.specs.Runs.{Table}
-use Rattle.cache.specs.Cache.{Of, Own, Sound, Holds}
+use Rattle.cache.specs.Cache.{OnCodes, OnlyCodes, Sound, Holds}
 use Rattle.cache.proofs.Cache.{sound-holds}
 use Rattle.cache.proofs.Stage.{Memo}
 use Rattle.spp_steps.specs.Model.{Op, union, intersect, xor, difference, not, down, each, apply}
-use Rattle.spp_steps.specs.Laws.{Wf, Ext, At}
+use Rattle.spp_steps.specs.Laws.{Wf, Ext, ValidAt}
 use Rattle.spp_steps.proofs.Laws.{sppTheory}
 use Rattle.spp_steps.proofs.Reuse as Reuse
 use Rattle.spp_steps.proofs.Reuse.{ofRel}
@@ -18,21 +18,21 @@ use Rattle.spp.specs.Reuse.{codeOf, run, Kept}
 abbrev pub sppMemo : ℕ → Memo
 sppMemo N = record {
   theory = sppTheory N;
-  Read = λ σ. Of 3 9 (Kept N σ);
-  Note = λ σ. Own 3 9 (Kept N σ);
+  Read = λ σ. OnCodes 3 9 (Kept N σ);
+  Note = λ σ. OnlyCodes 3 9 (Kept N σ);
   read-ext = λ σ τ e o x y z v l h. Reuse.kept-ext (sppTheory N) (ofRel N x) e (v l h);
   note-ext = λ σ τ e o x y z w. record { from = w .from; to = w .to; valid = Reuse.kept-ext (sppTheory N) (ofRel N x) e (w .valid) };
   note-read = λ σ o x y z w l h. w .valid;
 }
 
 -- a hit: the operation gives what was found
-pub reused : {N : ℕ} {σ : Table} {m : List ℕ} {code x y r : ℕ} (d : ℕ) → Wf N σ → At σ (suc d) x → 3 ≤ code → code ≤ 9
-    → Sound (Of 3 9 (Kept N σ)) m → Holds m code x y r → run N code d x y σ ≡ given σ r
+pub reused : {N : ℕ} {σ : Table} {m : List ℕ} {code x y r : ℕ} (d : ℕ) → Wf N σ → ValidAt σ (suc d) x → 3 ≤ code → code ≤ 9
+    → Sound (OnCodes 3 9 (Kept N σ)) m → Holds m code x y r → run N code d x y σ ≡ given σ r
 reused {N} {x} d w a l h s found = Reuse.reuse (sppTheory N) (ofRel N x) d w a (sound-holds s found l h)
 
 -- a run that gives the same in every later store may be noted
-pub to-note : {N : ℕ} {σ : Table} {code x y r : ℕ} (d : ℕ) → 3 ≤ code → code ≤ 9 → At σ (suc d) x
-    → ((τ : Table) → Ext σ τ → Wf N τ → run N code d x y τ ≡ given τ r) → Own 3 9 (Kept N σ) code x y r
+pub to-note : {N : ℕ} {σ : Table} {code x y r : ℕ} (d : ℕ) → 3 ≤ code → code ≤ 9 → ValidAt σ (suc d) x
+    → ((τ : Table) → Ext σ τ → Wf N τ → run N code d x y τ ≡ given τ r) → OnlyCodes 3 9 (Kept N σ) code x y r
 to-note d l h a again = record { from = l; to = h; valid = record { below = d; depth = a; again = again } }
 
 module _ (N : ℕ) where

@@ -8,13 +8,13 @@ use lib.ListN.{length}
 use Rattle.common.specs.Packets.{Packet, bit, Relation}
 use Rattle.common.specs.Outcome.{Outcome, refused, given, Step, return, after}
 use Rattle.common.proofs.Follow.{given-of}
-use Rattle.common.specs.Runs.{Table, table, Good}
-use Rattle.common.proofs.Runs.{Runs}
-use Rattle.cache.specs.Cache.{Of, Own, Notes, Holds, Exactly}
+use Rattle.common.specs.Runs.{Table, table, StableResult}
+use Rattle.common.proofs.Runs.{StableSpec}
+use Rattle.cache.specs.Cache.{OnCodes, OnlyCodes, WritesValid, Holds, Exactly}
 use Rattle.cache.proofs.Stage as stage
 use Rattle.cache.proofs.Stage.{Stage}
 use Rattle.spp_steps.specs.Model.{Op, Exit, out, on, Quad, quad, kids, mem, mk, exit, follow, down, each, apply}
-use Rattle.spp_steps.specs.Laws.{Wf, Ext, At, Den}
+use Rattle.spp_steps.specs.Laws.{Wf, Ext, ValidAt, Denotes}
 use Rattle.spp_steps.proofs.Laws.{sppTheory, at-ext, ext-trans, den-mem}
 use Rattle.spp_steps.proofs.Apply.{Leads, Going, pointwise, exit-right, exit-low, apply-exact}
 use Rattle.spp.specs.Reuse.{Kept, codeOf, run}
@@ -53,7 +53,7 @@ module _ (N : ℕ) (o : Op) (D a b : ℕ) (t m : List ℕ) (n : ℕ) (r : Asked 
   going : Going (table t n) D (pointwise o (mem t D a) (mem t D b)) u x y
   going = subst (Leads (table t n) D (pointwise o (mem t D a) (mem t D b))) go-on (exit-right (r .wf) (r .deep) (den-mem (r .at .0)) (den-mem (r .at .1 .0)) o)
 
-  low : (D : ℕ) → At (table t n) D a → At (table t n) D b → exit N o D a b ≡ on u x y → D ≡ suc (D - 1)
+  low : (D : ℕ) → ValidAt (table t n) D a → ValidAt (table t n) D b → exit N o D a b ≡ on u x y → D ≡ suc (D - 1)
   low zero p q e = let w = exit-low N o a b p q in absurd (out≢on (sym (w .1) ∙ e))
   low (suc d) p q e = omega arith
 
@@ -64,11 +64,11 @@ module _ (N : ℕ) (o : Op) (D a b : ℕ) (t m : List ℕ) (n : ℕ) (r : Asked 
   pub lower : D - 1 < N
   lower = omega (arith, above, r .deep)
 
-  at-x : At (table t n) (suc (D - 1)) x
-  at-x = subst (λ (k : ℕ). At (table t n) k x) above (going .den-x .at)
+  at-x : ValidAt (table t n) (suc (D - 1)) x
+  at-x = subst (λ (k : ℕ). ValidAt (table t n) k x) above (going .den-x .at)
 
-  at-y : At (table t n) (suc (D - 1)) y
-  at-y = subst (λ (k : ℕ). At (table t n) k y) above (going .den-y .at)
+  at-y : ValidAt (table t n) (suc (D - 1)) y
+  at-y = subst (λ (k : ℕ). ValidAt (table t n) k y) above (going .den-y .at)
 
   is-down : (τ : Table) → apply N o D a b τ ≡ down (each (apply N u (D - 1))) x y τ
   is-down τ = ap (λ (k : ℕ). apply N o k a b τ) above ∙ apply-on N o (D - 1) a b u x y τ (ap (λ (k : ℕ). exit N o k a b) (sym above) ∙ go-on)
@@ -105,12 +105,12 @@ module _ (N : ℕ) (o : Op) (D a b : ℕ) (t m : List ℕ) (n : ℕ) (r : Asked 
 
   -- what was made may be noted
   pub noted : {code h : ℕ} {τ : Table} {m4 m5 : List ℕ} → code ≡ codeOf u → Stage (sppMemo N) (apply N o D a b (table t n)) (given τ h) (table t n) τ m m4
-      → Notes (Exactly code x y h) m4 m5 → Notes (Own 3 9 (Kept N τ)) m m5
-  noted {h} {τ} {m4} {m5} e s k = stage.noted (sppMemo N) s (subst (λ (k : ℕ). Notes (Exactly k x y h) m4 m5) e k) noting
+      → WritesValid (Exactly code x y h) m4 m5 → WritesValid (OnlyCodes 3 9 (Kept N τ)) m m5
+  noted {h} {τ} {m4} {m5} e s k = stage.noted (sppMemo N) s (subst (λ (k : ℕ). WritesValid (Exactly k x y h) m4 m5) e k) noting
     where
-      whole : Good (sppTheory N) (apply N o D a b) (λ τ h. Den τ D h (pointwise o (mem t D a) (mem t D b))) (table t n) τ h
+      whole : StableResult (sppTheory N) (apply N o D a b) (λ τ h. Denotes τ D h (pointwise o (mem t D a) (mem t D b))) (table t n) τ h
       whole = given-of (apply-exact N o D (r .deep) (table t n) a b _ _ (r .wf) (den-mem (r .at .0)) (den-mem (r .at .1 .0)) .runs) (s .left)
 
-      noting : Own 3 9 (Kept N τ) (codeOf u) x y h
+      noting : OnlyCodes 3 9 (Kept N τ) (codeOf u) x y h
       noting = to-note (D - 1) (code-low u) (code-high u) (at-ext (whole .ext) (suc (D - 1)) x at-x)
           (λ τ e w. ap (λ (c : Step Table ℕ). c τ) (run-code N u (D - 1) x y) ∙ sym (is-down τ) ∙ whole .stable τ e w)

@@ -7,10 +7,10 @@ use Prim.Native.Nat.{ℕ, zero, suc, _+_, _*_, _≤_, _<_}
 use lib.ListN.{length}
 use Rattle.common.specs.Outcome.{Outcome, refused, given, Step, return, _>>=_}
 use Rattle.common.specs.Runs.{Table, table}
-use Rattle.cache.specs.Cache.{Of, Own, Sound, Notes}
+use Rattle.cache.specs.Cache.{OnCodes, OnlyCodes, Sound, WritesValid}
 use Rattle.spp_steps.specs.Model as M
 use Rattle.spp_steps.specs.Model.{Quad, quad, cap}
-use Rattle.spp_steps.specs.Laws.{Rising, Wf, At}
+use Rattle.spp_steps.specs.Laws.{Rising, Wf, ValidAt}
 use Rattle.spp.specs.Reuse.{Kept}
 use Rattle.spp.specs.declared.Made.{Made}
 use Rattle.spp.specs.declared.Made.the-variants.{Node, Full}
@@ -91,21 +91,21 @@ pub record FieldAsked (N : ℕ) (t : List ℕ) (n d f : ℕ) : Type 0 where
   pub wf : Wf N (table t n)
 
 -- all of hs are handles of depth d
-abbrev pub Ats : Table → ℕ → List ℕ → Type 0
-Ats σ d [] = Unit
-Ats σ d (h ∷ hs) = At σ d h × Ats σ d hs
+abbrev pub AllValidAt : Table → ℕ → List ℕ → Type 0
+AllValidAt σ d [] = Unit
+AllValidAt σ d (h ∷ hs) = ValidAt σ d h × AllValidAt σ d hs
 
 -- what an operation on the relations hs of depth d asks, with N fields, the nodes σ and the cache m
 pub record Asked (N d : ℕ) (σ : Table) (m : List ℕ) (hs : List ℕ) : Type 0 where
   pub few : N ≤ 31
   pub deep : d ≤ N
   pub wf : Wf N σ
-  pub at : Ats σ d hs
-  pub sound : Sound (Of 3 9 (Kept N σ)) m
+  pub at : AllValidAt σ d hs
+  pub sound : Sound (OnCodes 3 9 (Kept N σ)) m
 
 -- what is noted in the cache, unless refused
 abbrev pub Noted : {A : Type 0} → ℕ → List ℕ → Outcome Table A → List ℕ → Type 0
-Noted N m (given τ a) m′ = Notes (Own 3 9 (Kept N τ)) m m′
+Noted N m (given τ a) m′ = WritesValid (OnlyCodes 3 9 (Kept N τ)) m m′
 Noted N m (refused number) m′ = Unit
 
 -- the answer r, seen with the nodes at exit, is what the steps c come to from σ, and all that is noted is right

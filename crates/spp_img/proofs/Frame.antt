@@ -6,7 +6,7 @@ use mathlib.Core.Logic.{⊎-elim}
 use Prim.Native.Nat.{ℕ, _≤_, _<_}
 use native.Mathlib.Omega.{arith}
 use lib.ListN.{length, getD}
-use Rattle.cache.specs.Cache.{Of, Own, Sound, Notes}
+use Rattle.cache.specs.Cache.{OnCodes, OnlyCodes, Sound, WritesValid}
 use Rattle.cache.proofs.Cache.{sound-map, notes-map, sound-zero}
 use Rattle.cache.proofs.Stage.{Memo}
 use Rattle.sp_steps.specs.Reuse.{SpValid, SpNoted, SpCode}
@@ -22,15 +22,15 @@ use Rattle.spp_img.proofs.Reuse.{kept-ext, counted-ext}
 -- packet sets have the codes 1, 2 and 16, relations 3 to 9, images 10 to 15, and 17 is the number of pairs
 pub record Cached (N : ℕ) (σ : Stores) (op x y r : ℕ) : Type 0 where
   pub sets : SpValid (σ .sp) op x y r
-  pub relations : Of 3 9 (Spp.Kept N (σ .spp)) op x y r
-  pub images : Of 10 15 (Kept N σ) op x y r
-  pub sizes : Of 17 17 (Counted (σ .spp)) op x y r
+  pub relations : OnCodes 3 9 (Spp.Kept N (σ .spp)) op x y r
+  pub images : OnCodes 10 15 (Kept N σ) op x y r
+  pub sizes : OnCodes 17 17 (Counted (σ .spp)) op x y r
 
 pub data Noted (N : ℕ) (σ : Stores) (op x y r : ℕ) : Type 0 where
   by-sets : SpNoted (σ .sp) op x y r → Noted N σ op x y r
-  by-relations : Own 3 9 (Spp.Kept N (σ .spp)) op x y r → Noted N σ op x y r
-  by-images : Own 10 15 (Kept N σ) op x y r → Noted N σ op x y r
-  by-sizes : Own 17 17 (Counted (σ .spp)) op x y r → Noted N σ op x y r
+  by-relations : OnlyCodes 3 9 (Spp.Kept N (σ .spp)) op x y r → Noted N σ op x y r
+  by-images : OnlyCodes 10 15 (Kept N σ) op x y r → Noted N σ op x y r
+  by-sizes : OnlyCodes 17 17 (Counted (σ .spp)) op x y r → Noted N σ op x y r
 
 spp-ext : (N : ℕ) {σ τ : Stores} → BothExt σ τ → (op x y r : ℕ) → Spp.Kept N (σ .spp) op x y r → Spp.Kept N (τ .spp) op x y r
 spp-ext N e op x y r k = Steps.kept-ext (sppTheory N) (Steps.ofRel N x) (e .spp-ext) k
@@ -97,20 +97,20 @@ module _ {N : ℕ} {σ : Stores} {m : List ℕ} where
   pub for-sets : Sound (Cached N σ) m → Sound (SpValid (σ .sp)) m
   for-sets s = sound-map (λ _ _ _ _ c. c .sets) s
 
-  pub for-relations : Sound (Cached N σ) m → Sound (Of 3 9 (Spp.Kept N (σ .spp))) m
+  pub for-relations : Sound (Cached N σ) m → Sound (OnCodes 3 9 (Spp.Kept N (σ .spp))) m
   for-relations s = sound-map (λ _ _ _ _ c. c .relations) s
 
-  pub for-images : Sound (Cached N σ) m → Sound (Of 10 15 (Kept N σ)) m
+  pub for-images : Sound (Cached N σ) m → Sound (OnCodes 10 15 (Kept N σ)) m
   for-images s = sound-map (λ _ _ _ _ c. c .images) s
 
   pub for-led : Sound (Cached N σ) m → Sound (Held N σ) m
   for-led s = sound-map (λ _ _ _ _ c. record { sets = c .sets; images = c .images }) s
 
-  pub for-size : Sound (Cached N σ) m → Sound (Of 17 17 (Counted (σ .spp))) m
+  pub for-size : Sound (Cached N σ) m → Sound (OnCodes 17 17 (Counted (σ .spp))) m
   for-size s = sound-map (λ _ _ _ _ c. c .sizes) s
 
   -- what each notes; fwd, bwd, push and pull as packet sets and images do
-  pub of-led : {m′ : List ℕ} → Notes (Written N σ) m m′ → Notes (Noted N σ) m m′
+  pub of-led : {m′ : List ℕ} → WritesValid (Written N σ) m m′ → WritesValid (Noted N σ) m m′
   of-led n = notes-map (λ _ _ _ _ w. ⊎-elim by-sets by-images w) n
 
   -- a cache of zeros

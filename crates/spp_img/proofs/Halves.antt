@@ -6,12 +6,12 @@ use native.Mathlib.Omega.{arith}
 use native.Mathlib.Nat.{le-refl}
 use Rattle.common.specs.Outcome.{Outcome, refused, given, Step, after}
 use Rattle.common.proofs.Follow.{given-of}
-use Rattle.common.specs.Runs.{Table, table, Good}
-use Rattle.common.proofs.Runs.{Runs, runs-map, runs-bind}
-use Rattle.cache.specs.Cache.{Notes}
+use Rattle.common.specs.Runs.{Table, table, StableResult}
+use Rattle.common.proofs.Runs.{StableSpec, runs-map, runs-bind}
+use Rattle.cache.specs.Cache.{WritesValid}
 use Rattle.cache.proofs.Cache.{notes-trans, notes-refl}
 use Rattle.sp_steps.specs.Model.{mem, mk, union}
-use Rattle.sp_steps.specs.Laws.{WfIn, Any, At, Den}
+use Rattle.sp_steps.specs.Laws.{WfIn, Any, ValidAt, Denotes}
 use Rattle.sp_steps.proofs.Laws.{theoryIn, at-ext, den-mem}
 use Rattle.sp_steps.proofs.Make.{mk-runs}
 use Rattle.sp_steps.specs.Op.{Op}
@@ -27,15 +27,15 @@ use Rattle.spp_img.specs.Seen.{JoinAsked}
 
 -- a union and a node, as runs
 module _ (P : ℕ → Type 0) (N d : ℕ) {σ : Table} where
-  union-at : (a b : ℕ) → d ≤ N → WfIn P N σ → At σ d a → At σ d b → Runs (theoryIn P N) (union d a b) (λ τ h. At τ d h) σ
+  union-at : (a b : ℕ) → d ≤ N → WfIn P N σ → ValidAt σ d a → ValidAt σ d b → StableSpec (theoryIn P N) (union d a b) (λ τ h. ValidAt τ d h) σ
   unfolding union
   union-at a b l w x y = runs-map (theoryIn P N) (λ τ h _ _ D. D .at) (apply-runs P N Op.union d l σ a b _ _ w (den-mem x) (den-mem y))
 
-  mk-at : (a b : ℕ) → P d → WfIn P N σ → At σ d a → At σ d b → Runs (theoryIn P N) (mk a b) (λ τ h. At τ (suc d) h) σ
+  mk-at : (a b : ℕ) → P d → WfIn P N σ → ValidAt σ d a → ValidAt σ d b → StableSpec (theoryIn P N) (mk a b) (λ τ h. ValidAt τ (suc d) h) σ
   mk-at a b low w x y = runs-map (theoryIn P N) (λ τ h _ _ D. D .at) (mk-runs {d = d} w low (den-mem x) (den-mem y))
 
-pub join-runs : (P : ℕ → Type 0) (N d : ℕ) {σ : Table} (w x y z : ℕ) → d ≤ N → P d → WfIn P N σ → At σ d w → At σ d x → At σ d y → At σ d z
-    → Runs (theoryIn P N) (join d w x y z) (λ τ h. At τ (suc d) h) σ
+pub join-runs : (P : ℕ → Type 0) (N d : ℕ) {σ : Table} (w x y z : ℕ) → d ≤ N → P d → WfIn P N σ → ValidAt σ d w → ValidAt σ d x → ValidAt σ d y → ValidAt σ d z
+    → StableSpec (theoryIn P N) (join d w x y z) (λ τ h. ValidAt τ (suc d) h) σ
 unfolding join
 join-runs P N d w x y z l low wf a b c e =
     runs-bind (theoryIn P N) (union-at P N d w x l wf a b) (λ τ x0 f v p.
@@ -47,7 +47,7 @@ module _ {c : Step Table ℕ} {t m t′ m′ : List ℕ} {n : ℕ} {r : Made} (a
   pub gives : {h : SP} {k : ℕ} → r ≡ Node h k → c (table t n) ≡ given (table t′ k) (h .0)
   gives e = a .gives ∙ ap (λ (r : Made). seen r t′) e
 
-  pub notes : {h : SP} {k : ℕ} → r ≡ Node h k → Notes (SpNoted (table t′ k)) m m′
+  pub notes : {h : SP} {k : ℕ} → r ≡ Node h k → WritesValid (SpNoted (table t′ k)) m m′
   notes e = subst (λ (r : Made). Noted m r t′ m′) e (a .notes)
 
   pub lost : r ≡ Full → c (table t n) ≡ refused 20
@@ -63,7 +63,7 @@ module _ (d : ℕ) (t m : List ℕ) (n w x y z : ℕ) (q : JoinAsked t m n d w x
     full-1 e = record { gives = ap (λ (o : Outcome Table ℕ). after o (λ x0. λ τ. after (union d y z τ) (λ x1. mk x0 x1))) (lost a1 e); notes = tt }
 
     module _ {h1 : SP} {n1 : ℕ} (e1 : r1 ≡ Node h1 n1) where
-      good-1 : Good (theoryIn Any d) (union d w x) (λ τ h. At τ d h) (table t n) (table t1 n1) (h1 .0)
+      good-1 : StableResult (theoryIn Any d) (union d w x) (λ τ h. ValidAt τ d h) (table t n) (table t1 n1) (h1 .0)
       good-1 = given-of (union-at Any d d w x (le-refl d) (q .wf) (q .at-w) (q .at-x)) (gives a1 e1)
 
       then-1 : join d w x y z (table t n) ≡ after (union d y z (table t1 n1)) (λ x1. mk (h1 .0) x1)
@@ -81,7 +81,7 @@ module _ (d : ℕ) (t m : List ℕ) (n w x y z : ℕ) (q : JoinAsked t m n d w x
         full-2 e = record { gives = then-1 ∙ ap (λ (o : Outcome Table ℕ). after o (λ x1. mk (h1 .0) x1)) (lost a2 e); notes = tt }
 
         module _ {h2 : SP} {n2 : ℕ} (e2 : r2 ≡ Node h2 n2) where
-          good-2 : Good (theoryIn Any d) (union d y z) (λ τ h. At τ d h) (table t1 n1) (table t2 n2) (h2 .0)
+          good-2 : StableResult (theoryIn Any d) (union d y z) (λ τ h. ValidAt τ d h) (table t1 n1) (table t2 n2) (h2 .0)
           good-2 = given-of (union-at Any d d y z (le-refl d) (good-1 .wf) (asked-2 .ready .at-a) (asked-2 .ready .at-b)) (gives a2 e2)
 
           then-2 : join d w x y z (table t n) ≡ mk (h1 .0) (h2 .0) (table t2 n2)

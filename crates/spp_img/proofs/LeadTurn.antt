@@ -7,8 +7,8 @@ use native.Mathlib.Omega.{arith}
 use lib.ListN.{length}
 use Rattle.common.specs.Outcome.{given, Step, return}
 use Rattle.common.specs.Runs.{Table, table}
-use Rattle.common.proofs.Runs.{Runs, runs-map}
-use Rattle.cache.specs.Cache.{Sound, Notes, Holds, Exactly}
+use Rattle.common.proofs.Runs.{StableSpec, runs-map}
+use Rattle.cache.specs.Cache.{Sound, WritesValid, Holds, Exactly}
 use Rattle.cache.proofs.Stage as stage
 use Rattle.cache.proofs.Stage.{Stage}
 use Rattle.sp_steps.specs.Model as Sp
@@ -21,7 +21,7 @@ use Rattle.sp.specs.declared.SP.{SP}
 use Rattle.spp_steps.specs.Model.{Quad, quad, kids}
 use Rattle.spp_steps.specs.ImageModel as M
 use Rattle.spp_steps.specs.ImageModel.{Stores, stores, within, fwd, bwd, Led, done, whole, more, ledExit, push, pull, pushNode, pullNode}
-use Rattle.spp_steps.specs.Laws.{At}
+use Rattle.spp_steps.specs.Laws.{ValidAt}
 use Rattle.spp_steps.proofs.Laws.{at-ext, den-mem}
 use Rattle.spp_steps.specs.Images.{BothWf}
 use Rattle.spp_steps.proofs.Images.{BothExt, bothTheory, ledExit-low}
@@ -35,8 +35,8 @@ use Rattle.spp_img.specs.declared.Way.the-variants.{Forward, Backward}
 use Rattle.spp_img.proofs.Turn as turn
 use Rattle.spp_img.proofs.Turn.{Turn, chain, ending, halved, halved-is}
 
-lead-runs : (N : ℕ) (w : Way) (d s r : ℕ) {σ : Stores} → d ≤ N → BothWf N σ → SpLaws.At (σ .sp) d s → At (σ .spp) d r
-    → Runs (bothTheory N) (lead w N d s r) (λ τ h. SpLaws.At (τ .sp) d h) σ
+lead-runs : (N : ℕ) (w : Way) (d s r : ℕ) {σ : Stores} → d ≤ N → BothWf N σ → SpLaws.ValidAt (σ .sp) d s → ValidAt (σ .spp) d r
+    → StableSpec (bothTheory N) (lead w N d s r) (λ τ h. SpLaws.ValidAt (τ .sp) d h) σ
 lead-runs N Forward d s r l v a b = runs-map (bothTheory N) (λ τ h _ _ D. D .at) (push-runs N v l (den-mem b) (SpLawsProofs.den-mem a))
 lead-runs N Backward d s r l v a b = runs-map (bothTheory N) (λ τ h _ _ D. D .at) (pull-runs N v l (den-mem b) (SpLawsProofs.den-mem a))
 
@@ -91,7 +91,7 @@ done≢more h e = let z : _≡_ {A = ℕ} 0 1 = cc in omega arith
 
 module _ (N D : ℕ) (w : Way) (σ : Stores) (m : List ℕ) (s r : ℕ) (q : LeadAsked N D σ m s r) where
   -- at depth 0 every exit is a set
-  low : (D : ℕ) (z : Led) → ((h : ℕ) → done h ≡ z → ⊥) → SpLaws.At (σ .sp) D s → At (σ .spp) D r → ledExit N D s r ≡ z → D ≡ suc (D - 1)
+  low : (D : ℕ) (z : Led) → ((h : ℕ) → done h ≡ z → ⊥) → SpLaws.ValidAt (σ .sp) D s → ValidAt (σ .spp) D r → ledExit N D s r ≡ z → D ≡ suc (D - 1)
   low zero z n a b e = absurd (n _ (sym (ledExit-low N s r a b .1) ∙ e))
   low (suc d) z n a b e = omega arith
 
@@ -118,11 +118,11 @@ module _ (N D : ℕ) (w : Way) (σ : Stores) (m : List ℕ) (s r : ℕ) (q : Lea
     pub deeper : 1 ≤ D
     deeper = omega (arith, above)
 
-    at-s : SpLaws.At (σ .sp) (suc (D - 1)) s
-    at-s = subst (λ (k : ℕ). SpLaws.At (σ .sp) k s) above (q .at-s)
+    at-s : SpLaws.ValidAt (σ .sp) (suc (D - 1)) s
+    at-s = subst (λ (k : ℕ). SpLaws.ValidAt (σ .sp) k s) above (q .at-s)
 
-    at-r : At (σ .spp) (suc (D - 1)) r
-    at-r = subst (λ (k : ℕ). At (σ .spp) k r) above (q .at-r)
+    at-r : ValidAt (σ .spp) (suc (D - 1)) r
+    at-r = subst (λ (k : ℕ). ValidAt (σ .spp) k r) above (q .at-r)
 
     pub inner : Inner (σ .sp .words) s
     inner = record { low = at-s .0; inside = omega (arith, at-s .1, q .wf .sp-wf .fits) }
@@ -139,18 +139,18 @@ module _ (N D : ℕ) (w : Way) (σ : Stores) (m : List ℕ) (s r : ℕ) (q : Lea
 
       pub noted : {t5 m5 m6 : List ℕ} {n5 : ℕ} {h : SP}
           → Stage (setMemo N) (lead w N D s r σ) (given (stores (table t5 n5) (σ .spp)) (h .0)) σ (stores (table t5 n5) (σ .spp)) m m5
-          → Notes (Exactly k s r (h .0)) m5 m6 → Answer N (lead w N D s r) σ m (Node h n5) t5 m6
+          → WritesValid (Exactly k s r (h .0)) m5 m6 → Answer N (lead w N D s r) σ m (Node h n5) t5 m6
       noted x l = turn.noted N (D - 1) (leadCode w) s r σ m (lead-code w) at-r is-run k k-is (lead-runs N w D s r (q .deep) (q .wf) (q .at-s) (q .at-r)) x l
 
     module _ (p0 p1 : ℕ) (K : Kids (σ .sp .words) s p0 p1) (A : Quad) (A-is : A ≡ kids (σ .spp .words) r) (u v : ℕ) (u-is : u ≡ first w p1 p0) (v-is : v ≡ second w p1 p0) where
       side : (i j : Bool) → quad p0 u v p1 i j ≡ Sp.child (σ .sp .words) (half w i j) s
       side = sides w (σ .sp .words) s p0 p1 u v K u-is v-is
 
-      at-p : (i j : Bool) → SpLaws.At (σ .sp) (D - 1) (quad p0 u v p1 i j)
-      at-p i j = subst (SpLaws.At (σ .sp) (D - 1)) (sym (side i j)) (at-s .2 (half w i j))
+      at-p : (i j : Bool) → SpLaws.ValidAt (σ .sp) (D - 1) (quad p0 u v p1 i j)
+      at-p i j = subst (SpLaws.ValidAt (σ .sp) (D - 1)) (sym (side i j)) (at-s .2 (half w i j))
 
-      at-a : (i j : Bool) → At (σ .spp) (D - 1) (A i j)
-      at-a i j = subst (λ (X : Quad). At (σ .spp) (D - 1) (X i j)) (sym A-is) (at-r .2 i j)
+      at-a : (i j : Bool) → ValidAt (σ .spp) (D - 1) (A i j)
+      at-a i j = subst (λ (X : Quad). ValidAt (σ .spp) (D - 1) (X i j)) (sym A-is) (at-r .2 i j)
 
       pub below-asked : (τ : Stores) (m′ : List ℕ) → BothExt σ τ → BothWf N τ → Sound (Held N τ) m′ → (i j : Bool) → LeadAsked N (D - 1) τ m′ (quad p0 u v p1 i j) (A j i)
       below-asked τ m′ e x k i j = record {
@@ -162,7 +162,7 @@ module _ (N D : ℕ) (w : Way) (σ : Stores) (m : List ℕ) (s r : ℕ) (q : Lea
         sound = k;
       }
 
-      pub below-can : (i j : Bool) → stage.Can (setMemo N) (λ τ h. SpLaws.At (τ .sp) (D - 1) h) σ (lead w N (D - 1) (quad p0 u v p1 i j) (A j i))
+      pub below-can : (i j : Bool) → stage.Can (setMemo N) (λ τ h. SpLaws.ValidAt (τ .sp) (D - 1) h) σ (lead w N (D - 1) (quad p0 u v p1 i j) (A j i))
       below-can i j τ e x =
           lead-runs N w (D - 1) (quad p0 u v p1 i j) (A j i) (omega (arith, q .deep)) x
           (SpLawsProofs.at-ext (e .sp-ext) (D - 1) (quad p0 u v p1 i j) (at-p i j)) (at-ext (e .spp-ext) (D - 1) (A j i) (at-a j i))

@@ -7,8 +7,8 @@ use native.Mathlib.Omega.{arith}
 use lib.ListN.{length}
 use Rattle.common.specs.Outcome.{given, Step}
 use Rattle.common.specs.Runs.{Table, table}
-use Rattle.common.proofs.Runs.{Runs, runs-map}
-use Rattle.cache.specs.Cache.{Sound, Notes, Holds, Exactly}
+use Rattle.common.proofs.Runs.{StableSpec, runs-map}
+use Rattle.cache.specs.Cache.{Sound, WritesValid, Holds, Exactly}
 use Rattle.cache.proofs.Stage as stage
 use Rattle.cache.proofs.Stage.{Stage}
 use Rattle.sp_steps.specs.Laws as SpLaws
@@ -17,7 +17,7 @@ use Rattle.sp.specs.declared.Made.the-variants.{Node, Full}
 use Rattle.sp.specs.declared.SP.{SP}
 use Rattle.spp_steps.specs.Model.{Quad, quad, kids}
 use Rattle.spp_steps.specs.ImageModel.{Stores, stores, onSp, fwd, bwd, fwdNode, bwdNode}
-use Rattle.spp_steps.specs.Laws.{At}
+use Rattle.spp_steps.specs.Laws.{ValidAt}
 use Rattle.spp_steps.proofs.Laws.{at-ext, den-mem}
 use Rattle.spp_steps.specs.Images.{BothWf}
 use Rattle.spp_steps.proofs.Images.{BothExt, bothTheory}
@@ -31,7 +31,7 @@ use Rattle.spp_img.specs.declared.Way.the-variants.{Forward, Backward}
 use Rattle.spp_img.proofs.Turn as turn
 use Rattle.spp_img.proofs.Turn.{Turn, chain, ending, halved, halved-is}
 
-project-runs : (N : ℕ) (w : Way) (d r : ℕ) {σ : Stores} → d ≤ N → BothWf N σ → At (σ .spp) d r → Runs (bothTheory N) (project w d r) (λ τ h. SpLaws.At (τ .sp) d h) σ
+project-runs : (N : ℕ) (w : Way) (d r : ℕ) {σ : Stores} → d ≤ N → BothWf N σ → ValidAt (σ .spp) d r → StableSpec (bothTheory N) (project w d r) (λ τ h. SpLaws.ValidAt (τ .sp) d h) σ
 project-runs N Forward d r l v a = runs-map (bothTheory N) (λ τ h _ _ D. D .at) (fwd-runs N v l (den-mem a))
 project-runs N Backward d r l v a = runs-map (bothTheory N) (λ τ h _ _ D. D .at) (bwd-runs N v l (den-mem a))
 
@@ -52,7 +52,7 @@ chained w d r σ =
     ∙ ap (λ (k : ℕ → ℕ → ℕ → ℕ → Step Stores ℕ). chain (λ i j. project w d (turn w (kids (σ .spp .words) r) i j)) k σ)
     (fun-ext (λ a. fun-ext (λ b. fun-ext (λ c. fun-ext (λ e. fun-ext (λ τ. halved-is d a b c e τ))))))
 
-turn-at : (w : Way) (σ : Table) (d : ℕ) (X : Quad) → ((i j : Bool) → At σ d (X i j)) → (i j : Bool) → At σ d (turn w X i j)
+turn-at : (w : Way) (σ : Table) (d : ℕ) (X : Quad) → ((i j : Bool) → ValidAt σ d (X i j)) → (i j : Bool) → ValidAt σ d (turn w X i j)
 turn-at Forward σ d X a i j = a j i
 turn-at Backward σ d X a i j = a i j
 
@@ -78,8 +78,8 @@ module _ (N D : ℕ) (w : Way) (σ : Stores) (m : List ℕ) (r : ℕ) (q : Asked
   pub deeper : 1 ≤ D
   deeper = omega arith
 
-  at-r : At (σ .spp) (suc (D - 1)) r
-  at-r = subst (λ (k : ℕ). At (σ .spp) k r) above (q .at-r)
+  at-r : ValidAt (σ .spp) (suc (D - 1)) r
+  at-r = subst (λ (k : ℕ). ValidAt (σ .spp) k r) above (q .at-r)
 
   pub inside : (2 ≤ r) × (4 * r ≤ length (σ .spp .words) + 4)
   inside = (at-r .0, omega (arith, at-r .1, q .wf .spp-wf .nodes .fits))
@@ -93,20 +93,20 @@ module _ (N D : ℕ) (w : Way) (σ : Stores) (m : List ℕ) (r : ℕ) (q : Asked
 
     pub noted : {t5 m5 m6 : List ℕ} {n5 : ℕ} {h : SP}
         → Stage (setMemo N) (project w D r σ) (given (stores (table t5 n5) (σ .spp)) (h .0)) σ (stores (table t5 n5) (σ .spp)) m m5
-        → Notes (Exactly k r r (h .0)) m5 m6 → Answer N (project w D r) σ m (Node h n5) t5 m6
+        → WritesValid (Exactly k r r (h .0)) m5 m6 → Answer N (project w D r) σ m (Node h n5) t5 m6
     noted s l = turn.noted N (D - 1) (projectCode w) r r σ m (project-code w) at-r is-run k k-is (project-runs N w D r (q .deep) (q .wf) (q .at-r)) s l
 
   module _ (X : Quad) (X-is : (i j : Bool) → X i j ≡ turn w (kids (σ .spp .words) r) i j) where
     X-same : X ≡ turn w (kids (σ .spp .words) r)
     X-same = fun-ext (λ i. fun-ext (λ j. X-is i j))
 
-    at-x : (i j : Bool) → At (σ .spp) (D - 1) (X i j)
-    at-x i j = subst (At (σ .spp) (D - 1)) (sym (X-is i j)) (turn-at w (σ .spp) (D - 1) (kids (σ .spp .words) r) (at-r .2) i j)
+    at-x : (i j : Bool) → ValidAt (σ .spp) (D - 1) (X i j)
+    at-x i j = subst (ValidAt (σ .spp) (D - 1)) (sym (X-is i j)) (turn-at w (σ .spp) (D - 1) (kids (σ .spp .words) r) (at-r .2) i j)
 
     pub below-asked : (τ : Stores) (m′ : List ℕ) → BothExt σ τ → BothWf N τ → Sound (Held N τ) m′ → (i j : Bool) → Asked N (D - 1) τ m′ (X i j)
     below-asked τ m′ e v s i j = record { few = q .few; deep = omega (arith, q .deep); wf = v; at-r = at-ext (e .spp-ext) (D - 1) (X i j) (at-x i j); sound = s }
 
-    pub below-can : (i j : Bool) → stage.Can (setMemo N) (λ τ h. SpLaws.At (τ .sp) (D - 1) h) σ (project w (D - 1) (X i j))
+    pub below-can : (i j : Bool) → stage.Can (setMemo N) (λ τ h. SpLaws.ValidAt (τ .sp) (D - 1) h) σ (project w (D - 1) (X i j))
     below-can i j τ e v = project-runs N w (D - 1) (X i j) (omega (arith, q .deep)) v (at-ext (e .spp-ext) (D - 1) (X i j) (at-x i j))
 
     pub is : project w D r σ ≡ chain (λ i j. project w (D - 1) (X i j)) (ending Forward (D - 1)) σ

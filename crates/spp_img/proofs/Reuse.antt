@@ -8,14 +8,14 @@ use native.Mathlib.Omega.{arith}
 use lib.Dec.{eqb}
 use Rattle.common.specs.Outcome.{given}
 use Rattle.common.specs.Runs.{Table}
-use Rattle.cache.specs.Cache.{Of, Own, Sound, Holds}
+use Rattle.cache.specs.Cache.{OnCodes, OnlyCodes, Sound, Holds}
 use Rattle.cache.proofs.Cache.{sound-holds}
 use Rattle.cache.proofs.Stage.{Memo}
 use Rattle.sp_steps.specs.Reuse.{wide, SpValid, SpCode}
 use Rattle.sp_steps.proofs.Reuse.{valid-ext, valid-not, noted-ext, code-range}
 use Rattle.spp_steps.specs.Model.{size}
 use Rattle.spp_steps.specs.ImageModel.{Stores, ifwd, hasImage}
-use Rattle.spp_steps.specs.Laws.{Ext, At}
+use Rattle.spp_steps.specs.Laws.{Ext, ValidAt}
 use Rattle.spp_steps.proofs.Laws.{at-ext, one-depth}
 use Rattle.spp_steps.proofs.Size.{size-ext}
 use Rattle.spp_steps.specs.Images.{BothWf}
@@ -34,12 +34,12 @@ kept-ext N e code x y r k = Steps.kept-ext (bothTheory N) (depthBy N (eqb code 1
 
 -- a hit: the operation gives what was found
 pub reused : (N : ℕ) {σ : Stores} {m : List ℕ} {code x y r : ℕ} (d : ℕ) → BothWf N σ → Deep N σ code (suc d) x y → 10 ≤ code → code ≤ 15
-    → Sound (Of 10 15 (Kept N σ)) m → Holds m code x y r → run N code d x y σ ≡ given σ r
+    → Sound (OnCodes 10 15 (Kept N σ)) m → Holds m code x y r → run N code d x y σ ≡ given σ r
 reused N {code} {x} {y} d w a l h s found = Steps.reuse (bothTheory N) (depthBy N (eqb code 12) x y) d w a (sound-holds s found l h)
 
 -- a run that gives the same in every later store may be noted
 pub to-note : (N : ℕ) {σ : Stores} (code x y : ℕ) {r : ℕ} (d : ℕ) → 10 ≤ code → code ≤ 15 → Deep N σ code (suc d) x y
-    → ((τ : Stores) → BothExt σ τ → BothWf N τ → run N code d x y τ ≡ given τ r) → Own 10 15 (Kept N σ) code x y r
+    → ((τ : Stores) → BothExt σ τ → BothWf N τ → run N code d x y τ ≡ given τ r) → OnlyCodes 10 15 (Kept N σ) code x y r
 to-note N code x y d l h a again = record { from = l; to = h; valid = record { below = d; depth = a; again = again } }
 
 -- ---- the cache of a function that makes no packet node
@@ -47,14 +47,14 @@ to-note N code x y d l h a again = record { from = l; to = h; valid = record { b
 abbrev pub imgMemo : ℕ → Memo
 imgMemo N = record {
   theory = bothTheory N;
-  Read = λ σ. Of 10 15 (Kept N σ);
-  Note = λ σ. Own 10 15 (Kept N σ);
+  Read = λ σ. OnCodes 10 15 (Kept N σ);
+  Note = λ σ. OnlyCodes 10 15 (Kept N σ);
   read-ext = λ σ τ e o x y z v l h. kept-ext N e o x y z (v l h);
   note-ext = λ σ τ e o x y z w. record { from = w .from; to = w .to; valid = kept-ext N e o x y z (w .valid) };
   note-read = λ σ o x y z w l h. w .valid;
 }
 
-pub held : {N : ℕ} {σ : Stores} {m : List ℕ} → Sound (SpValid (σ .sp)) m → Sound (Of 10 15 (Kept N σ)) m → Sound (Held N σ) m
+pub held : {N : ℕ} {σ : Stores} {m : List ℕ} → Sound (SpValid (σ .sp)) m → Sound (OnCodes 10 15 (Kept N σ)) m → Sound (Held N σ) m
 held s i = record { slots = λ j l. record { sets = s .slots j l; images = i .slots j l } }
 
 -- the codes are apart
@@ -85,12 +85,12 @@ setMemo N = record {
 pub counted-ext : {σ τ : Table} → Ext σ τ → (code a b r : ℕ) → Counted σ code a b r → Counted τ code a b r
 counted-ext e code a b r k = record { depth = k .depth; at = at-ext e (k .depth) a (k .at); counts = size-ext e (k .depth) a (k .at) ∙ k .counts }
 
-pub reused-count : {σ : Table} {m : List ℕ} {a b r : ℕ} (d : ℕ) → At σ d a → Sound (Of 17 17 (Counted σ)) m → Holds m 17 a b r → size (σ .words) d a ≡ wide b r
+pub reused-count : {σ : Table} {m : List ℕ} {a b r : ℕ} (d : ℕ) → ValidAt σ d a → Sound (OnCodes 17 17 (Counted σ)) m → Holds m 17 a b r → size (σ .words) d a ≡ wide b r
 reused-count {σ} {a} d x s found =
     let k = sound-holds s found (omega arith) (omega arith) in
     ap (λ (e : ℕ). size (σ .words) e a) (one-depth σ d (k .depth) a x (k .at)) ∙ k .counts
 
-pub count-to-note : {σ : Table} {a b r : ℕ} (d : ℕ) → At σ d a → size (σ .words) d a ≡ wide b r → Own 17 17 (Counted σ) 17 a b r
+pub count-to-note : {σ : Table} {a b r : ℕ} (d : ℕ) → ValidAt σ d a → size (σ .words) d a ≡ wide b r → OnlyCodes 17 17 (Counted σ) 17 a b r
 count-to-note d x e = record { from = omega arith; to = omega arith; valid = record { depth = d; at = x; counts = e } }
 
 -- ---- codes and directions

@@ -9,8 +9,8 @@ use lib.Dec.{eqb}
 use Rattle.common.specs.Outcome.{Outcome, refused, given, Step, after, _>>=_}
 use Rattle.common.proofs.Follow.{given-of}
 use Rattle.common.specs.Runs.{Table, table, placed}
-use Rattle.common.proofs.Runs.{Runs, runs-on}
-use Rattle.cache.specs.Cache.{Own, Sound, Notes, Holds, Exactly}
+use Rattle.common.proofs.Runs.{StableSpec, runs-on}
+use Rattle.cache.specs.Cache.{OnlyCodes, Sound, WritesValid, Holds, Exactly}
 use Rattle.cache.proofs.Cache.{sound-map, notes-map}
 use Rattle.cache.proofs.Stage as stage
 use Rattle.cache.proofs.Stage.{Gave, Stage, Can, Four}
@@ -22,7 +22,7 @@ use Rattle.sp.specs.declared.Made.{Made}
 use Rattle.sp.specs.declared.Made.the-variants.{Node, Full}
 use Rattle.sp.specs.declared.SP.{SP}
 use Rattle.spp_steps.specs.ImageModel.{Stores, stores, onSp}
-use Rattle.spp_steps.specs.Laws.{At}
+use Rattle.spp_steps.specs.Laws.{ValidAt}
 use Rattle.spp_steps.specs.Images.{BothWf}
 use Rattle.spp_steps.proofs.Images.{BothExt, bothTheory, both-refl, inSp}
 use Rattle.spp_img.specs.Ways.{first, second, join}
@@ -71,7 +71,7 @@ pub record Turn (N d : ℕ) (C : Step Stores ℕ) (σ : Stores) (m : List ℕ) :
   pub call : Bool → Bool → Step Stores ℕ
   pub Ask : Bool → Bool → Stores → List ℕ → Type 0
   pub ask : (τ : Stores) (m′ : List ℕ) → BothExt σ τ → BothWf N τ → Sound (Held N τ) m′ → (i j : Bool) → Ask i j τ m′
-  pub can : (i j : Bool) → Can (setMemo N) (λ τ h. SpLaws.At (τ .sp) d h) σ (call i j)
+  pub can : (i j : Bool) → Can (setMemo N) (λ τ h. SpLaws.ValidAt (τ .sp) d h) σ (call i j)
   pub wf : BothWf N σ
   pub sound : Sound (Held N σ) m
   pub is : C σ ≡ chain call (ending way d) σ
@@ -88,7 +88,7 @@ full : {N : ℕ} {c : Step Stores ℕ} {σ : Stores} {m t′ m′ : List ℕ} �
 full e = record { gives = e; notes = tt }
 
 module _ {N d : ℕ} {C : Step Stores ℕ} {σ : Stores} {m : List ℕ} (T : Turn N d C σ m) where
-  calls : Four (setMemo N) (λ τ h. SpLaws.At (τ .sp) d h) (C σ) σ m
+  calls : Four (setMemo N) (λ τ h. SpLaws.ValidAt (τ .sp) d h) (C σ) σ m
   calls = record {
     f1 = T .call false false;
     f2 = T .call false true;
@@ -149,12 +149,12 @@ module _ {N d : ℕ} {C : Step Stores ℕ} {σ : Stores} {m : List ℕ} (T : Tur
                   unfolding calls
                   last = stage.stage-4 calls (gave a1 e1) (gave a2 e2) (gave a3 e3) (gave a4 e4)
 
-                  held : SpLaws.At (table t4 n4) d (h1 .0) × SpLaws.At (table t4 n4) d (h2 .0) × SpLaws.At (table t4 n4) d (h3 .0) × SpLaws.At (table t4 n4) d (h4 .0)
+                  held : SpLaws.ValidAt (table t4 n4) d (h1 .0) × SpLaws.ValidAt (table t4 n4) d (h2 .0) × SpLaws.ValidAt (table t4 n4) d (h3 .0) × SpLaws.ValidAt (table t4 n4) d (h4 .0)
                   unfolding calls
                   held = stage.held calls (gave a1 e1) (gave a2 e2) (gave a3 e3) (gave a4 e4)
 
-                  either : (way : Way) (x y : ℕ) → SpLaws.At (table t4 n4) d x → SpLaws.At (table t4 n4) d y
-                      → SpLaws.At (table t4 n4) d (first way x y) × SpLaws.At (table t4 n4) d (second way x y)
+                  either : (way : Way) (x y : ℕ) → SpLaws.ValidAt (table t4 n4) d x → SpLaws.ValidAt (table t4 n4) d y
+                      → SpLaws.ValidAt (table t4 n4) d (first way x y) × SpLaws.ValidAt (table t4 n4) d (second way x y)
                   either Way.Forward x y a b = (a, b)
                   either Way.Backward x y a b = (b, a)
 
@@ -167,8 +167,8 @@ module _ {N d : ℕ} {C : Step Stores ℕ} {σ : Stores} {m : List ℕ} (T : Tur
                           deep = omega (arith, T .few, T .deep);
                           wf = SpLawsProofs.wf-down (last .wf .sp-wf) (omega (arith, T .deep));
                           at-w = held .0;
-                          at-x = subst (SpLaws.At (table t4 n4) d) (sym x-is) (p .0);
-                          at-y = subst (SpLaws.At (table t4 n4) d) (sym y-is) (p .1);
+                          at-x = subst (SpLaws.ValidAt (table t4 n4) d) (sym x-is) (p .0);
+                          at-y = subst (SpLaws.ValidAt (table t4 n4) d) (sym y-is) (p .1);
                           at-z = held .3;
                           sound = sound-map (λ _ _ _ _ v. v .sets) (last .sound);
                         }
@@ -196,9 +196,9 @@ module _ {N d : ℕ} {C : Step Stores ℕ} {σ : Stores} {m : List ℕ} (T : Tur
 
 -- ---- the cache, of an operation whose relation y has depth d + 1
 
-module _ (N d code x y : ℕ) {C : Step Stores ℕ} (σ : Stores) (m : List ℕ) (c : (10 ≤ code) × (code ≤ 15) × (eqb code 12 ≡ false)) (at : At (σ .spp) (suc d) y)
+module _ (N d code x y : ℕ) {C : Step Stores ℕ} (σ : Stores) (m : List ℕ) (c : (10 ≤ code) × (code ≤ 15) × (eqb code 12 ≡ false)) (at : ValidAt (σ .spp) (suc d) y)
     (is-run : (τ : Stores) → run N code d x y τ ≡ C τ) (k : ℕ) (k-is : k ≡ code) where
-  deep-at : (τ : Stores) → At (τ .spp) (suc d) y → Deep N τ code (suc d) x y
+  deep-at : (τ : Stores) → ValidAt (τ .spp) (suc d) y → Deep N τ code (suc d) x y
   deep-at τ a = subst (λ (b : Bool). depthBy N b x y .Of τ (suc d)) (sym (c .2)) a
 
   -- found
@@ -208,13 +208,13 @@ module _ (N d code x y : ℕ) {C : Step Stores ℕ} (σ : Stores) (m : List ℕ)
       ∙ reused N d w (deep-at σ at) (c .0) (c .1) (sound-map (λ _ _ _ _ v. v .images) s) (subst (λ (k : ℕ). Holds m k x y h) k-is found)
 
   -- noted
-  pub noted : {P : Stores → ℕ → Type 0} {t5 m5 m6 : List ℕ} {n5 : ℕ} {h : SP} → Runs (bothTheory N) C P σ
+  pub noted : {P : Stores → ℕ → Type 0} {t5 m5 m6 : List ℕ} {n5 : ℕ} {h : SP} → StableSpec (bothTheory N) C P σ
       → Stage (setMemo N) (C σ) (given (stores (table t5 n5) (σ .spp)) (h .0)) σ (stores (table t5 n5) (σ .spp)) m m5
-      → Notes (Exactly k x y (h .0)) m5 m6 → Answer N C σ m (Node h n5) t5 m6
+      → WritesValid (Exactly k x y (h .0)) m5 m6 → Answer N C σ m (Node h n5) t5 m6
   noted {P} {t5} {m5} {m6} {n5} {h} r s l =
       let good = given-of r (s .left) in
       record {
         gives = s .left;
-        notes = stage.noted (setMemo N) s l (inr (subst (λ (o : ℕ). Own 10 15 (Kept N (stores (table t5 n5) (σ .spp))) o x y (h .0)) (sym k-is)
+        notes = stage.noted (setMemo N) s l (inr (subst (λ (o : ℕ). OnlyCodes 10 15 (Kept N (stores (table t5 n5) (σ .spp))) o x y (h .0)) (sym k-is)
             (to-note N code x y d (c .0) (c .1) (deep-at (stores (table t5 n5) (σ .spp)) at) (λ τ e w. is-run τ ∙ good .stable τ e w))));
       }

@@ -8,11 +8,11 @@ use Prim.Native.Nat.{ℕ, suc}
 use lib.Dec.{eqb}
 use Rattle.common.specs.Outcome.{given, Step, if_then_else_}
 use Rattle.common.specs.Runs.{Table}
-use Rattle.cache.specs.Cache.{Valid, Of, Own}
+use Rattle.cache.specs.Cache.{Valid, OnCodes, OnlyCodes}
 use Rattle.sp_steps.specs.Reuse.{wide, SpValid, SpNoted}
 use Rattle.spp_steps.specs.Model.{size}
 use Rattle.spp_steps.specs.ImageModel.{Stores, fwd, bwd, ifwd, push, pull, hasImage}
-use Rattle.spp_steps.specs.Laws.{At}
+use Rattle.spp_steps.specs.Laws.{ValidAt}
 use Rattle.spp_steps.proofs.Images.{bothTheory}
 use Rattle.spp_steps.specs.Reuse as Steps
 use Rattle.spp_steps.proofs.Reuse as StepsLaws
@@ -59,15 +59,15 @@ Kept N σ code x y r = Steps.Kept (bothTheory N) (depthBy N (eqb code 12) x y) (
 -- to read: valid of packet sets' codes, and of images' codes
 pub record Held (N : ℕ) (σ : Stores) (op x y r : ℕ) : Type 0 where
   pub sets : SpValid (σ .sp) op x y r
-  pub images : Of 10 15 (Kept N σ) op x y r
+  pub images : OnCodes 10 15 (Kept N σ) op x y r
 
 -- to note: a valid slot of packet sets, or of images
 abbrev pub Written : (N : ℕ) (σ : Stores) → Valid
-Written N σ op x y r = SpNoted (σ .sp) op x y r ⊎ Own 10 15 (Kept N σ) op x y r
+Written N σ op x y r = SpNoted (σ .sp) op x y r ⊎ OnlyCodes 10 15 (Kept N σ) op x y r
 
 -- ---- numbers of pairs
 
 pub record Counted (σ : Table) (code a b r : ℕ) : Type 0 where
   pub depth : ℕ
-  pub at : At σ depth a
+  pub at : ValidAt σ depth a
   pub counts : size (σ .words) depth a ≡ wide b r

@@ -4,12 +4,12 @@ use mathlib.Core.List.{List}
 use Prim.Native.Nat.{ℕ, _≤_}
 use Rattle.common.specs.Outcome.{Outcome, refused, given, Step}
 use Rattle.common.specs.Runs.{Table, table}
-use Rattle.cache.specs.Cache.{Sound, Notes}
+use Rattle.cache.specs.Cache.{Sound, WritesValid}
 use Rattle.sp_steps.specs.Laws as SpLaws
 use Rattle.sp_steps.specs.Reuse.{SpValid}
 use Rattle.sp.specs.declared.Made.{Made}
 use Rattle.sp.specs.declared.Made.the-variants.{Node, Full}
-use Rattle.spp_steps.specs.Laws.{At}
+use Rattle.spp_steps.specs.Laws.{ValidAt}
 use Rattle.spp_steps.specs.ImageModel as M
 use Rattle.spp_steps.specs.ImageModel.{Stores, stores}
 use Rattle.spp_steps.specs.Images.{BothWf}
@@ -27,7 +27,7 @@ pub record Asked (N d : ℕ) (σ : Stores) (m : List ℕ) (r : ℕ) : Type 0 whe
   pub few : N ≤ 31
   pub deep : d ≤ N
   pub wf : BothWf N σ
-  pub at-r : At (σ .spp) d r
+  pub at-r : ValidAt (σ .spp) d r
   pub sound : Sound (Held N σ) m
 
 -- the same of the set s and the relation r
@@ -35,13 +35,13 @@ pub record LeadAsked (N d : ℕ) (σ : Stores) (m : List ℕ) (s r : ℕ) : Type
   pub few : N ≤ 31
   pub deep : d ≤ N
   pub wf : BothWf N σ
-  pub at-s : SpLaws.At (σ .sp) d s
-  pub at-r : At (σ .spp) d r
+  pub at-s : SpLaws.ValidAt (σ .sp) d s
+  pub at-r : ValidAt (σ .spp) d r
   pub sound : Sound (Held N σ) m
 
 -- what is noted in the cache, unless refused
 abbrev pub Noted : ℕ → List ℕ → Made → List ℕ → Table → List ℕ → Type 0
-Noted N m (Node h n) t′ ρ m′ = Notes (Written N (stores (table t′ n) ρ)) m m′
+Noted N m (Node h n) t′ ρ m′ = WritesValid (Written N (stores (table t′ n) ρ)) m m′
 Noted N m Full t′ ρ m′ = Unit
 
 -- the answer r is what the steps c come to from the nodes σ, and all that is noted is right
@@ -53,10 +53,10 @@ pub record Answer (N : ℕ) (c : Step Stores ℕ) (σ : Stores) (m : List ℕ) (
 pub record JoinAsked (t m : List ℕ) (n d w x y z : ℕ) : Type 0 where
   pub deep : d ≤ 31
   pub wf : SpLaws.WfAny d (table t n)
-  pub at-w : SpLaws.At (table t n) d w
-  pub at-x : SpLaws.At (table t n) d x
-  pub at-y : SpLaws.At (table t n) d y
-  pub at-z : SpLaws.At (table t n) d z
+  pub at-w : SpLaws.ValidAt (table t n) d w
+  pub at-x : SpLaws.ValidAt (table t n) d x
+  pub at-y : SpLaws.ValidAt (table t n) d y
+  pub at-z : SpLaws.ValidAt (table t n) d z
   pub sound : Sound (SpValid (table t n)) m
 
 abbrev pub ledOf : Led → M.Led

@@ -5,10 +5,10 @@ use Prim.Native.Nat.{ℕ, zero, suc, _-_, _≤_, _<_}
 use native.Mathlib.Omega.{arith}
 use Rattle.common.specs.Outcome.{given, Step, return, _>>=_}
 use Rattle.common.specs.Runs.{Table}
-use Rattle.common.proofs.Runs.{Runs, runs-map, runs-bind, runs-return}
+use Rattle.common.proofs.Runs.{StableSpec, runs-map, runs-bind, runs-return}
 use Rattle.cache.proofs.Stage.{Can}
 use Rattle.spp_steps.specs.Model.{union, Early, done, more, Quad, quad, mk, apply, seqExit, finish, down, under, product, sequence, starExit, blocks, star}
-use Rattle.spp_steps.specs.Laws.{Wf, Ext, At}
+use Rattle.spp_steps.specs.Laws.{Wf, Ext, ValidAt}
 use Rattle.spp_steps.proofs.Laws.{sppTheory, ext-refl, ext-trans, at-ext, den-mem}
 use Rattle.spp_steps.proofs.Sequence.{seqExit-low, sequence-exact}
 use Rattle.spp_steps.proofs.Star.{starExit-low, star-exact}
@@ -22,11 +22,11 @@ done≢more : {h : ℕ} → done h ≡ more → ⊥
 done≢more e = let z : _≡_ {A = ℕ} 0 1 = cc in omega arith
 
 -- at depth 0 there is an exit
-pub seq-above : (N D a b : ℕ) (σ : Table) → At σ D a → At σ D b → seqExit N D a b ≡ more → D ≡ suc (D - 1)
+pub seq-above : (N D a b : ℕ) (σ : Table) → ValidAt σ D a → ValidAt σ D b → seqExit N D a b ≡ more → D ≡ suc (D - 1)
 seq-above N zero a b σ p q e = let w = seqExit-low N a b p q in absurd (done≢more (sym (w .1) ∙ e))
 seq-above N (suc d) a b σ p q e = omega arith
 
-pub star-above : (N D x : ℕ) (σ : Table) → At σ D x → starExit N D x ≡ more → D ≡ suc (D - 1)
+pub star-above : (N D x : ℕ) (σ : Table) → ValidAt σ D x → starExit N D x ≡ more → D ≡ suc (D - 1)
 star-above N zero x σ p e = let w = starExit-low N x p in absurd (done≢more (sym (w .1) ∙ e))
 star-above N (suc d) x σ p e = omega arith
 
@@ -51,15 +51,15 @@ star-more N d x σ e = ap (λ (z : Early). finish z (under (blocks (star N d) (s
 -- ---- calls
 
 module _ (N d : ℕ) (deep : d ≤ N) {σ : Table} where
-  pub sequence-can : (a b : ℕ) → At σ d a → At σ d b → Can (sppMemo N) (λ τ h. At τ d h) σ (sequence N d a b)
+  pub sequence-can : (a b : ℕ) → ValidAt σ d a → ValidAt σ d b → Can (sppMemo N) (λ τ h. ValidAt τ d h) σ (sequence N d a b)
   sequence-can a b x y τ e w =
       runs-map (sppTheory N) (λ υ h _ _ D. D .at) (sequence-exact N d deep τ a b _ _ w (den-mem (at-ext e d a x)) (den-mem (at-ext e d b y)) .runs)
 
-  pub star-can : (a : ℕ) → At σ d a → Can (sppMemo N) (λ τ h. At τ d h) σ (star N d a)
+  pub star-can : (a : ℕ) → ValidAt σ d a → Can (sppMemo N) (λ τ h. ValidAt τ d h) σ (star N d a)
   star-can a x τ e w = runs-map (sppTheory N) (λ υ h _ _ D. D .at) (star-exact N d deep τ a _ w (den-mem (at-ext e d a x)) .runs)
 
-  pub row-can : (p0 p1 : ℕ) (B : Quad) → At σ d p0 → At σ d p1 → ((i j : Bool) → At σ d (B i j)) → (τ : Table) → Ext σ τ → Wf N τ
-      → Runs (sppTheory N) (row (sequence N d) p0 p1 B) (λ τ X. (i j : Bool) → At τ d (X i j)) τ
+  pub row-can : (p0 p1 : ℕ) (B : Quad) → ValidAt σ d p0 → ValidAt σ d p1 → ((i j : Bool) → ValidAt σ d (B i j)) → (τ : Table) → Ext σ τ → Wf N τ
+      → StableSpec (sppTheory N) (row (sequence N d) p0 p1 B) (λ τ X. (i j : Bool) → ValidAt τ d (X i j)) τ
   unfolding row
   row-can p0 p1 B x0 x1 y τ e w =
       runs-bind (sppTheory N) (sequence-can p0 (B false false) x0 (y false false) τ e w) (λ τ1 a e1 w1 A1.
@@ -70,7 +70,7 @@ module _ (N d : ℕ) (deep : d ≤ N) {σ : Table} where
       runs-return (sppTheory N) (quad a b c h) w4
       (quad-at τ4 d a b c h (at-ext (ext-trans e2 (ext-trans e3 e4)) d a A1) (at-ext (ext-trans e3 e4) d b A2) (at-ext e4 d c A3) A4)))))
 
-  pub sums-can : (R S : Quad) → ((i j : Bool) → At σ d (R i j)) → ((i j : Bool) → At σ d (S i j)) → d < N → Can (sppMemo N) (λ τ h. At τ (suc d) h) σ (sums (apply N union d) R S)
+  pub sums-can : (R S : Quad) → ((i j : Bool) → ValidAt σ d (R i j)) → ((i j : Bool) → ValidAt σ d (S i j)) → d < N → Can (sppMemo N) (λ τ h. ValidAt τ (suc d) h) σ (sums (apply N union d) R S)
   unfolding sums
   sums-can R S x y l τ e w =
       runs-bind (sppTheory N) (apply-can N d deep union _ _ (x false false) (x false true) τ e w) (λ τ1 a e1 w1 A1.
@@ -82,8 +82,8 @@ module _ (N d : ℕ) (deep : d ≤ N) {σ : Table} where
       (quad-at τ4 d a b c h (at-ext (ext-trans e2 (ext-trans e3 e4)) d a A1) (at-ext (ext-trans e3 e4) d b A2) (at-ext e4 d c A3) A4)))))
 
 module _ (N d : ℕ) (deep : d ≤ N) where
-  pub through-can : (τ : Table) (X : Quad) (v : ℕ) → ((i j : Bool) → At τ d (X i j)) → At τ d v → Wf N τ
-      → Runs (sppTheory N) (through (sequence N d) (apply N union d) X v) (λ τ p. At τ d (p .first) × At τ d (p .second)) τ
+  pub through-can : (τ : Table) (X : Quad) (v : ℕ) → ((i j : Bool) → ValidAt τ d (X i j)) → ValidAt τ d v → Wf N τ
+      → StableSpec (sppTheory N) (through (sequence N d) (apply N union d) X v) (λ τ p. ValidAt τ d (p .first) × ValidAt τ d (p .second)) τ
   unfolding through
   through-can τ X v x y w =
       runs-bind (sppTheory N) (sequence-can N d deep (X false true) v (x false true) y τ (ext-refl τ) w) (λ τ1 a e1 w1 A1.
@@ -91,8 +91,8 @@ module _ (N d : ℕ) (deep : d ≤ N) where
       runs-bind (sppTheory N) (apply-can N d deep union (X false false) b (at-ext (ext-trans e1 e2) d _ (x false false)) A2 τ2 (ext-refl τ2) w2) (λ τ3 c e3 w3 A3.
       runs-return (sppTheory N) (record { first = a; second = c }) w3 (at-ext (ext-trans e2 e3) d a A1, A3))))
 
-  pub around-can : (τ : Table) (c v q x : ℕ) → At τ d c → At τ d v → At τ d q → At τ d x → d < N → Wf N τ
-      → Runs (sppTheory N) (around (sequence N d) (apply N union d) c v q x) (λ τ h. At τ (suc d) h) τ
+  pub around-can : (τ : Table) (c v q x : ℕ) → ValidAt τ d c → ValidAt τ d v → ValidAt τ d q → ValidAt τ d x → d < N → Wf N τ
+      → StableSpec (sppTheory N) (around (sequence N d) (apply N union d) c v q x) (λ τ h. ValidAt τ (suc d) h) τ
   unfolding around
   around-can τ c v q x Ac Av Aq Ax l w =
       runs-bind (sppTheory N) (sequence-can N d deep x q Ax Aq τ (ext-refl τ) w) (λ τ1 x01 e1 w1 A1.

@@ -7,13 +7,13 @@ use native.Mathlib.Omega.{arith}
 use lib.ListN.{length}
 use Rattle.common.specs.Outcome.{Outcome, refused, given, Step, return, after}
 use Rattle.common.proofs.Follow.{given-of}
-use Rattle.common.specs.Runs.{Table, table, Good}
-use Rattle.cache.specs.Cache.{Own, Notes, Holds, Exactly}
+use Rattle.common.specs.Runs.{Table, table, StableResult}
+use Rattle.cache.specs.Cache.{OnlyCodes, WritesValid, Holds, Exactly}
 use Rattle.cache.proofs.Stage as stage
 use Rattle.cache.proofs.Stage.{Gave, Stage}
 use Rattle.spp_steps.specs.Model.{union, more, Quad, quad, kids, mem, mk, apply, sequence, starExit, blocks, star}
 use Rattle.spp_steps.specs.Closure.{closure}
-use Rattle.spp_steps.specs.Laws.{At, Den}
+use Rattle.spp_steps.specs.Laws.{ValidAt, Denotes}
 use Rattle.spp_steps.proofs.Laws.{sppTheory, ext-refl, at-ext, den-mem}
 use Rattle.spp_steps.proofs.Star.{star-exact}
 use Rattle.spp.specs.Reuse.{Kept, run}
@@ -177,8 +177,8 @@ module _ (N D x : ℕ) (t m : List ℕ) (n : ℕ) (r : Asked N D (table t n) m (
   lower : D - 1 < N
   lower = omega (arith, r .deep, up)
 
-  at-x : At (table t n) (suc (D - 1)) x
-  at-x = subst (λ (k : ℕ). At (table t n) k x) up (r .at .0)
+  at-x : ValidAt (table t n) (suc (D - 1)) x
+  at-x = subst (λ (k : ℕ). ValidAt (table t n) k x) up (r .at .0)
 
   pub in-x : (2 ≤ x) × (4 * x ≤ length t + 4)
   in-x = inside (D - 1) x (r .wf) at-x
@@ -191,18 +191,18 @@ module _ (N D x : ℕ) (t m : List ℕ) (n : ℕ) (r : Asked N D (table t n) m (
   hit found = is-up (table t n) ∙ reused (D - 1) (r .wf) at-x (omega arith) (omega arith) (r .sound) found
 
   pub noted : {h : ℕ} {τ : Table} {m4 m5 : List ℕ} → Stage (sppMemo N) (star N D x (table t n)) (given τ h) (table t n) τ m m4
-      → Notes (Exactly 9 x x h) m4 m5 → Notes (Own 3 9 (Kept N τ)) m m5
+      → WritesValid (Exactly 9 x x h) m4 m5 → WritesValid (OnlyCodes 3 9 (Kept N τ)) m m5
   unfolding run
   noted {h} {τ} s k = stage.noted (sppMemo N) s k (to-note (D - 1) (omega arith) (omega arith) (at-ext (whole .ext) (suc (D - 1)) x at-x) (λ υ e w. sym (is-up υ) ∙ whole .stable υ e w))
     where
-      whole : Good (sppTheory N) (star N D x) (λ τ h. Den τ D h (closure (mem t D x))) (table t n) τ h
+      whole : StableResult (sppTheory N) (star N D x) (λ τ h. Denotes τ D h (closure (mem t D x))) (table t n) τ h
       whole = given-of (star-exact N D (r .deep) (table t n) x _ (r .wf) (den-mem (r .at .0)) .runs) (s .left)
 
   module _ (A : Quad) (A-is : A ≡ kids t x) where
     hs : List ℕ
     hs = A false false ∷ A false true ∷ A true false ∷ A true true ∷ []
 
-    at-A : (i j : Bool) → At (table t n) (D - 1) (A i j)
+    at-A : (i j : Bool) → ValidAt (table t n) (D - 1) (A i j)
     at-A = at-kids (table t n) (D - 1) x A A-is at-x
 
     b3 : ℕ → Pair → ℕ → Step Table ℕ
@@ -241,10 +241,10 @@ module _ (N D x : ℕ) (t m : List ℕ) (n : ℕ) (r : Asked N D (table t n) m (
       lost-2 z = stage.stuck (sppMemo N) (through (sequence N (D - 1)) (apply N union (D - 1)) A e) (b2 e) (turn-1 .here) z
 
       module _ {σ2 : Table} {m2 : List ℕ} {p : Pair} (g2 : Gave (sppMemo N) (through (sequence N (D - 1)) (apply N union (D - 1)) A e) σ1 m1 σ2 m2 p) where
-        at-1 : (i j : Bool) → At σ1 (D - 1) (A i j)
+        at-1 : (i j : Bool) → ValidAt σ1 (D - 1) (A i j)
         at-1 i j = at-ext (turn-1 .here .ext) (D - 1) (A i j) (at-A i j)
 
-        run-2 : Good (sppTheory N) (through (sequence N (D - 1)) (apply N union (D - 1)) A e) (λ τ p. At τ (D - 1) (p .first) × At τ (D - 1) (p .second)) σ1 σ2 p
+        run-2 : StableResult (sppTheory N) (through (sequence N (D - 1)) (apply N union (D - 1)) A e) (λ τ p. ValidAt τ (D - 1) (p .first) × ValidAt τ (D - 1) (p .second)) σ1 σ2 p
         run-2 = given-of (through-can N (D - 1) (turn-0 .deep) σ1 A e at-1 (turn-1 .at .0) (turn-1 .here .wf)) (g2 .is)
 
         turn-2 : Moment N (D - 1) (star N D x (table t n)) (b2 e p σ2) (table t n) σ2 m m2 (p .first ∷ p .second ∷ e ∷ hs)

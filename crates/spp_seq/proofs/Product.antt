@@ -7,13 +7,13 @@ use native.Mathlib.Omega.{arith}
 use lib.ListN.{length}
 use Rattle.common.specs.Outcome.{Outcome, refused, given, Step, return, after}
 use Rattle.common.proofs.Follow.{given-of}
-use Rattle.common.specs.Runs.{Table, table, Good}
-use Rattle.cache.specs.Cache.{Own, Notes, Holds, Exactly}
+use Rattle.common.specs.Runs.{Table, table, StableResult}
+use Rattle.cache.specs.Cache.{OnlyCodes, WritesValid, Holds, Exactly}
 use Rattle.cache.proofs.Stage as stage
 use Rattle.cache.proofs.Stage.{Gave, Stage}
 use Rattle.spp_steps.specs.Model.{union, more, Quad, quad, kids, mem, mk, apply, seqExit, product, sequence}
 use Rattle.spp_steps.specs.Relations.{compose}
-use Rattle.spp_steps.specs.Laws.{At, Den}
+use Rattle.spp_steps.specs.Laws.{ValidAt, Denotes}
 use Rattle.spp_steps.proofs.Laws.{sppTheory, ext-refl, at-ext, den-mem}
 use Rattle.spp_steps.proofs.Sequence.{sequence-exact}
 use Rattle.spp.specs.Reuse.{Kept, run}
@@ -30,7 +30,7 @@ use Rattle.spp_seq.proofs.Calls.{seq-above, sequence-more, sequence-can
 abbrev pub list : Quad → List ℕ → List ℕ
 list X hs = X false false ∷ X false true ∷ X true false ∷ X true true ∷ hs
 
-pub of-list : (σ : Table) (d : ℕ) (X : Quad) → At σ d (X false false) → At σ d (X false true) → At σ d (X true false) → At σ d (X true true) → (i j : Bool) → At σ d (X i j)
+pub of-list : (σ : Table) (d : ℕ) (X : Quad) → ValidAt σ d (X false false) → ValidAt σ d (X false true) → ValidAt σ d (X true false) → ValidAt σ d (X true true) → (i j : Bool) → ValidAt σ d (X i j)
 of-list σ d X a b c e false false = a
 of-list σ d X a b c e false true = b
 of-list σ d X a b c e true false = c
@@ -67,11 +67,11 @@ module _ (N D a b : ℕ) (t m : List ℕ) (n : ℕ) (r : Asked N D (table t n) m
   pub up : D ≡ suc (D - 1)
   up = seq-above N D a b (table t n) (r .at .0) (r .at .1 .0) go-on
 
-  at-a : At (table t n) (suc (D - 1)) a
-  at-a = subst (λ (k : ℕ). At (table t n) k a) up (r .at .0)
+  at-a : ValidAt (table t n) (suc (D - 1)) a
+  at-a = subst (λ (k : ℕ). ValidAt (table t n) k a) up (r .at .0)
 
-  at-b : At (table t n) (suc (D - 1)) b
-  at-b = subst (λ (k : ℕ). At (table t n) k b) up (r .at .1 .0)
+  at-b : ValidAt (table t n) (suc (D - 1)) b
+  at-b = subst (λ (k : ℕ). ValidAt (table t n) k b) up (r .at .1 .0)
 
   pub in-a : (2 ≤ a) × (4 * a ≤ length t + 4)
   in-a = inside (D - 1) a (r .wf) at-a
@@ -87,18 +87,18 @@ module _ (N D a b : ℕ) (t m : List ℕ) (n : ℕ) (r : Asked N D (table t n) m
   hit found = is-up (table t n) ∙ reused (D - 1) (r .wf) at-a (omega arith) (omega arith) (r .sound) found
 
   pub noted : {h : ℕ} {τ : Table} {m4 m5 : List ℕ} → Stage (sppMemo N) (sequence N D a b (table t n)) (given τ h) (table t n) τ m m4
-      → Notes (Exactly 8 a b h) m4 m5 → Notes (Own 3 9 (Kept N τ)) m m5
+      → WritesValid (Exactly 8 a b h) m4 m5 → WritesValid (OnlyCodes 3 9 (Kept N τ)) m m5
   unfolding run
   noted {h} {τ} s k = stage.noted (sppMemo N) s k (to-note (D - 1) (omega arith) (omega arith) (at-ext (whole .ext) (suc (D - 1)) a at-a) (λ υ e w. sym (is-up υ) ∙ whole .stable υ e w))
     where
-      whole : Good (sppTheory N) (sequence N D a b) (λ τ h. Den τ D h (compose (mem t D a) (mem t D b))) (table t n) τ h
+      whole : StableResult (sppTheory N) (sequence N D a b) (λ τ h. Denotes τ D h (compose (mem t D a) (mem t D b))) (table t n) τ h
       whole = given-of (sequence-exact N D (r .deep) (table t n) a b _ _ (r .wf) (den-mem (r .at .0)) (den-mem (r .at .1 .0)) .runs) (s .left)
 
   module _ (A B : Quad) (A-is : A ≡ kids t a) (B-is : B ≡ kids t b) where
-    at-A : (i j : Bool) → At (table t n) (D - 1) (A i j)
+    at-A : (i j : Bool) → ValidAt (table t n) (D - 1) (A i j)
     at-A = at-kids (table t n) (D - 1) a A A-is at-a
 
-    at-B : (i j : Bool) → At (table t n) (D - 1) (B i j)
+    at-B : (i j : Bool) → ValidAt (table t n) (D - 1) (B i j)
     at-B = at-kids (table t n) (D - 1) b B B-is at-b
 
     lower : D - 1 < N
@@ -118,7 +118,7 @@ module _ (N D a b : ℕ) (t m : List ℕ) (n : ℕ) (r : Asked N D (table t n) m
         ∙ product-parts (sequence N (D - 1)) (apply N union (D - 1)) A B (table t n))
 
     asked : (p0 p1 : ℕ) {rest : Outcome Table ℕ} {σ′ : Table} {m′ : List ℕ} → Stage (sppMemo N) (sequence N D a b (table t n)) rest (table t n) σ′ m m′
-        → At (table t n) (D - 1) p0 → At (table t n) (D - 1) p1 → Asked N (D - 1) σ′ m′ (p0 ∷ p1 ∷ list B [])
+        → ValidAt (table t n) (D - 1) p0 → ValidAt (table t n) (D - 1) p1 → Asked N (D - 1) σ′ m′ (p0 ∷ p1 ∷ list B [])
     asked p0 p1 s x y = record {
       few = r .few;
       deep = deep;
@@ -134,7 +134,7 @@ module _ (N D a b : ℕ) (t m : List ℕ) (n : ℕ) (r : Asked N D (table t n) m
     lost-1 e = stage.stuck (sppMemo N) (row (sequence N (D - 1)) (A false false) (A false true) B) rest s0 e
 
     module _ {σ1 : Table} {m1 : List ℕ} {R : Quad} (g1 : Gave (sppMemo N) (row (sequence N (D - 1)) (A false false) (A false true) B) (table t n) m σ1 m1 R) where
-      run-1 : Good (sppTheory N) (row (sequence N (D - 1)) (A false false) (A false true) B) (λ τ X. (i j : Bool) → At τ (D - 1) (X i j)) (table t n) σ1 R
+      run-1 : StableResult (sppTheory N) (row (sequence N (D - 1)) (A false false) (A false true) B) (λ τ X. (i j : Bool) → ValidAt τ (D - 1) (X i j)) (table t n) σ1 R
       run-1 = given-of (row-can N (D - 1) deep _ _ B (at-A false false) (at-A false true) at-B (table t n) (s0 .ext) (r .wf)) (g1 .is)
 
       s1 : Stage (sppMemo N) (sequence N D a b (table t n)) (rest R σ1) (table t n) σ1 m m1
@@ -149,7 +149,7 @@ module _ (N D a b : ℕ) (t m : List ℕ) (n : ℕ) (r : Asked N D (table t n) m
       lost-2 e = stage.stuck (sppMemo N) (row (sequence N (D - 1)) (A true false) (A true true) B) (λ S. sums (apply N union (D - 1)) R S) s1 e
 
       module _ {σ2 : Table} {m2 : List ℕ} {S : Quad} (g2 : Gave (sppMemo N) (row (sequence N (D - 1)) (A true false) (A true true) B) σ1 m1 σ2 m2 S) where
-        run-2 : Good (sppTheory N) (row (sequence N (D - 1)) (A true false) (A true true) B) (λ τ X. (i j : Bool) → At τ (D - 1) (X i j)) σ1 σ2 S
+        run-2 : StableResult (sppTheory N) (row (sequence N (D - 1)) (A true false) (A true true) B) (λ τ X. (i j : Bool) → ValidAt τ (D - 1) (X i j)) σ1 σ2 S
         run-2 = given-of (row-can N (D - 1) deep _ _ B (at-A true false) (at-A true true) at-B σ1 (s1 .ext) (s1 .wf)) (g2 .is)
 
         s2 : Stage (sppMemo N) (sequence N D a b (table t n)) (sums (apply N union (D - 1)) R S σ2) (table t n) σ2 m m2
@@ -157,7 +157,7 @@ module _ (N D a b : ℕ) (t m : List ℕ) (n : ℕ) (r : Asked N D (table t n) m
         s2 = stage.next (sppMemo N) (row (sequence N (D - 1)) (A true false) (A true true) B) (λ S. sums (apply N union (D - 1)) R S) s1
             (row-can N (D - 1) deep _ _ B (at-A true false) (at-A true true) at-B σ1 (s1 .ext) (s1 .wf)) g2
 
-        at-R : (i j : Bool) → At σ2 (D - 1) (R i j)
+        at-R : (i j : Bool) → ValidAt σ2 (D - 1) (R i j)
         at-R i j = at-ext (run-2 .ext) (D - 1) (R i j) (run-1 .holds i j)
 
         pub ready-3 : NodeAsked N (D - 1) σ2 m2 (list R (list S []))

@@ -13,7 +13,7 @@ use Rattle.common.specs.Runs.{Table}
 use Rattle.spp_steps.proofs.Exact.{Exact, exact-bind, exact-map, exact-read, exact-return}
 use Rattle.spp_steps.specs.Model.{Quad, quad, kids, mem, zeroAt, topAt, Op, union, intersect, xor, difference, not, Exit, out, on, sorted, exit, follow, each, down, apply}
 use Rattle.spp_steps.specs.Relations.{part}
-use Rattle.spp_steps.specs.Laws.{Wf, Ext, At, Den}
+use Rattle.spp_steps.specs.Laws.{Wf, Ext, ValidAt, Denotes}
 use Rattle.spp_steps.proofs.Laws.{at-low, ext-refl, ext-trans, kids-path, den-ext, den-is, den-kid, den-zero, den-top, agree}
 use Rattle.spp_steps.proofs.Make.{sppLimits, mk-exact, quad-den}
 
@@ -36,13 +36,13 @@ pointwise o R S p q = sem o (R p q) (S p q)
 pub record Going (σ : Table) (d : ℕ) (R : Relation d) (o : Op) (x y : ℕ) : Type 0 where
   pub left : Relation d
   pub right : Relation d
-  pub den-x : Den σ d x left
-  pub den-y : Den σ d y right
+  pub den-x : Denotes σ d x left
+  pub den-y : Denotes σ d y right
   pub makes : (p q : Packet d) → pointwise o left right p q ≡ R p q
 
 -- what an exit leads to is R
 abbrev pub Leads : (σ : Table) (d : ℕ) → Relation d → Exit → Type 0
-Leads σ d R (out h) = Den σ d h R
+Leads σ d R (out h) = Denotes σ d h R
 Leads σ d R (on o x y) = Going σ d R o x y
 
 pub by-if : {A : Type 0} (P : A → Type 0) (c : Bool) (x y : A) → (c ≡ true → P x) → (c ≡ false → P y) → P (if c then x else y)
@@ -69,7 +69,7 @@ xor-comm : (x y : Bool) → sem xor y x ≡ sem xor x y
 xor-comm true y = sym (xor-true y)
 xor-comm false y = sym (xor-false y)
 
-not-low : {σ : Table} (d a : ℕ) {R : Relation d} → Den σ d a R → a < 2 → Den σ d (1 - a) (λ p q. flip (R p q))
+not-low : {σ : Table} (d a : ℕ) {R : Relation d} → Denotes σ d a R → a < 2 → Denotes σ d (1 - a) (λ p q. flip (R p q))
 unfolding mem
 not-low {σ} zero a {R} X l = record { at = omega arith; means = low a l (X .means) }
   where
@@ -79,7 +79,7 @@ not-low {σ} zero a {R} X l = record { at = omega arith; means = low a l (X .mea
     low (suc (suc a)) l m end end = absurd (omega arith)
 not-low (suc d) a X l = absurd (omega (arith, X .at .0))
 
-module _ {N d a b : ℕ} {σ : Table} {R S : Relation d} (w : Wf N σ) (l : d ≤ N) (X : Den σ d a R) (Y : Den σ d b S) where
+module _ {N d a b : ℕ} {σ : Table} {R S : Relation d} (w : Wf N σ) (l : d ≤ N) (X : Denotes σ d a R) (Y : Denotes σ d b S) where
   L : Op → Exit → Type 0
   L o = Leads σ d (pointwise o R S)
 
@@ -163,10 +163,10 @@ exit-low N not = by-bits (λ a b. (h : ℕ) × (exit N not zero a b ≡ out h)) 
 
 -- f makes F of two relations of depth d
 abbrev pub Makes : (N d : ℕ) → (ℕ → ℕ → Step Table ℕ) → (Relation d → Relation d → Relation d) → Type 0
-Makes N d f F = (σ : Table) (a b : ℕ) (R S : Relation d) → Wf N σ → Den σ d a R → Den σ d b S → Exact (sppLimits N) (f a b) (λ τ h. Den τ d h (F R S)) σ
+Makes N d f F = (σ : Table) (a b : ℕ) (R S : Relation d) → Wf N σ → Denotes σ d a R → Denotes σ d b S → Exact (sppLimits N) (f a b) (λ τ h. Denotes τ d h (F R S)) σ
 
 -- a step that reads the children of two handles
-pub down-exact : {N a b : ℕ} (d : ℕ) {σ : Table} {P : Table → ℕ → Type 0} (body : Quad → Quad → Step Table ℕ) → At σ (suc d) a → At σ (suc d) b
+pub down-exact : {N a b : ℕ} (d : ℕ) {σ : Table} {P : Table → ℕ → Type 0} (body : Quad → Quad → Step Table ℕ) → ValidAt σ (suc d) a → ValidAt σ (suc d) b
     → Exact (sppLimits N) (body (kids (σ .words) a) (kids (σ .words) b)) P σ → Exact (sppLimits N) (down body a b) P σ
 down-exact {N} {a} {b} d {σ} body x y r =
     exact-read (sppLimits N) (λ (τ : Table). kids (τ .words) a) (λ A τ. body A (kids (τ .words) b) τ) (λ τ e. kids-path e d a x)
@@ -186,7 +186,7 @@ each-exact N d o f makes σ a b R S w X Y = down-exact d (each f) (X .at) (Y .at
     (quad-den (pointwise o R S) (den-ext (ext-trans e2 (ext-trans e3 e4)) D1) (den-ext (ext-trans e3 e4) D2) (den-ext e4 D3) D4))))))
   where
     entry : (τ : Table) (i j : Bool) → Ext σ τ → Wf N τ
-        → Exact (sppLimits N) (f (kids (σ .words) a i j) (kids (σ .words) b i j)) (λ τ h. Den τ d h (pointwise o (part R i j) (part S i j))) τ
+        → Exact (sppLimits N) (f (kids (σ .words) a i j) (kids (σ .words) b i j)) (λ τ h. Denotes τ d h (pointwise o (part R i j) (part S i j))) τ
     entry τ i j e v = makes τ _ _ _ _ v (den-ext e (den-kid X i j)) (den-ext e (den-kid Y i j))
 
 pub apply-exact : (N : ℕ) (o : Op) (d : ℕ) → d ≤ N → Makes N d (apply N o d) (pointwise o)
@@ -194,12 +194,12 @@ unfolding apply
 apply-exact N o zero l σ a b R S w X Y = at-exit (exit N o zero a b) (exit-low N o a b (X .at) (Y .at)) (exit-right w l X Y o)
   where
     at-exit : (z : Exit) → (h : ℕ) × (z ≡ out h) → Leads σ zero (pointwise o R S) z
-        → Exact (sppLimits N) (follow z (λ o x y. return 0)) (λ τ h. Den τ zero h (pointwise o R S)) σ
+        → Exact (sppLimits N) (follow z (λ o x y. return 0)) (λ τ h. Denotes τ zero h (pointwise o R S)) σ
     at-exit (out h) q D = exact-return (sppLimits N) h w D
     at-exit (on u x y) (h, q) D = let z : _≡_ {A = ℕ} 0 1 = cc in absurd (omega arith)
 apply-exact N o (suc d) l σ a b R S w X Y = at-exit (λ u. each-exact N d u (apply N u d) (apply-exact N u d (omega arith))) (exit N o (suc d) a b) (exit-right w l X Y o)
   where
     at-exit : ((u : Op) → Makes N (suc d) (down (each (apply N u d))) (pointwise u)) → (z : Exit) → Leads σ (suc d) (pointwise o R S) z
-        → Exact (sppLimits N) (follow z (λ o. down (each (apply N o d)))) (λ τ h. Den τ (suc d) h (pointwise o R S)) σ
+        → Exact (sppLimits N) (follow z (λ o. down (each (apply N o d)))) (λ τ h. Denotes τ (suc d) h (pointwise o R S)) σ
     at-exit deep (out h) D = exact-return (sppLimits N) h w D
     at-exit deep (on u x y) D = exact-map (sppLimits N) (λ τ h _ _ H. den-is H (D .makes)) (deep u σ x y (D .left) (D .right) w (D .den-x) (D .den-y))

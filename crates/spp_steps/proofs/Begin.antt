@@ -13,7 +13,7 @@ use Rattle.common.specs.Outcome.{Outcome, refused, given, Step, after, Gives, r
 use Rattle.common.proofs.Follow.{given-of}
 use Rattle.common.specs.Runs.{Table, table}
 use Rattle.spp_steps.specs.Model.{Quad, quad, kid, cap, room, mk, zeroAt, oneAt, topAt, zeros, ones, tops, Constants, constants}
-use Rattle.spp_steps.specs.Laws.{Nodes, Fixed, Level, Wf, Ext, At}
+use Rattle.spp_steps.specs.Laws.{Nodes, Fixed, Level, Wf, Ext, ValidAt}
 use Rattle.spp_steps.proofs.Laws.{ext-refl, ext-trans, zero-den, one-den, top-den, by-test}
 use Rattle.spp_steps.specs.Make.{Missing}
 use Rattle.spp_steps.proofs.Make.{Ways, there, fresh, short, ways, grown-nodes, put-ext, put-new, room-fits}
@@ -231,29 +231,29 @@ whole N σ n w e = record {
   fixed = w;
   level = λ k l.
       by-test (ltb k N)
-      (λ c. at-depth k k (ltb-true k N c) (λ i j. subst (At σ k) (sym (w .zeros k (ltb-true k N c) i j)) (zero k (ltb-true k N c))))
+      (λ c. at-depth k k (ltb-true k N c) (λ i j. subst (ValidAt σ k) (sym (w .zeros k (ltb-true k N c) i j)) (zero k (ltb-true k N c))))
       (λ c. by-test (ltb k (2 * N))
       (λ b. mid k (k - N) (omega (arith, ltb-false k N c)) (omega (arith, ltb-false k N c, ltb-true k (2 * N) b)))
       (λ b. high k (k - 2 * N) (omega (arith, ltb-false k (2 * N) b)) (omega (arith, ltb-false k (2 * N) b))));
 }
   where
-    at-depth : (k d : ℕ) → d < N → ((i j : Bool) → At σ d (kid (σ .words) k i j)) → Level N σ k
+    at-depth : (k d : ℕ) → d < N → ((i j : Bool) → ValidAt σ d (kid (σ .words) k i j)) → Level N σ k
     at-depth k d l a = record { depth = d; low = l; children = a }
 
-    zero : (d : ℕ) → d < N → At σ d (zeroAt N d)
+    zero : (d : ℕ) → d < N → ValidAt σ d (zeroAt N d)
     zero d l = zero-den w d (omega arith) .at
 
-    one : (d : ℕ) → d < N → (i j : Bool) → At σ d (quad (oneAt N d) (zeroAt N d) (zeroAt N d) (oneAt N d) i j)
+    one : (d : ℕ) → d < N → (i j : Bool) → ValidAt σ d (quad (oneAt N d) (zeroAt N d) (zeroAt N d) (oneAt N d) i j)
     one d l false false = one-den w d (omega arith) .at
     one d l false true = zero d l
     one d l true false = zero d l
     one d l true true = one-den w d (omega arith) .at
 
     mid : (k d : ℕ) → k ≡ N + d → d < N → Level N σ k
-    mid k d q l = at-depth k d l (λ i j. subst (At σ d) (sym (ap (λ (k : ℕ). kid (σ .words) k i j) q ∙ w .ones d l i j)) (one d l i j))
+    mid k d q l = at-depth k d l (λ i j. subst (ValidAt σ d) (sym (ap (λ (k : ℕ). kid (σ .words) k i j) q ∙ w .ones d l i j)) (one d l i j))
 
     high : (k d : ℕ) → k ≡ 2 * N + d → d < N → Level N σ k
-    high k d q l = at-depth k d l (λ i j. subst (At σ d) (sym (ap (λ (k : ℕ). kid (σ .words) k i j) q ∙ w .tops d l i j)) (top-den w d (omega arith) .at))
+    high k d q l = at-depth k d l (λ i j. subst (ValidAt σ d) (sym (ap (λ (k : ℕ). kid (σ .words) k i j) q ∙ w .tops d l i j)) (top-den w d (omega arith) .at))
 
 -- A store for N fields as it is begun, from the table σ.
 pub record Begun (N : ℕ) (σ τ : Table) (c : Constants) : Type 0 where

@@ -1,11 +1,11 @@
--- 01, "Who can cause a refusal": a number is returned under its condition and under no other. What a run comes to, with its refusals: unless it is refused it is good (Runs), and it is refused with a number only if it comes to a later
+-- 01, "Who can cause a refusal": a number is returned under its condition and under no other. What a run comes to, with its refusals: unless it is refused it is good (StableSpec), and it is refused with a number only if it comes to a later
 -- well-formed store where that number is the right one. Said once, for every kind of store.
 use mathlib.Core.Path.{_≡_, sym, subst}
 use Prim.Native.Nat.{ℕ}
 use Rattle.common.specs.Outcome.{Outcome, refused, given, Step, return, after, _>>=_, Gives}
 use Rattle.common.proofs.Follow.{it-gives}
-use Rattle.common.specs.Runs.{Theory, Good, placed}
-use Rattle.common.proofs.Runs.{Runs, runs-map, runs-read, runs-return, runs-bind, Inside, on, runs-on}
+use Rattle.common.specs.Runs.{Theory, StableResult, placed}
+use Rattle.common.proofs.Runs.{StableSpec, runs-map, runs-read, runs-return, runs-bind, Inside, on, runs-on}
 
 -- A kind of store, and when a number is the right one to be refused with.
 pub record Limited : Type 1 where
@@ -18,7 +18,7 @@ pub data Stops (𝓛 : Limited) {A : Type 0} (σ : 𝓛 .theory .Store) : Outcom
   goes : {τ : 𝓛 .theory .Store} {a : A} → Stops 𝓛 σ (given τ a)
 
 pub record Exact (𝓛 : Limited) {A : Type 0} (c : Step (𝓛 .theory .Store) A) (P : 𝓛 .theory .Store → A → Type 0) (σ : 𝓛 .theory .Store) : Type 0 where
-  pub runs : Runs (𝓛 .theory) c P σ
+  pub runs : StableSpec (𝓛 .theory) c P σ
   pub stops : Stops 𝓛 σ (c σ)
 
 -- the store at which a refused run is stuck
@@ -59,9 +59,9 @@ module _ (𝓛 : Limited) where
     exact-bind {B} {c} {k} {P} {Q} {σ} r f =
         record { runs = runs-bind theory (r .runs) (λ τ a e w p. f τ a e w p .runs); stops = go (c σ) (r .stops) (r .runs) }
       where
-        go : (o : Outcome Store A) → Stops 𝓛 σ o → Gives (Good theory c P σ) o → Stops 𝓛 σ (after o k)
+        go : (o : Outcome Store A) → Stops 𝓛 σ o → Gives (StableResult theory c P σ) o → Stops 𝓛 σ (after o k)
         go (refused number) (stuck x w s) g = stuck x w s
-        go (given τ a) s g = let h : Good theory c P σ τ a = it-gives g in stops-ext (h .ext) (f τ a (h .ext) (h .wf) (h .holds) .stops)
+        go (given τ a) s g = let h : StableResult theory c P σ τ a = it-gives g in stops-ext (h .ext) (f τ a (h .ext) (h .wf) (h .holds) .stops)
 
 -- a smaller store's limits in a larger one
 abbrev pub lifted : (𝓛 : Limited) {𝓑 : Theory} → Inside (𝓛 .theory) 𝓑 → Limited

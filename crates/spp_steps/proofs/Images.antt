@@ -24,7 +24,7 @@ use Rattle.common.specs.Relations.{starts}
 use Rattle.common.proofs.RelationLaws.{same-refl, same-eq, preimage-of, preimage-to}
 use Rattle.spp_steps.specs.Relations.{part, equal}
 use Rattle.spp_steps.proofs.Relations.{domain, leads, image-part, domain-part, leads-part, image-all, leads-all, uninhabited, inhabited-end, tests-equal}
-use Rattle.spp_steps.specs.Laws.{Wf, Ext, At, Den}
+use Rattle.spp_steps.specs.Laws.{Wf, Ext, ValidAt, Denotes}
 use Rattle.spp_steps.proofs.Laws.{sppTheory, ext-refl, ext-trans, kids-path, den-ext, den-kid, den-zero, den-one, den-top, agree-path, by-test, false-true}
 use Rattle.spp_steps.proofs.Make.{sppLimits, mk-exact, quad-den}
 use Rattle.spp_steps.proofs.Apply.{by-if, or-cases, by-bits}
@@ -69,10 +69,10 @@ inSpp N = record {
 
 -- the handle h of depth d means the set S, and the relation R
 abbrev pub SetAt : (σ : Stores) (d h : ℕ) → Set d → Type 0
-SetAt σ d h S = SpLaws.Den (σ .sp) d h S
+SetAt σ d h S = SpLaws.Denotes (σ .sp) d h S
 
 abbrev pub RelAt : (σ : Stores) (d h : ℕ) → Relation d → Type 0
-RelAt σ d h R = Den (σ .spp) d h R
+RelAt σ d h R = Denotes (σ .spp) d h R
 
 -- ---- the limits
 
@@ -93,16 +93,16 @@ setLimits N = lifted (spLimits N) (inSp N)
 abbrev pub relLimits : ℕ → Limited
 relLimits N = lifted (sppLimits N) (inSpp N)
 
-union-exact : (N d : ℕ) → d ≤ N → (σ : Table) (a b : ℕ) (A B : Set d) → SpLaws.Wf N σ → SpLaws.Den σ d a A → SpLaws.Den σ d b B
-    → Exact (spLimits N) (Sp.union d a b) (λ τ h. SpLaws.Den τ d h (A ∪ B)) σ
+union-exact : (N d : ℕ) → d ≤ N → (σ : Table) (a b : ℕ) (A B : Set d) → SpLaws.Wf N σ → SpLaws.Denotes σ d a A → SpLaws.Denotes σ d b B
+    → Exact (spLimits N) (Sp.union d a b) (λ τ h. SpLaws.Denotes τ d h (A ∪ B)) σ
 union-exact N d l σ a b A B w X Y = record { runs = SpSets.union-runs N d l σ a b A B w X Y; stops = go (SpRefused.union-stops N d l σ a b A B w X Y) }
   where
     go : {o : Outcome Table ℕ} → SpRefused.Stops N σ o → Stops (spLimits N) σ o
     go (SpRefused.lacks z) = stuck (z .later) (z .wf) (record { number-is = refl; left = z .left; right = z .right; short = z .short })
     go SpRefused.goes = goes
 
-set-exact : {N d x0 x1 : ℕ} {σ : Table} {S T : Set d} → SpLaws.Wf N σ → d < N → SpLaws.Den σ d x0 S → SpLaws.Den σ d x1 T
-    → Exact (spLimits N) (Sp.mk x0 x1) (λ τ h. SpLaws.Den τ (suc d) h (SpMakeLaws.node S T)) σ
+set-exact : {N d x0 x1 : ℕ} {σ : Table} {S T : Set d} → SpLaws.Wf N σ → d < N → SpLaws.Denotes σ d x0 S → SpLaws.Denotes σ d x1 T
+    → Exact (spLimits N) (Sp.mk x0 x1) (λ τ h. SpLaws.Denotes τ (suc d) h (SpMakeLaws.node S T)) σ
 set-exact {N} {d} {x0} {x1} {σ} w l X Y = record { runs = SpMakeLaws.mk-runs w l X Y; stops = go (Sp.mk x0 x1 σ) (SpMakeLaws.mk-refused x0 x1 σ) }
   where
     go : (o : Outcome Table ℕ) → ((number : ℕ) → o ≡ refused number → (number ≡ 20) × SpMake.Short x0 x1 σ) → Stops (spLimits N) σ o
@@ -205,7 +205,7 @@ bwd-exact N (suc d) l σ r R w X = bwdNode-exact N d (bwd d) l (bwd-exact N d (o
 
 -- ---- ifwd
 
-child-path : {σ τ : Table} → SpLaws.Ext σ τ → (d s : ℕ) → SpLaws.At σ (suc d) s → _≡_ {A = Bool → ℕ} (λ i. Sp.child (τ .words) i s) (λ i. Sp.child (σ .words) i s)
+child-path : {σ τ : Table} → SpLaws.Ext σ τ → (d s : ℕ) → SpLaws.ValidAt σ (suc d) s → _≡_ {A = Bool → ℕ} (λ i. Sp.child (τ .words) i s) (λ i. Sp.child (σ .words) i s)
 child-path e d s a = fun-ext (λ i. SpLawsProofs.child-ext e i s (a .0) (a .1))
 
 -- f makes the pairs whose second packet is in a set of depth d

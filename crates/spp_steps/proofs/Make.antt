@@ -12,11 +12,11 @@ use lib.Seq.{getD-set-same, getD-set-other}
 use borrow.Author.Tests.{eqb-true, eq-eqb, ltb-true, ltb-false}
 use Rattle.common.specs.Packets.{Relation}
 use Rattle.common.specs.Outcome.{Outcome, refused, given, Gives, refusal, gives}
-use Rattle.common.specs.Runs.{Table, table, Good}
+use Rattle.common.specs.Runs.{Table, table, StableResult}
 use Rattle.spp_steps.proofs.Exact.{Limited, Stops, stuck, goes, Exact}
 use Rattle.spp_steps.specs.Model.{Quad, quad, kid, kids, same, seek, cap, room, put, putIf, foundIf, mk}
 use Rattle.spp_steps.specs.Relations.{part}
-use Rattle.spp_steps.specs.Laws.{Rising, Nodes, Wf, Ext, At, Den}
+use Rattle.spp_steps.specs.Laws.{Rising, Nodes, Wf, Ext, ValidAt, Denotes}
 use Rattle.spp_steps.proofs.Laws.{sppTheory, ext-refl, at-ext, fixed-ext, level-ext, at-below, den-ext, den-node, by-test, false-true}
 use Rattle.spp_steps.specs.Make.{Missing}
 
@@ -214,12 +214,12 @@ module _ (X : Quad) (σ : Table) (r : room (σ .words) (σ .count) ≡ true) whe
           (λ q. w .once k m p q (λ i j. sym (put-old t n X k p i j) ∙ e i j ∙ put-old t n X m q i j)) (split b))
           (split a)
 
-  pub grown-wf : {N : ℕ} (d : ℕ) → Missing X σ → Wf N σ → d < N → ((i j : Bool) → At σ d (X i j)) → Wf N (grown X σ)
+  pub grown-wf : {N : ℕ} (d : ℕ) → Missing X σ → Wf N σ → d < N → ((i j : Bool) → ValidAt σ d (X i j)) → Wf N (grown X σ)
   grown-wf d miss w low at = record {
     nodes = grown-nodes miss (w .nodes) (λ i j. at-below σ d (X i j) (at i j));
     fixed = fixed-ext (w .fixed) (put-ext t n X);
     level = λ k m. ⊎-elim
-        (λ p. record { depth = d; low = low; children = λ i j. subst (At (grown X σ) d) (sym (new p i j)) (at-ext (put-ext t n X) d (X i j) (at i j)) })
+        (λ p. record { depth = d; low = low; children = λ i j. subst (ValidAt (grown X σ) d) (sym (new p i j)) (at-ext (put-ext t n X) d (X i j) (at i j)) })
         (λ p. level-ext k (put-ext t n X) p (w .level k p)) (split m);
   }
 
@@ -234,20 +234,20 @@ sppLimits N = record { theory = sppTheory N; Stuck = Lacks }
 
 module _ {N d : ℕ} {σ : Table} (X : Quad) (R : Relation (suc d)) where
   found : (τ : Table) (k : ℕ) → Ext σ τ → Wf N τ → k < τ .count → ((i j : Bool) → kid (τ .words) k i j ≡ X i j)
-      → ((i j : Bool) → Den σ d (X i j) (part R i j)) → Good (sppTheory N) (mk X) (λ τ h. Den τ (suc d) h R) σ τ (k + 2)
+      → ((i j : Bool) → Denotes σ d (X i j) (part R i j)) → StableResult (sppTheory N) (mk X) (λ τ h. Denotes τ (suc d) h R) σ τ (k + 2)
   unfolding kids
   found τ k e w l q D = record {
     ext = e;
     wf = w;
     holds = den-node (omega arith) (omega arith)
-        (λ i j. subst (λ (h : ℕ). Den τ d h (part R i j)) (sym (ap (λ (k : ℕ). kid (τ .words) k i j) {y = k} (omega arith) ∙ q i j)) (den-ext e (D i j)));
+        (λ i j. subst (λ (h : ℕ). Denotes τ d h (part R i j)) (sym (ap (λ (k : ℕ). kid (τ .words) k i j) {y = k} (omega arith) ∙ q i j)) (den-ext e (D i j)));
     stable = λ υ x v. mk-there X k (v .nodes) (omega (arith, x .more)) (λ i j. x .keep k l i j ∙ q i j);
   }
 
-  pub mk-exact : Wf N σ → d < N → ((i j : Bool) → Den σ d (X i j) (part R i j)) → Exact (sppLimits N) (mk X) (λ τ h. Den τ (suc d) h R) σ
+  pub mk-exact : Wf N σ → d < N → ((i j : Bool) → Denotes σ d (X i j) (part R i j)) → Exact (sppLimits N) (mk X) (λ τ h. Denotes τ (suc d) h R) σ
   mk-exact w low D = record { runs = go (mk X σ) (ways X σ); stops = halt (mk X σ) (ways X σ) }
     where
-      go : (o : Outcome Table ℕ) → Ways X σ o → Gives (Good (sppTheory N) (mk X) (λ τ h. Den τ (suc d) h R) σ) o
+      go : (o : Outcome Table ℕ) → Ways X σ o → Gives (StableResult (sppTheory N) (mk X) (λ τ h. Denotes τ (suc d) h R) σ) o
       go o (there k l q) = gives (found σ k (ext-refl σ) w l q D)
       go o (fresh m r) =
           let e : Ext σ (grown X σ) = put-ext (σ .words) (σ .count) X in
@@ -261,8 +261,8 @@ module _ {N d : ℕ} {σ : Table} (X : Quad) (R : Relation (suc d)) where
 
 -- four handles, and what each means
 pub quad-den : {σ : Table} {d x00 x01 x10 x11 : ℕ} (R : Relation (suc d))
-    → Den σ d x00 (part R false false) → Den σ d x01 (part R false true) → Den σ d x10 (part R true false) → Den σ d x11 (part R true true)
-    → (i j : Bool) → Den σ d (quad x00 x01 x10 x11 i j) (part R i j)
+    → Denotes σ d x00 (part R false false) → Denotes σ d x01 (part R false true) → Denotes σ d x10 (part R true false) → Denotes σ d x11 (part R true true)
+    → (i j : Bool) → Denotes σ d (quad x00 x01 x10 x11 i j) (part R i j)
 quad-den R a b c e false false = a
 quad-den R a b c e false true = b
 quad-den R a b c e true false = c

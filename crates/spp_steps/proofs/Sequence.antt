@@ -12,28 +12,28 @@ use Rattle.spp_steps.proofs.Exact.{Exact, exact-bind, exact-return}
 use Rattle.spp_steps.specs.Model.{quad, kids, zeroAt, oneAt, union, apply, down, Early, done, more, finish, seqExit, product, sequence}
 use Rattle.spp_steps.specs.Relations.{part, compose}
 use Rattle.spp_steps.proofs.Relations.{compose-part, compose-equal, equal-compose, compose-nothing, nothing-compose}
-use Rattle.spp_steps.specs.Laws.{Wf, Ext, Den}
+use Rattle.spp_steps.specs.Laws.{Wf, Ext, Denotes}
 use Rattle.spp_steps.proofs.Laws.{at-low, ext-refl, ext-trans, den-ext, den-is, den-kid, den-zero, den-one, agree-path}
 use Rattle.spp_steps.proofs.Make.{sppLimits, mk-exact, quad-den}
 use Rattle.spp_steps.proofs.Apply.{Makes, pointwise, down-exact, apply-exact, by-if, or-cases, by-bits}
 
 -- what an exit gives is R
 abbrev pub Ends : (σ : Table) (d : ℕ) → Relation d → Early → Type 0
-Ends σ d R (done h) = Den σ d h R
+Ends σ d R (done h) = Denotes σ d h R
 Ends σ d R more = Unit
 
 -- a run that may end early
-pub finish-exact : {N d : ℕ} {σ : Table} {R : Relation d} {c : Step Table ℕ} (z : Early) → Wf N σ → Ends σ d R z → Exact (sppLimits N) c (λ τ h. Den τ d h R) σ
-    → Exact (sppLimits N) (finish z c) (λ τ h. Den τ d h R) σ
+pub finish-exact : {N d : ℕ} {σ : Table} {R : Relation d} {c : Step Table ℕ} (z : Early) → Wf N σ → Ends σ d R z → Exact (sppLimits N) c (λ τ h. Denotes τ d h R) σ
+    → Exact (sppLimits N) (finish z c) (λ τ h. Denotes τ d h R) σ
 finish-exact {N} (done h) w D r = exact-return (sppLimits N) h w D
 finish-exact more w D r = r
 
 pub finish-low : {N : ℕ} {σ : Table} {R : Relation zero} (c : Step Table ℕ) (z : Early) → (h : ℕ) × (z ≡ done h) → Wf N σ → Ends σ zero R z
-    → Exact (sppLimits N) (finish z c) (λ τ h. Den τ zero h R) σ
+    → Exact (sppLimits N) (finish z c) (λ τ h. Denotes τ zero h R) σ
 finish-low {N} c (done h) q w D = exact-return (sppLimits N) h w D
 finish-low c more (h, q) w D = let z : _≡_ {A = ℕ} 0 1 = cc in absurd (omega arith)
 
-pub seqExit-right : {N d a b : ℕ} {σ : Table} {R S : Relation d} → Wf N σ → d ≤ N → Den σ d a R → Den σ d b S → Ends σ d (compose R S) (seqExit N d a b)
+pub seqExit-right : {N d a b : ℕ} {σ : Table} {R S : Relation d} → Wf N σ → d ≤ N → Denotes σ d a R → Denotes σ d b S → Ends σ d (compose R S) (seqExit N d a b)
 unfolding seqExit
 seqExit-right {N} {d} {a} {b} {σ} {R} {S} w l X Y =
     by-if P (eqb a (zeroAt N d) || eqb b (oneAt N d)) (done a) _
@@ -78,11 +78,11 @@ product-exact N d f u makes adds σ a b R S w X Y = down-exact d (product f u) (
     (sum true false (den-ext e12 D11)) (sum true true D12)))))))))))))))
   where
     mul : (τ : Table) (i k j : Bool) → Ext σ τ → Wf N τ
-        → Exact (sppLimits N) (f (kids (σ .words) a i k) (kids (σ .words) b k j)) (λ τ h. Den τ d h (compose (part R i k) (part S k j))) τ
+        → Exact (sppLimits N) (f (kids (σ .words) a i k) (kids (σ .words) b k j)) (λ τ h. Denotes τ d h (compose (part R i k) (part S k j))) τ
     mul τ i k j e v = makes τ _ _ _ _ v (den-ext e (den-kid X i k)) (den-ext e (den-kid Y k j))
 
-    sum : {τ : Table} {x : ℕ} (i j : Bool) → Den τ d x (pointwise union (compose (part R i false) (part S false j)) (compose (part R i true) (part S true j)))
-        → Den τ d x (part (compose R S) i j)
+    sum : {τ : Table} {x : ℕ} (i j : Bool) → Denotes τ d x (pointwise union (compose (part R i false) (part S false j)) (compose (part R i true) (part S true j)))
+        → Denotes τ d x (part (compose R S) i j)
     sum i j D = den-is D (λ p q. sym (compose-part R S i j p q))
 
 pub sequence-exact : (N d : ℕ) → d ≤ N → Makes N d (sequence N d) compose

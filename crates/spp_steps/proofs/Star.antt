@@ -13,13 +13,13 @@ use Rattle.spp_steps.specs.Model.{quad, kids, zeroAt, oneAt, topAt, unio
 use Rattle.spp_steps.specs.Relations.{part, compose}
 use Rattle.spp_steps.specs.Closure.{closure, block}
 use Rattle.spp_steps.proofs.Closure.{closure-nothing, closure-equal, closure-top, closure-part}
-use Rattle.spp_steps.specs.Laws.{Wf, Den}
+use Rattle.spp_steps.specs.Laws.{Wf, Denotes}
 use Rattle.spp_steps.proofs.Laws.{at-low, ext-trans, kids-path, den-ext, den-is, den-kid, den-zero, den-one, den-top, agree-path}
 use Rattle.spp_steps.proofs.Make.{sppLimits, mk-exact, quad-den}
 use Rattle.spp_steps.proofs.Apply.{Makes, pointwise, apply-exact, by-if, or-cases}
 use Rattle.spp_steps.proofs.Sequence.{Ends, finish-exact, finish-low, sequence-exact}
 
-pub starExit-right : {N d a : ℕ} {σ : Table} {R : Relation d} → Wf N σ → d ≤ N → Den σ d a R → Ends σ d (closure R) (starExit N d a)
+pub starExit-right : {N d a : ℕ} {σ : Table} {R : Relation d} → Wf N σ → d ≤ N → Denotes σ d a R → Ends σ d (closure R) (starExit N d a)
 unfolding starExit
 starExit-right {N} {d} {a} {σ} {R} w l X =
     by-if P (eqb a (zeroAt N d)) (done (oneAt N d)) _
@@ -43,7 +43,7 @@ starExit-low N (suc (suc a)) l = absurd (omega arith)
 
 -- s makes the closure of a relation of depth d
 abbrev pub Closes : (N d : ℕ) → (ℕ → Step Table ℕ) → Type 0
-Closes N d s = (σ : Table) (a : ℕ) (R : Relation d) → Wf N σ → Den σ d a R → Exact (sppLimits N) (s a) (λ τ h. Den τ d h (closure R)) σ
+Closes N d s = (σ : Table) (a : ℕ) (R : Relation d) → Wf N σ → Denotes σ d a R → Exact (sppLimits N) (s a) (λ τ h. Denotes τ d h (closure R)) σ
 
 -- to go down makes the closure of the relation of one bit more
 pub blocks-exact : (N d : ℕ) (s : ℕ → Step Table ℕ) (f u : ℕ → ℕ → Step Table ℕ) → Closes N d s → Makes N d f compose → Makes N d u (pointwise union)
@@ -65,11 +65,11 @@ blocks-exact N d s f u closes makes adds σ a R w Y =
     mk-exact (quad x00 x01 x10 x11) (closure R) w10 (at-low w d a (Y .at))
     (quad-den (closure R) (entry false false (den-ext (ext-trans e6 h7) D5)) (entry false true (den-ext h7 D6)) (entry true false (den-ext h9 D8)) (entry true true D10)))))))))))))
   where
-    X : (i j : Bool) → Den σ d (kids (σ .words) a i j) (part R i j)
+    X : (i j : Bool) → Denotes σ d (kids (σ .words) a i j) (part R i j)
     X = den-kid Y
 
-    entry : {τ : Table} {x : ℕ} (i j : Bool) → Den τ d x (block closure R i j) → Den τ d x (part (closure R) i j)
-    entry {τ} {x} i j D = subst (Den τ d x) (sym (closure-part R i j)) D
+    entry : {τ : Table} {x : ℕ} (i j : Bool) → Denotes τ d x (block closure R i j) → Denotes τ d x (part (closure R) i j)
+    entry {τ} {x} i j D = subst (Denotes τ d x) (sym (closure-part R i j)) D
 
 pub star-exact : (N d : ℕ) → d ≤ N → Closes N d (star N d)
 unfolding star

@@ -17,9 +17,9 @@ pub record Ext (σ τ : Table) : Type 0 where
   pub beyond : (k : ℕ) → 4 * τ .count ≤ k → getD (τ .words) k 0 ≡ getD (σ .words) k 0
 
 -- h is a handle of depth d
-abbrev pub At : Table → ℕ → ℕ → Type 0
-At σ zero h = h < 2
-At σ (suc d) h = (2 ≤ h) × (h < σ .count + 2) × ((i j : Bool) → At σ d (kids (σ .words) h i j))
+abbrev pub ValidAt : Table → ℕ → ℕ → Type 0
+ValidAt σ zero h = h < 2
+ValidAt σ (suc d) h = (2 ≤ h) × (h < σ .count + 2) × ((i j : Bool) → ValidAt σ d (kids (σ .words) h i j))
 
 -- each child of a node is a handle of an earlier node, or of depth 0
 abbrev pub Rising : List ℕ → ℕ → Type 0
@@ -43,7 +43,7 @@ pub record Fixed (N : ℕ) (σ : Table) : Type 0 where
 pub record Level (N : ℕ) (σ : Table) (k : ℕ) : Type 0 where
   pub depth : ℕ
   pub low : depth < N
-  pub children : (i j : Bool) → At σ depth (kid (σ .words) k i j)
+  pub children : (i j : Bool) → ValidAt σ depth (kid (σ .words) k i j)
 
 -- A store for N fields: with its constants, and each node's children of one depth below N.
 pub record Wf (N : ℕ) (σ : Table) : Type 0 where
@@ -52,6 +52,6 @@ pub record Wf (N : ℕ) (σ : Table) : Type 0 where
   pub level : (k : ℕ) → k < σ .count → Level N σ k
 
 -- h is a handle of depth d and means the relation R
-pub record Den (σ : Table) (d h : ℕ) (R : Relation d) : Type 0 where
-  pub at : At σ d h
+pub record Denotes (σ : Table) (d h : ℕ) (R : Relation d) : Type 0 where
+  pub at : ValidAt σ d h
   pub means : (p q : Packet d) → mem (σ .words) d h p q ≡ R p q

@@ -15,7 +15,7 @@ use Rattle.aut_steps.specs.Tables as T
 use Rattle.aut_steps.specs.Tables.{Aut, onNodes}
 use Rattle.aut_steps.specs.Relations as Rel
 use Rattle.aut_steps.specs.Goes.{Gone}
-use Rattle.aut_steps.proofs.Goes.{Goes, came, goes-map}
+use Rattle.aut_steps.proofs.Goes.{StepSpec, came, goes-map}
 use Rattle.aut_steps.specs.Constructors.{mk-union}
 use Rattle.aut_steps.proofs.UnionLaws.{mk-union-goes}
 use Rattle.st_steps.specs.Operations.{ops}
@@ -30,9 +30,9 @@ use Rattle.aut.specs.declared.Counts.{Counts}
 use Rattle.aut.specs.declared.Limits.{Limits}
 use Rattle.aut.specs.declared.State as S
 use Rattle.aut.specs.declared.State.the-variants as state
-use Rattle.aut_rel.specs.Behind.{Left}
+use Rattle.aut_rel.specs.Behind.{Modifies}
 use Rattle.aut_rel.proofs.Behind.{left-any, left-wide, left-trans}
-use Rattle.aut_rel.specs.Seen.{autOf, seenAut, Beside, LeftBy, Ready, Does, RelateReady, Relates}
+use Rattle.aut_rel.specs.Seen.{autOf, seenAut, Beside, ModifiesBy, Ready, Does, RelateReady, Relates}
 use Rattle.aut_rel.proofs.Order.{backed-of, ready-after}
 use Rattle.aut_union.specs.Seen.{PairAt}
 use Rattle.st.specs.declared.Listed.{Listed}
@@ -50,9 +50,9 @@ module _ {N : ℕ} {l : Limits} {t st s t′ st′ s′ : List ℕ} {c : Counts}
   placed-is mem = M .is mem ∙ ap (λ (r : Listed). seenList r t′ st′ mem s′) told
 
   pub placed-gone : Gone N (limitsOf l) (ListAt N (limitsOf l)) (autOf t st (R .members) c) (autOf t′ st′ (R .members) d) (edges s′ RESULT k)
-  placed-gone = came (subst (Goes N (limitsOf l) (ListAt N (limitsOf l)) (autOf t st (R .members) c)) (placed-is (R .members)) (place-goes (R .ready .ready .good) (R .edge .state) (relation-of (R .edge)) (R .ready .list)))
+  placed-gone = came (subst (StepSpec N (limitsOf l) (ListAt N (limitsOf l)) (autOf t st (R .members) c)) (placed-is (R .members)) (place-goes (R .ready .ready .good) (R .edge .state) (relation-of (R .edge)) (R .ready .list)))
 
-  pub placed-left : Left N 576 128 (table t′ (d .spp)) s s′
+  pub placed-left : Modifies N 576 128 (table t′ (d .spp)) s s′
   placed-left = subst (λ (r : Listed). ListLeft N 576 128 r t′ s s′) told (M .left)
 
   pub placed-beside : (d .sp ≡ c .sp) × (d .transitions ≡ c .transitions)
@@ -100,7 +100,7 @@ module _ (N : ℕ) (l : Limits) (t st mem s : List ℕ) (c : Counts) (x h x2 h2 
       gone-1 : Gone N L (Label N) σ σ1 (u .0)
       gone-1 = made-gone c A told1 st mem (intersect-goes (R .ready .ready .good) (relation-of (R .new)) (relation-of (R .edge)))
 
-      left-1 : Left N 0 0 (table t1 n) s s1
+      left-1 : Modifies N 0 0 (table t1 n) s s1
       left-1 = made-left c A told1
 
       list-1 : ListReady N l σ1 s1 m
@@ -121,11 +121,11 @@ module _ (N : ℕ) (l : Limits) (t st mem s : List ℕ) (c : Counts) (x h x2 h2 
           σ2 = autOf t2 st2 mem2 c2
 
           gone-2 : Gone N L State σ1 σ2 y
-          gone-2 = came (subst (Goes N L State σ1) (D .is ∙ ap (λ (r : S.State). seenAut r t2 st2 mem2) told2)
+          gone-2 = came (subst (StepSpec N L State σ1) (D .is ∙ ap (λ (r : S.State). seenAut r t2 st2 mem2) told2)
               (goes-map (mk-union-goes (gone-1 .good) (R .new .state) (R .edge .state)) (λ τ z w v i. i .state)))
 
-          left-2 : Left N 192 384 (table t2 (c2 .spp)) s1 s2
-          left-2 = subst (λ (r : S.State). LeftBy N 192 384 r t2 s1 s2) told2 (D .left)
+          left-2 : Modifies N 192 384 (table t2 (c2 .spp)) s1 s2
+          left-2 = subst (λ (r : S.State). ModifiesBy N 192 384 r t2 s1 s2) told2 (D .left)
 
           beside-2 : (c2 .sp ≡ c .sp) × (c2 .transitions ≡ c .transitions)
           beside-2 = subst (λ (r : S.State). Beside r c1) told2 (D .beside)
@@ -202,7 +202,7 @@ module _ (N : ℕ) (l : Limits) (t st s : List ℕ) (c : Counts) (total meet x2 
       sum-gone : Gone N Lʳ (Label N) (autOf t st mem c) (autOf t1 st mem d1) (u .0)
       sum-gone = made-gone c A told1 st mem (union-goes (R .ready .ready .good) (R .at-total) (R .at-meet))
 
-      sum-left : Left N 0 0 (table t1 n1) s s1
+      sum-left : Modifies N 0 0 (table t1 n1) s s1
       sum-left = made-left c A told1
 
       sum-list : ListReady N l (autOf t1 st mem d1) s1 m
@@ -225,7 +225,7 @@ module _ (N : ℕ) (l : Limits) (t st s : List ℕ) (c : Counts) (total meet x2 
           rest-gone : Gone N Lʳ (Label N) (autOf t1 st mem d1) (autOf t2 st mem d2) (v .0)
           rest-gone = made-gone d1 B told2 st mem (difference-goes (sum-gone .good) (relation-of (edge-grown (sum-gone .grown) (R .edge))) (label-grown (sum-gone .grown) (R .at-meet)))
 
-          rest-left : Left N 0 0 (table t2 n2) s1 s2
+          rest-left : Modifies N 0 0 (table t2 n2) s1 s2
           rest-left = made-left d1 B told2
 
           pub rest-place-ready : PlaceReady N l t2 st s2 d2 m (edge x2 (v .0))
@@ -284,10 +284,10 @@ module _ (N : ℕ) (l : Limits) (t st mem s : List ℕ) (c : Counts) (x h total 
       τ1 = autOf t1 st1 mem1 c1
 
       meet-gone : Gone N (limitsOf l) (PartAt N (limitsOf l)) τ τ1 (part (u .0) (edges s1 RESULT k))
-      meet-gone = came (subst (Goes N (limitsOf l) (PartAt N (limitsOf l)) τ) (D .is ∙ ap (λ (r : Met). seenPart r t1 st1 mem1 s1) told)
+      meet-gone = came (subst (StepSpec N (limitsOf l) (PartAt N (limitsOf l)) τ) (D .is ∙ ap (λ (r : Met). seenPart r t1 st1 mem1 s1) told)
           (meetIn-goes (R .ready .ready .good) (R .new .state) (relation-of (R .new)) (R .edge) (R .ready .list)))
 
-      meet-left : Left N 192 512 (table t1 (c1 .spp)) s s1
+      meet-left : Modifies N 192 512 (table t1 (c1 .spp)) s s1
       meet-left = subst (λ (r : Met). PartLeft N 192 512 r t1 s s1) told (D .left)
 
       meet-beside : (c1 .sp ≡ c .sp) × (c1 .transitions ≡ c .transitions)
@@ -306,7 +306,7 @@ module _ (N : ℕ) (l : Limits) (t st mem s : List ℕ) (c : Counts) (x h total 
       unfolding rest-ready
       split-left (met.Next d v n) t2 st2 s2 e p =
           left-trans
-          (came (subst (Goes N (limitsOf l) (PartAt N (limitsOf l)) τ1) e (restIn-goes (meet-gone .good) (rest-ready .at-total) (rest-ready .at-meet) (rest-ready .edge) (rest-ready .ready .list))) .grown .nodes)
+          (came (subst (StepSpec N (limitsOf l) (PartAt N (limitsOf l)) τ1) e (restIn-goes (meet-gone .good) (rest-ready .at-total) (rest-ready .at-meet) (rest-ready .edge) (rest-ready .ready .list))) .grown .nodes)
           meet-left (left-wide p (omega arith) (omega arith))
       split-left (met.Refused n) t2 st2 s2 e p = tt
 

@@ -13,9 +13,9 @@ use Rattle.spp.specs.declared.Made.the-variants.{Node, Full}
 use Rattle.spp.specs.Seen.{seen}
 use Rattle.aut_steps.specs.Tables as T
 use Rattle.aut_steps.specs.Tables.{Aut, putNodes, onNodes}
-use Rattle.aut_steps.specs.Good.{Grown, Good}
+use Rattle.aut_steps.specs.Good.{ExtAut, WfAut}
 use Rattle.aut_steps.specs.Goes.{Gone}
-use Rattle.aut_steps.proofs.Goes.{Goes, came}
+use Rattle.aut_steps.proofs.Goes.{StepSpec, came}
 use Rattle.st_steps.specs.Edges.{edges}
 use Rattle.st_steps.specs.ListGoes.{ListAt, Label}
 use Rattle.st_steps.proofs.ListGoes.{list-empty, list-grown}
@@ -23,7 +23,7 @@ use Rattle.st_steps.proofs.Places.{edges-length, edges-same}
 use Rattle.aut.specs.Seen.{limitsOf}
 use Rattle.aut.specs.declared.Counts.{Counts}
 use Rattle.aut.specs.declared.Limits.{Limits}
-use Rattle.aut_rel.specs.Behind.{LISTS, Left}
+use Rattle.aut_rel.specs.Behind.{LISTS, Modifies}
 use Rattle.aut_rel.specs.Seen.{autOf, MadeLeft, Relates, Ready}
 use Rattle.aut_rel.proofs.Order.{ready-after}
 use Rattle.st.specs.declared.Listed.{Listed}
@@ -34,7 +34,7 @@ use Rattle.st.specs.Seen.{RESULT, ListReady, seenList, ListBeside, ListL
 
 -- ---- lists elsewhere are as they were
 
-module _ {N a n : ℕ} {t : Table} {s s′ : List ℕ} (p : Left N a n t s s′) (b k : ℕ) where
+module _ {N a n : ℕ} {t : Table} {s s′ : List ℕ} (p : Modifies N a n t s s′) (b k : ℕ) where
   pub edges-before : 2 * (b + k) ≤ a → edges s′ b k ≡ edges s b k
   edges-before l = edges-same s s′ b k (λ i x y. p .below i (omega arith))
 
@@ -55,7 +55,7 @@ unfolding edges
 list-none {σ = σ} r q = record { ready = r; list = list-empty σ; limit = q }
 
 -- it stands while other words are written
-pub list-later : {N : ℕ} {l : Limits} {σ τ : Aut} {s s′ : List ℕ} {m a n : ℕ} → ListReady N l σ s m → Grown σ τ → Good N (limitsOf l) τ → Left N a n (τ .nodes) s s′ → a + n ≤ 576 → length s′ ≡ length s → ListReady N l τ s′ m
+pub list-later : {N : ℕ} {l : Limits} {σ τ : Aut} {s s′ : List ℕ} {m a n : ℕ} → ListReady N l σ s m → ExtAut σ τ → WfAut N (limitsOf l) τ → Modifies N a n (τ .nodes) s s′ → a + n ≤ 576 → length s′ ≡ length s → ListReady N l τ s′ m
 list-later {N} {l} {τ = τ} {m = m} r w g p e len = record {
   ready = ready-after (r .ready) w g p len;
   list = subst (ListAt N (limitsOf l) τ) (sym (edges-behind p RESULT m (omega arith) (omega (arith, ready-few r)))) (list-grown w (r .list));
@@ -75,18 +75,18 @@ module _ {N : ℕ} {t s t1 s1 : List ℕ} (c : Counts) {o : Step Table ℕ} {r :
     pub made-is : (st mem : List ℕ) → onNodes o (autOf t st mem c) ≡ given (autOf t1 st mem (withNodes c n)) (u .0)
     made-is st mem = ap (placed putNodes (autOf t st mem c)) (A .gives ∙ ap (λ (r : Made). seen r t1) told)
 
-    pub made-left : Left N 0 0 (table t1 n) s s1
+    pub made-left : Modifies N 0 0 (table t1 n) s s1
     made-left = subst (λ (r : Made). MadeLeft N r t1 s s1) told (A .left)
 
-    pub made-gone : {L : T.Limits} (st mem : List ℕ) → Goes N L (Label N) (autOf t st mem c) (onNodes o (autOf t st mem c)) → Gone N L (Label N) (autOf t st mem c) (autOf t1 st mem (withNodes c n)) (u .0)
-    made-gone {L} st mem G = came (subst (Goes N L (Label N) (autOf t st mem c)) (made-is st mem) G)
+    pub made-gone : {L : T.Limits} (st mem : List ℕ) → StepSpec N L (Label N) (autOf t st mem c) (onNodes o (autOf t st mem c)) → Gone N L (Label N) (autOf t st mem c) (autOf t1 st mem (withNodes c n)) (u .0)
+    made-gone {L} st mem G = came (subst (StepSpec N L (Label N) (autOf t st mem c)) (made-is st mem) G)
 
 -- ---- the steps o have been done
 
-module _ {N : ℕ} {l : Limits} {σ : Aut} {s : List ℕ} (a n : ℕ) (o : Step Aut (List Edge)) (R : Ready N l σ s) (limit : l .transitions ≤ 64) (G : Goes N (limitsOf l) (ListAt N (limitsOf l)) σ (o σ)) where
+module _ {N : ℕ} {l : Limits} {σ : Aut} {s : List ℕ} (a n : ℕ) (o : Step Aut (List Edge)) (R : Ready N l σ s) (limit : l .transitions ≤ 64) (G : StepSpec N (limitsOf l) (ListAt N (limitsOf l)) σ (o σ)) where
   list-next : (r : Listed) (t′ st′ mem′ s′ : List ℕ) → o σ ≡ seenList r t′ st′ mem′ s′ → ListLeft N a n r t′ s s′ → length s′ ≡ length s → ListNext N l σ r t′ st′ mem′ s′
   list-next (listed.List d m) t′ st′ mem′ s′ e p len =
-      let i = came (subst (Goes N (limitsOf l) (ListAt N (limitsOf l)) σ) e G) in
+      let i = came (subst (StepSpec N (limitsOf l) (ListAt N (limitsOf l)) σ) e G) in
       record { gone = i; ready = record { ready = ready-after R (i .grown) (i .good) p len; list = i .holds; limit = limit } }
   list-next (listed.Refused e) t′ st′ mem′ s′ q p len = tt
 

@@ -25,7 +25,7 @@ use Rattle.aut_steps.specs.Scratch.{Kept}
 use Rattle.aut_steps.proofs.Scratch.{kept-wide}
 use Rattle.st_steps.specs.Operations.{ops}
 use Rattle.aut_steps.specs.Goes.{Gone}
-use Rattle.aut_steps.proofs.Goes.{Goes, came}
+use Rattle.aut_steps.proofs.Goes.{StepSpec, came}
 use Rattle.st_steps.specs.Edges.{edges}
 use Rattle.st_steps.proofs.Edges.{edge-grown}
 use Rattle.st_steps.specs.ListGoes.{State}
@@ -39,7 +39,7 @@ use Rattle.aut.specs.declared.Counts.{Counts}
 use Rattle.aut.specs.declared.Limits.{Limits}
 use Rattle.aut.specs.declared.Put.{Put}
 use Rattle.aut.specs.declared.Put.the-variants as put
-use Rattle.aut_rel.specs.Behind.{LISTS, Left}
+use Rattle.aut_rel.specs.Behind.{LISTS, Modifies}
 use Rattle.aut_rel.proofs.Behind.{left-refl, left-any, left-trans, left-kept}
 use Rattle.aut_rel.specs.Seen.{autOf, MadeLeft, RelateReady, Relates}
 use Rattle.aut_rel.proofs.Order.{backed-of, ready-after}
@@ -110,7 +110,7 @@ module _ (N : ℕ) (l : Limits) (t s : List ℕ) (c : Counts) (m x h : ℕ) (R :
         }
 
         module _ (u : SPP) (n : ℕ) (e : r1 ≡ Node u n) (len : length s1 ≡ length s) where
-          left-1 : Left N 0 0 (table t1 n) s s1
+          left-1 : Modifies N 0 0 (table t1 n) s s1
           left-1 = subst (λ (r : Made). MadeLeft N r t1 s s1) e (A .left)
 
           same : edges s1 RESULT m ≡ es
@@ -192,7 +192,7 @@ module _ (N : ℕ) (l : Limits) (t st s : List ℕ) (c : Counts) (m x h : ℕ) (
       no-state q = record { is = is-at true (eq-eqb x i q); beside = (refl, refl); left = left-refl 576 128 (table t (c .spp)) s }
 
       gone : Gone N (limitsOf l) State (autOf t st (R .members) c) (autOf t st1 (R .members) d1) i
-      gone = came (subst (Goes N (limitsOf l) State (autOf t st (R .members) c))
+      gone = came (subst (StepSpec N (limitsOf l) State (autOf t st (R .members) c))
           (ap (placed putStates (autOf t st (R .members) c)) (ap (λ (g : ℕ). mk-spp g (table st (c .states))) z-is ∙ D ∙ ap (λ (p : Put). seenPut p st1) told))
           (zero-state-goes (R .ready .ready .good)))
 

@@ -15,10 +15,10 @@ use Rattle.spp.specs.declared.Made.the-variants.{Node, Full}
 use Rattle.aut_steps.specs.Tables as T
 use Rattle.aut_steps.specs.Tables.{Aut, onNodes}
 use Rattle.aut_steps.specs.Relations as Rel
-use Rattle.aut_steps.specs.Good.{Grown}
+use Rattle.aut_steps.specs.Good.{ExtAut}
 use Rattle.aut_steps.proofs.Good.{grown-refl, grown-trans}
 use Rattle.aut_steps.specs.Goes.{Gone}
-use Rattle.aut_steps.proofs.Goes.{Goes, came}
+use Rattle.aut_steps.proofs.Goes.{StepSpec, came}
 use Rattle.st_steps.specs.Operations.{ops}
 use Rattle.st_steps.specs.Edges.{edges, EdgeAt}
 use Rattle.st_steps.proofs.Edges.{edge-grown}
@@ -30,7 +30,7 @@ use Rattle.st_steps.proofs.InsertSteps.{placeRest, PartAt, splitOne-goes, walk-
 use Rattle.aut.specs.Seen.{limitsOf}
 use Rattle.aut.specs.declared.Counts.{Counts}
 use Rattle.aut.specs.declared.Limits.{Limits}
-use Rattle.aut_rel.specs.Behind.{LISTS, Left}
+use Rattle.aut_rel.specs.Behind.{LISTS, Modifies}
 use Rattle.aut_rel.proofs.Behind.{left-refl, left-any, left-wide, left-trans, left-kept, kept-left}
 use Rattle.aut_rel.specs.Seen.{autOf, RelateReady, Relates}
 use Rattle.aut_rel.proofs.Order.{backed-of, ready-after}
@@ -52,10 +52,10 @@ edges-none s a = refl
 pub record Walked (N : ℕ) (l : Limits) (x h : ℕ) (σ₀ : Aut) (c₀ : Counts) (s₀ : List ℕ) (m : ℕ) (σ : Aut) (d : Counts) (s : List ℕ) (total k i : ℕ) : Type 0 where
   pub most : i ≤ m
   pub len : length s ≡ length s₀
-  pub grown : Grown σ₀ σ
+  pub grown : ExtAut σ₀ σ
   pub ready : ListReady N l σ s k
   pub label : Label N σ total
-  pub left : Left N 192 512 (σ .nodes) s₀ s
+  pub left : Modifies N 192 512 (σ .nodes) s₀ s
   pub beside : (d .sp ≡ c₀ .sp) × (d .transitions ≡ c₀ .transitions)
   pub is : walk N (limitsOf l) x h (edges s₀ TAKEN m) (part (Rel.zeroAt N) []) σ₀ ≡ walk N (limitsOf l) x h (edges s₀ (TAKEN + i) (m - i)) (part total (edges s RESULT k)) σ
 
@@ -121,9 +121,9 @@ module _ (N : ℕ) (l : Limits) (x h : ℕ) (σ₀ : Aut) (c₀ : Counts) (s₀ 
 
         pub again : (c1 : Counts) (g : SPP) (k1 : ℕ) → r ≡ met.Next c1 g k1 → Walked N l x h σ₀ c₀ s₀ m (autOf t1 st1 mem1 c1) c1 s1 (g .0) k1 (i + 1)
         again c1 g k1 q =
-            let w = came (subst (Goes N L (PartAt N L) σ) (D .is ∙ ap (λ (r : Met). seenPart r t1 st1 mem1 s1) q)
+            let w = came (subst (StepSpec N L (PartAt N L) σ) (D .is ∙ ap (λ (r : Met). seenPart r t1 st1 mem1 s1) q)
             (splitOne-goes (v .ready .ready .good) (split-ready .0 .new .state) (relation-of (split-ready .0 .new)) (split-ready .0 .edge) (record { label = v .label; list = v .ready .list }))) in
-            let p : Left N 192 512 (table t1 (c1 .spp)) s s1 = subst (λ (r : Met). PartLeft N 192 512 r t1 s s1) q (D .left) in
+            let p : Modifies N 192 512 (table t1 (c1 .spp)) s s1 = subst (λ (r : Met). PartLeft N 192 512 r t1 s s1) q (D .left) in
             let b : (c1 .sp ≡ d .sp) × (c1 .transitions ≡ d .transitions) = subst (λ (r : Met). PartBeside r d) q (D .beside) in
             record {
               most = omega arith;
@@ -168,7 +168,7 @@ module _ (N : ℕ) (l : Limits) (t st mem s : List ℕ) (c : Counts) (x h m : �
   does {r} {t′} {st′} {mem′} {s′} e b p len = does-list 0 832 insert (R .ready) (R .limit) (insert-goes (R .ready .good) (E .state) (relation-of E) (R .list .edges)) r t′ st′ mem′ s′ e b p len
 
   module _ (s1 : List ℕ) (W : Wrote TAKEN m es s s1) (len1 : length s1 ≡ length s) where
-    left-1 : Left N 704 128 (table t (c .spp)) s s1
+    left-1 : Modifies N 704 128 (table t (c .spp)) s s1
     left-1 = left-wide (left-kept (W .kept) len1 (omega (arith, ready-few R))) (omega arith) (omega (arith, ready-few R))
 
     pub walk-ready : WalkReady N l τ s1 m (edge x h)
@@ -201,10 +201,10 @@ module _ (N : ℕ) (l : Limits) (t st mem s : List ℕ) (c : Counts) (x h m : �
         rest-is = walk-is ∙ ap (λ (r : Met). after (seenPart r t1 st1 mem1 s2) (placeRest N Lᵢ x h)) told1
 
         gone-1 : Gone N Lᵢ (PartAt N Lᵢ) τ τ1 (part (g .0) (edges s2 RESULT k))
-        gone-1 = came (subst (Goes N Lᵢ (PartAt N Lᵢ) τ) (D .is ∙ ap (λ (r : Met). seenPart r t1 st1 mem1 s2) told1)
+        gone-1 = came (subst (StepSpec N Lᵢ (PartAt N Lᵢ) τ) (D .is ∙ ap (λ (r : Met). seenPart r t1 st1 mem1 s2) told1)
             (walk-goes (R .ready .good) (E .state) (relation-of E) (edges s1 TAKEN m) (walk-ready .taken .edges) (record { label = zero-label (R .ready .good); list = list-empty τ })))
 
-        left-2 : Left N 192 512 (table t1 (c1 .spp)) s1 s2
+        left-2 : Modifies N 192 512 (table t1 (c1 .spp)) s1 s2
         left-2 = subst (λ (r : Met). PartLeft N 192 512 r t1 s1 s2) told1 (D .left)
 
         beside-1 : (c1 .sp ≡ c .sp) × (c1 .transitions ≡ c .transitions)
@@ -227,7 +227,7 @@ module _ (N : ℕ) (l : Limits) (t st mem s : List ℕ) (c : Counts) (x h m : �
             gone-2 : Gone N Lᵢ (Label N) τ1 (autOf t2 st1 mem1 c2) (v .0)
             gone-2 = made-gone c1 A told2 st1 mem1 (difference-goes (gone-1 .good) (relation-of (edge-grown (gone-1 .grown) E)) (gone-1 .holds .label))
 
-            left-3 : Left N 0 0 (table t2 n) s2 s3
+            left-3 : Modifies N 0 0 (table t2 n) s2 s3
             left-3 = made-left c1 A told2
 
             pub last-ready : PlaceReady N l t2 st1 s3 c2 k (edge x (v .0))

@@ -14,7 +14,7 @@ use Rattle.st_steps.specs.InsertSteps.{Part, part}
 use Rattle.aut.specs.Seen.{limitsOf}
 use Rattle.aut.specs.declared.Counts.{Counts}
 use Rattle.aut.specs.declared.Limits.{Limits}
-use Rattle.aut_rel.specs.Behind.{Left}
+use Rattle.aut_rel.specs.Behind.{Modifies}
 use Rattle.aut_rel.specs.Seen.{autOf, Ready}
 use Rattle.st.specs.declared.Listed.{Listed}
 use Rattle.st.specs.declared.Listed.the-variants as listed
@@ -84,7 +84,7 @@ ListBeside (listed.Refused e) c = Unit
 
 -- of scratch, the n words from a were written
 abbrev pub ListLeft : ℕ → ℕ → ℕ → Listed → List ℕ → List ℕ → List ℕ → Type 0
-ListLeft N a n (listed.List d m) t′ s s′ = Left N a n (table t′ (d .spp)) s s′
+ListLeft N a n (listed.List d m) t′ s s′ = Modifies N a n (table t′ (d .spp)) s s′
 ListLeft N a n (listed.Refused e) t′ s s′ = Unit
 
 -- the tables have grown from σ, and are in order for the next insertion
@@ -120,7 +120,7 @@ PartBeside (met.Next d h m) c = (d .sp ≡ c .sp) × (d .transitions ≡ c .tran
 PartBeside (met.Refused e) c = Unit
 
 abbrev pub PartLeft : ℕ → ℕ → ℕ → Met → List ℕ → List ℕ → List ℕ → Type 0
-PartLeft N a n (met.Next d h m) t′ s s′ = Left N a n (table t′ (d .spp)) s s′
+PartLeft N a n (met.Next d h m) t′ s s′ = Modifies N a n (table t′ (d .spp)) s s′
 PartLeft N a n (met.Refused e) t′ s s′ = Unit
 
 pub record DoesPart (N a n : ℕ) (o : Step Aut Part) (σ : Aut) (r : Met) (c : Counts) (t′ st′ mem′ s s′ : List ℕ) : Type 0 where

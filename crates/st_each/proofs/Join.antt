@@ -17,7 +17,7 @@ use Rattle.aut_steps.specs.Relations as Rel
 use Rattle.aut_steps.specs.Constructors as C
 use Rattle.aut_steps.proofs.Good.{grown-trans}
 use Rattle.aut_steps.specs.Goes.{Gone}
-use Rattle.aut_steps.proofs.Goes.{Goes, came, goes-map}
+use Rattle.aut_steps.proofs.Goes.{StepSpec, came, goes-map}
 use Rattle.aut_steps.proofs.IntersectLaws.{mk-intersect-goes}
 use Rattle.st_steps.specs.Operations.{ops}
 use Rattle.st_steps.specs.Edges.{edges, EdgeAt}
@@ -33,9 +33,9 @@ use Rattle.aut.specs.declared.Limits.{Limits}
 use Rattle.aut.specs.declared.Put.{Put}
 use Rattle.aut.specs.declared.State.{State}
 use Rattle.aut.specs.declared.State.the-variants as state
-use Rattle.aut_rel.specs.Behind.{Left}
+use Rattle.aut_rel.specs.Behind.{Modifies}
 use Rattle.aut_rel.proofs.Behind.{left-refl, left-any, left-wide, left-trans}
-use Rattle.aut_rel.specs.Seen.{autOf, seenAut, Beside, LeftBy, RelateReady, Relates, Places, Ready, Does}
+use Rattle.aut_rel.specs.Seen.{autOf, seenAut, Beside, ModifiesBy, RelateReady, Relates, Places, Ready, Does}
 use Rattle.aut_rel.proofs.Join.{same-left}
 use Rattle.aut_rel.proofs.Order.{ready-complement, backed-of, ready-after}
 use Rattle.aut_mk.specs.Seen.{Enters, Makes, Asks, Sequences}
@@ -55,10 +55,10 @@ use Rattle.st_each.specs.Seen.{eachOf, stateEdge, labelEdge, MakeReady, 
 
 -- ---- the steps o have been done
 
-module _ {N : ℕ} {l : Limits} {σ : Aut} {s : List ℕ} (o : Step Aut Edge) (R : Ready N l σ s) (G : Goes N (limitsOf l) (EdgeAt N) σ (o σ)) where
+module _ {N : ℕ} {l : Limits} {σ : Aut} {s : List ℕ} (o : Step Aut Edge) (R : Ready N l σ s) (G : StepSpec N (limitsOf l) (EdgeAt N) σ (o σ)) where
   edge-next : (r : Edged) (t′ st′ mem′ s′ : List ℕ) → o σ ≡ seenEdge r t′ st′ mem′ → EdgeLeft N 0 576 r t′ s s′ → length s′ ≡ length s → EdgeNext N l σ r t′ st′ mem′ s′
   edge-next (edged.Edge d t) t′ st′ mem′ s′ e p len =
-      let i = came (subst (Goes N (limitsOf l) (EdgeAt N) σ) e G) in
+      let i = came (subst (StepSpec N (limitsOf l) (EdgeAt N) σ) e G) in
       record { gone = i; ready = ready-after R (i .grown) (i .good) p len }
   edge-next (edged.Refused e) t′ st′ mem′ s′ q p len = tt
 
@@ -67,7 +67,7 @@ module _ {N : ℕ} {l : Limits} {σ : Aut} {s : List ℕ} (o : Step Aut Edge) (R
 
 -- ---- a target made, a label made
 
-any-by : (N : ℕ) (t s s′ : List ℕ) (r : State) → LeftBy N 0 0 r t s s′ → LeftBy N 0 576 r t s s′
+any-by : (N : ℕ) (t s s′ : List ℕ) (r : State) → ModifiesBy N 0 0 r t s s′ → ModifiesBy N 0 576 r t s s′
 any-by N t s s′ (state.Is z d) p = left-any 0 576 p (omega arith)
 any-by N t s s′ (state.Refused e) p = tt
 
@@ -78,7 +78,7 @@ module _ {N : ℕ} {r : State} {c : Counts} where
   of-enters : {o : Step Table ℕ} {st st′ : List ℕ} (t mem s : List ℕ) → Enters o r c st st′ → Does N 0 576 (onStates o (autOf t st mem c)) r c t st′ mem s s
   of-enters t mem s d = record { is = d .is t mem; beside = d .beside; left = same-left N 0 576 r c t s s (d .nodes) (left-refl 0 576 (table t (c .spp)) s) }
 
-module _ {N : ℕ} {l : Limits} {σ : Aut} {s : List ℕ} (o : Step Aut Edge) (R : Ready N l σ s) (G : Goes N (limitsOf l) (EdgeAt N) σ (o σ)) {c : Counts} where
+module _ {N : ℕ} {l : Limits} {σ : Aut} {s : List ℕ} (o : Step Aut Edge) (R : Ready N l σ s) (G : StepSpec N (limitsOf l) (EdgeAt N) σ (o σ)) {c : Counts} where
   from-state : (p : Outcome Aut ℕ) (h : SPP) → o σ ≡ after p (λ x. return (edge x (h .0))) → (r : State) {t′ st′ mem′ s′ : List ℕ} → Does N 0 576 p r c t′ st′ mem′ s s′ → length s′ ≡ length s
       → DoesEdge N l 0 576 o σ (stateEdge r h) c t′ st′ mem′ s s′
   from-state p h e (state.Is x d) {t′} {st′} {mem′} {s′} D len =
@@ -88,7 +88,7 @@ module _ {N : ℕ} {l : Limits} {σ : Aut} {s : List ℕ} (o : Step Aut Edge) (R
 
   -- the label is made in tables that have come from σ
   from-label : (q : Step Table ℕ) (x : ℕ) (t st mem s1 : List ℕ) (d : Counts) → o σ ≡ after (onNodes q (autOf t st mem d)) (λ m. return (edge x m)) → (d .sp ≡ c .sp) × (d .transitions ≡ c .transitions)
-      → ((t′ s′ : List ℕ) (n : ℕ) (m : ℕ) → onNodes q (autOf t st mem d) ≡ given (autOf t′ st mem (withNodes d n)) m → Left N 0 0 (table t′ n) s1 s′ → Left N 0 576 (table t′ n) s s′)
+      → ((t′ s′ : List ℕ) (n : ℕ) (m : ℕ) → onNodes q (autOf t st mem d) ≡ given (autOf t′ st mem (withNodes d n)) m → Modifies N 0 0 (table t′ n) s1 s′ → Modifies N 0 576 (table t′ n) s s′)
       → (r : Made) {t′ s′ : List ℕ} → Relates N q (table t (d .spp)) r t′ s1 s′ → length s′ ≡ length s → DoesEdge N l 0 576 o σ (labelEdge r d x) c t′ st mem s s′
   from-label q x t st mem s1 d e b f (Node h n) {t′} {s′} A len =
       does-edge o R G (labelEdge (Node h n) d x) t′ st mem s′ (e ∙ ap (λ (p : Outcome Aut ℕ). after p (λ m. return (edge x m))) (made-is d A refl st mem)) b (f t′ s′ n (h .0) (made-is d A refl st mem) (A .left)) len
@@ -110,7 +110,7 @@ module _ (N : ℕ) (l : Limits) (t st mem s : List ℕ) (c : Counts) (x : ℕ) (
   abbrev label : ℕ → Step Aut Edge
   label z τ = after (onNodes (Rel.intersect N (h .0) (u .label .0)) τ) (λ m. return (edge z m))
 
-  meet-goes : Goes N L (EdgeAt N) σ (meet σ)
+  meet-goes : StepSpec N L (EdgeAt N) σ (meet σ)
   meet-goes = made-goes (R .ready .good) (M.meet (edge x (h .0))) (R .operands) (R .edge)
 
   pub states-ready : Ready N l σ s × PairAt (c .states) x (u .target)
@@ -128,11 +128,11 @@ module _ (N : ℕ) (l : Limits) (t st mem s : List ℕ) (c : Counts) (x : ℕ) (
       τ = autOf t1 st1 mem1 d
 
       gone : Gone N L (λ τ x. x < τ .states .count) σ τ z
-      gone = came (subst (Goes N L (λ τ x. x < τ .states .count) σ) (D .is ∙ ap (λ (r : State). seenAut r t1 st1 mem1) told)
+      gone = came (subst (StepSpec N L (λ τ x. x < τ .states .count) σ) (D .is ∙ ap (λ (r : State). seenAut r t1 st1 mem1) told)
           (goes-map (mk-intersect-goes (R .ready .good) (R .operands .state) (R .edge .state)) (λ τ x w v i. i .state)))
 
-      left-1 : Left N 0 576 (table t1 (d .spp)) s s1
-      left-1 = subst (λ (r : State). LeftBy N 0 576 r t1 s s1) told (D .left)
+      left-1 : Modifies N 0 576 (table t1 (d .spp)) s s1
+      left-1 = subst (λ (r : State). ModifiesBy N 0 576 r t1 s s1) told (D .left)
 
       beside-1 : (d .sp ≡ c .sp) × (d .transitions ≡ c .transitions)
       beside-1 = subst (λ (r : State). Beside r c) told (D .beside)
@@ -149,7 +149,7 @@ module _ (N : ℕ) (l : Limits) (t st mem s : List ℕ) (c : Counts) (x : ℕ) (
       met r2 t2 s2 A len2 w q =
           subst (λ (w : Edged). DoesEdge N l 0 576 meet σ w c t2 st1 mem1 s s2) (sym q)
           (from-label meet (R .ready) meet-goes (Rel.intersect N (h .0) (u .label .0)) z t1 st1 mem1 s1 d (meet-is ∙ ap (λ (r : State). after (seenAut r t1 st1 mem1) label) told) beside-1
-          (λ t′ s′ n m e p. left-trans (came (subst (Goes N L (Goes.Label N) τ) e (GoesLaws.intersect-goes (gone .good) (GoesLaws.relation-of (edge-grown (gone .grown) (R .operands))) (GoesLaws.relation-of (edge-grown (gone .grown) (R .edge))))) .grown .nodes) left-1 (left-any 0 576 p (omega arith)))
+          (λ t′ s′ n m e p. left-trans (came (subst (StepSpec N L (Goes.Label N) τ) e (GoesLaws.intersect-goes (gone .good) (GoesLaws.relation-of (edge-grown (gone .grown) (R .operands))) (GoesLaws.relation-of (edge-grown (gone .grown) (R .edge))))) .grown .nodes) left-1 (left-any 0 576 p (omega arith)))
           r2 A (len2 ∙ len1))
 
 -- ---- make_edge
@@ -164,7 +164,7 @@ module _ (N : ℕ) (l : Limits) (t st mem s : List ℕ) (c : Counts) (a : Each) 
   abbrev Does-it : Edged → List ℕ → List ℕ → List ℕ → List ℕ → Type 0
   Does-it w t′ st′ mem′ s′ = DoesEdge N l 0 576 (made N Lₘ (eachOf a) (edgeOf u)) ρ w c t′ st′ mem′ s s′
 
-  goes : Goes N Lₘ (EdgeAt N) ρ (made N Lₘ (eachOf a) (edgeOf u) ρ)
+  goes : StepSpec N Lₘ (EdgeAt N) ρ (made N Lₘ (eachOf a) (edgeOf u) ρ)
   goes = made-goes (R .ready .good) (eachOf a) (R .operands) (R .edge)
 
   is : {b : Each} → a ≡ b → made N Lₘ (eachOf a) (edgeOf u) ρ ≡ made N Lₘ (eachOf b) (edgeOf u) ρ
@@ -225,7 +225,7 @@ module _ (N : ℕ) (l : Limits) (t st mem s : List ℕ) (c : Counts) (a : Each) 
 -- ---- an insertion after other steps
 
 module _ {N : ℕ} {l : Limits} {A : Type 0} {P : Aut → A → Type 0} {a : A} {σ τ : Aut} {s s1 s2 : List ℕ} {c d : Counts} {o p : Step Aut (List Edge)} where
-  pub then-list : Gone N (limitsOf l) P σ τ a → Left N 0 832 (τ .nodes) s s1 → (d .sp ≡ c .sp) × (d .transitions ≡ c .transitions) → o σ ≡ p τ → (r : Listed) {t2 st2 mem2 : List ℕ}
+  pub then-list : Gone N (limitsOf l) P σ τ a → Modifies N 0 832 (τ .nodes) s s1 → (d .sp ≡ c .sp) × (d .transitions ≡ c .transitions) → o σ ≡ p τ → (r : Listed) {t2 st2 mem2 : List ℕ}
       → DoesList N l 0 832 p τ r d t2 st2 mem2 s1 s2 → DoesList N l 0 832 o σ r c t2 st2 mem2 s s2
   then-list g v b e (listed.List d2 k) D = record {
     is = e ∙ D .is;
@@ -266,7 +266,7 @@ module _ (N : ℕ) (l : Limits) (t st mem s : List ℕ) (c : Counts) (a : M.Each
       next-1 : EdgeNext N l κ (edged.Edge d new) t1 st1 mem1 s1
       next-1 = subst (λ (r : Edged). EdgeNext N l κ r t1 st1 mem1 s1) told (D .next)
 
-      left-e : Left N 0 576 (table t1 (d .spp)) s s1
+      left-e : Modifies N 0 576 (table t1 (d .spp)) s s1
       left-e = subst (λ (r : Edged). EdgeLeft N 0 576 r t1 s s1) told (D .left)
 
       pub insert-ready : ListReady N l (autOf t1 st1 mem1 d) s1 m × EdgeAt N (autOf t1 st1 mem1 d) (edgeOf new)

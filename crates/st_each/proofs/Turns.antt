@@ -20,7 +20,7 @@ use Rattle.st_steps.proofs.EachSteps.{each-grown}
 use Rattle.aut.specs.Seen.{limitsOf}
 use Rattle.aut.specs.declared.Counts.{Counts}
 use Rattle.aut.specs.declared.Limits.{Limits}
-use Rattle.aut_rel.specs.Behind.{Left}
+use Rattle.aut_rel.specs.Behind.{Modifies}
 use Rattle.aut_rel.proofs.Behind.{left-refl, left-trans}
 use Rattle.aut_rel.specs.Seen.{autOf}
 use Rattle.st.specs.declared.Listed.{Listed}
@@ -38,7 +38,7 @@ pub record Turned (N : ℕ) (l : Limits) (all : List Edge → List Edge → Step
   pub most : i ≤ x .length
   pub len : length s ≡ length s₀
   pub on : ListOn N l σ₀ σ s n
-  pub left : Left N 0 832 (σ .nodes) s₀ s
+  pub left : Modifies N 0 832 (σ .nodes) s₀ s
   pub beside : (d .sp ≡ c₀ .sp) × (d .transitions ≡ c₀ .transitions)
   pub is : all (sourceOf x tr s₀) (edges s₀ RESULT m) σ₀ ≡ all (onFrom x tr s₀ i) (edges s RESULT n) σ
 
@@ -83,7 +83,7 @@ module _ (N : ℕ) (l : Limits) (all : List Edge → List Edge → Step Aut (Lis
           again : (c1 : Counts) (n1 : ℕ) → r ≡ listed.List c1 n1 → Turned N l all x tr σ₀ c₀ s₀ m (autOf t1 st1 mem1 c1) c1 s1 n1 (i + 1)
           again c1 n1 q =
               let w : ListOn N l σ (autOf t1 st1 mem1 c1) s1 n1 = subst (λ (r : Listed). ListNext N l σ r t1 st1 mem1 s1) q (D .next) in
-              let p : Left N 0 832 (autOf t1 st1 mem1 c1 .nodes) s s1 = subst (λ (r : Listed). ListLeft N 0 832 r t1 s s1) q (D .left) in
+              let p : Modifies N 0 832 (autOf t1 st1 mem1 c1 .nodes) s s1 = subst (λ (r : Listed). ListLeft N 0 832 r t1 s s1) q (D .left) in
               let b : (c1 .sp ≡ d .sp) × (c1 .transitions ≡ d .transitions) = subst (λ (r : Listed). ListBeside r d) q (D .beside) in
               record {
                 most = omega arith;

@@ -18,7 +18,7 @@ use Rattle.aut.specs.declared.State.the-variants as state
 use Rattle.spp.specs.declared.SPP.{SPP}
 use Rattle.spp.specs.declared.Made.{Made}
 use Rattle.spp.specs.declared.Made.the-variants.{Node, Full}
-use Rattle.aut_rel.specs.Behind.{Left}
+use Rattle.aut_rel.specs.Behind.{Modifies}
 use Rattle.aut_rel.specs.Seen.{autOf, Ready}
 use Rattle.st.specs.Seen.{ListReady}
 use Rattle.st_source.specs.declared.Source.{Source}
@@ -75,7 +75,7 @@ EdgeBeside (edged.Edge d t) c = (d .sp ≡ c .sp) × (d .transitions ≡ c .tran
 EdgeBeside (edged.Refused e) c = Unit
 
 abbrev pub EdgeLeft : ℕ → ℕ → ℕ → Edged → List ℕ → List ℕ → List ℕ → Type 0
-EdgeLeft N a n (edged.Edge d t) t′ s s′ = Left N a n (table t′ (d .spp)) s s′
+EdgeLeft N a n (edged.Edge d t) t′ s s′ = Modifies N a n (table t′ (d .spp)) s s′
 EdgeLeft N a n (edged.Refused e) t′ s s′ = Unit
 
 -- the tables have grown from σ, and are in order; the transition is one of them

@@ -17,7 +17,7 @@ use Rattle.st_steps.proofs.MinusSteps.{subtractRow-is, subtractRow-none, subtra
 use Rattle.aut.specs.Seen.{limitsOf}
 use Rattle.aut.specs.declared.Counts.{Counts}
 use Rattle.aut.specs.declared.Limits.{Limits}
-use Rattle.aut_rel.specs.Behind.{Left}
+use Rattle.aut_rel.specs.Behind.{Modifies}
 use Rattle.aut_rel.specs.Seen.{autOf}
 use Rattle.aut_stage.proofs.Stage.{Folds, Turned, begin, stuck, done, turn, over, again, all-of}
 use Rattle.aut_stage.proofs.OnAut.{autLayer}
@@ -99,7 +99,7 @@ module _ (N : ℕ) (l : Limits) (us : List Edge) where
   rows-folds = record { none = λ q σ. subtractRows-none N (limitsOf l) us q σ; some = λ t ts q σ. subtractRows-is N (limitsOf l) us t ts q σ }
 
 -- the second list is as it was
-pub row-of : {N : ℕ} {l : Limits} {σ₀ σ : Aut} {tr s₀ s : List ℕ} {y : Source} (d : Counts) (e : Edge) (h n : ℕ) → Left N 0 832 (σ .nodes) s₀ s → Walked N σ₀ tr s₀ y
+pub row-of : {N : ℕ} {l : Limits} {σ₀ σ : Aut} {tr s₀ s : List ℕ} {y : Source} (d : Counts) (e : Edge) (h n : ℕ) → Modifies N 0 832 (σ .nodes) s₀ s → Walked N σ₀ tr s₀ y
     → {r : Summed} {t′ st′ mem′ s′ : List ℕ} → DoesSum N l 0 832 (St.subtractRow (ops N (limitsOf l)) e (sourceOf y tr s) (sumOf N l s h n)) σ r d t′ st′ mem′ s s′
     → DoesSum N l 0 832 (St.subtractRow (ops N (limitsOf l)) e (sourceOf y tr s₀) (sumOf N l s h n)) σ r d t′ st′ mem′ s s′
 row-of {N} {l} {σ₀} {σ} {tr} {s₀} {s} {y} d e h n p w {r} {t′} {st′} {mem′} {s′} D =

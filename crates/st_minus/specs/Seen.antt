@@ -13,7 +13,7 @@ use Rattle.st_steps.specs.ListGoes.{Label, SumAt}
 use Rattle.aut.specs.Seen.{limitsOf}
 use Rattle.aut.specs.declared.Counts.{Counts}
 use Rattle.aut.specs.declared.Limits.{Limits}
-use Rattle.aut_rel.specs.Behind.{Left}
+use Rattle.aut_rel.specs.Behind.{Modifies}
 use Rattle.aut_rel.specs.Seen.{autOf}
 use Rattle.st.specs.Seen.{RESULT, ListReady}
 use Rattle.st_source.specs.declared.Source.{Source}
@@ -55,7 +55,7 @@ SumBeside (summed.Next d h m) c = (d .sp ≡ c .sp) × (d .transitions ≡ c .tr
 SumBeside (summed.Refused e) c = Unit
 
 abbrev pub SumLeft : ℕ → ℕ → ℕ → Summed → List ℕ → List ℕ → List ℕ → Type 0
-SumLeft N a n (summed.Next d h m) t′ s s′ = Left N a n (table t′ (d .spp)) s s′
+SumLeft N a n (summed.Next d h m) t′ s s′ = Modifies N a n (table t′ (d .spp)) s s′
 SumLeft N a n (summed.Refused e) t′ s s′ = Unit
 
 pub record SumOn (N : ℕ) (l : Limits) (σ τ : Aut) (s : List ℕ) (h m : ℕ) : Type 0 where

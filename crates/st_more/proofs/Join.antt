@@ -9,7 +9,7 @@ use Rattle.common.specs.Outcome.{Step, after, _>>=_}
 use Rattle.netkat.specs.ListSteps as St
 use Rattle.netkat.specs.ListSteps.{Edge}
 use Rattle.aut_steps.specs.Tables.{Aut}
-use Rattle.aut_steps.specs.Good.{Grown}
+use Rattle.aut_steps.specs.Good.{ExtAut}
 use Rattle.st_steps.specs.Operations.{ops}
 use Rattle.st_steps.specs.Edges.{edges, EdgesAt}
 use Rattle.st_steps.proofs.Edges.{edges-grown}
@@ -125,7 +125,7 @@ unfolding St.st-xor
 xor-joins W = record { ready = W .first .ready; limit = W .first .limit; is = refl }
 
 -- the lists in later tables
-pub stored-later : {N : ℕ} {l : Limits} {σ τ : Aut} {tr s s′ : List ℕ} {a b k j : ℕ} → StoredReady N l σ tr s a k b j → Ready N l τ s′ → Grown σ τ → StoredReady N l τ tr s′ b j a k
+pub stored-later : {N : ℕ} {l : Limits} {σ τ : Aut} {tr s s′ : List ℕ} {a b k j : ℕ} → StoredReady N l σ tr s a k b j → Ready N l τ s′ → ExtAut σ τ → StoredReady N l τ tr s′ b j a k
 stored-later W r w = record {
   first = record { ready = r; limit = W .first .limit; walked = record { within = W .second .within; edges = edges-grown w (W .second .edges) } };
   second = record { within = W .first .walked .within; edges = edges-grown w (W .first .walked .edges) };

@@ -8,7 +8,7 @@ use Rattle.common.specs.Runs.{table}
 use Rattle.netkat.specs.ListSteps as St
 use Rattle.netkat.specs.ListSteps.{Edge, edge}
 use Rattle.spp_steps.specs.Model as Spp
-use Rattle.spp_steps.specs.Laws.{At}
+use Rattle.spp_steps.specs.Laws.{ValidAt}
 use Rattle.spp.specs.declared.SPP.{SPP}
 use Rattle.spp.specs.declared.Made.{Made}
 use Rattle.spp.specs.declared.Made.the-variants.{Node, Full}
@@ -118,7 +118,7 @@ module _ {N : ℕ} {l : Limits} {σ : Aut} {tr s : List ℕ} {x : Source} (W : O
           abbrev τ2 : Aut
           τ2 = autOf t2 st1 mem1 d2
 
-          rested : Post (autLayer N l) 0 0 (λ τ h. At (τ .nodes) N h) (onNodes (uncovered N ts) τ1) τ1 d (gave d2 (u .0)) (autOf t2 st1 mem1) s1 s2
+          rested : Post (autLayer N l) 0 0 (λ τ h. ValidAt (τ .nodes) N h) (onNodes (uncovered N ts) τ1) τ1 d (gave d2 (u .0)) (autOf t2 st1 mem1) s1 s2
           rested = nodes-given t1 st1 mem1 d (uncovered N ts) (stage-1 .ready) (E-as (Node u m) q2)
 
           stage-2 : Stage (autLayer N l) 0 832 (whole σ) (after (onStates mk-top τ2) (put-in (edges s1 RESULT n) (u .0))) σ τ2 c d2 s s2

@@ -8,7 +8,7 @@ use Rattle.common.specs.Outcome.{after}
 use Rattle.common.specs.Runs.{Table, table}
 use Rattle.netkat.specs.ListSteps.{Edge}
 use Rattle.spp_steps.specs.Model as Spp
-use Rattle.spp_steps.specs.Laws.{At}
+use Rattle.spp_steps.specs.Laws.{ValidAt}
 use Rattle.spp_steps.proofs.Laws.{at-ext, den-zero, den-mem}
 use Rattle.spp_steps.proofs.Apply.{apply-exact, pointwise}
 use Rattle.spp.specs.declared.SPP.{SPP}
@@ -56,8 +56,8 @@ module _ {N : ℕ} {t₀ : Table} {tr s₀ : List ℕ} {x : Source} (R : CoverRe
         same : edgeOf u ≡ entryOf x tr s₀ i
         same = read ∙ entry-kept (left-any 0 832 (v .stage .frame) (omega arith)) tr x i (R .within) lt
 
-        at-label : At t N (u .label .0)
-        at-label = subst (λ (e : Edge). At t N (e .label)) (sym same) (at-ext (v .stage .ext) N (entryOf x tr s₀ i .label) (R .labels i lt))
+        at-label : ValidAt t N (u .label .0)
+        at-label = subst (λ (e : Edge). ValidAt t N (e .label)) (sym same) (at-ext (v .stage .ext) N (entryOf x tr s₀ i .label) (R .labels i lt))
 
         on-next : onFrom x tr s₀ i ≡ edgeOf u ∷ onFrom x tr s₀ (i + 1)
         on-next = from-next tr s₀ x i lt ∙ ap (λ (e : Edge). e ∷ onFrom x tr s₀ (i + 1)) (sym same)

@@ -2,19 +2,19 @@
 use mathlib.Core.List.{List}
 use Prim.Native.Nat.{ℕ, _≤_, _<_}
 use Rattle.common.specs.Runs.{Table}
-use Rattle.spp_steps.specs.Laws.{At}
+use Rattle.spp_steps.specs.Laws.{ValidAt}
 use Rattle.aut_steps.specs.Tables.{Aut}
 use Rattle.aut.specs.declared.Limits.{Limits}
-use Rattle.aut_rel.specs.Behind.{Backed}
+use Rattle.aut_rel.specs.Behind.{CacheReady}
 use Rattle.aut_rel.specs.Seen.{Ready}
 use Rattle.st_source.specs.declared.Source.{Source}
 use Rattle.st_source.specs.Seen.{entryOf, Within, Walked}
 
 -- the labels of a list are relations
 pub record CoverReady (N : ℕ) (t : Table) (tr s : List ℕ) (x : Source) : Type 0 where
-  pub backed : Backed N t s
+  pub backed : CacheReady N t s
   pub within : Within tr x
-  pub labels : (i : ℕ) → i < x .length → At t N (entryOf x tr s i .label)
+  pub labels : (i : ℕ) → i < x .length → ValidAt t N (entryOf x tr s i .label)
 
 -- a list
 pub record OneReady (N : ℕ) (l : Limits) (σ : Aut) (tr s : List ℕ) (x : Source) : Type 0 where

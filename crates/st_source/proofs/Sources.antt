@@ -7,11 +7,11 @@ use lib.ListN.{length}
 use Rattle.common.specs.Runs.{Table}
 use Rattle.netkat.specs.ListSteps.{Edge, edge}
 use Rattle.aut_steps.specs.Tables.{Aut}
-use Rattle.aut_steps.specs.Good.{Grown}
+use Rattle.aut_steps.specs.Good.{ExtAut}
 use Rattle.st_steps.specs.Edges.{edges, EdgeAt, EdgesAt}
 use Rattle.st_steps.proofs.Edges.{edges-grown}
 use Rattle.st_steps.proofs.Places.{edges-on, edges-done, edge-at}
-use Rattle.aut_rel.specs.Behind.{LISTS, Left}
+use Rattle.aut_rel.specs.Behind.{LISTS, Modifies}
 use Rattle.st.proofs.Join.{edges-behind}
 use Rattle.st_source.specs.declared.Place.{Place}
 use Rattle.st_source.specs.declared.Place.the-variants as place
@@ -72,7 +72,7 @@ length-few tr x w = go (x .place) w
     go (place.Scratch a) w = omega (arith, w .1)
 
 -- an insertion writes no more than the first 832 words
-module _ {N : ℕ} {t : Table} {s s′ : List ℕ} (p : Left N 0 832 t s s′) (tr : List ℕ) where
+module _ {N : ℕ} {t : Table} {s s′ : List ℕ} (p : Modifies N 0 832 t s s′) (tr : List ℕ) where
   pub source-kept : (x : Source) → Within tr x → sourceOf x tr s′ ≡ sourceOf x tr s
   source-kept x w = go (x .place) (x .length) w
     where
@@ -88,5 +88,5 @@ module _ {N : ℕ} {t : Table} {s s′ : List ℕ} (p : Left N 0 832 t s s′) (
       go (place.Scratch a) w =
           ap₂ edge (p .above (2 * (a + i)) (omega (arith, w .0)) (omega (arith, w .1, l))) (p .above (2 * (a + i) + 1) (omega (arith, w .0)) (omega (arith, w .1, l)))
 
-  pub walked-later : {σ τ : Aut} {x : Source} → Walked N σ tr s x → Grown σ τ → Walked N τ tr s′ x
+  pub walked-later : {σ τ : Aut} {x : Source} → Walked N σ tr s x → ExtAut σ τ → Walked N τ tr s′ x
   walked-later {τ = τ} {x = x} w g = record { within = w .within; edges = subst (EdgesAt N τ) (sym (source-kept x (w .within))) (edges-grown g (w .edges)) }

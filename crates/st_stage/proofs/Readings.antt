@@ -6,7 +6,7 @@ use lib.ListN.{length}
 use Rattle.common.specs.Outcome.{refused, Step}
 use Rattle.netkat.specs.ListSteps.{Edge}
 use Rattle.aut_steps.specs.Tables.{Aut}
-use Rattle.aut_steps.proofs.Goes.{Goes}
+use Rattle.aut_steps.proofs.Goes.{StepSpec}
 use Rattle.st_steps.specs.Edges.{edges}
 use Rattle.st_steps.specs.ListGoes.{ListAt}
 use Rattle.aut.specs.Seen.{limitsOf}
@@ -14,7 +14,7 @@ use Rattle.aut.specs.declared.Counts.{Counts}
 use Rattle.aut.specs.declared.Limits.{Limits}
 use Rattle.aut.specs.declared.State.{State}
 use Rattle.aut.specs.declared.State.the-variants as state
-use Rattle.aut_rel.specs.Seen.{autOf, seenAut, Beside, LeftBy, Ready}
+use Rattle.aut_rel.specs.Seen.{autOf, seenAut, Beside, ModifiesBy, Ready}
 use Rattle.aut_mk.specs.Seen.{Makes}
 use Rattle.aut_stage.specs.Stage.{gave, Post}
 use Rattle.aut_stage.proofs.OnAut.{autLayer, by-law}
@@ -72,9 +72,9 @@ module _ {N : ℕ} {l : Limits} {a n : ℕ} {σ : Aut} {c : Counts} {t st mem s 
 -- ---- a constructor that leaves the members and the lists
 
 module _ {N : ℕ} {o : Step Aut ℕ} {r : State} {c : Counts} {t st s t′ st′ s′ : List ℕ} (mem : List ℕ) (M : Makes N o r c t st s t′ st′ s′) where
-  pub made-given : {l : Limits} {P : Aut → ℕ → Type 0} {i : ℕ} {d : Counts} → r ≡ state.Is i d → Ready N l (autOf t st mem c) s → Goes N (limitsOf l) P (autOf t st mem c) (o (autOf t st mem c)) → length s′ ≡ length s
+  pub made-given : {l : Limits} {P : Aut → ℕ → Type 0} {i : ℕ} {d : Counts} → r ≡ state.Is i d → Ready N l (autOf t st mem c) s → StepSpec N (limitsOf l) P (autOf t st mem c) (o (autOf t st mem c)) → length s′ ≡ length s
       → Post (autLayer N l) 0 0 P (o (autOf t st mem c)) (autOf t st mem c) c (gave d i) (autOf t′ st′ mem) s s′
-  made-given q R G len = by-law R G (M .is mem ∙ ap (λ (r : State). seenAut r t′ st′ mem) q) (subst (λ (r : State). Beside r c) q (M .beside)) (subst (λ (r : State). LeftBy N 0 0 r t′ s s′) q (M .left)) len
+  made-given q R G len = by-law R G (M .is mem ∙ ap (λ (r : State). seenAut r t′ st′ mem) q) (subst (λ (r : State). Beside r c) q (M .beside)) (subst (λ (r : State). ModifiesBy N 0 0 r t′ s s′) q (M .left)) len
 
   pub made-refused : {e : ℕ} → r ≡ state.Refused e → o (autOf t st mem c) ≡ refused e
   made-refused q = M .is mem ∙ ap (λ (r : State). seenAut r t′ st′ mem) q

@@ -2,15 +2,15 @@
 use Prim.Native.Nat.{ℕ}
 use Rattle.netkat.specs.ListSteps.{Edge}
 use Rattle.aut_steps.specs.Tables.{Limits, Aut}
-use Rattle.aut_steps.specs.Good.{Grown, Good}
+use Rattle.aut_steps.specs.Good.{ExtAut, WfAut}
 use Rattle.aut_steps.proofs.Good.{grown-refl, state-grown}
-use Rattle.aut_steps.proofs.Goes.{Goes}
+use Rattle.aut_steps.proofs.Goes.{StepSpec}
 use Rattle.st_steps.specs.Edges.{EdgeAt}
 use Rattle.st_steps.proofs.Edges.{edge-grown}
 use Rattle.st_steps.proofs.ListGoes.{Maker, label-grown, return-makes, follow-makes, after-makes, meet-with-makes, complement-makes, rest-makes, meet-makes}
 use Rattle.st_steps.specs.EachSteps.{Each, same, sequence, after, intersect, complement, rest, meet, made, EachAt}
 
-pub each-grown : (N : ℕ) {σ τ : Aut} → Grown σ τ → (e : Each) → EachAt N σ e → EachAt N τ e
+pub each-grown : (N : ℕ) {σ τ : Aut} → ExtAut σ τ → (e : Each) → EachAt N σ e → EachAt N τ e
 each-grown N g same a = tt
 each-grown N g (sequence x) a = state-grown g a
 each-grown N g (after l) a = label-grown g a
@@ -28,5 +28,5 @@ made-makes L σ complement a = complement-makes σ
 made-makes L σ (rest l) a = rest-makes a
 made-makes L σ (meet t) a = meet-makes σ t a
 
-pub made-goes : {N : ℕ} {L : Limits} {σ : Aut} → Good N L σ → (e : Each) → EachAt N σ e → {t : Edge} → EdgeAt N σ t → Goes N L (EdgeAt N) σ (made N L e t σ)
+pub made-goes : {N : ℕ} {L : Limits} {σ : Aut} → WfAut N L σ → (e : Each) → EachAt N σ e → {t : Edge} → EdgeAt N σ t → StepSpec N L (EdgeAt N) σ (made N L e t σ)
 made-goes {N} {L} {σ} g e a {t} p = made-makes L σ e a σ t (grown-refl σ) g p

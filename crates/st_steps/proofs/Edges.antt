@@ -4,7 +4,7 @@ use Prim.Native.Nat.{ℕ}
 use Rattle.netkat.specs.ListSteps.{Edge}
 use Rattle.spp_steps.proofs.Laws.{at-ext}
 use Rattle.aut_steps.specs.Tables.{Aut}
-use Rattle.aut_steps.specs.Good.{Grown}
+use Rattle.aut_steps.specs.Good.{ExtAut}
 use Rattle.aut_steps.proofs.Good.{state-grown}
 use Rattle.st_steps.specs.Edges.{EdgeAt, EdgesAt, none, also}
 
@@ -15,7 +15,7 @@ module _ {N : ℕ} {σ : Aut} where
   pub rest-at : {e : Edge} {es : List Edge} → EdgesAt N σ (e ∷ es) → EdgesAt N σ es
   rest-at (also p q) = q
 
-module _ {N : ℕ} {σ τ : Aut} (g : Grown σ τ) where
+module _ {N : ℕ} {σ τ : Aut} (g : ExtAut σ τ) where
   pub edge-grown : {e : Edge} → EdgeAt N σ e → EdgeAt N τ e
   edge-grown {e} p = record { state = state-grown g (p .state); relation = at-ext (g .nodes) N (e .label) (p .relation) }
 

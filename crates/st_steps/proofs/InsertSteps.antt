@@ -9,9 +9,9 @@ use Rattle.netkat.specs.ListSteps.{Edge, leadsTo, unite, enterIn, place, split,
 use Rattle.aut_steps.specs.Tables.{Limits, Aut, onNodes, onStates}
 use Rattle.aut_steps.specs.Relations as Rel
 use Rattle.aut_steps.specs.Constructors.{mk-union, mk-spp}
-use Rattle.aut_steps.specs.Good.{Good}
+use Rattle.aut_steps.specs.Good.{WfAut}
 use Rattle.aut_steps.proofs.Good.{grown-trans, state-grown}
-use Rattle.aut_steps.proofs.Goes.{Goes, goes-return, goes-bind}
+use Rattle.aut_steps.proofs.Goes.{StepSpec, goes-return, goes-bind}
 use Rattle.aut_steps.proofs.UnionLaws.{mk-union-goes}
 use Rattle.st_steps.specs.Operations.{ops}
 use Rattle.st_steps.specs.Edges.{EdgeAt, EdgesAt}
@@ -100,8 +100,8 @@ pub record PartAt (N : ℕ) (L : Limits) (σ : Aut) (p : Part) : Type 0 where
   pub label : Label N σ (p .label)
   pub list : ListAt N L σ (p .list)
 
-module _ {N : ℕ} {L : Limits} {σ : Aut} (g : Good N L σ) where
-  pub meetIn-goes : {s l : ℕ} → State σ s → Label N σ l → {u : Edge} → EdgeAt N σ u → {es : List Edge} → ListAt N L σ es → Goes N L (PartAt N L) σ (meetIn N L s l u es σ)
+module _ {N : ℕ} {L : Limits} {σ : Aut} (g : WfAut N L σ) where
+  pub meetIn-goes : {s l : ℕ} → State σ s → Label N σ l → {u : Edge} → EdgeAt N σ u → {es : List Edge} → ListAt N L σ es → StepSpec N L (PartAt N L) σ (meetIn N L s l u es σ)
   unfolding meetIn
   meetIn-goes x a u p =
       goes-bind (intersect-goes g a (relation-of u)) (λ τ₁ meet w₁ v₁ b₁.
@@ -109,7 +109,7 @@ module _ {N : ℕ} {L : Limits} {σ : Aut} (g : Good N L σ) where
       goes-bind (place-goes v₂ (b₂ .state) (label-grown w₂ b₁) (list-grown (grown-trans w₁ w₂) p)) (λ τ₃ es w₃ v₃ b₃.
       goes-return _ v₃ (record { label = label-grown (grown-trans w₂ w₃) b₁; list = b₃ }))))
 
-  pub restIn-goes : {total meet : ℕ} → Label N σ total → Label N σ meet → {u : Edge} → EdgeAt N σ u → {es : List Edge} → ListAt N L σ es → Goes N L (PartAt N L) σ (restIn N L total meet u es σ)
+  pub restIn-goes : {total meet : ℕ} → Label N σ total → Label N σ meet → {u : Edge} → EdgeAt N σ u → {es : List Edge} → ListAt N L σ es → StepSpec N L (PartAt N L) σ (restIn N L total meet u es σ)
   unfolding restIn
   restIn-goes t a u p =
       goes-bind (union-goes g t a) (λ τ₁ total₁ w₁ v₁ b₁.
@@ -118,11 +118,11 @@ module _ {N : ℕ} {L : Limits} {σ : Aut} (g : Good N L σ) where
       goes-return _ v₃ (record { label = label-grown (grown-trans w₂ w₃) b₁; list = b₃ }))))
 
 module _ {N : ℕ} {L : Limits} where
-  pub splitOne-goes : {σ : Aut} → Good N L σ → {s l : ℕ} → State σ s → Label N σ l → {u : Edge} → EdgeAt N σ u → {p : Part} → PartAt N L σ p → Goes N L (PartAt N L) σ (splitOne N L s l u p σ)
+  pub splitOne-goes : {σ : Aut} → WfAut N L σ → {s l : ℕ} → State σ s → Label N σ l → {u : Edge} → EdgeAt N σ u → {p : Part} → PartAt N L σ p → StepSpec N L (PartAt N L) σ (splitOne N L s l u p σ)
   unfolding splitOne
   splitOne-goes g x a u p = goes-bind (meetIn-goes g x a u (p .list)) (λ τ q w v b. restIn-goes v (label-grown w (p .label)) (b .label) (edge-grown w u) (b .list))
 
-  pub walk-goes : {σ : Aut} → Good N L σ → {s l : ℕ} → State σ s → Label N σ l → (us : List Edge) → EdgesAt N σ us → {p : Part} → PartAt N L σ p → Goes N L (PartAt N L) σ (walk N L s l us p σ)
+  pub walk-goes : {σ : Aut} → WfAut N L σ → {s l : ℕ} → State σ s → Label N σ l → (us : List Edge) → EdgesAt N σ us → {p : Part} → PartAt N L σ p → StepSpec N L (PartAt N L) σ (walk N L s l us p σ)
   unfolding walk
   walk-goes g x a [] u {p} q = goes-return p g q
   walk-goes g x a (e ∷ us) u q = goes-bind (splitOne-goes g x a (first-at u) q) (λ τ r w v b. walk-goes v (state-grown w x) (label-grown w a) us (edges-grown w (rest-at u)) b)

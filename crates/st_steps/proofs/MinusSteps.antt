@@ -8,9 +8,9 @@ use Rattle.netkat.specs.ListSteps.{Edge, insert, Summed, subtractRow, subtractR
 use Rattle.aut_steps.specs.Tables.{Limits, Aut, onNodes}
 use Rattle.aut_steps.specs.Relations as Rel
 use Rattle.aut_steps.specs.Constructors.{mk-difference}
-use Rattle.aut_steps.specs.Good.{Good}
+use Rattle.aut_steps.specs.Good.{WfAut}
 use Rattle.aut_steps.proofs.Good.{grown-trans, state-grown}
-use Rattle.aut_steps.proofs.Goes.{Goes, goes-return, goes-bind}
+use Rattle.aut_steps.proofs.Goes.{StepSpec, goes-return, goes-bind}
 use Rattle.aut_steps.proofs.StateLaws.{mk-difference-goes}
 use Rattle.st_steps.specs.Operations.{ops}
 use Rattle.st_steps.specs.Edges.{EdgeAt}
@@ -66,7 +66,7 @@ module _ (N : ℕ) (L : Limits) where
   unfolding subtractRows
   subtractRows-none us s σ = refl
 
-pub subtractOne-goes : {N : ℕ} {L : Limits} {σ : Aut} → Good N L σ → {t u : Edge} → EdgeAt N σ t → EdgeAt N σ u → {s : Summed (ops N L)} → SumAt N L σ s → Goes N L (SumAt N L) σ (subtractOne N L t u s σ)
+pub subtractOne-goes : {N : ℕ} {L : Limits} {σ : Aut} → WfAut N L σ → {t u : Edge} → EdgeAt N σ t → EdgeAt N σ u → {s : Summed (ops N L)} → SumAt N L σ s → StepSpec N L (SumAt N L) σ (subtractOne N L t u s σ)
 unfolding subtractOne
 subtractOne-goes g t u p =
     goes-bind (mk-difference-goes g (t .state) (u .state)) (λ τ₁ x w₁ v₁ b₁.

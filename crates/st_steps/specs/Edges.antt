@@ -4,7 +4,7 @@ use mathlib.Core.List.{List, [], _∷_}
 use Prim.Native.Nat.{ℕ, zero, suc, _+_, _*_, _<_}
 use lib.ListN.{getD}
 use Rattle.netkat.specs.ListSteps.{Edge, edge}
-use Rattle.spp_steps.specs.Laws.{At}
+use Rattle.spp_steps.specs.Laws.{ValidAt}
 use Rattle.aut_steps.specs.Tables.{Aut}
 use Rattle.aut_steps.specs.Good.{states}
 
@@ -21,7 +21,7 @@ flat (e ∷ es) = e .target ∷ e .label ∷ flat es
 -- the target is a state, the label a relation of N fields
 pub record EdgeAt (N : ℕ) (σ : Aut) (e : Edge) : Type 0 where
   pub state : e .target < states σ
-  pub relation : At (σ .nodes) N (e .label)
+  pub relation : ValidAt (σ .nodes) N (e .label)
 
 pub data EdgesAt (N : ℕ) (σ : Aut) : List Edge → Type 0 where
   none : EdgesAt N σ []

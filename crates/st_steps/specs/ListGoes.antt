@@ -4,7 +4,7 @@ use mathlib.Core.List.{List}
 use Prim.Native.Nat.{ℕ, _≤_, _<_}
 use lib.ListN.{length}
 use Rattle.netkat.specs.ListSteps.{Edge, Summed}
-use Rattle.spp_steps.specs.Laws.{At}
+use Rattle.spp_steps.specs.Laws.{ValidAt}
 use Rattle.aut_steps.specs.Tables.{Limits, Aut}
 use Rattle.aut_steps.specs.Good.{states}
 use Rattle.st_steps.specs.Operations.{ops}
@@ -17,7 +17,7 @@ pub record ListAt (N : ℕ) (L : Limits) (σ : Aut) (es : List Edge) : Type 0 wh
 
 -- a relation of N fields
 pub record Label (N : ℕ) (σ : Aut) (h : ℕ) : Type 0 where
-  pub at : At (σ .nodes) N h
+  pub at : ValidAt (σ .nodes) N h
 
 abbrev pub State : Aut → ℕ → Type 0
 State τ x = x < states τ

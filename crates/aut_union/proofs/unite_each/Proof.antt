@@ -11,7 +11,7 @@ use Rattle.aut_steps.specs.ListLaws.{All}
 use Rattle.aut_steps.proofs.ListLaws.{all-map}
 use Rattle.aut_steps.specs.Relations.{zeroAt}
 use Rattle.aut_steps.specs.Constructors.{Parts, parts, uniteOne}
-use Rattle.aut_rel.specs.Behind.{Backed}
+use Rattle.aut_rel.specs.Behind.{CacheReady}
 use Rattle.aut_rel.specs.Seen.{RelAt}
 use Rattle.aut_rel.proofs.Each as each
 use Rattle.aut_rel.proofs.Each.{Turn}
@@ -35,7 +35,7 @@ members-of : (N : ℕ) (st : List ℕ) (t : Table) (xs : List ℕ) → All (RelA
 unfolding Any
 members-of N st t xs a = all-map xs (λ x r. (r, tt)) a
 
-begin-turn : (N : ℕ) (st : List ℕ) (t : Table) (s : List ℕ) (from k to : ℕ) → from + k ≤ to → to + k ≤ 1152 → Backed N t s → (z : ℕ) → zeroAt N ≡ z → At-turn N st t s from k to z t s 0 0
+begin-turn : (N : ℕ) (st : List ℕ) (t : Table) (s : List ℕ) (from k to : ℕ) → from + k ≤ to → to + k ≤ 1152 → CacheReady N t s → (z : ℕ) → zeroAt N ≡ z → At-turn N st t s from k to z t s 0 0
 unfolding words
 begin-turn N st t s from k to a r b z e =
     subst (λ (z : ℕ). At-turn N st t s from k to z t s 0 0) e

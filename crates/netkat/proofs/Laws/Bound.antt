@@ -1,5 +1,5 @@
 -- No search takes more than 1 + S × P × T pairs. Each pair taken or pending, but for the first, was put there by a transition of a list
--- walked for a packet that was new at its state: the pairs are at most 1 + (packets seen, over the states expanded) × T.
+-- walked for a packet that was new at its state: the pairs are at pairBound 1 + (packets seen, over the states expanded) × T.
 use mathlib.Core.Path.{_≡_, refl}
 use mathlib.Core.Bool.{Bool, true, false}
 use mathlib.Core.List.{List, [], _∷_}
@@ -12,7 +12,7 @@ use Rattle.common.specs.Packets.{Set, packets, any, inhabited, image}
 use Rattle.common.specs.Outcome.{if_then_else_}
 use Rattle.netkat.specs.Lists.{State, Transition}
 use Rattle.netkat.specs.Search.{Automaton, Pair, Log, found, noted, put, walk, freshOf, expand}
-use Rattle.netkat.specs.Promise.{Once, most}
+use Rattle.netkat.specs.Promise.{Distinct, pairBound}
 use Rattle.common.proofs.PacketLaws.{packets-length, packet-listed, inhabited-to}
 use Rattle.netkat.proofs.Laws.Tally.{tally, tally-le, tally-mono, tally-more, total, total-le, total-more, total-new}
 use Rattle.netkat.proofs.Laws.Runs.{Went, skipped, ended, walked-on, Kept-by-turns}
@@ -84,7 +84,7 @@ module _ {n : ℕ} where
         walk-bound (log .count) (length rest) (length (walk (freshOf pair log) list rest)) (seenTotal log) _ (log .longest) (length list)
         i (expand-more pair log (rw f tt)) (walk-length (freshOf pair log) list rest)
 
-  pub within-most : (log : Log n) (pending : List (Pair n)) → log .count + length pending ≤ 1 + seenTotal log * log .longest → log .count + length pending ≤ most log
+  pub within-most : (log : Log n) (pending : List (Pair n)) → log .count + length pending ≤ 1 + seenTotal log * log .longest → log .count + length pending ≤ pairBound log
   within-most log pending h = omega (arith, mul-le-mul-right (log .longest) (seen-at-most log))
 
   pub within-found : (𝓐 : Automaton n) {σ σ′ : 𝓐 .Store} {pair : Pair n} {rest : List (Pair n)} {log log′ : Log n} →
@@ -94,20 +94,20 @@ module _ {n : ℕ} where
 
 -- ---- S counts an expanded state once
 
-noted-once : (s : State) (done : List State) → Once done → Once (noted s done)
+noted-once : (s : State) (done : List State) → Distinct done → Distinct (noted s done)
 noted-once s done o = go (any (eqb s) done) refl
   where
-    go : (b : Bool) → any (eqb s) done ≡ b → Once (if b then done else (s ∷ done))
+    go : (b : Bool) → any (eqb s) done ≡ b → Distinct (if b then done else (s ∷ done))
     go true e = o
     go false e = (λ t. rw e at t, o)
 
 module _ {n : ℕ} (𝓐 : Automaton n) where
   abbrev pub Counts-once : ℕ → 𝓐 .Store → List (Pair n) → Log n → Type 0
-  Counts-once left σ pending log = Once (log .expanded)
+  Counts-once left σ pending log = Distinct (log .expanded)
 
   pub once-kept : Kept-by-turns 𝓐 Counts-once
   once-kept left σ pair rest log i σ′ pending log′ (skipped f) = i
   once-kept left σ pair rest log i σ′ pending log′ (walked-on f h r d) = noted-once (pair .state) (log .expanded) i
 
-  pub once-found : {σ σ′ : 𝓐 .Store} {pair : Pair n} {rest : List (Pair n)} {log log′ : Log n} → Once (log .expanded) → Went 𝓐 pair rest log σ σ′ (found log′) → Once (log′ .expanded)
+  pub once-found : {σ σ′ : 𝓐 .Store} {pair : Pair n} {rest : List (Pair n)} {log log′ : Log n} → Distinct (log .expanded) → Went 𝓐 pair rest log σ σ′ (found log′) → Distinct (log′ .expanded)
   once-found {pair} {log} i (ended f h r) = noted-once (pair .state) (log .expanded) i

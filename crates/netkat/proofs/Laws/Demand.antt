@@ -10,7 +10,7 @@ use Rattle.netkat.specs.Search.{Automaton, Log, Verdict, yes, spent}
 use Rattle.netkat.specs.Promise.{Meaning, Lawful, Promised}
 use Rattle.netkat.specs.Live.{IsLive}
 use Rattle.netkat.specs.Handles as Handles
-use Rattle.netkat.specs.Handles.{Machine, Reading, Works}
+use Rattle.netkat.specs.Handles.{Machine, Reading, Implements}
 use Rattle.netkat.specs.Demand.{Demand}
 use Rattle.netkat.proofs.Laws.Promise.{promise}
 use Rattle.netkat.proofs.Laws.Budget.{budgeted}
@@ -22,7 +22,7 @@ pub verdict-live : {n : ℕ} {Store : Type 0} {𝓜 : Meaning n Store} {budget :
     Promised 𝓜 budget σ s verdict log → (x : Set n) → IsLive x (𝓜 .Holds σ s) → ¬ (verdict ≡ spent) → (verdict ≡ yes) ↔ (¬ T (inhabited x))
 verdict-live p x i u = (λ e. live-empty i .1 (p .exactly u .0 e), λ f. p .exactly u .1 (live-empty i .0 f))
 
-pub demand : {n : ℕ} (𝓒 : Machine) (𝓐 : Automaton n) (𝓡 : Reading 𝓒 𝓐) (𝓜 : Meaning n (𝓐 .Store)) → Works 𝓒 𝓐 𝓡 → Lawful 𝓐 𝓜 → Demand 𝓡 𝓜
+pub demand : {n : ℕ} (𝓒 : Machine) (𝓐 : Automaton n) (𝓡 : Reading 𝓒 𝓐) (𝓜 : Meaning n (𝓐 .Store)) → Implements 𝓒 𝓐 𝓡 → Lawful 𝓐 𝓜 → Demand 𝓡 𝓜
 demand 𝓒 𝓐 𝓡 𝓜 works law budget s σ τ a k g m = if-given (Handles.search 𝓒 budget s σ) (λ σ′ r h.
     let plain = given-of (refines 𝓒 𝓐 𝓡 works budget s σ τ a k) h in
     let promised = given-of (promise 𝓐 𝓜 law budget τ s g m) (plain .came-to) in

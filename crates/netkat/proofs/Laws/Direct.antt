@@ -8,7 +8,7 @@ use Rattle.common.specs.Outcome.{gives}
 use Rattle.common.proofs.Follow.{if-given, step}
 use Rattle.netkat.specs.Lists.{State, Transition}
 use Rattle.netkat.specs.Search.{Automaton}
-use Rattle.netkat.specs.Handles.{Alike, none, also, Grows, IsLink, Works}
+use Rattle.netkat.specs.Handles.{Alike, none, also, Grows, IsLink, Implements}
 use Rattle.netkat.specs.Demand.{Demand}
 use Rattle.netkat.specs.Direct.{linkOf, direct, itself}
 use Rattle.netkat.specs.Derivatives.{rules, rulesMeaning}
@@ -23,7 +23,7 @@ module _ {n : ℕ} (𝓐 : Automaton n) (capacity : ℕ) where
   links-are σ [] = none
   links-are σ (t ∷ list) = also (record { target = refl; known = tt; label = refl }) (links-are σ list)
 
-  pub direct-works : Works (direct 𝓐 capacity) 𝓐 (itself 𝓐 capacity)
+  pub direct-works : Implements (direct 𝓐 capacity) 𝓐 (itself 𝓐 capacity)
   direct-works = record {
     one-works = λ a. refl;
     zero-works = λ a. refl;

@@ -20,7 +20,7 @@ use Rattle.netkat.specs.Rules.{Language, Join}
 use Rattle.netkat.specs.Hops.{SameHops, Either, Hop, Late, Early}
 use Rattle.netkat.specs.Lists.{State, Transition, to, covers, Disjoint, Above, Ascending, Through, ThroughPair, Allows}
 use Rattle.netkat.specs.ListSteps
-use Rattle.netkat.specs.ListSteps.{Label, Edge, edge, Operations, Readings, Later, MadeState, Fits, Are, none, also, IsList, MadeList, leadsTo, unite, enter, enterIn, place, split, insert, insertEach, insertPairs}
+use Rattle.netkat.specs.ListSteps.{Label, Edge, edge, Operations, Readings, Later, MadeState, LawfulOps, Are, none, also, IsList, MadeList, leadsTo, unite, enter, enterIn, place, split, insert, insertEach, insertPairs}
 use Rattle.netkat.specs.Promise.{Meaning, Kept, DeltaOf}
 use Rattle.netkat.proofs.Laws.Lists as Lists
 
@@ -125,7 +125,7 @@ module _ {n : ℕ} {𝓞 : Operations} (𝓡 : Readings n 𝓞) where
       go (inl e) rec = subst (λ s. x < s) (sym (eqb→eq s u e)) (head-above x (to u r) a)
       go (inr v) rec = rec v
 
-  module _ (fits : Fits 𝓡) where
+  module _ (fits : LawfulOps 𝓡) where
     unite-true : {σ : 𝓞 .Store} {es : List Edge} {list : List (Transition State n)} (s : State) {l : Label} {r : Relation n} → Good σ → IsLabel σ l r → Are 𝓡 σ es list →
         T (leadsTo 𝓞 s es) → Gives (PlacedIn s r list σ) (unite 𝓞 s l es σ)
     unfolding unite

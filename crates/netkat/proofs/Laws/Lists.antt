@@ -20,7 +20,7 @@ use Rattle.common.specs.Outcome.{if_then_else_}
 use Rattle.netkat.specs.Strings.{Str, str}
 use Rattle.netkat.specs.Rules.{Language, Join}
 use Rattle.netkat.specs.Hops.{SameHops, Either, Hop, Late, Early}
-use Rattle.netkat.specs.Lists.{Transition, to, Apart, covers, Disjoint, none, also, Through, ThroughPair, Allows, IsDelta, Targets, TargetsHold, void, placeIn, place, st-singleton, split, insert, insertEach, insertPairs, st-union, st-intersect, st-difference, st-xor, st-complement, st-postcompose, st-precompose, st-intersect-expr}
+use Rattle.netkat.specs.Lists.{Transition, to, DisjointRel, covers, Disjoint, none, also, Through, ThroughPair, Allows, IsDelta, Targets, TargetsHold, void, placeIn, place, st-singleton, split, insert, insertEach, insertPairs, st-union, st-intersect, st-difference, st-xor, st-complement, st-postcompose, st-precompose, st-intersect-expr}
 
 module _ {Target : Type 0} {n : ℕ} where
   -- ---- a list by its members
@@ -192,7 +192,7 @@ module _ {Target : Type 0} {n : ℕ} where
         go (inl x) rec = inl (or-left (u .label a h) (covers list a h) x)
         go (inr x) rec = later (rec x)
 
-    pub placed-disjoint : {t : Transition Target n} {list list′ : List (Transition Target n)} → Placed t list list′ → Disjoint list → Apart (t .label) (covers list) → Disjoint list′
+    pub placed-disjoint : {t : Transition Target n} {list list′ : List (Transition Target n)} → Placed t list list′ → Disjoint list → DisjointRel (t .label) (covers list) → Disjoint list′
     placed-disjoint (left-off f) d p = d
     placed-disjoint new d p = also p d
     placed-disjoint {t} (united {r} {list} e) (also q d) p = also (λ a h l m. go a h (either (r a h) (t .label a h) l) m) d
@@ -212,8 +212,8 @@ module _ {Target : Type 0} {n : ℕ} where
     pub record Splitting (t : Transition Target n) (A : Language n) (rest : List (Transition Target n)) (total : Relation n) (result : List (Transition Target n)) : Type 0 where
       pub disjoint : Disjoint result
       pub rest-disjoint : Disjoint rest
-      pub apart : Apart (covers result) (covers rest)
-      pub total-apart : Apart total (covers rest)
+      pub apart : DisjointRel (covers result) (covers rest)
+      pub total-apart : DisjointRel total (covers rest)
       pub total-has : (a h : Packet n) → T (covers result a h) → T (t .label a h) → T (total a h)
       pub allows : SameHops (λ w. Allows Holds result w ⊎ (Allows Holds rest w ⊎ Hop (t .label ∖ʳ total) (Holds (t .target)) w)) (λ w. A w ⊎ Hop (t .label) (Holds (t .target)) w)
 
@@ -249,7 +249,7 @@ module _ {Target : Type 0} {n : ℕ} where
         (p₂ : Placed (to (u .target) (u .label ∖ʳ (t .label ∩ʳ u .label))) result₁ result₂)
       where
         -- u's label, against the rest and against what is there
-        u-rest : Disjoint (u ∷ us) → Apart (u .label) (covers us)
+        u-rest : Disjoint (u ∷ us) → DisjointRel (u .label) (covers us)
         u-rest (also p d) = p
 
         rest-of : Disjoint (u ∷ us) → Disjoint us
@@ -291,14 +291,14 @@ module _ {Target : Type 0} {n : ℕ} where
             go a h k j (inl m) = u-result a h k m
             go a h k j (inr m) = j (both (t .label a h) (u .label a h) (m .0) (m .1))
 
-        apart₂ : Apart (covers result₂) (covers us)
+        apart₂ : DisjointRel (covers result₂) (covers us)
         apart₂ a h l m = go (covers₂ a h l)
           where
             go : T (covers result a h) ⊎ T (u .label a h) → ⊥
             go (inl k) = s .apart a h k (or-right (u .label a h) (covers us a h) m)
             go (inr k) = u-rest (s .rest-disjoint) a h k m
 
-        total-apart₂ : Apart (total ∪ʳ (t .label ∩ʳ u .label)) (covers us)
+        total-apart₂ : DisjointRel (total ∪ʳ (t .label ∩ʳ u .label)) (covers us)
         total-apart₂ a h l m = go (either (total a h) (t .label a h && u .label a h) l)
           where
             go : T (total a h) ⊎ T (t .label a h && u .label a h) → ⊥

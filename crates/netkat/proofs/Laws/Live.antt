@@ -18,7 +18,7 @@ use Rattle.netkat.specs.Strings.{Str, str}
 use Rattle.netkat.specs.Rules.{Language}
 use Rattle.netkat.specs.Hops.{Hop}
 use Rattle.netkat.specs.Lists.{State, Transition, covers, Disjoint, Ascending, Allows, IsDelta}
-use Rattle.netkat.specs.Live.{Starting, IsLive, Reached, Step, IsStep, pulled, Added, Worked, begun, added, Settled, Finished, cut, pruned, Pruned}
+use Rattle.netkat.specs.Live.{Starting, IsLive, Reached, Step, IsStep, pulled, Added, Derived, begun, added, Settled, Saturated, cut, pruned, Pruned}
 use Rattle.netkat.proofs.Laws.Tally.{tally, tally-le, tally-mono, tally-more, total, total-le, total-more}
 use Rattle.netkat.proofs.Laws.Lists.{through-of, through-to, covers-of, covers-to}
 
@@ -64,7 +64,7 @@ module _ {n : ℕ} {Holds : State → Language n} (𝓡 : Reached Holds) where
 
   -- ---- and all of them, once no step can add
 
-  all-live : {live : State → Set n} → HasEnds live → Finished 𝓡 live → (hs : List (Packet n)) (s : State) → List·Memᴰ s states → (p z : Packet n) → Holds s (str p hs z) → T (live s p)
+  all-live : {live : State → Set n} → HasEnds live → Saturated 𝓡 live → (hs : List (Packet n)) (s : State) → List·Memᴰ s states → (p z : Packet n) → Holds s (str p hs z) → T (live s p)
   all-live i f [] s m p z w = i .ending s m p (starts-of (epsilon s) p z (𝓡 .epsilon-true s m .ends p z .0 w))
   all-live {live} i f (h ∷ hs) s m p z w =
       let (t, k, l, v) = in-parts (through-to (λ t. t .label) (λ t. Holds (t .target)) (delta s) (str p (h ∷ hs) z) (𝓡 .delta-true s m .allows p h hs z .1 w)) in
@@ -75,19 +75,19 @@ module _ {n : ℕ} {Holds : State → Language n} (𝓡 : Reached Holds) where
           (t : Transition State n) × List·Memᴰ t (delta s) × T (t .label p h) × Holds (t .target) (str h hs z)
       in-parts (t, k, (l, v)) = (t, k, l, v)
 
-  exactly-live : {live : State → Set n} → Sound live → HasEnds live → Finished 𝓡 live → (s : State) → List·Memᴰ s states → IsLive (live s) (Holds s)
+  exactly-live : {live : State → Set n} → Sound live → HasEnds live → Saturated 𝓡 live → (s : State) → List·Memᴰ s states → IsLive (live s) (Holds s)
   exactly-live i j f s m = record { live = λ a. (i .starting s m a, λ w. all-live j f (w .hops) s m a (w .end) (w .held)) }
 
-  worked-sound : {live : State → Set n} → Worked 𝓡 live → Sound live
+  worked-sound : {live : State → Set n} → Derived 𝓡 live → Sound live
   worked-sound begun = sound-begun
   worked-sound (added w e k f) = sound-added (worked-sound w) e k f
 
-  worked-ends : {live : State → Set n} → Worked 𝓡 live → HasEnds live
+  worked-ends : {live : State → Set n} → Derived 𝓡 live → HasEnds live
   worked-ends begun = record { ending = λ s m p t. t }
   worked-ends (added w e k f) = ends-added (worked-ends w) f
 
   -- What a work list computes is exactly the live sets, once nothing more can be added.
-  pub worked-live : {live : State → Set n} → Worked 𝓡 live → Finished 𝓡 live → (s : State) → List·Memᴰ s states → IsLive (live s) (Holds s)
+  pub worked-live : {live : State → Set n} → Derived 𝓡 live → Saturated 𝓡 live → (s : State) → List·Memᴰ s states → IsLive (live s) (Holds s)
   worked-live w f = exactly-live (worked-sound w) (worked-ends w) f
 
   -- ---- the list of states to look at again

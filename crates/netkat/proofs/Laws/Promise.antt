@@ -6,7 +6,7 @@ use native.Mathlib.Omega.{arith}
 use Rattle.common.specs.Outcome.{given}
 use Rattle.netkat.specs.Lists.{State}
 use Rattle.netkat.specs.Search.{Automaton, Pair, Log, Verdict, yes, no, spent, search, first, start}
-use Rattle.netkat.specs.Promise.{Meaning, Lawful, Once, most, Promised, Promise}
+use Rattle.netkat.specs.Promise.{Meaning, Lawful, Distinct, pairBound, Promised, Promise}
 use Rattle.common.proofs.Follow.{given-of, if-given}
 use Rattle.netkat.proofs.Laws.Runs.{Ends, run-ends}
 use Rattle.netkat.proofs.Laws.Bound.{Within, within-kept, within-most, within-found, Counts-once, once-kept, once-found}
@@ -19,9 +19,9 @@ module _ {n : ℕ} (𝓐 : Automaton n) (𝓜 : Meaning n (𝓐 .Store)) (law : 
   module _ (budget : ℕ) (σ σ′ : Store) (s : State) (log : Log n) where
     -- the pairs taken, and one more where one is pending still
     abbrev Taken : Verdict → Type 0
-    Taken yes = log .count ≤ most log
-    Taken no = log .count ≤ most log
-    Taken spent = log .count + 1 ≤ most log
+    Taken yes = log .count ≤ pairBound log
+    Taken no = log .count ≤ pairBound log
+    Taken spent = log .count + 1 ≤ pairBound log
 
     taken : (v : Verdict) → Ends 𝓐 (Within 𝓐) σ′ v log → Taken v
     taken yes (left, i) = omega (arith, within-most log [] i)
@@ -31,13 +31,13 @@ module _ {n : ℕ} (𝓐 : Automaton n) (𝓜 : Meaning n (𝓐 .Store)) (law : 
     abbrev Between : ℕ → Store → List (Pair n) → Log n → Type 0
     Between left σ₁ pending log₁ = Sound 𝓜 σ s σ₁ pending log₁
 
-    once : (v : Verdict) → Ends 𝓐 (Counts-once 𝓐) σ′ v log → Once (log .expanded)
+    once : (v : Verdict) → Ends 𝓐 (Counts-once 𝓐) σ′ v log → Distinct (log .expanded)
     once yes (left, i) = i
     once no (left, σ₁, pair, rest, log₁, i, w) = once-found 𝓐 i w
     once spent (pair, rest, i) = i
 
     -- by the verdict; of the verdicts that it did not come to nothing is to be shown
-    promised : (v : Verdict) → search 𝓐 budget s σ ≡ given σ′ (v, log) → Once (log .expanded) → Taken v → Ends 𝓐 Between σ′ v log → Promised 𝓜 budget σ s v log
+    promised : (v : Verdict) → search 𝓐 budget s σ ≡ given σ′ (v, log) → Distinct (log .expanded) → Taken v → Ends 𝓐 Between σ′ v log → Promised 𝓜 budget σ s v log
     promised yes h o t (left, i) = record {
       once = o;
       bound = t;

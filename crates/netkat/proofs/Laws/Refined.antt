@@ -12,7 +12,7 @@ use Rattle.netkat.specs.Search
 use Rattle.netkat.specs.Lists.{State, Transition}
 use Rattle.netkat.specs.Search.{Automaton, Pair, Log, yes, no, spent, freshOf, skip, expand, walked, seenAt}
 use Rattle.netkat.specs.Handles
-use Rattle.netkat.specs.Handles.{Machine, Link, Entry, goes, found, Reading, Alike, none, also, Grows, IsLink, Makes, Works, Reports, Refines}
+use Rattle.netkat.specs.Handles.{Machine, Link, Entry, goes, found, Reading, Alike, none, also, Grows, IsLink, Makes, Implements, Reports, Refines}
 use Rattle.common.proofs.Follow.{call, branch}
 use Rattle.netkat.proofs.Laws.Runs.{not-true, not-false}
 
@@ -61,7 +61,7 @@ module _ {n : ℕ} {𝓒 : Machine} {𝓐 : Automaton n} (𝓡 : Reading 𝓒 �
   link-grows : {σ σ′ : 𝓒 .Store} → Grows 𝓡 σ σ′ → (a : Link (𝓒 .Label)) (b : Transition State n) → IsLink 𝓡 σ a b → IsLink 𝓡 σ′ a b
   link-grows g a b l = record { target = l .target; known = g .known (a .target) (l .known); label = g .isLabel (a .label) (b .label) (l .label) }
 
-module _ {n : ℕ} (𝓒 : Machine) (𝓐 : Automaton n) (𝓡 : Reading 𝓒 𝓐) (works : Works 𝓒 𝓐 𝓡) where
+module _ {n : ℕ} (𝓒 : Machine) (𝓐 : Automaton n) (𝓡 : Reading 𝓒 𝓐) (works : Implements 𝓒 𝓐 𝓡) where
   abbrev Entries : 𝓒 .Store → List (Entry (𝓒 .Handle)) → List (Pair n) → Type 0
   Entries σ = Alike (IsEntry 𝓡 σ)
 
