@@ -8,7 +8,7 @@ use lib.ListN.{length}
 use Rattle.common.specs.Outcome.{Outcome, refused, given, after, if_then_else_}
 use Rattle.common.proofs.Follow.{refused≢given}
 use Rattle.common.specs.Runs.{Table}
-use Rattle.netkat.specs.ListSteps.{Edge}
+use Rattle.netkat_steps.specs.ListSteps.{Edge}
 use Rattle.aut_steps.specs.Tables.{Limits, Aut}
 use Rattle.aut_steps.specs.ListLaws.{All}
 use Rattle.aut_steps.proofs.ListLaws.{all-map}

@@ -1,7 +1,7 @@
 -- 01, port order, step 3, and "Lent tables" (words 5 and 6, transitions): what delta asks and promises.
 use mathlib.Core.List.{List}
 use Prim.Native.Nat.{ℕ, _≤_, _<_}
-use Rattle.netkat.specs.ListSteps.{Edge}
+use Rattle.netkat_steps.specs.ListSteps.{Edge}
 use Rattle.aut_steps.specs.Good.{states}
 use Rattle.delta_steps.specs.Delta.{Store, listAt, delta}
 use Rattle.delta_steps.specs.Worked.{Stored}

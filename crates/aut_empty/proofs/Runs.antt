@@ -10,8 +10,8 @@ use borrow.Author.Tests.{eqb-true, eqb-false, leb-true, leb-false, lt-ltb, le-lt
 use Rattle.common.specs.Outcome.{refused, given, Step, return, after, if_then_else_}
 use Rattle.common.specs.Runs.{table}
 use Rattle.netkat.specs.Search as Plain
-use Rattle.netkat.specs.Handles as Handles
-use Rattle.netkat.specs.Handles.{Entry}
+use Rattle.netkat_steps.specs.Handles as Handles
+use Rattle.netkat_steps.specs.Handles.{Entry}
 use Rattle.sp_steps.specs.Model as Sp
 use Rattle.sp_steps.specs.Laws as SpLaws
 use Rattle.sp_steps.proofs.Laws as SpLawsProofs

@@ -9,8 +9,8 @@ use lib.ListN.{length, set}
 use lib.Seq.{getD-set-other}
 use Rattle.common.specs.Outcome.{given, Step, return, after, if_then_else_}
 use Rattle.common.specs.Runs.{table}
-use Rattle.netkat.specs.Handles as Handles
-use Rattle.netkat.specs.Handles.{Entry, goes, found}
+use Rattle.netkat_steps.specs.Handles as Handles
+use Rattle.netkat_steps.specs.Handles.{Entry, goes, found}
 use Rattle.sp_steps.specs.Model as Sp
 use Rattle.sp_steps.specs.Laws as SpLaws
 use Rattle.sp_steps.proofs.Laws as SpLawsProofs

@@ -4,8 +4,8 @@ use mathlib.Core.List.{List}
 use Prim.Native.Nat.{ℕ, _+_, _*_, _/_, _≤_, _<_}
 use lib.ListN.{length, getD}
 use Rattle.common.specs.Runs.{table}
-use Rattle.netkat.specs.Handles as Handles
-use Rattle.netkat.specs.Handles.{goes, found}
+use Rattle.netkat_steps.specs.Handles as Handles
+use Rattle.netkat_steps.specs.Handles.{goes, found}
 use Rattle.sp_steps.specs.Laws as SpLaws
 use Rattle.aut_steps.specs.Tables.{Limits as StepLimits}
 use Rattle.query_steps.specs.Search.{machine}

@@ -7,8 +7,8 @@ use native.Mathlib.Omega.{arith}
 use lib.ListN.{length, getD, set}
 use Rattle.common.specs.Outcome.{given, Step, return, after, if_then_else_}
 use Rattle.common.specs.Runs.{table}
-use Rattle.netkat.specs.Handles as Handles
-use Rattle.netkat.specs.Handles.{Entry, goes}
+use Rattle.netkat_steps.specs.Handles as Handles
+use Rattle.netkat_steps.specs.Handles.{Entry, goes}
 use Rattle.sp_steps.specs.Model as Sp
 use Rattle.sp_steps.specs.Laws as SpLaws
 use Rattle.sp_steps.proofs.Laws as SpLawsProofs

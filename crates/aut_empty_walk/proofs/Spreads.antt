@@ -5,8 +5,8 @@ use Prim.Native.Nat.{ℕ, _/_}
 use native.Mathlib.Omega.{arith}
 use lib.ListN.{length}
 use Rattle.common.specs.Outcome.{Outcome, return, after}
-use Rattle.netkat.specs.ListSteps.{Edge}
-use Rattle.netkat.specs.Handles as Handles
+use Rattle.netkat_steps.specs.ListSteps.{Edge}
+use Rattle.netkat_steps.specs.Handles as Handles
 use Rattle.sp_steps.proofs.Laws as SpLaws
 use Rattle.aut_steps.proofs.Good.{state-grown}
 use Rattle.delta_steps.specs.Delta.{listAt, delta}

@@ -9,9 +9,9 @@ use lib.ListN.{length, getD}
 use borrow.Author.Tests.{eqb-true, eqb-false, lt-ltb, le-ltb}
 use Rattle.common.specs.Outcome.{Outcome, refused, given, Step, return, after, if_then_else_}
 use Rattle.common.specs.Runs.{table}
-use Rattle.netkat.specs.ListSteps.{Edge, edge}
-use Rattle.netkat.specs.Handles as Handles
-use Rattle.netkat.specs.Handles.{Entry}
+use Rattle.netkat_steps.specs.ListSteps.{Edge, edge}
+use Rattle.netkat_steps.specs.Handles as Handles
+use Rattle.netkat_steps.specs.Handles.{Entry}
 use Rattle.sp_steps.specs.Model as Sp
 use Rattle.sp_steps.proofs.Laws as SpLaws
 use Rattle.sp.specs.declared.SP.{SP}

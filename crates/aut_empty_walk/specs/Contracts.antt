@@ -5,8 +5,8 @@ use Prim.Native.Nat.{ℕ, _+_, _*_, _/_, _≤_, _<_}
 use lib.ListN.{length, getD}
 use Rattle.common.specs.Outcome.{Outcome, Step, return, _>>=_, if_then_else_}
 use Rattle.common.specs.Runs.{table}
-use Rattle.netkat.specs.Handles as Handles
-use Rattle.netkat.specs.Handles.{Link, Entry}
+use Rattle.netkat_steps.specs.Handles as Handles
+use Rattle.netkat_steps.specs.Handles.{Link, Entry}
 use Rattle.sp_steps.specs.Model as Sp
 use Rattle.sp_steps.specs.Laws as SpLaws
 use Rattle.spp_steps.specs.ImageModel as Images

@@ -7,7 +7,7 @@ use lib.Dec.{eqb, ltb}
 use lib.ListN.{length}
 use Rattle.common.specs.Outcome.{given, Step, _>>=_}
 use Rattle.common.specs.Runs.{Table}
-use Rattle.netkat.specs.ListSteps.{Edge, st-xor, st-difference}
+use Rattle.netkat_steps.specs.ListSteps.{Edge, st-xor, st-difference}
 use Rattle.aut_steps.specs.Relations as Rel
 use Rattle.aut_steps.specs.Tables.{SPP, UNION, INTERSECT, XOR, DIFFERENCE, COMPLEMENT, SEQUENCE, STAR, DUP, NEXT, UNTIL, TOP, words, listOf, Limits, Aut, putStates, onNodes}
 use Rattle.st_steps.specs.Operations.{ops, complement}

@@ -9,7 +9,7 @@ use lib.ListN.{length, getD}
 use borrow.Author.Tests.{ltb-true, ltb-false}
 use Rattle.common.specs.Outcome.{Outcome, refused, given, Step}
 use Rattle.common.specs.Runs.{Table, table, placed}
-use Rattle.netkat.specs.ListSteps.{Edge}
+use Rattle.netkat_steps.specs.ListSteps.{Edge}
 use Rattle.spp_steps.proofs.Laws.{by-test}
 use Rattle.spp_steps.specs.ImageModel.{Stores}
 use Rattle.aut_steps.specs.Tables.{Limits, Aut, aut, putStates}

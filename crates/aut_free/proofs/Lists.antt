@@ -4,7 +4,7 @@ use Prim.Native.Nat.{ℕ}
 use lib.Dec.{eqb, ltb}
 use lib.ListN.{length}
 use Rattle.common.specs.Outcome.{Step}
-use Rattle.netkat.specs.ListSteps.{Edge, edge, Operations, leadsTo, unite, enter, enterIn, place, st-singleton, split, insert, insertEach, insertPairs, st-union, st-intersect, Summed, subtractRow, subtractRows, st-difference, st-xor, coverAll, st-complement, st-postcompose, st-precompose, st-intersect-expr}
+use Rattle.netkat_steps.specs.ListSteps.{Edge, edge, Operations, leadsTo, unite, enter, enterIn, place, st-singleton, split, insert, insertEach, insertPairs, st-union, st-intersect, Summed, subtractRow, subtractRows, st-difference, st-xor, coverAll, st-complement, st-postcompose, st-precompose, st-intersect-expr}
 use Rattle.aut_steps.specs.Relations as Rel
 use Rattle.aut_steps.specs.Tables.{Limits}
 use Rattle.st_steps.specs.Operations.{ops, complement}

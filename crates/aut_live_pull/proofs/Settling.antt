@@ -12,7 +12,7 @@ use Rattle.common.specs.Packets.{any}
 use Rattle.common.specs.Outcome.{Outcome, refused, given, Step, return, after, _>>=_, if_then_else_}
 use Rattle.common.specs.Runs.{Table, table}
 use Rattle.netkat.specs.Lists.{State, Transition}
-use Rattle.netkat.specs.ListSteps.{Edge, Are}
+use Rattle.netkat_steps.specs.ListSteps.{Edge, Are}
 use Rattle.sp_steps.specs.Model as Sp
 use Rattle.sp_steps.specs.Laws as SpLaws
 use Rattle.sp_steps.proofs.Laws as SpLawsProofs

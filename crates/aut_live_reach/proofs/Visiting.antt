@@ -9,7 +9,7 @@ use lib.ListN.{length, getD, set}
 use borrow.Author.Tests.{eq-eqb}
 use Rattle.common.specs.Outcome.{Outcome, refused, given, Step, return, after, if_then_else_}
 use Rattle.common.specs.Runs.{Table, table}
-use Rattle.netkat.specs.ListSteps.{Edge}
+use Rattle.netkat_steps.specs.ListSteps.{Edge}
 use Rattle.sp_steps.specs.Laws as SpLaws
 use Rattle.sp.specs.declared.SP.{SP}
 use Rattle.sp.specs.declared.Made as sets

@@ -13,7 +13,7 @@ use Rattle.common.specs.Packets.{any}
 use Rattle.common.proofs.PacketLaws.{any-of}
 use Rattle.common.specs.Outcome.{refused, given, if_then_else_}
 use Rattle.common.specs.Runs.{table}
-use Rattle.netkat.specs.ListSteps.{Edge}
+use Rattle.netkat_steps.specs.ListSteps.{Edge}
 use Rattle.sp_steps.specs.Model as Sp
 use Rattle.sp_steps.specs.Laws as SpLaws
 use Rattle.sp_steps.proofs.Laws as SpLawsProofs

@@ -5,7 +5,7 @@ use mathlib.Core.List.{List, [], _∷_, _++_, append-nil, append-assoc}
 use Prim.Native.Nat.{ℕ}
 use lib.Dec.{eqb}
 use Rattle.common.specs.Outcome.{Outcome, refused, given, Step, return, after, _>>=_, if_then_else_}
-use Rattle.netkat.specs.ListSteps.{Edge, edge}
+use Rattle.netkat_steps.specs.ListSteps.{Edge, edge}
 use Rattle.aut_steps.specs.Relations as Rel
 use Rattle.query_steps.specs.Tables.{Tables}
 use Rattle.query_steps.specs.Pruned.{viable, prune}

@@ -4,7 +4,7 @@ use mathlib.Core.List.{List}
 use Prim.Native.Nat.{ℕ, _+_, _-_, _/_, _≤_, _<_}
 use lib.ListN.{length}
 use Rattle.common.specs.Runs.{table}
-use Rattle.netkat.specs.ListSteps.{Edge, edge}
+use Rattle.netkat_steps.specs.ListSteps.{Edge, edge}
 use Rattle.sp_steps.specs.Laws as SpLaws
 use Rattle.spp_steps.specs.Laws.{ValidAt}
 use Rattle.spp.specs.declared.Made.{Made}

@@ -12,7 +12,7 @@ use Rattle.common.specs.Outcome.{Outcome, refused, given, Step, return, after, 
 use Rattle.common.proofs.Follow.{given-of, given-same, refused≢given}
 use Rattle.common.specs.Runs.{Table, placed}
 use Rattle.netkat.specs.Rules.{sequence, star, until, next}
-use Rattle.netkat.specs.ListSteps.{Edge}
+use Rattle.netkat_steps.specs.ListSteps.{Edge}
 use Rattle.spp_steps.specs.Laws.{Ext, ValidAt}
 use Rattle.spp_steps.proofs.Laws.{ext-refl, by-test}
 use Rattle.aut_steps.specs.Relations as Rel

@@ -9,8 +9,8 @@ use lib.ListN.{length}
 use borrow.Author.Tests.{ltb-true, lt-ltb, leb-true, le-leb}
 use Rattle.common.specs.Outcome.{Outcome, refused, given, Step, return, after, _>>=_, if_then_else_}
 use Rattle.common.specs.Runs.{Table, placed}
-use Rattle.netkat.specs.ListSteps as St
-use Rattle.netkat.specs.ListSteps.{Edge, leadsTo, unite, enter, enterIn, place, st-singleton, split, insert, insertEach, insertPairs, st-union, meetOf, st-intersect, Summed, subtractRow, subtractRows, restOf, st-difference, st-xor, complementOf, coverAll, st-complement, followedBy, st-postcompose, st-precompose, metWith, st-intersect-expr}
+use Rattle.netkat_steps.specs.ListSteps as St
+use Rattle.netkat_steps.specs.ListSteps.{Edge, leadsTo, unite, enter, enterIn, place, st-singleton, split, insert, insertEach, insertPairs, st-union, meetOf, st-intersect, Summed, subtractRow, subtractRows, restOf, st-difference, st-xor, complementOf, coverAll, st-complement, followedBy, st-postcompose, st-precompose, metWith, st-intersect-expr}
 use Rattle.aut_steps.specs.Relations as Rel
 use Rattle.aut_steps.specs.Tables.{SPP, UNION, INTERSECT, XOR, DIFFERENCE, COMPLEMENT, SEQUENCE, STAR, DUP, NEXT, UNTIL, TOP, kindOf, op1, op2, nest, listOf, Limits, Exprs, Aut, putStates, putExprs, onNodes, onStates, onExprs}
 use Rattle.aut_steps.specs.Intern.{seek, same2, sameL, nestL, intern1, intern2, internL}

@@ -8,8 +8,8 @@ use lib.Dec.{eqb, ltb}
 use lib.ListN.{length}
 use borrow.Author.Tests.{ltb-true, lt-ltb}
 use Rattle.common.specs.Outcome.{refused, given, Step, return, after, _>>=_, if_then_else_}
-use Rattle.netkat.specs.ListSteps as St
-use Rattle.netkat.specs.ListSteps.{Edge, edge, leadsTo, unite, enter, enterIn, place, st-singleton, split, insert, insertEach, insertPairs, st-union, meetOf, st-intersect, Summed, subtractRow, subtractRows, restOf, st-difference, st-xor, complementOf, coverAll, st-complement, followedBy, st-postcompose, st-precompose, metWith, st-intersect-expr}
+use Rattle.netkat_steps.specs.ListSteps as St
+use Rattle.netkat_steps.specs.ListSteps.{Edge, edge, leadsTo, unite, enter, enterIn, place, st-singleton, split, insert, insertEach, insertPairs, st-union, meetOf, st-intersect, Summed, subtractRow, subtractRows, restOf, st-difference, st-xor, complementOf, coverAll, st-complement, followedBy, st-postcompose, st-precompose, metWith, st-intersect-expr}
 use Rattle.spp_steps.specs.Model as Spp
 use Rattle.aut_steps.specs.Relations as Rel
 use Rattle.aut_steps.specs.Tables.{Limits, Aut}

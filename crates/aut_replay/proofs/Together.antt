@@ -8,7 +8,7 @@ use lib.Dec.{eqb}
 use borrow.Author.Tests.{eqb-true}
 use Rattle.common.specs.Outcome.{Step, _>>=_, if_then_else_}
 use Rattle.netkat.specs.Rules.{union, intersection}
-use Rattle.netkat.specs.ListSteps.{Edge, st-xor, st-difference, st-complement}
+use Rattle.netkat_steps.specs.ListSteps.{Edge, st-xor, st-difference, st-complement}
 use Rattle.spp_steps.proofs.Laws.{den-one, den-top}
 use Rattle.aut_steps.specs.Relations as Rel
 use Rattle.aut_steps.specs.Tables.{SPP, UNION, INTERSECT, XOR, DIFFERENCE, COMPLEMENT, SEQUENCE, STAR, DUP, NEXT, UNTIL, Limits, Aut, onNodes}

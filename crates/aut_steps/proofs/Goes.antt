@@ -9,7 +9,7 @@ use lib.ListN.{length, getD}
 use borrow.Author.Tests.{leb-true, leb-false}
 use Rattle.common.specs.Outcome.{Outcome, refused, given, Step, return, after, if_then_else_}
 use Rattle.common.specs.Runs.{Table, table, placed}
-use Rattle.netkat.specs.ListSteps.{Edge}
+use Rattle.netkat_steps.specs.ListSteps.{Edge}
 use Rattle.spp_steps.specs.Laws.{Wf, Ext}
 use Rattle.spp_steps.proofs.Laws.{ext-refl, by-test}
 use Rattle.spp_steps.proofs.Make.{Lacks}

@@ -12,7 +12,7 @@ use lib.Seq.{length-take-le}
 use borrow.Author.Tests.{le-leb, lt-leb}
 use Rattle.common.specs.Outcome.{Outcome, refused, given, after, if_then_else_}
 use Rattle.cache.proofs.Cache.{sound-map, notes-map}
-use Rattle.netkat.specs.ListSteps.{Edge}
+use Rattle.netkat_steps.specs.ListSteps.{Edge}
 use Rattle.netkat.specs.Search as Plain
 use Rattle.sp_steps.specs.Model as Sp
 use Rattle.sp_steps.proofs.Size.{size-most}

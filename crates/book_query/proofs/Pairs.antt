@@ -7,7 +7,7 @@ use lib.ListN.{length, getD, length-append}
 use Rattle.common.specs.Runs.{Table}
 use Rattle.cache.specs.Cache.{Valid, OnlyCodes}
 use Rattle.cache.proofs.Cache.{notes-refl, notes-trans, sound-own}
-use Rattle.netkat.specs.ListSteps.{Edge}
+use Rattle.netkat_steps.specs.ListSteps.{Edge}
 use Rattle.spp_steps.specs.Model as Spp
 use Rattle.spp_steps.specs.Laws.{ValidAt}
 use Rattle.spp_img.specs.Reuse.{Counted}

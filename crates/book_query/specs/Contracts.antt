@@ -8,7 +8,7 @@ use lib.ListN.{length, getD, take}
 use Rattle.common.specs.Outcome.{Outcome, refused, given}
 use Rattle.common.specs.Runs.{Table}
 use Rattle.cache.specs.Cache.{OnCodes, OnlyCodes, Sound}
-use Rattle.netkat.specs.ListSteps.{Edge}
+use Rattle.netkat_steps.specs.ListSteps.{Edge}
 use Rattle.spp_steps.specs.Model as Spp
 use Rattle.spp_steps.specs.Laws.{Wf, ValidAt}
 use Rattle.spp_img.specs.Reuse.{Counted}

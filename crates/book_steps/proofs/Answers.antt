@@ -11,7 +11,7 @@ use Rattle.common.specs.Outcome.{given}
 use Rattle.common.proofs.Follow.{given-same}
 use Rattle.netkat.specs.Rules.{Rule}
 use Rattle.netkat.specs.Lists.{State, Transition}
-use Rattle.netkat.specs.ListSteps.{Edge, Are}
+use Rattle.netkat_steps.specs.ListSteps.{Edge, Are}
 use Rattle.netkat.specs.Search.{Verdict, yes, no, spent}
 use Rattle.sp_steps.specs.Model as Sp
 use Rattle.sp_steps.proofs.Size as SpSize

@@ -12,9 +12,9 @@ use borrow.Author.Tests.{eqb-true, eqb-false, ltb-true, ltb-false, leb-true, leb
 use Rattle.common.specs.Packets.{any}
 use Rattle.common.specs.Outcome.{Outcome, refused, given, Step, return, _>>=_, if_then_else_}
 use Rattle.common.specs.Runs.{Table, table, placed}
-use Rattle.netkat.specs.ListSteps.{Edge, enter, enterIn}
-use Rattle.netkat.specs.Handles as Handles
-use Rattle.netkat.specs.Handles.{Entry}
+use Rattle.netkat_steps.specs.ListSteps.{Edge, enter, enterIn}
+use Rattle.netkat_steps.specs.Handles as Handles
+use Rattle.netkat_steps.specs.Handles.{Entry}
 use Rattle.sp_steps.specs.Model as Sp
 use Rattle.sp_steps.specs.Make as SpMake
 use Rattle.sp_steps.proofs.Make as SpMakeLaws

@@ -15,7 +15,7 @@ use Rattle.common.specs.Outcome.{Outcome, refused, given, after, if_then_else_}
 use Rattle.common.proofs.Follow.{given-of, given-same}
 use Rattle.common.specs.Runs.{placed}
 use Rattle.netkat.specs.Rules.{Rule}
-use Rattle.netkat.specs.ListSteps.{Edge}
+use Rattle.netkat_steps.specs.ListSteps.{Edge}
 use Rattle.netkat.specs.Search.{Verdict, yes, spent}
 use Rattle.netkat.specs.Live.{IsLive}
 use Rattle.sp_steps.specs.Model as Sp

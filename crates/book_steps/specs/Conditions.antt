@@ -12,9 +12,9 @@ use lib.ListN.{length, getD}
 use Rattle.common.specs.Packets.{any}
 use Rattle.common.specs.Outcome.{refused, given, return, _>>=_, if_then_else_}
 use Rattle.common.specs.Runs.{Table}
-use Rattle.netkat.specs.ListSteps.{Edge, enterIn}
-use Rattle.netkat.specs.Handles as Handles
-use Rattle.netkat.specs.Handles.{Entry}
+use Rattle.netkat_steps.specs.ListSteps.{Edge, enterIn}
+use Rattle.netkat_steps.specs.Handles as Handles
+use Rattle.netkat_steps.specs.Handles.{Entry}
 use Rattle.sp_steps.specs.Model as Sp
 use Rattle.sp_steps.specs.Make as SpMake
 use Rattle.sp_steps.specs.Word.{flip}

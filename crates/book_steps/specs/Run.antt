@@ -7,7 +7,7 @@ use lib.Dec.{ltb, leb}
 use lib.ListN.{length, replicate}
 use Rattle.common.specs.Outcome.{Outcome, refused, given, Step, return, _>>=_, if_then_else_}
 use Rattle.common.specs.Runs.{Table, table}
-use Rattle.netkat.specs.ListSteps.{Edge}
+use Rattle.netkat_steps.specs.ListSteps.{Edge}
 use Rattle.sp_steps.specs.Model as Sp
 use Rattle.spp_steps.specs.Model as Spp
 use Rattle.aut_steps.specs.Tables.{Limits, limits01, aut}

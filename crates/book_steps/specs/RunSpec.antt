@@ -10,7 +10,7 @@ use Prim.Native.Nat.{ℕ, suc, _^_, _≤_, _<_}
 use lib.ListN.{length, getD, replicate}
 use Rattle.common.specs.Outcome.{refused, given}
 use Rattle.netkat.specs.Rules.{Rule}
-use Rattle.netkat.specs.ListSteps.{Edge}
+use Rattle.netkat_steps.specs.ListSteps.{Edge}
 use Rattle.netkat.specs.Search.{Verdict, yes, spent}
 use Rattle.sp_steps.specs.Model as Sp
 use Rattle.spp_steps.specs.Model as Spp

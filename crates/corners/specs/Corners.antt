@@ -8,7 +8,7 @@ use Rattle.common.specs.Runs.{Table, table}
 use Rattle.sp_steps.specs.Model as Sp
 use Rattle.spp_steps.specs.Model as Spp
 use Rattle.aut_steps.specs.Tables.{Aut}
-use Rattle.netkat.specs.ListSteps.{Edge}
+use Rattle.netkat_steps.specs.ListSteps.{Edge}
 use Rattle.netkat.specs.Search.{Verdict, yes, no, spent}
 use Rattle.aut_steps.specs.Corners as Constructors
 use Rattle.st_steps.specs.Edges.{flat}

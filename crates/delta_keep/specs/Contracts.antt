@@ -4,7 +4,7 @@ use mathlib.Core.List.{List}
 use Prim.Native.Nat.{ℕ, _+_, _*_, _≤_, _<_}
 use lib.ListN.{length}
 use Rattle.common.specs.Outcome.{Outcome, refused, given}
-use Rattle.netkat.specs.ListSteps.{Edge}
+use Rattle.netkat_steps.specs.ListSteps.{Edge}
 use Rattle.st_steps.specs.Edges.{edges}
 use Rattle.delta_steps.specs.Delta.{Store, keepList}
 use Rattle.delta_stage.specs.OnStore.{storeOf}

@@ -8,8 +8,8 @@ use lib.Dec.{eqb}
 use borrow.Author.Tests.{eq-eqb, ne-eqb}
 use Rattle.common.specs.Outcome.{given, Step, return, after, _>>=_, if_then_else_}
 use Rattle.common.specs.Runs.{Table, table}
-use Rattle.netkat.specs.ListSteps as St
-use Rattle.netkat.specs.ListSteps.{Edge, edge}
+use Rattle.netkat_steps.specs.ListSteps as St
+use Rattle.netkat_steps.specs.ListSteps.{Edge, edge}
 use Rattle.spp_steps.proofs.Laws.{den-one, den-top}
 use Rattle.aut_steps.specs.Tables as T
 use Rattle.aut_steps.specs.Tables.{Aut, onStates}

@@ -2,8 +2,8 @@
 use mathlib.Core.Path.{sym, ap}
 use mathlib.Core.List.{List}
 use Prim.Native.Nat.{ℕ}
-use Rattle.netkat.specs.ListSteps as St
-use Rattle.netkat.specs.ListSteps.{Edge}
+use Rattle.netkat_steps.specs.ListSteps as St
+use Rattle.netkat_steps.specs.ListSteps.{Edge}
 use Rattle.aut_steps.specs.Tables.{Aut}
 use Rattle.st_steps.specs.Operations.{ops}
 use Rattle.st_steps.specs.Edges.{edges}

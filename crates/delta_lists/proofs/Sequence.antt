@@ -2,7 +2,7 @@
 use mathlib.Core.Path.{refl}
 use mathlib.Core.List.{List}
 use Prim.Native.Nat.{ℕ}
-use Rattle.netkat.specs.ListSteps as St
+use Rattle.netkat_steps.specs.ListSteps as St
 use Rattle.aut_steps.specs.Tables.{Aut}
 use Rattle.aut_steps.specs.Good.{ExtAut}
 use Rattle.st_steps.specs.Operations.{ops}

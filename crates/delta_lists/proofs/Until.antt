@@ -6,8 +6,8 @@ use native.Mathlib.Omega.{arith}
 use lib.ListN.{length}
 use Rattle.common.specs.Outcome.{Step, after, _>>=_}
 use Rattle.common.specs.Runs.{table}
-use Rattle.netkat.specs.ListSteps as St
-use Rattle.netkat.specs.ListSteps.{Edge}
+use Rattle.netkat_steps.specs.ListSteps as St
+use Rattle.netkat_steps.specs.ListSteps.{Edge}
 use Rattle.aut_steps.specs.Tables.{UNTIL, Aut, onStates}
 use Rattle.aut_steps.specs.Constructors.{mk-until}
 use Rattle.aut_steps.proofs.Goes.{goes-map}

@@ -2,7 +2,7 @@
 use mathlib.Core.List.{List}
 use Prim.Native.Nat.{ℕ, _≤_}
 use Rattle.common.specs.Outcome.{Step}
-use Rattle.netkat.specs.ListSteps.{Edge, edge}
+use Rattle.netkat_steps.specs.ListSteps.{Edge, edge}
 use Rattle.aut_steps.specs.Tables.{Aut}
 use Rattle.st_steps.specs.Edges.{EdgeAt}
 use Rattle.st_steps.specs.ListGoes.{State, Label}

@@ -7,7 +7,7 @@ use st::Listed;
 use st_each::Each;
 use st_source::Place;
 use st_source::Source;
-ghost use Rattle.netkat.specs.ListSteps as St;
+ghost use Rattle.netkat_steps.specs.ListSteps as St;
 ghost use Rattle.aut_steps.specs.Relations.{topAt};
 ghost use Rattle.st_steps.specs.Operations.{ops};
 ghost use Rattle.st_steps.specs.Edges.{edges};

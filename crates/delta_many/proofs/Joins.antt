@@ -8,7 +8,7 @@ use lib.ListN.{length, getD}
 use lib.Seq.{sets}
 use Rattle.common.specs.Outcome.{Step}
 use Rattle.common.specs.Runs.{table}
-use Rattle.netkat.specs.ListSteps.{Edge}
+use Rattle.netkat_steps.specs.ListSteps.{Edge}
 use Rattle.aut_steps.specs.Tables as T
 use Rattle.aut_steps.specs.Tables.{Aut, words}
 use Rattle.aut_steps.specs.ListLaws.{All}

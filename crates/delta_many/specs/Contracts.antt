@@ -1,7 +1,7 @@
 -- 01, port order, step 3 (delta) and "Forms that must change": the lists of a Union and of an Intersect, joined when every member's list stands in the tables. What is asked.
 use mathlib.Core.List.{List, map}
 use Prim.Native.Nat.{ℕ, _+_, _≤_, _<_}
-use Rattle.netkat.specs.ListSteps.{Edge}
+use Rattle.netkat_steps.specs.ListSteps.{Edge}
 use Rattle.aut_steps.specs.Tables.{words}
 use Rattle.aut_steps.specs.ListLaws.{All}
 use Rattle.aut_steps.specs.Good.{states}

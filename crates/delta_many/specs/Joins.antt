@@ -5,7 +5,7 @@ use mathlib.Core.List.{List}
 use Prim.Native.Nat.{ℕ, _+_, _*_, _≤_, _<_}
 use lib.ListN.{length}
 use Rattle.common.specs.Outcome.{Step}
-use Rattle.netkat.specs.ListSteps.{Edge, st-union, st-intersect}
+use Rattle.netkat_steps.specs.ListSteps.{Edge, st-union, st-intersect}
 use Rattle.aut_steps.specs.Tables as T
 use Rattle.aut_steps.specs.Tables.{Aut, words}
 use Rattle.aut_steps.specs.ListLaws.{All}

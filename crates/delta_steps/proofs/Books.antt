@@ -5,7 +5,7 @@ use mathlib.Core.List.{List, [], _∷_, _++_}
 use Prim.Native.Nat.{ℕ, _*_}
 use lib.ListN.{take}
 use Rattle.common.specs.Outcome.{Outcome, refused, given, Step, return, _>>=_}
-use Rattle.netkat.specs.ListSteps as ListSteps
+use Rattle.netkat_steps.specs.ListSteps as ListSteps
 use Rattle.spp_steps.specs.Model as Spp
 use Rattle.aut_steps.specs.Tables.{limits01, onStates, kindOf, op1, op2, nest, words, roomS, roomM, put4}
 use Rattle.aut_steps.specs.Intern.{intern0, intern1, intern2, internL, putL, put, seek, same2, sameAt, sameL, store as storeMembers, nestL}

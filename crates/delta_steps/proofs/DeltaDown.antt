@@ -11,7 +11,7 @@ use Rattle.common.specs.Outcome.{Outcome, refused, given, Step, after, if_then_
 use Rattle.common.proofs.Follow.{refused≢given}
 use Rattle.common.specs.Runs.{Table, placed}
 use Rattle.netkat.specs.Rules.{sequence, star, next}
-use Rattle.netkat.specs.ListSteps.{Edge}
+use Rattle.netkat_steps.specs.ListSteps.{Edge}
 use Rattle.spp_steps.proofs.Laws.{by-test}
 use Rattle.aut_steps.specs.Relations as Rel
 use Rattle.aut_steps.specs.Tables.{SPP, UNION, INTERSECT, XOR, DIFFERENCE, COMPLEMENT, SEQUENCE, STAR, DUP, NEXT, UNTIL, Limits, Aut, putNodes, onNodes}

@@ -11,10 +11,10 @@ use borrow.Author.Tests.{eqb-true, ltb-true, ltb-false}
 use Rattle.common.specs.Outcome.{Step, return, _>>=_, Gives}
 use Rattle.netkat.specs.Strings.{str}
 use Rattle.netkat.specs.Rules.{Language, union, intersection, xor, difference, complement, sequence, star, until, next}
-use Rattle.netkat.specs.ListSteps as ListSteps
-use Rattle.netkat.specs.ListSteps.{Edge, MadeList, IsList}
+use Rattle.netkat_steps.specs.ListSteps as ListSteps
+use Rattle.netkat_steps.specs.ListSteps.{Edge, MadeList, IsList}
 use Rattle.netkat.specs.Promise.{DeltaOf}
-use Rattle.netkat.proofs.Laws.ListSteps.{meaningOf, list-later, list-same, list-none, list-delta, xor-true, difference-true, complement-true}
+use Rattle.netkat_steps.proofs.ListSteps.{meaningOf, list-later, list-same, list-none, list-delta, xor-true, difference-true, complement-true}
 use Rattle.spp_steps.proofs.Laws.{den-ext, by-test}
 use Rattle.aut_steps.specs.Relations as Rel
 use Rattle.aut_steps.specs.Tables.{SPP, UNION, INTERSECT, XOR, DIFFERENCE, COMPLEMENT, SEQUENCE, STAR, DUP, NEXT, UNTIL, TOP, Limits, Aut, onNodes}

@@ -12,8 +12,8 @@ use Rattle.netkat.specs.Strings.{str}
 use Rattle.netkat.specs.Rules.{Language, Join, Star, Until, Next, In, dup}
 use Rattle.netkat.specs.Hops.{IsEpsilon, Hop, Late}
 use Rattle.netkat.proofs.Laws.Hops.{sequence-hop, star-hop, until-hop, next-hop, dup-hop}
-use Rattle.netkat.specs.ListSteps.{Edge, st-singleton, MadeList, IsList}
-use Rattle.netkat.proofs.Laws.ListSteps.{later-refl, later-trans, list-later, list-same, made-same, made-by, made-from, union-true, intersection-true, st-postcompose-true, st-precompose-true, tail-true, st-singleton-true}
+use Rattle.netkat_steps.specs.ListSteps.{Edge, st-singleton, MadeList, IsList}
+use Rattle.netkat_steps.proofs.ListSteps.{later-refl, later-trans, list-later, list-same, made-same, made-by, made-from, union-true, intersection-true, st-postcompose-true, st-precompose-true, tail-true, st-singleton-true}
 use Rattle.spp_steps.specs.Laws.{Denotes}
 use Rattle.spp_steps.proofs.Laws.{den-one, den-top}
 use Rattle.spp_steps.specs.Closure.{closure}

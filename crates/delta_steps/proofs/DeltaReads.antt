@@ -10,7 +10,7 @@ use Rattle.common.proofs.Follow.{given-of}
 use Rattle.common.specs.Runs as Runs
 use Rattle.common.specs.Runs.{Table, placed}
 use Rattle.netkat.specs.Rules.{union, intersection, xor, difference, complement, sequence, star, until}
-use Rattle.netkat.specs.ListSteps.{Edge, st-singleton, st-xor, st-difference, st-complement}
+use Rattle.netkat_steps.specs.ListSteps.{Edge, st-singleton, st-xor, st-difference, st-complement}
 use Rattle.spp_steps.specs.Laws.{Wf, Ext, Denotes}
 use Rattle.spp_steps.proofs.Laws.{sppTheory, by-test}
 use Rattle.spp_steps.proofs.Star.{star-exact}

@@ -9,8 +9,8 @@ use Rattle.common.specs.Outcome.{Outcome, Step, after, Gives, refusal, gives}
 use Rattle.common.specs.Runs.{placed}
 use Rattle.netkat.specs.Strings.{str}
 use Rattle.netkat.specs.Rules.{Language}
-use Rattle.netkat.specs.ListSteps.{Edge, MadeList, IsList}
-use Rattle.netkat.proofs.Laws.ListSteps.{list-later, list-same}
+use Rattle.netkat_steps.specs.ListSteps.{Edge, MadeList, IsList}
+use Rattle.netkat_steps.proofs.ListSteps.{list-later, list-same}
 use Rattle.aut_steps.specs.Tables.{Limits, Aut}
 use Rattle.aut_steps.specs.Languages.{_≈_}
 use Rattle.aut_steps.proofs.Languages.{same}

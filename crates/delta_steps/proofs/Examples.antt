@@ -3,8 +3,8 @@ use mathlib.Core.Path.{_≡_, refl}
 use mathlib.Core.Bool.{true}
 use mathlib.Core.List.{List, [], _∷_}
 use Rattle.common.specs.Outcome.{refused, given, _>>=_}
-use Rattle.netkat.specs.ListSteps as ListSteps
-use Rattle.netkat.specs.ListSteps.{edge}
+use Rattle.netkat_steps.specs.ListSteps as ListSteps
+use Rattle.netkat_steps.specs.ListSteps.{edge}
 use Rattle.spp_steps.specs.Model as Spp
 use Rattle.spp_steps.specs.Model.{test}
 use Rattle.aut_steps.specs.Tables.{limits01, onStates, kindOf, op1, op2, nest, words, roomS, roomM, put4, SPP, UNION, INTERSECT, COMPLEMENT, SEQUENCE, STAR, DUP, UNTIL}

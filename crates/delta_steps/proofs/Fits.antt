@@ -9,7 +9,7 @@ use Rattle.common.specs.Outcome.{Outcome, Gives, refusal, gives}
 use Rattle.common.specs.Runs.{Table, placed}
 use Rattle.netkat.specs.Rules.{Language}
 use Rattle.netkat.specs.Lists.{Transition, State}
-use Rattle.netkat.specs.ListSteps.{Edge, Readings, Later, MadeLabel, MadeState, LawfulOps, Are, none, also, IsList}
+use Rattle.netkat_steps.specs.ListSteps.{Edge, Readings, Later, MadeLabel, MadeState, LawfulOps, Are, none, also, IsList}
 use Rattle.spp_steps.specs.Laws.{Denotes}
 use Rattle.spp_steps.proofs.Laws.{den-ext, den-zero, agree}
 use Rattle.aut_steps.specs.Tables.{Limits, Aut, putNodes}

@@ -4,8 +4,8 @@ use Prim.Native.Nat.{ℕ, _≤_}
 use native.Mathlib.Omega.{arith}
 use Rattle.netkat.specs.Rules.{Language}
 use Rattle.netkat.specs.Lists.{Transition, State as TransitionState}
-use Rattle.netkat.specs.ListSteps as ListSteps
-use Rattle.netkat.specs.ListSteps.{Edge, Are, none, also, IsList}
+use Rattle.netkat_steps.specs.ListSteps as ListSteps
+use Rattle.netkat_steps.specs.ListSteps.{Edge, Are, none, also, IsList}
 use Rattle.spp_steps.proofs.Laws.{den-one, den-top}
 use Rattle.aut_steps.specs.Relations as Rel
 use Rattle.aut_steps.specs.Tables.{Limits, Aut}

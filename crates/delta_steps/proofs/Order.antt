@@ -7,8 +7,8 @@ use lib.ListN.{length, getD, take, drop, replicate}
 use Rattle.common.specs.Packets.{any}
 use Rattle.common.specs.Outcome.{Outcome, refused, given, Step, return, _>>=_, if_then_else_}
 use Rattle.common.specs.Runs.{table}
-use Rattle.netkat.specs.ListSteps as ListSteps
-use Rattle.netkat.specs.ListSteps.{Edge}
+use Rattle.netkat_steps.specs.ListSteps as ListSteps
+use Rattle.netkat_steps.specs.ListSteps.{Edge}
 use Rattle.spp_steps.specs.Model as Spp
 use Rattle.aut_steps.specs.Tables.{limits01, aut, onStates, kindOf, op1, op2, nest, words, roomS, roomM, put4}
 use Rattle.aut_steps.specs.Intern.{intern0, intern1, intern2, internL, putL, put, seek, same2, sameAt, sameL, store as storeMembers, nestL}

@@ -7,7 +7,7 @@ use lib.Dec.{T}
 use Rattle.common.specs.Outcome.{Outcome, refused, given, after, Gives, refusal, gives}
 use Rattle.netkat.specs.Hops.{IsEpsilon}
 use Rattle.netkat.specs.Lists.{State, Transition, to}
-use Rattle.netkat.specs.ListSteps.{Edge, Are, none, also}
+use Rattle.netkat_steps.specs.ListSteps.{Edge, Are, none, also}
 use Rattle.netkat.specs.Promise.{Meaning, Kept, DeltaOf, Lawful, Promise}
 use Rattle.netkat.proofs.Laws.Promise.{promise}
 use Rattle.aut_steps.specs.Relations as Rel

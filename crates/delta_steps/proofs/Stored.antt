@@ -11,8 +11,8 @@ use lib.Seq.{sets, length-sets, getD-set-same, getD-set-other}
 use borrow.Author.Tests.{eqb-true, eqb-false, leb-true, leb-false}
 use Rattle.common.specs.Runs.{Table}
 use Rattle.netkat.specs.Strings.{str}
-use Rattle.netkat.specs.ListSteps.{Edge, edge, IsList}
-use Rattle.netkat.proofs.Laws.ListSteps.{list-later, list-same}
+use Rattle.netkat_steps.specs.ListSteps.{Edge, edge, IsList}
+use Rattle.netkat_steps.proofs.ListSteps.{list-later, list-same}
 use Rattle.spp_steps.proofs.Laws.{by-test}
 use Rattle.aut_steps.specs.Tables.{Limits, Aut}
 use Rattle.aut_steps.proofs.Facts.{and-true, sets-below, sets-above}

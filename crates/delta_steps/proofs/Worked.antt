@@ -12,8 +12,8 @@ use Rattle.common.specs.Runs.{Table}
 use Rattle.netkat.specs.Strings.{str}
 use Rattle.netkat.specs.Rules.{Language}
 use Rattle.netkat.proofs.Laws.Hops.{epsilon-same}
-use Rattle.netkat.proofs.Laws.ListSteps.{list-later, list-same}
-use Rattle.netkat.specs.ListSteps.{Edge, Later, IsList}
+use Rattle.netkat_steps.proofs.ListSteps.{list-later, list-same}
+use Rattle.netkat_steps.specs.ListSteps.{Edge, Later, IsList}
 use Rattle.spp_steps.specs.Laws.{Ext}
 use Rattle.spp_steps.proofs.Laws.{den-ext, by-test}
 use Rattle.aut_steps.specs.Tables.{SPP, Limits, Aut}

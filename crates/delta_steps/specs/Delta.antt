@@ -9,7 +9,7 @@ use lib.ListN.{length, getD}
 use lib.Seq.{sets}
 use Rattle.common.specs.Outcome.{refused, given, Step, return, _>>=_, if_then_else_}
 use Rattle.common.specs.Runs.{Table, table, placed}
-use Rattle.netkat.specs.ListSteps.{Edge, st-singleton, st-union, st-intersect, st-difference, st-xor, st-complement, st-postcompose, st-precompose, st-intersect-expr}
+use Rattle.netkat_steps.specs.ListSteps.{Edge, st-singleton, st-union, st-intersect, st-difference, st-xor, st-complement, st-postcompose, st-precompose, st-intersect-expr}
 use Rattle.aut_steps.specs.Relations as Rel
 use Rattle.aut_steps.specs.Tables.{SPP, UNION, INTERSECT, XOR, DIFFERENCE, COMPLEMENT, SEQUENCE, STAR, DUP, NEXT, UNTIL, kindOf, op1, op2, nest, listOf, Limits, Aut, putStates, onNodes, onStates}
 use Rattle.aut_steps.specs.Constructors.{mk-spp, mk-top, mk-until}

@@ -5,7 +5,7 @@ use Prim.Native.Nat.{ℕ}
 use lib.Dec.{eqb}
 use Rattle.common.specs.Outcome.{given, Step, return, _>>=_, if_then_else_}
 use Rattle.netkat.specs.Rules.{star}
-use Rattle.netkat.specs.ListSteps.{Edge, st-singleton, st-xor, st-difference, st-complement}
+use Rattle.netkat_steps.specs.ListSteps.{Edge, st-singleton, st-xor, st-difference, st-complement}
 use Rattle.aut_steps.specs.Relations as Rel
 use Rattle.aut_steps.specs.Tables.{SPP, UNION, INTERSECT, XOR, DIFFERENCE, COMPLEMENT, SEQUENCE, STAR, DUP, NEXT, UNTIL, Limits, Aut, onNodes}
 use Rattle.aut_steps.specs.Good.{kind, first, second, members}

@@ -4,7 +4,7 @@ use Prim.Native.Nat.{ℕ, _/_, _*_}
 use lib.ListN.{length}
 use Rattle.common.specs.Outcome.{Outcome, given, Step, _>>=_}
 use Rattle.common.specs.Runs.{table}
-use Rattle.netkat.specs.ListSteps.{Edge, edge}
+use Rattle.netkat_steps.specs.ListSteps.{Edge, edge}
 use Rattle.aut_steps.specs.Tables.{limits01, onStates, SPP, COMPLEMENT, DUP, TOP}
 use Rattle.aut_steps.specs.Constructors.{mk-spp, mk-dup, mk-complement}
 use Rattle.aut_steps.specs.Corners.{filled, tables}

@@ -1,7 +1,7 @@
 -- 01, "Strings": what states and labels mean in the tables of aut.rs, and that the operations of Operations.antt do what their names say: so netkat's laws of the list
 -- operations hold of them. Said of all tables since σ₀, which have grown, with words 4 to 11 of every state as they were: so every law hands that on.
 use Prim.Native.Nat.{ℕ, _<_}
-use Rattle.netkat.specs.ListSteps.{Readings}
+use Rattle.netkat_steps.specs.ListSteps.{Readings}
 use Rattle.spp_steps.specs.Laws.{Denotes}
 use Rattle.aut_steps.specs.Tables.{Limits, Aut}
 use Rattle.aut_steps.specs.Good.{states, ExtAut, WfAut}

@@ -9,7 +9,7 @@ use Rattle.common.specs.Packets.{Relation}
 use Rattle.common.specs.Runs.{Table}
 use Rattle.netkat.specs.Rules.{Language}
 use Rattle.netkat.specs.Hops.{IsEpsilon}
-use Rattle.netkat.specs.ListSteps.{Edge, IsList}
+use Rattle.netkat_steps.specs.ListSteps.{Edge, IsList}
 use Rattle.spp_steps.specs.Laws.{Denotes}
 use Rattle.aut_steps.specs.Tables.{SPP, Limits, Aut}
 use Rattle.aut_steps.specs.Good.{states, kind, first, WfAut}

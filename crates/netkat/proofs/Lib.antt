@@ -1,6 +1,2 @@
--- Instances: that what specs/ asks can be had.
-pub mod Examples
+-- The laws of netkat.
 pub mod Laws
-pub mod WorkshopLaws
-pub mod Book  -- 01's book
-pub mod Workshop  -- a store for the list operations

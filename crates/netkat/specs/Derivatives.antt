@@ -11,8 +11,7 @@ use Rattle.common.specs.Outcome.{given}
 use Rattle.netkat.specs.Rules.{Rule, Rules, relation, union, intersection, xor, difference, sequence, until, complement, star, next, dup, top, none, also}
 use Rattle.netkat.specs.Lists.{State, Transition, to, Targets, st-singleton, st-union, st-intersect, st-difference, st-xor, st-complement, st-postcompose, st-precompose, st-intersect-expr}
 use Rattle.netkat.specs.Search.{Automaton}
-use Rattle.netkat.specs.Promise.{Meaning}
-use Rattle.netkat.specs.Demand.{ofRules}
+use Rattle.netkat.specs.Promise.{Meaning, ofRules}
 
 module _ {n : ℕ} where
   -- rules as targets: nothing is simplified, and no two are found to be one

@@ -8,7 +8,7 @@ use lib.Dec.{T, eqb}
 use Prim.Native.Nat.{ℕ, _+_, _*_, _^_, _≤_, _<_}
 use Rattle.common.specs.Packets.{any}
 use Rattle.netkat.specs.Strings.{Str}
-use Rattle.netkat.specs.Rules.{Language}
+use Rattle.netkat.specs.Rules.{Language, Rule, In}
 use Rattle.common.specs.Outcome.{given, Gives}
 use Rattle.netkat.specs.Hops.{IsEpsilon}
 use Rattle.netkat.specs.Lists.{State, Transition, IsDelta, Ascending}
@@ -91,3 +91,7 @@ module _ {n : ℕ} where
       -- what is answered, or refused, on a budget is answered or refused in the same way on a larger one
       pub settled : (budget more : ℕ) → budget ≤ more → ((σ′ : 𝓐 .Store) (log : Log n) → ¬ (search 𝓐 budget s σ ≡ given σ′ (spent, log))) →
           search 𝓐 more s σ ≡ search 𝓐 budget s σ
+
+-- The meaning of states that are rules: a state holds the strings of its rule.
+abbrev pub ofRules : {n : ℕ} {Store : Type 0} → (Store → Type 0) → (Store → State → Type 0) → (Store → State → Rule n) → Meaning n Store
+ofRules good known rule = record { Good = good; Known = known; Holds = λ σ s w. In (rule σ s) w }

@@ -11,7 +11,7 @@ use Rattle.common.specs.Runs.{Table, table, placed}
 use Rattle.cache.specs.Cache.{OnlyCodes}
 use Rattle.cache.proofs.Cache.{sound-map, notes-map}
 use Rattle.netkat.specs.Lists.{State, Transition}
-use Rattle.netkat.specs.ListSteps.{Edge, Are}
+use Rattle.netkat_steps.specs.ListSteps.{Edge, Are}
 use Rattle.sp_steps.specs.Model as Sp
 use Rattle.sp_steps.specs.Laws as SpLaws
 use Rattle.sp_steps.proofs.Laws as SpLawsProofs

@@ -8,8 +8,8 @@ use lib.ListN.{getD, replicate}
 use Rattle.common.specs.Outcome.{refused, given, Step, _>>=_}
 use Rattle.common.specs.Runs.{table}
 use Rattle.netkat.specs.Search.{no, spent}
-use Rattle.netkat.specs.Handles as Handles
-use Rattle.netkat.specs.ListSteps as ListSteps
+use Rattle.netkat_steps.specs.Handles as Handles
+use Rattle.netkat_steps.specs.ListSteps as ListSteps
 use Rattle.sp_steps.specs.Word.{flip}
 use Rattle.sp_steps.specs.Model as Sp
 use Rattle.spp_steps.specs.Model as Spp

@@ -16,7 +16,7 @@ use Rattle.common.specs.Runs.{Table}
 use Rattle.netkat.specs.Rules.{Rule, Language}
 use Rattle.netkat.specs.Derivatives as Derivatives
 use Rattle.netkat.specs.Hops.{IsEpsilon}
-use Rattle.netkat.specs.ListSteps.{Edge, Are, IsList}
+use Rattle.netkat_steps.specs.ListSteps.{Edge, Are, IsList}
 use Rattle.netkat.proofs.Laws.Derivatives.{epsilon-true}
 use Rattle.sp_steps.specs.Laws as SpLaws
 use Rattle.sp_steps.proofs.Laws as SpLawsProofs

@@ -7,8 +7,8 @@ use Prim.Native.Nat.{ℕ}
 use lib.ListN.{length, take, drop, replicate}
 use Rattle.common.specs.Outcome.{Outcome, refused, given, Step, return, _>>=_}
 use Rattle.common.specs.Runs.{table}
-use Rattle.netkat.specs.ListSteps as ListSteps
-use Rattle.netkat.specs.ListSteps.{Edge, edge}
+use Rattle.netkat_steps.specs.ListSteps as ListSteps
+use Rattle.netkat_steps.specs.ListSteps.{Edge, edge}
 use Rattle.sp_steps.specs.Word.{flip}
 use Rattle.sp_steps.specs.Model as Sp
 use Rattle.spp_steps.specs.Model as Spp

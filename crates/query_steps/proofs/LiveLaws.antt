@@ -14,7 +14,7 @@ use Rattle.common.specs.Outcome.{given, Gives, if_then_else_}
 use Rattle.common.specs.Runs.{Table}
 use Rattle.netkat.specs.Rules.{Language}
 use Rattle.netkat.specs.Search.{Verdict, yes, spent}
-use Rattle.netkat.specs.ListSteps.{Edge}
+use Rattle.netkat_steps.specs.ListSteps.{Edge}
 use Rattle.sp_steps.specs.Model as Sp
 use Rattle.sp_steps.specs.Laws as SpLaws
 use Rattle.sp_steps.proofs.Laws as SpLawsProofs

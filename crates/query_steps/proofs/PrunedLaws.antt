@@ -13,9 +13,9 @@ use Rattle.common.proofs.RelationLaws.{nonempty-of, nonempty-to}
 use Rattle.common.specs.Outcome.{Outcome, given, after, _>>=_, Gives, if_then_else_}
 use Rattle.common.specs.Runs.{Table}
 use Rattle.netkat.specs.Lists.{State, Transition, to, Ascending, IsDelta}
-use Rattle.netkat.specs.ListSteps.{Edge, edge, Are, IsList}
+use Rattle.netkat_steps.specs.ListSteps.{Edge, edge, Are, IsList}
 use Rattle.netkat.specs.Live.{IsLive, cut, pruned, Pruned}
-use Rattle.netkat.proofs.Laws.ListSteps.{are-later}
+use Rattle.netkat_steps.proofs.ListSteps.{are-later}
 use Rattle.netkat.proofs.Laws.Live.{pruned-law}
 use Rattle.sp_steps.specs.Model as Sp
 use Rattle.sp_steps.specs.Laws as SpLaws

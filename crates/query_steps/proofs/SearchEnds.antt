@@ -11,10 +11,10 @@ use borrow.Author.Tests.{ltb-false}
 use Rattle.common.specs.Packets.{image}
 use Rattle.common.specs.Outcome.{Outcome, return, Gives, gives, if_then_else_}
 use Rattle.netkat.specs.Lists.{State, Transition}
-use Rattle.netkat.specs.ListSteps.{Edge, Are}
+use Rattle.netkat_steps.specs.ListSteps.{Edge, Are}
 use Rattle.netkat.specs.Search.{Verdict}
-use Rattle.netkat.specs.Handles as Handles
-use Rattle.netkat.specs.Handles.{Link, Entry, goes, found}
+use Rattle.netkat_steps.specs.Handles as Handles
+use Rattle.netkat_steps.specs.Handles.{Link, Entry, goes, found}
 use Rattle.sp_steps.specs.Model as Sp
 use Rattle.sp_steps.specs.Laws as SpLaws
 use Rattle.sp_steps.proofs.Laws as SpLawsProofs

@@ -11,11 +11,11 @@ use Rattle.common.proofs.PacketLaws.{inhabited-to}
 use Rattle.common.specs.Outcome.{Outcome, refused, given, return, after, Gives, refusal, gives}
 use Rattle.common.specs.Runs.{Table, placed}
 use Rattle.netkat.specs.Lists.{State, Transition}
-use Rattle.netkat.specs.ListSteps.{Edge, Are}
+use Rattle.netkat_steps.specs.ListSteps.{Edge, Are}
 use Rattle.netkat.specs.Search.{Verdict}
-use Rattle.netkat.specs.Handles.{Reading, Alike, none, also, IsLink, Grows, Makes, Implements}
-use Rattle.netkat.specs.Demand.{Demand, Demanded}
-use Rattle.netkat.proofs.Laws.Demand.{demand}
+use Rattle.netkat_steps.specs.Handles.{Reading, Alike, none, also, IsLink, Grows, Makes, Implements}
+use Rattle.netkat_steps.specs.Demand.{Demand, Demanded}
+use Rattle.netkat_steps.proofs.Demand.{demand}
 use Rattle.sp_steps.specs.Model as Sp
 use Rattle.sp_steps.specs.Laws as SpLaws
 use Rattle.sp_steps.proofs.Laws as SpLawsProofs

@@ -15,7 +15,7 @@ use Rattle.common.proofs.RelationLaws.{minus-of, minus-to}
 use Rattle.common.specs.Outcome.{given, return, _>>=_, if_then_else_}
 use Rattle.common.specs.Runs.{Table}
 use Rattle.netkat.specs.Lists.{State, Transition, to, Ascending, IsDelta}
-use Rattle.netkat.specs.ListSteps.{Edge, edge, Are, IsList}
+use Rattle.netkat_steps.specs.ListSteps.{Edge, edge, Are, IsList}
 use Rattle.netkat.specs.Live.{Reached, Step, IsStep, Added}
 use Rattle.netkat.proofs.Laws.Live.{sound-begun, Working, Pulling, pulling-begin, pulling-same, pulling-more, pulling-end, working-end, amount, amount-most, amount-more}
 use Rattle.sp_steps.specs.Model as Sp

@@ -9,7 +9,7 @@ use Rattle.common.specs.Outcome.{Outcome, refused, given, Step, after, Gives, r
 use Rattle.common.specs.Runs as Runs
 use Rattle.common.specs.Runs.{Table, placed}
 use Rattle.common.proofs.Runs.{StableSpec}
-use Rattle.netkat.specs.ListSteps.{Edge, IsList}
+use Rattle.netkat_steps.specs.ListSteps.{Edge, IsList}
 use Rattle.sp_steps.specs.Laws as SpLaws
 use Rattle.sp_steps.proofs.Laws as SpLawsProofs
 use Rattle.sp_steps.proofs.Refused as SpRefused

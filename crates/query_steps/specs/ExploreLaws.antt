@@ -2,7 +2,7 @@
 -- without hops. It stops only when no state waits: each visit needs an entry, so as many visits as entries are enough.
 use mathlib.Core.List.{List, List·Memᴰ}
 use Prim.Native.Nat.{ℕ, _<_}
-use Rattle.netkat.specs.ListSteps.{Edge}
+use Rattle.netkat_steps.specs.ListSteps.{Edge}
 use Rattle.aut_steps.specs.Good.{states}
 use Rattle.delta_steps.specs.Delta.{countOf, Store, listAt}
 use Rattle.delta_steps.specs.Worked.{HasEpsilon}

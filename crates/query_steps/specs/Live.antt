@@ -7,7 +7,7 @@ use lib.ListN.{length}
 use Rattle.common.specs.Packets.{any}
 use Rattle.common.specs.Outcome.{refused, given, Step, return, _>>=_, if_then_else_}
 use Rattle.common.specs.Runs.{Table}
-use Rattle.netkat.specs.ListSteps.{Edge}
+use Rattle.netkat_steps.specs.ListSteps.{Edge}
 use Rattle.sp_steps.specs.Model as Sp
 use Rattle.spp_steps.specs.ImageModel as Images
 use Rattle.aut_steps.specs.Tables.{Limits, putStates}

@@ -4,7 +4,7 @@ use mathlib.Core.List.{List, [], _∷_}
 use Prim.Native.Nat.{ℕ, _-_}
 use lib.Dec.{eqb}
 use Rattle.common.specs.Outcome.{Step, return, _>>=_, if_then_else_}
-use Rattle.netkat.specs.ListSteps.{Edge, edge}
+use Rattle.netkat_steps.specs.ListSteps.{Edge, edge}
 use Rattle.spp_steps.specs.ImageModel as Images
 use Rattle.aut_steps.specs.Relations as Rel
 use Rattle.aut_steps.specs.Tables.{Limits, onNodes}

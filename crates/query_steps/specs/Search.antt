@@ -3,10 +3,10 @@
 use mathlib.Core.List.{map}
 use Prim.Native.Nat.{ℕ, min}
 use Rattle.common.specs.Outcome.{given, Step, return, after}
-use Rattle.netkat.specs.ListSteps.{Edge}
+use Rattle.netkat_steps.specs.ListSteps.{Edge}
 use Rattle.netkat.specs.Search.{Verdict}
-use Rattle.netkat.specs.Handles as Handles
-use Rattle.netkat.specs.Handles.{Machine, Link}
+use Rattle.netkat_steps.specs.Handles as Handles
+use Rattle.netkat_steps.specs.Handles.{Machine, Link}
 use Rattle.sp_steps.specs.Model as Sp
 use Rattle.spp_steps.specs.ImageModel as Images
 use Rattle.aut_steps.specs.Tables.{Limits}

@@ -2,7 +2,7 @@
 -- meet, with their reason. With SearchLaws: the whole law of `is-empty`.
 use mathlib.Core.List.{List, List·Memᴰ}
 use Prim.Native.Nat.{ℕ, _<_}
-use Rattle.netkat.specs.Handles.{Entry}
+use Rattle.netkat_steps.specs.Handles.{Entry}
 use Rattle.sp_steps.specs.Laws as SpLaws
 use Rattle.spp_steps.specs.Laws.{ValidAt}
 use Rattle.aut_steps.specs.Good.{states}

@@ -7,7 +7,7 @@ use lib.ListN.{getD}
 use Rattle.common.specs.Packets.{Set}
 use Rattle.common.specs.Outcome.{Step}
 use Rattle.common.specs.Runs.{Table, placed}
-use Rattle.netkat.specs.ListSteps.{Edge}
+use Rattle.netkat_steps.specs.ListSteps.{Edge}
 use Rattle.netkat.specs.Rules.{Language}
 use Rattle.netkat.specs.Live.{IsLive}
 use Rattle.sp_steps.specs.Laws as SpLaws

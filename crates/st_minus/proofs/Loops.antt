@@ -4,8 +4,8 @@ use mathlib.Core.List.{List, _∷_}
 use Prim.Native.Nat.{ℕ, _+_, _≤_, _<_}
 use native.Mathlib.Omega.{arith}
 use Rattle.common.specs.Outcome.{Step}
-use Rattle.netkat.specs.ListSteps as St
-use Rattle.netkat.specs.ListSteps.{Edge, Summed as Sum}
+use Rattle.netkat_steps.specs.ListSteps as St
+use Rattle.netkat_steps.specs.ListSteps.{Edge, Summed as Sum}
 use Rattle.spp.specs.declared.SPP.{SPP}
 use Rattle.aut_steps.specs.Tables.{Aut}
 use Rattle.st_steps.specs.Operations.{ops}

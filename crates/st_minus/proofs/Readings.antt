@@ -3,7 +3,7 @@ use mathlib.Core.Path.{_≡_, _∙_, ap, subst}
 use mathlib.Core.List.{List}
 use Prim.Native.Nat.{ℕ, _≤_}
 use Rattle.common.specs.Outcome.{refused, Step}
-use Rattle.netkat.specs.ListSteps.{Summed as Sum}
+use Rattle.netkat_steps.specs.ListSteps.{Summed as Sum}
 use Rattle.aut_steps.specs.Tables.{Aut}
 use Rattle.st_steps.specs.Operations.{ops}
 use Rattle.st_steps.specs.ListGoes.{SumAt}

@@ -8,7 +8,7 @@ use spp::SPP;
 use st::Listed;
 use st_source::Source;
 use st_source::Transition;
-ghost use Rattle.netkat.specs.ListSteps as St;
+ghost use Rattle.netkat_steps.specs.ListSteps as St;
 ghost use Rattle.st_steps.specs.Operations.{ops};
 ghost use Rattle.st_steps.specs.EachSteps as M;
 ghost use Rattle.aut.specs.Seen.{limitsOf};

@@ -6,8 +6,8 @@ use Prim.Native.Nat.{ℕ, _≤_}
 use native.Mathlib.Omega.{arith}
 use lib.ListN.{length}
 use Rattle.common.specs.Outcome.{Step, after, _>>=_}
-use Rattle.netkat.specs.ListSteps as St
-use Rattle.netkat.specs.ListSteps.{Edge}
+use Rattle.netkat_steps.specs.ListSteps as St
+use Rattle.netkat_steps.specs.ListSteps.{Edge}
 use Rattle.aut_steps.specs.Tables.{Aut}
 use Rattle.aut_steps.specs.Good.{ExtAut}
 use Rattle.st_steps.specs.Operations.{ops}

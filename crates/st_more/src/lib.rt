@@ -4,7 +4,7 @@ use aut::Counts;
 use st::Listed;
 use st_source::Place;
 use st_source::Source;
-ghost use Rattle.netkat.specs.ListSteps as St;
+ghost use Rattle.netkat_steps.specs.ListSteps as St;
 ghost use Rattle.st_steps.specs.Operations.{ops};
 ghost use Rattle.st_steps.specs.Edges.{edges};
 ghost use Rattle.aut.specs.Seen.{limitsOf};

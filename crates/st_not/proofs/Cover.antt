@@ -4,8 +4,8 @@ use mathlib.Core.List.{List, [], _∷_}
 use Prim.Native.Nat.{ℕ}
 use Rattle.common.specs.Outcome.{Outcome, refused, given, Step, after}
 use Rattle.common.specs.Runs.{Table, placed}
-use Rattle.netkat.specs.ListSteps as St
-use Rattle.netkat.specs.ListSteps.{Edge}
+use Rattle.netkat_steps.specs.ListSteps as St
+use Rattle.netkat_steps.specs.ListSteps.{Edge}
 use Rattle.spp_steps.specs.Model as Spp
 use Rattle.aut_steps.specs.Tables.{Limits, Aut, putNodes, onNodes}
 use Rattle.aut_steps.specs.Relations as Rel

@@ -5,8 +5,8 @@ use Prim.Native.Nat.{ℕ}
 use native.Mathlib.Omega.{arith}
 use Rattle.common.specs.Outcome.{Step, after, _>>=_}
 use Rattle.common.specs.Runs.{table}
-use Rattle.netkat.specs.ListSteps as St
-use Rattle.netkat.specs.ListSteps.{Edge, edge}
+use Rattle.netkat_steps.specs.ListSteps as St
+use Rattle.netkat_steps.specs.ListSteps.{Edge, edge}
 use Rattle.spp_steps.specs.Model as Spp
 use Rattle.spp_steps.specs.Laws.{ValidAt}
 use Rattle.spp.specs.declared.SPP.{SPP}

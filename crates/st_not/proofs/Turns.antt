@@ -6,7 +6,7 @@ use native.Mathlib.Omega.{arith}
 use lib.ListN.{length}
 use Rattle.common.specs.Outcome.{after}
 use Rattle.common.specs.Runs.{Table, table}
-use Rattle.netkat.specs.ListSteps.{Edge}
+use Rattle.netkat_steps.specs.ListSteps.{Edge}
 use Rattle.spp_steps.specs.Model as Spp
 use Rattle.spp_steps.specs.Laws.{ValidAt}
 use Rattle.spp_steps.proofs.Laws.{at-ext, den-zero, den-mem}

@@ -3,7 +3,7 @@ use mathlib.Core.List.{List, [], _∷_}
 use Prim.Native.Nat.{ℕ}
 use Rattle.common.specs.Outcome.{Step, return, _>>=_}
 use Rattle.common.specs.Runs.{Table}
-use Rattle.netkat.specs.ListSteps.{Edge}
+use Rattle.netkat_steps.specs.ListSteps.{Edge}
 use Rattle.spp_steps.specs.Model as Spp
 use Rattle.aut_steps.specs.Relations as Rel
 

@@ -8,7 +8,7 @@ use st::Listed;
 use st_each::Each;
 use st_source::Source;
 ghost use Rattle.common.specs.Runs.{table};
-ghost use Rattle.netkat.specs.ListSteps as St;
+ghost use Rattle.netkat_steps.specs.ListSteps as St;
 ghost use Rattle.aut_steps.specs.Relations.{zeroAt};
 ghost use Rattle.st_steps.specs.Operations.{ops};
 ghost use Rattle.aut.specs.Seen.{limitsOf};

@@ -5,7 +5,7 @@ use st::Listed;
 use st_each::Each;
 use st_minus::Summed;
 use st_source::Source;
-ghost use Rattle.netkat.specs.ListSteps as St;
+ghost use Rattle.netkat_steps.specs.ListSteps as St;
 ghost use Rattle.st_steps.specs.Operations.{ops};
 ghost use Rattle.aut.specs.Seen.{limitsOf};
 ghost use Rattle.aut_rel.specs.Seen.{autOf};

@@ -3,7 +3,7 @@ use mathlib.Core.Path.{_≡_, sym, ap, subst}
 use mathlib.Core.List.{List}
 use Prim.Native.Nat.{ℕ, _+_, _*_, _<_}
 use lib.ListN.{length}
-use Rattle.netkat.specs.ListSteps.{Edge}
+use Rattle.netkat_steps.specs.ListSteps.{Edge}
 use Rattle.st_source.specs.declared.Place.{Place}
 use Rattle.st_source.specs.declared.Place.the-variants.{Stored, Scratch}
 use Rattle.st_source.specs.Seen.{InAt}

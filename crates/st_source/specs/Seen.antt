@@ -2,7 +2,7 @@
 use mathlib.Core.List.{List}
 use Prim.Native.Nat.{ℕ, _+_, _*_, _≤_, _<_}
 use lib.ListN.{length, getD}
-use Rattle.netkat.specs.ListSteps.{Edge, edge}
+use Rattle.netkat_steps.specs.ListSteps.{Edge, edge}
 use Rattle.aut_steps.specs.Tables.{Aut}
 use Rattle.st_steps.specs.Edges.{edges, EdgesAt}
 use Rattle.st_source.specs.declared.Place.{Place}

@@ -3,7 +3,7 @@ use spp::SPP;
 ghost use mathlib.Core.Path.{_≡_};
 ghost use Prim.Native.Nat.{_+_, _*_, _<_};
 ghost use lib.ListN.{length, getD};
-ghost use Rattle.netkat.specs.ListSteps.{edge};
+ghost use Rattle.netkat_steps.specs.ListSteps.{edge};
 ghost use Rattle.st_source.specs.Seen.{edgeOf, entryOf, EntryIn};
 
 // a list's first record: among the stored transitions, or in scratch, from record FIRST of st on

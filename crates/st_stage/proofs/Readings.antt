@@ -4,7 +4,7 @@ use mathlib.Core.List.{List}
 use Prim.Native.Nat.{ℕ, _≤_}
 use lib.ListN.{length}
 use Rattle.common.specs.Outcome.{refused, Step}
-use Rattle.netkat.specs.ListSteps.{Edge}
+use Rattle.netkat_steps.specs.ListSteps.{Edge}
 use Rattle.aut_steps.specs.Tables.{Aut}
 use Rattle.aut_steps.proofs.Goes.{StepSpec}
 use Rattle.st_steps.specs.Edges.{edges}

@@ -1,6 +1,6 @@
 -- What holds of the definitions of specs/EachSteps.
 use Prim.Native.Nat.{ℕ}
-use Rattle.netkat.specs.ListSteps.{Edge}
+use Rattle.netkat_steps.specs.ListSteps.{Edge}
 use Rattle.aut_steps.specs.Tables.{Limits, Aut}
 use Rattle.aut_steps.specs.Good.{ExtAut, WfAut}
 use Rattle.aut_steps.proofs.Good.{grown-refl, state-grown}

@@ -1,7 +1,7 @@
 -- What holds of the definitions of specs/Edges.
 use mathlib.Core.List.{List, _∷_}
 use Prim.Native.Nat.{ℕ}
-use Rattle.netkat.specs.ListSteps.{Edge}
+use Rattle.netkat_steps.specs.ListSteps.{Edge}
 use Rattle.spp_steps.proofs.Laws.{at-ext}
 use Rattle.aut_steps.specs.Tables.{Aut}
 use Rattle.aut_steps.specs.Good.{ExtAut}

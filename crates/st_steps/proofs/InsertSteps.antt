@@ -5,7 +5,7 @@ use mathlib.Core.List.{List, [], _∷_}
 use Prim.Native.Nat.{ℕ}
 use lib.Dec.{eqb}
 use Rattle.common.specs.Outcome.{Outcome, refused, given, Step, return, after, _>>=_, if_then_else_}
-use Rattle.netkat.specs.ListSteps.{Edge, leadsTo, unite, enterIn, place, split, insert}
+use Rattle.netkat_steps.specs.ListSteps.{Edge, leadsTo, unite, enterIn, place, split, insert}
 use Rattle.aut_steps.specs.Tables.{Limits, Aut, onNodes, onStates}
 use Rattle.aut_steps.specs.Relations as Rel
 use Rattle.aut_steps.specs.Constructors.{mk-union, mk-spp}

@@ -4,7 +4,7 @@ use mathlib.Core.Path.{_≡_, refl}
 use mathlib.Core.List.{List, [], _∷_}
 use Prim.Native.Nat.{ℕ}
 use Rattle.common.specs.Outcome.{Outcome, refused, given, Step, return, after, _>>=_}
-use Rattle.netkat.specs.ListSteps.{Edge, insert, Summed, subtractRow, subtractRows}
+use Rattle.netkat_steps.specs.ListSteps.{Edge, insert, Summed, subtractRow, subtractRows}
 use Rattle.aut_steps.specs.Tables.{Limits, Aut, onNodes}
 use Rattle.aut_steps.specs.Relations as Rel
 use Rattle.aut_steps.specs.Constructors.{mk-difference}

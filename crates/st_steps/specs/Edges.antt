@@ -3,7 +3,7 @@
 use mathlib.Core.List.{List, [], _∷_}
 use Prim.Native.Nat.{ℕ, zero, suc, _+_, _*_, _<_}
 use lib.ListN.{getD}
-use Rattle.netkat.specs.ListSteps.{Edge, edge}
+use Rattle.netkat_steps.specs.ListSteps.{Edge, edge}
 use Rattle.spp_steps.specs.Laws.{ValidAt}
 use Rattle.aut_steps.specs.Tables.{Aut}
 use Rattle.aut_steps.specs.Good.{states}

@@ -3,7 +3,7 @@
 use mathlib.Core.List.{List, [], _∷_}
 use Prim.Native.Nat.{ℕ}
 use Rattle.common.specs.Outcome.{Step, return, _>>=_, if_then_else_}
-use Rattle.netkat.specs.ListSteps.{Edge, leadsTo, unite, enterIn, place}
+use Rattle.netkat_steps.specs.ListSteps.{Edge, leadsTo, unite, enterIn, place}
 use Rattle.aut_steps.specs.Tables.{Limits, Aut, onNodes}
 use Rattle.aut_steps.specs.Relations as Rel
 use Rattle.aut_steps.specs.Constructors.{mk-union}

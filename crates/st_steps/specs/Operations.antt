@@ -3,7 +3,7 @@
 use Prim.Native.Nat.{ℕ}
 use Rattle.common.specs.Outcome.{Step}
 use Rattle.common.specs.Runs.{Table}
-use Rattle.netkat.specs.ListSteps.{Operations}
+use Rattle.netkat_steps.specs.ListSteps.{Operations}
 use Rattle.spp_steps.specs.Model as Spp
 use Rattle.aut_steps.specs.Relations as Rel
 use Rattle.aut_steps.specs.Tables.{Limits, Aut, onNodes, onStates}

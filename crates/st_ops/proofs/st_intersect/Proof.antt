@@ -1,4 +1,4 @@
-use Rattle.netkat.specs.ListSteps as St
+use Rattle.netkat_steps.specs.ListSteps as St
 use Rattle.st_ops.proofs.Join as join
 use borrow.Author.Needs.{needs}
 use Rattle.st_ops.proofs.st_intersect.Statement.{statement}

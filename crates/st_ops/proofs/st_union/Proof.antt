@@ -1,5 +1,5 @@
 use mathlib.Core.Path.{_≡_, refl, _∙_, ap, subst}
-use Rattle.netkat.specs.ListSteps as St
+use Rattle.netkat_steps.specs.ListSteps as St
 use Rattle.st_steps.specs.Operations.{ops}
 use Rattle.st_steps.specs.EachSteps as M
 use Rattle.aut.specs.Seen.{limitsOf}

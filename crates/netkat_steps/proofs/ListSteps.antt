@@ -15,14 +15,14 @@ use Rattle.common.proofs.RelationLaws.{not-of, not-to}
 use Rattle.common.specs.Relations.{allʳ, _∪ʳ_, _∩ʳ_, _∖ʳ_, ∁ʳ, _⨾_}
 use Rattle.common.specs.Outcome.{Outcome, given, Step, return, Gives, refusal, gives, if_then_else_}
 use Rattle.common.proofs.Follow.{call, branch}
 use Rattle.netkat.specs.Strings.{Str, str}
 use Rattle.netkat.specs.Rules.{Language, Join}
 use Rattle.netkat.specs.Hops.{SameHops, Either, Hop, Late, Early}
 use Rattle.netkat.specs.Lists.{State, Transition, to, covers, Disjoint, Above, Ascending, Through, ThroughPair, Allows}
-use Rattle.netkat.specs.ListSteps
-use Rattle.netkat.specs.ListSteps.{Label, Edge, edge, Operations, Readings, Later, MadeState, LawfulOps, Are, none, also, IsList, MadeList, leadsTo, unite, enter, enterIn, place, split, insert, insertEach, insertPairs}
+use Rattle.netkat_steps.specs.ListSteps
+use Rattle.netkat_steps.specs.ListSteps.{Label, Edge, edge, Operations, Readings, Later, MadeState, LawfulOps, Are, none, also, IsList, MadeList, leadsTo, unite, enter, enterIn, place, split, insert, insertEach, insertPairs}
 use Rattle.netkat.specs.Promise.{Meaning, Kept, DeltaOf}
 use Rattle.netkat.proofs.Laws.Lists as Lists
 
 module _ {n : ℕ} {𝓞 : Operations} (𝓡 : Readings n 𝓞) where
   open Readings 𝓡 using (Good, Known, Holds, IsLabel)

@@ -8,17 +8,12 @@ use lib.Dec.{T}
 use Prim.Native.Nat.{ℕ}
 use Rattle.common.specs.Packets.{Set, inhabited}
 use Rattle.common.specs.Outcome.{Gives}
-use Rattle.netkat.specs.Rules.{Rule, In}
 use Rattle.netkat.specs.Lists.{State}
 use Rattle.netkat.specs.Search.{Automaton, Verdict, yes, spent, search}
 use Rattle.netkat.specs.Promise.{Meaning, Promised, Budgeted}
 use Rattle.netkat.specs.Live.{IsLive}
-use Rattle.netkat.specs.Handles as Handles
-use Rattle.netkat.specs.Handles.{Machine, Reading, Reports}
-
--- The meaning of states that are rules: a state holds the strings of its rule.
-abbrev pub ofRules : {n : ℕ} {Store : Type 0} → (Store → Type 0) → (Store → State → Type 0) → (Store → State → Rule n) → Meaning n Store
-ofRules good known rule = record { Good = good; Known = known; Holds = λ σ s w. In (rule σ s) w }
+use Rattle.netkat_steps.specs.Handles as Handles
+use Rattle.netkat_steps.specs.Handles.{Machine, Reading, Reports}
 
 -- Of the machine's search for s that came to r.
 pub record Demanded {n : ℕ} {𝓒 : Machine} {𝓐 : Automaton n} (𝓡 : Reading 𝓒 𝓐) (𝓜 : Meaning n (𝓐 .Store)) (budget : ℕ) (s : State) (τ : 𝓐 .Store) (σ′ : 𝓒 .Store) (r : Verdict × ℕ) : Type 0 where

@@ -6,9 +6,9 @@ use Prim.Native.Nat.{ℕ}
 use Rattle.common.specs.Packets.{Relation}
 use Rattle.common.specs.Relations.{noneʳ, _∪ʳ_, _∩ʳ_, _∖ʳ_, ∁ʳ, _⨾_, nonempty}
 use Rattle.common.specs.Outcome.{Step, given, if_then_else_}
 use Rattle.netkat.specs.Rules.{Rule, relation, union, intersection, difference, sequence, complement, top, none, also}
 use Rattle.netkat.specs.Lists.{State}
-use Rattle.netkat.specs.ListSteps.{Label, Operations}
+use Rattle.netkat_steps.specs.ListSteps.{Label, Operations}
 
 pub record Made (n : ℕ) : Type 0 where
   pub relations : List (Relation n)

@@ -8,17 +8,17 @@ use Prim.Native.Nat.{ℕ, _+_}
 use Rattle.common.specs.Packets.{Packet, end, bit, packets, Set, Relation, inhabited, image, relates}
 use Rattle.common.specs.Relations.{same, noneʳ, allʳ, _⨾_, starts, preimage, nonempty}
 use Rattle.common.specs.Outcome.{Outcome, refused, given, return, if_then_else_}
 use Rattle.netkat.specs.Rules.{Rule, relation, union, intersection, sequence, complement, dup, top, none, also}
 use Rattle.netkat.specs.Lists.{State, Transition, to, placeIn, place, st-singleton, split, insert, insertEach, insertPairs, st-union, st-intersect, st-complement, st-postcompose, st-precompose}
 use Rattle.netkat.specs.Search.{Automaton, Log, Verdict, yes, no, spent, walk, turn, run, search}
 use Rattle.netkat.specs.Promise.{pairBound}
 use Rattle.netkat.specs.Live.{pulled, pruned}
-use Rattle.netkat.specs.Handles as Handles
-use Rattle.netkat.specs.Direct.{direct}
-use Rattle.netkat.specs.ListSteps as ListSteps
-use Rattle.netkat.specs.ListSteps.{Edge, edge}
-use Rattle.netkat.proofs.WorkshopLaws.{Made, labelAt, workshop}
+use Rattle.netkat_steps.specs.Handles as Handles
+use Rattle.netkat_steps.specs.Direct.{direct}
+use Rattle.netkat_steps.specs.ListSteps as ListSteps
+use Rattle.netkat_steps.specs.ListSteps.{Edge, edge}
+use Rattle.netkat_steps.proofs.ExampleStore.{Made, labelAt, workshop}
 use Rattle.netkat.specs.Derivatives.{epsilon, epsilonEach, delta, deltaSome, deltaEach, numbered, rules}
 
 -- ---- what is printed
 

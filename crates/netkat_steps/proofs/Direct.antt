@@ -6,14 +6,14 @@ use Prim.Native.Nat.{ℕ}
 use Rattle.common.specs.Packets.{_∖_, _∪_, inhabited, image, relates}
 use Rattle.common.specs.Outcome.{gives}
 use Rattle.common.proofs.Follow.{if-given, step}
 use Rattle.netkat.specs.Lists.{State, Transition}
 use Rattle.netkat.specs.Search.{Automaton}
-use Rattle.netkat.specs.Handles.{Alike, none, also, Grows, IsLink, Implements}
-use Rattle.netkat.specs.Demand.{Demand}
-use Rattle.netkat.specs.Direct.{linkOf, direct, itself}
+use Rattle.netkat_steps.specs.Handles.{Alike, none, also, Grows, IsLink, Implements}
+use Rattle.netkat_steps.specs.Demand.{Demand}
+use Rattle.netkat_steps.specs.Direct.{linkOf, direct, itself}
 use Rattle.netkat.specs.Derivatives.{rules, rulesMeaning}
-use Rattle.netkat.proofs.Laws.Demand.{demand}
+use Rattle.netkat_steps.proofs.Demand.{demand}
 use Rattle.netkat.proofs.Laws.Derivatives.{rules-lawful}
 
 module _ {n : ℕ} (𝓐 : Automaton n) (capacity : ℕ) where
   grown : (σ σ′ : 𝓐 .Store) → Grows (itself 𝓐 capacity) σ σ′

@@ -14,17 +14,17 @@ use Rattle.common.proofs.PacketLaws.{either, or-left, or-right}
 use Rattle.common.specs.Relations.{same, noneʳ, _⨾_, starts, preimage, nonempty}
 use Rattle.common.specs.Outcome.{Outcome, refused, given, if_then_else_}
 use Rattle.common.proofs.Follow.{given-of}
 use Rattle.netkat.specs.Strings.{Str}
 use Rattle.netkat.specs.Rules.{Rule, relation, sequence, dup, Language, In}
 use Rattle.netkat.specs.Lists.{State, Transition, to, Disjoint, IsDelta, placeIn, place, st-singleton, split, insert, insertEach, st-union, st-postcompose, st-precompose}
 use Rattle.netkat.specs.Search.{Log, Verdict, no, search}
 use Rattle.netkat.specs.Live.{IsLive, Reached, Step, pulled, Added, Derived, begun, added, Saturated, pruned}
 use Rattle.netkat.proofs.Laws.Hops.{relation-hop}
 use Rattle.netkat.proofs.Laws.Live.{worked-live}
 use Rattle.netkat.proofs.Laws.Tally.{one, tally}
 use Rattle.netkat.specs.Derivatives.{epsilon, delta, ruleAt, targets, numbered, rules}
-use Rattle.netkat.proofs.Examples.{printed, print, bitOf, test, book, budget-ten}
+use Rattle.netkat_steps.proofs.Examples.{printed, print, bitOf, test, book, budget-ten}
 use Rattle.netkat.proofs.Laws.Derivatives.{epsilon-true, numbered-from, delta-of, rules-promise}
 
 -- ---- the search that says `no` gives a string of the rule
 

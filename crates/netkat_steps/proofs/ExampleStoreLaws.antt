@@ -12,12 +12,12 @@ use Rattle.common.specs.Packets.{Packet, Relation}
 use Rattle.common.specs.Relations.{noneʳ, _∪ʳ_, _∩ʳ_, _∖ʳ_, ∁ʳ, _⨾_, nonempty}
 use Rattle.common.proofs.RelationLaws.{nonempty-of}
 use Rattle.common.specs.Outcome.{given, Gives, gives, if_then_else_}
 use Rattle.netkat.specs.Strings.{Str}
 use Rattle.netkat.specs.Rules.{Rule, relation, top, Language, In}
-use Rattle.netkat.specs.ListSteps.{Label, Readings, Later, MadeLabel, MadeState, LawfulOps}
-use Rattle.netkat.proofs.WorkshopLaws.{Made, labelAt, ruleAt, newLabel, workshop}
+use Rattle.netkat_steps.specs.ListSteps.{Label, Readings, Later, MadeLabel, MadeState, LawfulOps}
+use Rattle.netkat_steps.proofs.ExampleStore.{Made, labelAt, ruleAt, newLabel, workshop}
 use Rattle.netkat.proofs.Laws.Derivatives.{rules-hold}
-use Rattle.netkat.proofs.Laws.ListSteps.{later-refl}
+use Rattle.netkat_steps.proofs.ListSteps.{later-refl}
 
 module _ (n limit : ℕ) where
   -- the zero relation was made first

@@ -8,13 +8,13 @@ use lib.ListN.{length}
 use Prim.Native.Nat.{ℕ, zero, suc}
 use Rattle.common.specs.Packets.{Set, Relation, inhabited, image, relates}
 use Rattle.common.specs.Outcome.{refused, given, return, after, Gives, refusal, gives, if_then_else_}
 use Rattle.netkat.specs.Search
 use Rattle.netkat.specs.Lists.{State, Transition}
 use Rattle.netkat.specs.Search.{Automaton, Pair, Log, yes, no, spent, freshOf, skip, expand, walked, seenAt}
-use Rattle.netkat.specs.Handles
-use Rattle.netkat.specs.Handles.{Machine, Link, Entry, goes, found, Reading, Alike, none, also, Grows, IsLink, Makes, Implements, Reports, Refines}
+use Rattle.netkat_steps.specs.Handles
+use Rattle.netkat_steps.specs.Handles.{Machine, Link, Entry, goes, found, Reading, Alike, none, also, Grows, IsLink, Makes, Implements, Reports, Refines}
 use Rattle.common.proofs.Follow.{call, branch}
 use Rattle.netkat.proofs.Laws.Runs.{not-true, not-false}
 
 -- ---- what the plain turn comes to, by what it meets
 

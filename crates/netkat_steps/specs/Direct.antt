@@ -6,9 +6,9 @@ use mathlib.Core.List.{map}
 use Prim.Native.Nat.{ℕ}
 use Rattle.common.specs.Packets.{Set, Relation, all, nothing, _∖_, _∪_, inhabited, image, relates}
 use Rattle.common.specs.Outcome.{return, _>>=_}
 use Rattle.netkat.specs.Lists.{State, Transition}
 use Rattle.netkat.specs.Search.{Automaton}
-use Rattle.netkat.specs.Handles.{Machine, Link, Reading}
+use Rattle.netkat_steps.specs.Handles.{Machine, Link, Reading}
 
 module _ {n : ℕ} (𝓐 : Automaton n) (capacity : ℕ) where
   abbrev pub linkOf : Transition State n → Link (Relation n)

@@ -5,17 +5,17 @@ use lib.Dec.{T}
 use Prim.Native.Nat.{ℕ}
 use Rattle.common.specs.Packets.{Set, inhabited}
 use Rattle.common.proofs.Follow.{given-of, if-given}
 use Rattle.netkat.specs.Lists.{State}
 use Rattle.netkat.specs.Search.{Automaton, Log, Verdict, yes, spent}
 use Rattle.netkat.specs.Promise.{Meaning, Lawful, Promised}
 use Rattle.netkat.specs.Live.{IsLive}
-use Rattle.netkat.specs.Handles as Handles
-use Rattle.netkat.specs.Handles.{Machine, Reading, Implements}
-use Rattle.netkat.specs.Demand.{Demand}
+use Rattle.netkat_steps.specs.Handles as Handles
+use Rattle.netkat_steps.specs.Handles.{Machine, Reading, Implements}
+use Rattle.netkat_steps.specs.Demand.{Demand}
 use Rattle.netkat.proofs.Laws.Promise.{promise}
 use Rattle.netkat.proofs.Laws.Budget.{budgeted}
-use Rattle.netkat.proofs.Laws.Refined.{refines}
+use Rattle.netkat_steps.proofs.Refined.{refines}
 use Rattle.netkat.proofs.Laws.Live.{live-empty}
 
 -- Search and live set answer alike: `yes` exactly if the live set is empty.
 pub verdict-live : {n : ℕ} {Store : Type 0} {𝓜 : Meaning n Store} {budget : ℕ} {σ : Store} {s : State} {verdict : Verdict} {log : Log n} →
