@@ -9,37 +9,37 @@ use borrow.Author.Tests.{ne-eqb, lt-ltb, le-ltb}
 use Rattle.common.specs.Outcome.{Outcome, given, Step, after, _>>=_}
 use Rattle.common.specs.Runs.{Table, table, placed}
 use Rattle.netkat.specs.Rules.{sequence, star}
-use Rattle.spp.specs.Seen as Spp
+use Rattle.spp.specs.Contracts as Spp
 use Rattle.spp.specs.declared.SPP.{SPP}
 use Rattle.spp.specs.declared.Made.{Made}
 use Rattle.spp.specs.declared.Made.the-variants.{Node, Full}
 use Rattle.aut_steps.specs.Relations as Rel
 use Rattle.aut_steps.specs.Tables.{SEQUENCE, STAR, op1, Aut, putNodes, onNodes}
 use Rattle.aut_steps.specs.Kinds.{form}
-use Rattle.aut_steps.specs.Good.{WfAut}
+use Rattle.aut_steps.specs.Wf.{WfAut}
 use Rattle.aut_steps.proofs.StateLaws.{nodes-goes}
-use Rattle.delta_steps.specs.Epsilon.{epsilon}
-use Rattle.delta_steps.specs.Delta.{Store, putAut, onAut}
-use Rattle.delta_steps.proofs.Operands.{below-one, below-two}
-use Rattle.delta_steps.proofs.Labels.{star-makes}
-use Rattle.delta_steps.proofs.Stored.{went-trans}
-use Rattle.delta_steps.specs.DeltaReads.{quit, enterWith, enter}
-use Rattle.aut.specs.declared.Counts.{Counts}
-use Rattle.aut.specs.declared.Limits.{Limits}
-use Rattle.aut_rel.proofs.Behind.{left-trans}
-use Rattle.aut_rel.specs.Seen.{autOf, RelateReady, Relates, Ready}
-use Rattle.aut_rel.proofs.Order.{backed-of}
-use Rattle.aut_mk.specs.Seen.{taskOf}
-use Rattle.aut_mk.specs.declared.Task.the-variants as task
-use Rattle.aut_eps.specs.Seen.{seenEpsilon, After, AfterBy, Works}
+use Rattle.aut_delta_steps.specs.Epsilon.{epsilon}
+use Rattle.aut_delta_steps.specs.Delta.{Store, putAut, onAut}
+use Rattle.aut_delta_steps.proofs.Operands.{below-one, below-two}
+use Rattle.aut_delta_steps.proofs.Labels.{star-makes}
+use Rattle.aut_delta_steps.proofs.Extends.{went-trans}
+use Rattle.aut_delta_steps.specs.DeltaReads.{quit, enterWith, enter}
+use Rattle.aut_states.specs.declared.Counts.{Counts}
+use Rattle.aut_states.specs.declared.Limits.{Limits}
+use Rattle.aut_relations.proofs.Behind.{left-trans}
+use Rattle.aut_relations.specs.Contracts.{autOf, RelateReady, Relates, Ready}
+use Rattle.aut_relations.proofs.Order.{backed-of}
+use Rattle.aut_sequence.specs.Contracts.{taskOf}
+use Rattle.aut_sequence.specs.declared.Task.the-variants as task
+use Rattle.aut_epsilon.specs.Contracts.{seenEpsilon, After, AfterBy, Works}
 use Rattle.aut_stage.specs.OnNodes.{withNodes}
 use Rattle.aut_stage.proofs.OnNodes.{relation-given}
-use Rattle.delta_stage.specs.OnStore.{storeOf, storeLayer}
-use Rattle.delta_stage.proofs.OnStore.{aut-given, epsilon-given}
+use Rattle.aut_delta_stage.specs.OnStore.{storeOf, storeLayer}
+use Rattle.aut_delta_stage.proofs.OnStore.{aut-given, epsilon-given}
 use Rattle.aut_delta.specs.declared.Entered.{Entered}
 use Rattle.aut_delta.specs.declared.Entered.the-variants as entered
 use Rattle.aut_operands.proofs.Shapes.{kind-word}
-use Rattle.aut_delta.specs.Seen.{PreEnter, Enters, PostEpsilon, PostStar, PostEnter, unless, PostNew}
+use Rattle.aut_delta.specs.Readings.{PreEnter, Enters, PostEpsilon, PostStar, PostEnter, unless, PostNew}
 
 -- ---- nothing is done
 

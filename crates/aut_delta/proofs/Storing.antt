@@ -10,51 +10,51 @@ use Rattle.common.proofs.Follow.{refused≢given}
 use Rattle.common.specs.Runs.{Table}
 use Rattle.netkat_steps.specs.ListSteps.{Edge}
 use Rattle.aut_steps.specs.Tables.{Limits, Aut}
-use Rattle.aut_steps.specs.ListLaws.{All}
+use Rattle.aut_steps.specs.Ascending.{All}
 use Rattle.aut_steps.proofs.ListLaws.{all-map}
-use Rattle.aut_steps.specs.Good.{states}
-use Rattle.aut_steps.proofs.Good.{kind-grown, first-grown, state-grown}
-use Rattle.st_steps.specs.Edges.{edges}
-use Rattle.st_steps.specs.ListGoes.{ListAt}
-use Rattle.delta_steps.specs.Delta.{Store, store, roomT, append, keepList, delta}
-use Rattle.delta_steps.proofs.Agree.{Agree, agree-came}
-use Rattle.delta_steps.proofs.Noted.{written}
-use Rattle.delta_steps.specs.Worked.{WfStore}
-use Rattle.delta_steps.proofs.Stored.{edges-length}
-use Rattle.delta_steps.specs.EpsilonReads.{workAll}
-use Rattle.delta_steps.proofs.EpsilonReads.{given-store}
-use Rattle.delta_steps.specs.EpsilonDown.{Known}
-use Rattle.delta_steps.proofs.DeltaRuns.{Halted, Deltaed}
-use Rattle.delta_steps.proofs.DeltaLaws.{delta-goes}
-use Rattle.delta_steps.specs.DeltaReads.{listOperands, enter}
-use Rattle.delta_steps.proofs.DeltaReads.{together, finishList, list-operands-below, delta-stored, delta-works}
-use Rattle.delta_steps.specs.DeltaDown.{Has}
-use Rattle.delta_steps.proofs.DeltaDown.{Entered, enter-gives, enter-count, enter-went, same-list-operands}
-use Rattle.aut.specs.Seen.{limitsOf}
-use Rattle.aut.specs.declared.Counts.{Counts}
-use Rattle.aut.specs.declared.Limits.{Limits as Bounds}
-use Rattle.aut_rel.specs.Behind.{Modifies}
-use Rattle.aut_rel.specs.Seen.{autOf}
-use Rattle.aut_rel.proofs.Order.{in-table}
+use Rattle.aut_steps.specs.Wf.{states}
+use Rattle.aut_steps.proofs.Wf.{kind-grown, first-grown, state-grown}
+use Rattle.aut_st_steps.specs.Edges.{edges}
+use Rattle.aut_st_steps.specs.ListSpec.{ListAt}
+use Rattle.aut_delta_steps.specs.Delta.{Store, store, roomT, append, keepList, delta}
+use Rattle.aut_delta_steps.proofs.Agree.{Agree, agree-came}
+use Rattle.aut_delta_steps.proofs.Noted.{written}
+use Rattle.aut_delta_steps.specs.Wf.{WfStore}
+use Rattle.aut_delta_steps.proofs.Extends.{edges-length}
+use Rattle.aut_delta_steps.specs.EpsilonReads.{workAll}
+use Rattle.aut_delta_steps.proofs.EpsilonReads.{given-store}
+use Rattle.aut_delta_steps.specs.EpsilonDown.{Known}
+use Rattle.aut_delta_steps.proofs.DeltaRuns.{Halted, Deltaed}
+use Rattle.aut_delta_steps.proofs.DeltaLaws.{delta-goes}
+use Rattle.aut_delta_steps.specs.DeltaReads.{listOperands, enter}
+use Rattle.aut_delta_steps.proofs.DeltaReads.{together, finishList, list-operands-below, delta-stored, delta-works}
+use Rattle.aut_delta_steps.specs.DeltaDown.{Has}
+use Rattle.aut_delta_steps.proofs.DeltaDown.{Entered, enter-gives, enter-count, enter-went, same-list-operands}
+use Rattle.aut_states.specs.Contracts.{limitsOf}
+use Rattle.aut_states.specs.declared.Counts.{Counts}
+use Rattle.aut_states.specs.declared.Limits.{Limits as Bounds}
+use Rattle.aut_relations.specs.Behind.{Modifies}
+use Rattle.aut_relations.specs.Contracts.{autOf}
+use Rattle.aut_relations.proofs.Order.{in-table}
 use Rattle.aut_stage.specs.Stage.{gave, Post, Stage}
 use Rattle.aut_stage.proofs.Stage.{all-of, begin, instead, next, stuck}
 use Rattle.aut_stage.proofs.OnAut.{autLayer, ready-left}
 use Rattle.aut_stage.specs.OnNodes.{withNodes}
-use Rattle.st.specs.Seen.{RESULT}
-use Rattle.st.specs.declared.Listed.{Listed}
-use Rattle.st.specs.declared.Listed.the-variants as listed
-use Rattle.st_stage.specs.Readings.{listOf, GivesList}
-use Rattle.delta_stage.specs.OnStore.{storeOf, storeLayer}
-use Rattle.delta_stage.proofs.OnStore.{aut-given, aut-refused}
-use Rattle.delta_kinds.specs.Contracts.{PreTogether, togetherOf}
-use Rattle.delta_keep.specs.Contracts.{PreKeep, seenKept, SameSets, PostKeep}
-use Rattle.delta_keep.specs.declared.Kept.{Kept}
-use Rattle.delta_keep.specs.declared.Kept.the-variants as kept
+use Rattle.aut_st_insert.specs.Contracts.{RESULT}
+use Rattle.aut_st_insert.specs.declared.Listed.{Listed}
+use Rattle.aut_st_insert.specs.declared.Listed.the-variants as listed
+use Rattle.aut_st_stage.specs.Readings.{listOf, GivesList}
+use Rattle.aut_delta_stage.specs.OnStore.{storeOf, storeLayer}
+use Rattle.aut_delta_stage.proofs.OnStore.{aut-given, aut-refused}
+use Rattle.aut_delta_kinds.specs.Contracts.{PreTogether, togetherOf}
+use Rattle.aut_delta_keep.specs.Contracts.{PreKeep, seenKept, SameSets, PostKeep}
+use Rattle.aut_delta_keep.specs.declared.Kept.{Kept}
+use Rattle.aut_delta_keep.specs.declared.Kept.the-variants as kept
 use Rattle.aut_delta.specs.declared.Entered as Entering
 use Rattle.aut_delta.specs.declared.Entered.the-variants as entered
 use Rattle.aut_delta.specs.declared.Worked.the-variants as worked
 use Rattle.aut_delta.specs.Contracts.{PostDelta}
-use Rattle.aut_delta.specs.Seen.{nodesOf, PostEnter, PreFinish}
+use Rattle.aut_delta.specs.Readings.{nodesOf, PostEnter, PreFinish}
 
 -- nothing is worked out of lists that are stored
 work-has : {N : ℕ} {L : Limits} {σ : Store} → WfStore N L σ → (ys : List ℕ) → All (λ y. y < states (σ .aut)) ys → All (Has σ) ys → workAll (delta N L) ys σ ≡ given σ tt

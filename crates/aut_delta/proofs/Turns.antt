@@ -6,35 +6,35 @@ use native.Mathlib.Omega.{arith}
 use lib.ListN.{length, getD, drop}
 use Rattle.common.specs.Outcome.{Outcome, refused, given, Step, after}
 use Rattle.aut_steps.specs.Tables.{nest, Limits}
-use Rattle.aut_steps.specs.ListLaws.{All}
-use Rattle.aut_steps.specs.Good.{states, nesting}
-use Rattle.aut_steps.proofs.Good.{nesting-grown, state-grown}
-use Rattle.delta_steps.specs.Delta.{countOf, Store, delta}
-use Rattle.delta_steps.proofs.Operands.{Below}
-use Rattle.delta_steps.specs.Worked.{WfStore, Stored}
-use Rattle.delta_steps.specs.Stored.{ExtStore}
-use Rattle.delta_steps.proofs.EpsilonReads.{given-store}
-use Rattle.delta_steps.specs.EpsilonDown.{First}
-use Rattle.delta_steps.proofs.EpsilonDown.{first-of, opens}
-use Rattle.delta_steps.specs.DeltaReads.{listOperands}
-use Rattle.delta_steps.proofs.DeltaReads.{list-operands-below, delta-stored}
-use Rattle.delta_steps.specs.DeltaDown.{Has, HasNot, ListWay, bottom, down, enters}
-use Rattle.delta_steps.proofs.DeltaDown.{same-list-operands, list-way-state, delta-down, enters-rest, has-more}
-use Rattle.aut.specs.Seen.{limitsOf}
-use Rattle.aut.specs.declared.Counts.{Counts}
-use Rattle.aut.specs.declared.Limits.{Limits as Bounds}
-use Rattle.aut_rel.proofs.Order.{in-table}
+use Rattle.aut_steps.specs.Ascending.{All}
+use Rattle.aut_steps.specs.Wf.{states, nesting}
+use Rattle.aut_steps.proofs.Wf.{nesting-grown, state-grown}
+use Rattle.aut_delta_steps.specs.Delta.{countOf, Store, delta}
+use Rattle.aut_delta_steps.proofs.Operands.{Below}
+use Rattle.aut_delta_steps.specs.Wf.{WfStore, Stored}
+use Rattle.aut_delta_steps.specs.Extends.{ExtStore}
+use Rattle.aut_delta_steps.proofs.EpsilonReads.{given-store}
+use Rattle.aut_delta_steps.specs.EpsilonDown.{First}
+use Rattle.aut_delta_steps.proofs.EpsilonDown.{first-of, opens}
+use Rattle.aut_delta_steps.specs.DeltaReads.{listOperands}
+use Rattle.aut_delta_steps.proofs.DeltaReads.{list-operands-below, delta-stored}
+use Rattle.aut_delta_steps.specs.DeltaDown.{Has, HasNot, ListWay, bottom, down, enters}
+use Rattle.aut_delta_steps.proofs.DeltaDown.{same-list-operands, list-way-state, delta-down, enters-rest, has-more}
+use Rattle.aut_states.specs.Contracts.{limitsOf}
+use Rattle.aut_states.specs.declared.Counts.{Counts}
+use Rattle.aut_states.specs.declared.Limits.{Limits as Bounds}
+use Rattle.aut_relations.proofs.Order.{in-table}
 use Rattle.aut_stage.proofs.Stage as Stages
 use Rattle.aut_stage.specs.Stage.{Post, Stage}
 use Rattle.aut_stage.proofs.Stage.{Inside, all-of, instead, next, stuck}
 use Rattle.aut_stage.specs.OnNodes.{withNodes}
-use Rattle.delta_stage.specs.OnStore.{storeOf, storeLayer}
+use Rattle.aut_delta_stage.specs.OnStore.{storeOf, storeLayer}
 use Rattle.aut_delta.specs.declared.Down.{Down}
 use Rattle.aut_delta.specs.declared.Down.the-variants as downs
 use Rattle.aut_delta.specs.declared.Worked as Working
 use Rattle.aut_delta.specs.declared.Worked.the-variants as worked
 use Rattle.aut_delta.specs.Contracts.{PreDelta, listedAt, PostDelta}
-use Rattle.aut_delta.specs.Seen.{PreDescend, Ends, EndsFull, EndsBy, PostDescend, PreFinish}
+use Rattle.aut_delta.specs.Readings.{PreDescend, Ends, EndsFull, EndsBy, PostDescend, PreFinish}
 use Rattle.aut_delta.proofs.Ways.{none-left}
 
 -- ---- the end of a way

@@ -11,32 +11,32 @@ use borrow.Author.Tests.{eqb-true, eqb-false, ltb-true, ltb-false}
 use Rattle.common.specs.Outcome.{Outcome, refused, given, after}
 use Rattle.spp_steps.proofs.Laws.{by-test}
 use Rattle.aut_steps.specs.Tables.{nest, Limits}
-use Rattle.aut_steps.specs.ListLaws.{All}
+use Rattle.aut_steps.specs.Ascending.{All}
 use Rattle.aut_steps.proofs.ListLaws.{all-map}
-use Rattle.aut_steps.specs.Good.{states, nesting}
-use Rattle.delta_steps.specs.Delta.{countOf, Store}
-use Rattle.delta_steps.proofs.Operands.{Below}
-use Rattle.delta_steps.specs.Worked.{WfStore}
-use Rattle.delta_steps.specs.EpsilonReads.{workAll}
-use Rattle.delta_steps.proofs.EpsilonReads.{given-store}
-use Rattle.delta_steps.specs.EpsilonDown.{First, this, later}
-use Rattle.delta_steps.proofs.EpsilonDown.{first-of, first-open}
-use Rattle.delta_steps.specs.DeltaReads.{listOperands, enter}
-use Rattle.delta_steps.proofs.DeltaReads.{list-operands-below}
-use Rattle.delta_steps.specs.DeltaDown.{Has, HasNot, ListWay, bottom, down, enters}
-use Rattle.delta_steps.proofs.DeltaDown.{enter-gives, enter-count, same-list-operands}
-use Rattle.aut.specs.declared.Counts.{Counts}
-use Rattle.aut.specs.declared.Limits.{Limits as Bounds}
-use Rattle.aut_rel.proofs.Order.{in-table}
+use Rattle.aut_steps.specs.Wf.{states, nesting}
+use Rattle.aut_delta_steps.specs.Delta.{countOf, Store}
+use Rattle.aut_delta_steps.proofs.Operands.{Below}
+use Rattle.aut_delta_steps.specs.Wf.{WfStore}
+use Rattle.aut_delta_steps.specs.EpsilonReads.{workAll}
+use Rattle.aut_delta_steps.proofs.EpsilonReads.{given-store}
+use Rattle.aut_delta_steps.specs.EpsilonDown.{First, this, later}
+use Rattle.aut_delta_steps.proofs.EpsilonDown.{first-of, first-open}
+use Rattle.aut_delta_steps.specs.DeltaReads.{listOperands, enter}
+use Rattle.aut_delta_steps.proofs.DeltaReads.{list-operands-below}
+use Rattle.aut_delta_steps.specs.DeltaDown.{Has, HasNot, ListWay, bottom, down, enters}
+use Rattle.aut_delta_steps.proofs.DeltaDown.{enter-gives, enter-count, same-list-operands}
+use Rattle.aut_states.specs.declared.Counts.{Counts}
+use Rattle.aut_states.specs.declared.Limits.{Limits as Bounds}
+use Rattle.aut_relations.proofs.Order.{in-table}
 use Rattle.aut_stage.specs.Stage.{gave, Post, Came}
 use Rattle.aut_stage.specs.OnNodes.{withNodes}
-use Rattle.delta_stage.specs.OnStore.{storeOf, Prepared, storeLayer}
+use Rattle.aut_delta_stage.specs.OnStore.{storeOf, Prepared, storeLayer}
 use Rattle.aut_operands.specs.declared.Part.the-variants as part
 use Rattle.aut_operands.specs.Contracts.{operandsOf, Worked as WorkedOut, NotYet, Looks, Next, none, some}
 use Rattle.aut_operands.proofs.Down.{inside-of}
 use Rattle.aut_delta.specs.declared.Entered.{Entered}
 use Rattle.aut_delta.specs.declared.Entered.the-variants as entered
-use Rattle.aut_delta.specs.Seen.{PreEnter, nodesOf, unless, PostNew, PreDescend, Ends, EndsFull}
+use Rattle.aut_delta.specs.Readings.{PreEnter, nodesOf, unless, PostNew, PreDescend, Ends, EndsFull}
 
 -- ---- a way down from each state that has no list
 

@@ -2,13 +2,13 @@
 use mathlib.Core.List.{List}
 use Prim.Native.Nat.{ℕ, _≤_, _<_}
 use Rattle.netkat_steps.specs.ListSteps.{Edge}
-use Rattle.aut_steps.specs.Good.{states}
-use Rattle.delta_steps.specs.Delta.{Store, listAt, delta}
-use Rattle.delta_steps.specs.Worked.{Stored}
-use Rattle.delta_stage.specs.OnStore.{Prepared, storeLayer}
-use Rattle.aut.specs.Seen.{limitsOf}
-use Rattle.aut.specs.declared.Counts.{Counts}
-use Rattle.aut.specs.declared.Limits.{Limits}
+use Rattle.aut_steps.specs.Wf.{states}
+use Rattle.aut_delta_steps.specs.Delta.{Store, listAt, delta}
+use Rattle.aut_delta_steps.specs.Wf.{Stored}
+use Rattle.aut_delta_stage.specs.OnStore.{Prepared, storeLayer}
+use Rattle.aut_states.specs.Contracts.{limitsOf}
+use Rattle.aut_states.specs.declared.Counts.{Counts}
+use Rattle.aut_states.specs.declared.Limits.{Limits}
 use Rattle.aut_stage.specs.Stage.{Answer, gave, refusal, Post}
 use Rattle.aut_delta.specs.declared.Worked.{Worked}
 use Rattle.aut_delta.specs.declared.Worked.the-variants as worked

@@ -1,3 +1,3 @@
 -- delta in code: what is asked and what is promised, of itself and of its parts.
 pub mod Contracts
-pub mod Seen
+pub mod Readings

@@ -1,16 +1,16 @@
 // delta of aut.rs: a state's transition list, stored behind those already there; words 5 and 6 of the state say where. It calls itself on operands, which are nested lower; their lists
 // are read from the tables when they are put together, so nothing waits in scratch over a call, and nothing on the stack.
-use aut::Config;
-use aut::Counts;
-use aut_mk::Task;
+use aut_delta_keep::Kept;
 use aut_operands::Part;
-use delta_keep::Kept;
+use aut_sequence::Task;
+use aut_st_insert::Listed;
+use aut_states::Config;
+use aut_states::Counts;
 use spp::Made;
-use st::Listed;
-ghost use Rattle.aut_rel.specs.Seen.{autOf};
-ghost use Rattle.delta_stage.specs.OnStore.{storeOf};
+ghost use Rattle.aut_relations.specs.Contracts.{autOf};
+ghost use Rattle.aut_delta_stage.specs.OnStore.{storeOf};
 ghost use Rattle.aut_delta.specs.Contracts.{PreDelta, PostDelta};
-ghost use Rattle.aut_delta.specs.Seen.{PreEnter, PostEnter, PostEpsilon, PostStar, PostNew, PreDescend, PostDescend, PreFinish};
+ghost use Rattle.aut_delta.specs.Readings.{PreEnter, PostEnter, PostEpsilon, PostStar, PostNew, PreDescend, PostDescend, PreFinish};
 
 // the list is in the tables; or 01's number
 pub enum Worked {
@@ -45,11 +45,18 @@ fn enter_star(
     requires { ⌜ PreEnter (config .fields) (config .limits) (autOf (now nodes) (now states) (now members) c) (now scratch) a ⌝ }
     ensures { λ r. ⌜ PostStar (config .fields) (config .limits) a r c (now (nodes .entry)) (now (states .entry)) (now (members .entry)) (now (scratch .entry)) (now (nodes .exit)) (now (states .exit)) (now (scratch .exit)) ⌝ }
 {
-    let Made::Node(e, n) = aut_eps::epsilon(nodes, states, members, scratch, c, config.fields, a)
-    else {
+    let Made::Node(e, n) = aut_epsilon::epsilon(
+        nodes,
+        states,
+        members,
+        scratch,
+        c,
+        config.fields,
+        a,
+    ) else {
         return Entered::Full;
     };
-    let Made::Node(_, n1) = aut_mk::relate(nodes, scratch, n, config.fields, Task::Star, e, e)
+    let Made::Node(_, n1) = aut_sequence::relate(nodes, scratch, n, config.fields, Task::Star, e, e)
     else {
         return Entered::Full;
     };
@@ -68,8 +75,15 @@ fn enter_epsilon(
     requires { ⌜ PreEnter (config .fields) (config .limits) (autOf (now nodes) (now states) (now members) c) (now scratch) a ⌝ }
     ensures { λ r. ⌜ PostEpsilon (config .fields) (config .limits) a r c (now (nodes .entry)) (now (states .entry)) (now (members .entry)) (now (scratch .entry)) (now (nodes .exit)) (now (states .exit)) (now (scratch .exit)) ⌝ }
 {
-    let Made::Node(_, n) = aut_eps::epsilon(nodes, states, members, scratch, c, config.fields, a)
-    else {
+    let Made::Node(_, n) = aut_epsilon::epsilon(
+        nodes,
+        states,
+        members,
+        scratch,
+        c,
+        config.fields,
+        a,
+    ) else {
         return Entered::Full;
     };
     Entered::Nodes(n)
@@ -89,12 +103,12 @@ fn enter(
     ensures { λ r. ⌜ PostEnter (config .fields) (config .limits) x r c (now (nodes .entry)) (now (states .entry)) (now (members .entry)) (now (scratch .entry)) (now (nodes .exit)) (now (states .exit)) (now (scratch .exit)) ⌝ }
 {
     let i = x as usize;
-    let kind = states[aut::STATE * i + aut::word::KIND];
-    let a = states[aut::STATE * i + aut::word::FIRST];
-    if kind == aut::kind::SEQUENCE {
+    let kind = states[aut_states::STATE * i + aut_states::word::KIND];
+    let a = states[aut_states::STATE * i + aut_states::word::FIRST];
+    if kind == aut_states::kind::SEQUENCE {
         return enter_epsilon(nodes, states, members, scratch, c, config, a);
     }
-    if kind == aut::kind::STAR {
+    if kind == aut_states::kind::STAR {
         return enter_star(nodes, states, members, scratch, c, config, a);
     }
     Entered::Nodes(c.spp)
@@ -179,9 +193,9 @@ fn finish(
     ensures { λ r. ⌜ PostDelta (config .fields) (config .limits) x (storeOf (now (nodes .entry)) (now (states .entry)) (now (members .entry)) (now (transitions .entry)) c) c r (storeOf (now (nodes .exit)) (now (states .exit)) (now (members .exit)) (now (transitions .exit))) (now (scratch .entry)) (now (scratch .exit)) ⌝ }
 {
     let Entered::Nodes(n) = enter(nodes, states, members, scratch, c, config, x) else {
-        return Worked::Refused(aut::refusal::SPP);
+        return Worked::Refused(aut_states::refusal::SPP);
     };
-    let listed = delta_kinds::together(
+    let listed = aut_delta_kinds::together(
         nodes,
         states,
         members,
@@ -194,7 +208,7 @@ fn finish(
     match listed {
         Listed::Refused(e) => Worked::Refused(e),
         Listed::List(d, m) => {
-            let kept = delta_keep::keep_list(states, transitions, scratch, d, x, m);
+            let kept = aut_delta_keep::keep_list(states, transitions, scratch, d, x, m);
             match kept {
                 Kept::Refused(e) => Worked::Refused(e),
                 Kept::Done(f) => Worked::Done(f),
@@ -221,12 +235,12 @@ pub fn delta(
     let mut d = c;
     let mut entered = 0;
     loop {
-        if states[aut::STATE * at + aut::word::COUNT] != 0 {
+        if states[aut_states::STATE * at + aut_states::word::COUNT] != 0 {
             return Worked::Done(d);
         }
         let Down::At(y, i, n) = descend(nodes, states, members, scratch, d, config, x, entered)
         else {
-            return Worked::Refused(aut::refusal::SPP);
+            return Worked::Refused(aut_states::refusal::SPP);
         };
         let f = Counts { spp: n, ..d };
         if y == x {

@@ -13,23 +13,23 @@ use Rattle.netkat.specs.Search as Plain
 use Rattle.netkat_steps.specs.Handles as Handles
 use Rattle.netkat_steps.specs.Handles.{Entry}
 use Rattle.sp_steps.specs.Model as Sp
-use Rattle.sp_steps.specs.Laws as SpLaws
+use Rattle.sp_steps.specs.Wf as SpLaws
 use Rattle.sp_steps.proofs.Laws as SpLawsProofs
 use Rattle.spp_steps.proofs.Laws.{by-test, false-true}
-use Rattle.query_steps.specs.Tables.{Tables}
-use Rattle.query_steps.specs.Search.{capacity, machine, is-empty}
-use Rattle.query_stage.specs.Layer.{tablesOf, PreQuery}
-use Rattle.query_stage.proofs.Layer.{queryLayer}
-use Rattle.aut.specs.Seen.{limitsOf}
-use Rattle.aut.specs.declared.Counts.{Counts}
-use Rattle.aut.specs.declared.Limits.{Limits}
+use Rattle.aut_query_steps.specs.Tables.{Tables}
+use Rattle.aut_query_steps.specs.Search.{capacity, machine, is-empty}
+use Rattle.aut_query_stage.specs.Layer.{tablesOf, PreQuery}
+use Rattle.aut_query_stage.proofs.Layer.{queryLayer}
+use Rattle.aut_states.specs.Contracts.{limitsOf}
+use Rattle.aut_states.specs.declared.Counts.{Counts}
+use Rattle.aut_states.specs.declared.Limits.{Limits}
 use Rattle.aut_stage.specs.Stage.{seen, gave, Post, Stage}
 use Rattle.aut_stage.proofs.Stage.{begin, next, stuck, instead, finish, done, all-of}
 use Rattle.aut_free.proofs.Clear.{AtRest}
 use Rattle.aut_free.proofs.Clearing.{is-clear}
 use Rattle.aut_free.proofs.Free.{clear-tables-rest}
-use Rattle.query_calls.specs.Working.{clearOf, Working}
-use Rattle.query_calls.proofs.Works.{prepared, working-begin}
+use Rattle.aut_query_calls.specs.Working.{clearOf, Working}
+use Rattle.aut_query_calls.proofs.Works.{prepared, working-begin}
 use Rattle.aut_empty.specs.declared.Verdict.{Verdict}
 use Rattle.aut_empty.specs.declared.Verdict.the-variants as verdict
 use Rattle.aut_empty.specs.declared.Searched.{Searched}

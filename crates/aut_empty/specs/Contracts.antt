@@ -3,13 +3,13 @@ use mathlib.Core.List.{List}
 use Prim.Native.Nat.{ℕ, _/_}
 use lib.ListN.{length}
 use Rattle.netkat.specs.Search as Plain
-use Rattle.query_steps.specs.Tables.{Tables}
-use Rattle.query_steps.specs.Search.{is-empty}
-use Rattle.query_stage.specs.Layer.{Zeroed}
-use Rattle.query_stage.proofs.Layer.{queryLayer}
-use Rattle.aut.specs.Seen.{limitsOf}
-use Rattle.aut.specs.declared.Counts.{Counts}
-use Rattle.aut.specs.declared.Limits.{Limits}
+use Rattle.aut_query_steps.specs.Tables.{Tables}
+use Rattle.aut_query_steps.specs.Search.{is-empty}
+use Rattle.aut_query_stage.specs.Layer.{Zeroed}
+use Rattle.aut_query_stage.proofs.Layer.{queryLayer}
+use Rattle.aut_states.specs.Contracts.{limitsOf}
+use Rattle.aut_states.specs.declared.Counts.{Counts}
+use Rattle.aut_states.specs.declared.Limits.{Limits}
 use Rattle.aut_stage.specs.Stage.{Answer, gave, refusal, Post}
 use Rattle.aut_empty.specs.declared.Verdict.{Verdict}
 use Rattle.aut_empty.specs.declared.Verdict.the-variants as verdict

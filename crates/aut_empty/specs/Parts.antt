@@ -4,13 +4,13 @@ use Prim.Native.Nat.{ℕ, _/_}
 use lib.ListN.{length}
 use Rattle.netkat.specs.Search as Plain
 use Rattle.netkat_steps.specs.Handles as Handles
-use Rattle.query_steps.specs.Search.{machine}
-use Rattle.query_stage.proofs.Layer.{queryLayer}
-use Rattle.aut.specs.Seen.{limitsOf}
-use Rattle.aut.specs.declared.Counts.{Counts}
-use Rattle.aut.specs.declared.Limits.{Limits}
+use Rattle.aut_query_steps.specs.Search.{machine}
+use Rattle.aut_query_stage.proofs.Layer.{queryLayer}
+use Rattle.aut_states.specs.Contracts.{limitsOf}
+use Rattle.aut_states.specs.declared.Counts.{Counts}
+use Rattle.aut_states.specs.declared.Limits.{Limits}
 use Rattle.aut_stage.specs.Stage.{Answer, gave, refusal, Post}
-use Rattle.query_calls.specs.Working.{clearOf}
+use Rattle.aut_query_calls.specs.Working.{clearOf}
 use Rattle.aut_empty.specs.declared.Ended.{Ended}
 use Rattle.aut_empty.specs.declared.Ended.the-variants as ended
 use Rattle.aut_empty.specs.Contracts.{verdictOf}

@@ -1,8 +1,8 @@
 // is_empty of aut.rs: whether a state has no string, by a search with a budget of pairs.
-use aut::Config;
-use aut::Counts;
 use aut_empty_pair::Turned;
-ghost use Rattle.query_stage.specs.Layer.{tablesOf, PreQuery};
+use aut_states::Config;
+use aut_states::Counts;
+ghost use Rattle.aut_query_stage.specs.Layer.{tablesOf, PreQuery};
 ghost use Rattle.aut_empty.specs.Contracts.{PostSearch};
 ghost use Rattle.aut_empty.specs.Parts.{PreSeek, PostSeek};
 
@@ -95,7 +95,7 @@ pub fn is_empty(
 {
     let one = sp::one_at_depth(config.fields);
     if !aut_empty_words::put(pending, 0, x, one) {
-        return Searched::Refused(aut::refusal::PENDING);
+        return Searched::Refused(aut_states::refusal::PENDING);
     }
     let ended = search(
         sp,

@@ -12,34 +12,34 @@ use Rattle.common.specs.Runs.{table}
 use Rattle.netkat_steps.specs.Handles as Handles
 use Rattle.netkat_steps.specs.Handles.{Entry, goes, found}
 use Rattle.sp_steps.specs.Model as Sp
-use Rattle.sp_steps.specs.Laws as SpLaws
+use Rattle.sp_steps.specs.Wf as SpLaws
 use Rattle.sp_steps.proofs.Laws as SpLawsProofs
 use Rattle.sp.specs.declared.SP.{SP}
 use Rattle.sp.specs.declared.Made as sets
 use Rattle.spp_steps.specs.ImageModel as Images
 use Rattle.spp.specs.declared.SPP.{SPP}
 use Rattle.spp.specs.declared.Made as relations
-use Rattle.aut_steps.proofs.Good.{state-grown}
-use Rattle.delta_steps.specs.Epsilon.{epsilon}
-use Rattle.delta_steps.specs.Delta.{onAut}
-use Rattle.query_steps.specs.Tables.{Tables, diagrams, onSets, onBase, ExtTables}
-use Rattle.query_steps.proofs.Tables.{later-trans}
-use Rattle.query_steps.specs.Search.{machine}
-use Rattle.query_stage.specs.Layer.{tablesOf}
-use Rattle.query_stage.proofs.Layer.{queryLayer}
-use Rattle.aut.specs.Seen.{limitsOf}
-use Rattle.aut.specs.declared.Counts.{Counts}
-use Rattle.aut.specs.declared.Limits.{Limits}
-use Rattle.aut_rel.specs.Seen.{autOf}
-use Rattle.aut_eps.specs.Seen.{Asks, Works}
+use Rattle.aut_steps.proofs.Wf.{state-grown}
+use Rattle.aut_delta_steps.specs.Epsilon.{epsilon}
+use Rattle.aut_delta_steps.specs.Delta.{onAut}
+use Rattle.aut_query_steps.specs.Tables.{Tables, diagrams, onSets, onBase, ExtTables}
+use Rattle.aut_query_steps.proofs.Tables.{later-trans}
+use Rattle.aut_query_steps.specs.Search.{machine}
+use Rattle.aut_query_stage.specs.Layer.{tablesOf}
+use Rattle.aut_query_stage.proofs.Layer.{queryLayer}
+use Rattle.aut_states.specs.Contracts.{limitsOf}
+use Rattle.aut_states.specs.declared.Counts.{Counts}
+use Rattle.aut_states.specs.declared.Limits.{Limits}
+use Rattle.aut_relations.specs.Contracts.{autOf}
+use Rattle.aut_epsilon.specs.Contracts.{Asks, Works}
 use Rattle.aut_stage.specs.Stage.{seen, Stage}
 use Rattle.aut_stage.proofs.Stage.{begin, next, stuck, instead, done, all-of}
 use Rattle.aut_stage.specs.OnNodes.{withNodes}
 use Rattle.aut_sets.specs.Contracts.{PreSets, PostSets, PreLead, PostHas}
-use Rattle.query_calls.specs.Working.{clearOf, Working}
-use Rattle.query_calls.proofs.Working.{Ran, withSets, SetIn, RelIn}
-use Rattle.query_calls.proofs.Works.{prepared, asks-epsilon, clear-written, working-written}
-use Rattle.query_calls.proofs.Calls.{asks-sets, asks-lead, sets-refused, union-given, has-given, epsilon-ran, epsilon-stuck}
+use Rattle.aut_query_calls.specs.Working.{clearOf, Working}
+use Rattle.aut_query_calls.proofs.Working.{Ran, withSets, SetIn, RelIn}
+use Rattle.aut_query_calls.proofs.Works.{prepared, asks-epsilon, clear-written, working-written}
+use Rattle.aut_query_calls.proofs.Calls.{asks-sets, asks-lead, sets-refused, union-given, has-given, epsilon-ran, epsilon-stuck}
 use Rattle.aut_empty_walk.specs.declared.Walked.{Walked}
 use Rattle.aut_empty_walk.specs.declared.Walked.the-variants as walked
 use Rattle.aut_empty_pair.specs.declared.Turned.the-variants as turned

@@ -6,16 +6,16 @@ use lib.ListN.{length, getD}
 use Rattle.common.specs.Runs.{table}
 use Rattle.netkat_steps.specs.Handles as Handles
 use Rattle.netkat_steps.specs.Handles.{goes, found}
-use Rattle.sp_steps.specs.Laws as SpLaws
+use Rattle.sp_steps.specs.Wf as SpLaws
 use Rattle.aut_steps.specs.Tables.{Limits as StepLimits}
-use Rattle.query_steps.specs.Search.{machine}
-use Rattle.query_stage.specs.Layer.{tablesOf}
-use Rattle.query_stage.proofs.Layer.{queryLayer}
-use Rattle.aut.specs.Seen.{limitsOf}
-use Rattle.aut.specs.declared.Counts.{Counts}
-use Rattle.aut.specs.declared.Limits.{Limits}
+use Rattle.aut_query_steps.specs.Search.{machine}
+use Rattle.aut_query_stage.specs.Layer.{tablesOf}
+use Rattle.aut_query_stage.proofs.Layer.{queryLayer}
+use Rattle.aut_states.specs.Contracts.{limitsOf}
+use Rattle.aut_states.specs.declared.Counts.{Counts}
+use Rattle.aut_states.specs.declared.Limits.{Limits}
 use Rattle.aut_stage.specs.Stage.{Answer, gave, refusal, Post}
-use Rattle.query_calls.specs.Working.{clearOf, Working}
+use Rattle.aut_query_calls.specs.Working.{clearOf, Working}
 use Rattle.aut_empty_pair.specs.declared.Turned.{Turned}
 use Rattle.aut_empty_pair.specs.declared.Turned.the-variants as turned
 use Rattle.aut_empty_words.specs.Words.{entriesOf, seenIn, Stack}

@@ -1,7 +1,7 @@
 // A pair of is_empty of aut.rs: its fresh packets are seen, end a string, or go on.
-use aut::Config;
-use aut::Counts;
 use aut_empty_walk::Walked;
+use aut_states::Config;
+use aut_states::Counts;
 use sp::SP;
 ghost use Rattle.aut_empty_pair.specs.Contracts.{PreExpand, PostExpand};
 
@@ -33,12 +33,19 @@ pub fn expand(
     let fields = config.fields;
     let seen = aut_empty_words::seen_at(states, fields, x);
     let sp::Made::Node(both, k) = aut_sets::union(sp, scratch, c, fields, seen, fresh) else {
-        return Turned::Refused(aut::refusal::SP);
+        return Turned::Refused(aut_states::refusal::SP);
     };
     let c1 = Counts { sp: k, ..c };
-    let spp::Made::Node(ends, k1) = aut_eps::epsilon(nodes, states, members, scratch, c1, fields, x)
-    else {
-        return Turned::Refused(aut::refusal::SPP);
+    let spp::Made::Node(ends, k1) = aut_epsilon::epsilon(
+        nodes,
+        states,
+        members,
+        scratch,
+        c1,
+        fields,
+        x,
+    ) else {
+        return Turned::Refused(aut_states::refusal::SPP);
     };
     let c2 = Counts { spp: k1, ..c1 };
     if aut_sets::has_image(sp, nodes, scratch, c2, fields, fresh, ends) {
@@ -62,7 +69,7 @@ pub fn expand(
         Walked::Refused(e) => Turned::Refused(e),
         Walked::On(d, m) => {
             let i = x as usize;
-            states[aut::STATE * i + aut::word::SEEN] = both.0 + 1;
+            states[aut_states::STATE * i + aut_states::word::SEEN] = both.0 + 1;
             Turned::Goes(d, m)
         }
     }

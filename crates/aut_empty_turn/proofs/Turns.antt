@@ -10,24 +10,24 @@ use Rattle.common.specs.Runs.{table}
 use Rattle.netkat_steps.specs.Handles as Handles
 use Rattle.netkat_steps.specs.Handles.{Entry, goes}
 use Rattle.sp_steps.specs.Model as Sp
-use Rattle.sp_steps.specs.Laws as SpLaws
+use Rattle.sp_steps.specs.Wf as SpLaws
 use Rattle.sp_steps.proofs.Laws as SpLawsProofs
 use Rattle.sp.specs.declared.SP.{SP}
 use Rattle.sp.specs.declared.Made as sets
-use Rattle.query_steps.specs.Tables.{Tables, onSets}
-use Rattle.query_steps.specs.Search.{machine}
-use Rattle.query_stage.specs.Layer.{tablesOf}
-use Rattle.query_stage.proofs.Layer.{queryLayer}
-use Rattle.aut.specs.Seen.{limitsOf}
-use Rattle.aut.specs.declared.Counts.{Counts}
-use Rattle.aut.specs.declared.Limits.{Limits}
+use Rattle.aut_query_steps.specs.Tables.{Tables, onSets}
+use Rattle.aut_query_steps.specs.Search.{machine}
+use Rattle.aut_query_stage.specs.Layer.{tablesOf}
+use Rattle.aut_query_stage.proofs.Layer.{queryLayer}
+use Rattle.aut_states.specs.Contracts.{limitsOf}
+use Rattle.aut_states.specs.declared.Counts.{Counts}
+use Rattle.aut_states.specs.declared.Limits.{Limits}
 use Rattle.aut_stage.specs.Stage.{seen, Post, Stage}
 use Rattle.aut_stage.proofs.Stage.{begin, next, stuck, instead, finish, done, all-of}
 use Rattle.aut_sets.specs.Contracts.{PreSets, PostSets}
-use Rattle.query_calls.specs.Working.{clearOf, Working}
-use Rattle.query_calls.proofs.Working.{Ran, withSets, SetIn}
-use Rattle.query_calls.proofs.Works.{prepared}
-use Rattle.query_calls.proofs.Calls.{asks-sets, sets-refused, difference-given}
+use Rattle.aut_query_calls.specs.Working.{clearOf, Working}
+use Rattle.aut_query_calls.proofs.Working.{Ran, withSets, SetIn}
+use Rattle.aut_query_calls.proofs.Works.{prepared}
+use Rattle.aut_query_calls.proofs.Calls.{asks-sets, sets-refused, difference-given}
 use Rattle.aut_empty_pair.specs.declared.Turned.{Turned}
 use Rattle.aut_empty_pair.specs.declared.Turned.the-variants as turned
 use Rattle.aut_empty_words.specs.Words.{entryAt, entriesOf, seenIn}

@@ -3,13 +3,13 @@ use mathlib.Core.List.{List}
 use Prim.Native.Nat.{ℕ, _-_, _/_, _<_}
 use lib.ListN.{length}
 use Rattle.netkat_steps.specs.Handles as Handles
-use Rattle.query_steps.specs.Search.{machine}
-use Rattle.query_stage.proofs.Layer.{queryLayer}
-use Rattle.aut.specs.Seen.{limitsOf}
-use Rattle.aut.specs.declared.Counts.{Counts}
-use Rattle.aut.specs.declared.Limits.{Limits}
+use Rattle.aut_query_steps.specs.Search.{machine}
+use Rattle.aut_query_stage.proofs.Layer.{queryLayer}
+use Rattle.aut_states.specs.Contracts.{limitsOf}
+use Rattle.aut_states.specs.declared.Counts.{Counts}
+use Rattle.aut_states.specs.declared.Limits.{Limits}
 use Rattle.aut_stage.specs.Stage.{Post}
-use Rattle.query_calls.specs.Working.{clearOf}
+use Rattle.aut_query_calls.specs.Working.{clearOf}
 use Rattle.aut_empty_pair.specs.declared.Turned.{Turned}
 use Rattle.aut_empty_words.specs.Words.{entryAt, entriesOf, seenIn}
 use Rattle.aut_empty_pair.specs.Contracts.{Seeking, turnedOf, TurnedTo}

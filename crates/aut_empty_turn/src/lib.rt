@@ -1,7 +1,7 @@
 // A turn of is_empty of aut.rs: a pair is taken from the pending table, and what is fresh of it goes on.
-use aut::Config;
-use aut::Counts;
 use aut_empty_pair::Turned;
+use aut_states::Config;
+use aut_states::Counts;
 use sp::SP;
 ghost use Rattle.aut_empty_turn.specs.Contracts.{PreTurn, PostTurn};
 
@@ -30,7 +30,7 @@ pub fn turn(
     let seen = aut_empty_words::seen_at(states, fields, x);
     let sp::Made::Node(fresh, m) = aut_sets::difference(sp, scratch, c, fields, packets, seen)
     else {
-        return Turned::Refused(aut::refusal::SP);
+        return Turned::Refused(aut_states::refusal::SP);
     };
     let d = Counts { sp: m, ..c };
     if sp::is_zero(fields, fresh) {

@@ -8,25 +8,25 @@ use Rattle.common.specs.Outcome.{Outcome, return, after}
 use Rattle.netkat_steps.specs.ListSteps.{Edge}
 use Rattle.netkat_steps.specs.Handles as Handles
 use Rattle.sp_steps.proofs.Laws as SpLaws
-use Rattle.aut_steps.proofs.Good.{state-grown}
-use Rattle.delta_steps.specs.Delta.{listAt, delta}
-use Rattle.delta_stage.specs.OnStore.{storeOf}
-use Rattle.query_steps.specs.Tables.{Tables, onBase}
-use Rattle.query_steps.specs.Search.{link, machine}
-use Rattle.query_stage.specs.Layer.{tablesOf}
-use Rattle.query_stage.proofs.Layer.{queryLayer}
-use Rattle.aut.specs.Seen.{limitsOf}
-use Rattle.aut.specs.declared.Counts.{Counts}
-use Rattle.aut.specs.declared.Limits.{Limits}
+use Rattle.aut_steps.proofs.Wf.{state-grown}
+use Rattle.aut_delta_steps.specs.Delta.{listAt, delta}
+use Rattle.aut_delta_stage.specs.OnStore.{storeOf}
+use Rattle.aut_query_steps.specs.Tables.{Tables, onBase}
+use Rattle.aut_query_steps.specs.Search.{link, machine}
+use Rattle.aut_query_stage.specs.Layer.{tablesOf}
+use Rattle.aut_query_stage.proofs.Layer.{queryLayer}
+use Rattle.aut_states.specs.Contracts.{limitsOf}
+use Rattle.aut_states.specs.declared.Counts.{Counts}
+use Rattle.aut_states.specs.declared.Limits.{Limits}
 use Rattle.aut_delta.specs.Contracts.{PreDelta, PostDelta}
 use Rattle.aut_delta.specs.declared.Worked.{Worked}
 use Rattle.aut_delta.specs.declared.Worked.the-variants as worked
 use Rattle.aut_stage.specs.Stage.{Stage}
 use Rattle.aut_stage.proofs.Stage.{Inside, begin, next, stuck, finish, all-of}
-use Rattle.query_calls.specs.Working.{clearOf, ListIn}
-use Rattle.query_calls.proofs.Working.{Ran}
-use Rattle.query_calls.proofs.Works.{prepared}
-use Rattle.query_calls.proofs.Calls.{delta-ran, delta-stuck}
+use Rattle.aut_query_calls.specs.Working.{clearOf, ListIn}
+use Rattle.aut_query_calls.proofs.Working.{Ran}
+use Rattle.aut_query_calls.proofs.Works.{prepared}
+use Rattle.aut_query_calls.proofs.Calls.{delta-ran, delta-stuck}
 use Rattle.aut_empty_walk.specs.declared.Walked.{Walked}
 use Rattle.aut_empty_walk.specs.declared.Walked.the-variants as walked
 use Rattle.aut_empty_words.specs.Words.{entriesOf}

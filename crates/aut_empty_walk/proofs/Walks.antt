@@ -19,24 +19,24 @@ use Rattle.sp.specs.declared.Made as sets
 use Rattle.spp_steps.proofs.Laws.{at-ext, by-test}
 use Rattle.spp_steps.specs.ImageModel as Images
 use Rattle.spp_steps.specs.ImageModel.{stores}
-use Rattle.aut_steps.proofs.Good.{state-grown}
-use Rattle.st_steps.specs.Edges.{edges}
-use Rattle.delta_steps.specs.Delta.{startOf, countOf, listAt}
-use Rattle.delta_stage.specs.OnStore.{storeOf}
-use Rattle.query_steps.specs.Tables.{Tables, makingSets}
-use Rattle.query_steps.specs.Search.{capacity, link, machine}
-use Rattle.query_stage.specs.Layer.{tablesOf}
-use Rattle.query_stage.proofs.Layer.{queryLayer}
-use Rattle.aut.specs.Seen.{limitsOf}
-use Rattle.aut.specs.declared.Counts.{Counts}
-use Rattle.aut.specs.declared.Limits.{Limits}
+use Rattle.aut_steps.proofs.Wf.{state-grown}
+use Rattle.aut_st_steps.specs.Edges.{edges}
+use Rattle.aut_delta_steps.specs.Delta.{startOf, countOf, listAt}
+use Rattle.aut_delta_stage.specs.OnStore.{storeOf}
+use Rattle.aut_query_steps.specs.Tables.{Tables, makingSets}
+use Rattle.aut_query_steps.specs.Search.{capacity, link, machine}
+use Rattle.aut_query_stage.specs.Layer.{tablesOf}
+use Rattle.aut_query_stage.proofs.Layer.{queryLayer}
+use Rattle.aut_states.specs.Contracts.{limitsOf}
+use Rattle.aut_states.specs.declared.Counts.{Counts}
+use Rattle.aut_states.specs.declared.Limits.{Limits}
 use Rattle.aut_stage.specs.Stage.{seen, Stage}
 use Rattle.aut_stage.proofs.Stage.{begin, next, stuck, instead, done, all-of}
 use Rattle.aut_sets.specs.Contracts.{PostImage}
-use Rattle.query_calls.specs.Working.{clearOf, Working, EdgeIn}
-use Rattle.query_calls.proofs.Working.{Ran, withSets, SetIn}
-use Rattle.query_calls.proofs.Works.{prepared}
-use Rattle.query_calls.proofs.Calls.{asks-lead, images-refused, push-given}
+use Rattle.aut_query_calls.specs.Working.{clearOf, Working, EdgeIn}
+use Rattle.aut_query_calls.proofs.Working.{Ran, withSets, SetIn}
+use Rattle.aut_query_calls.proofs.Works.{prepared}
+use Rattle.aut_query_calls.proofs.Calls.{asks-lead, images-refused, push-given}
 use Rattle.aut_empty_walk.specs.declared.Walked.{Walked}
 use Rattle.aut_empty_walk.specs.declared.Walked.the-variants as walked
 use Rattle.aut_empty_words.specs.Words.{entriesOf, Stack, Puts}

@@ -8,22 +8,22 @@ use Rattle.common.specs.Runs.{table}
 use Rattle.netkat_steps.specs.Handles as Handles
 use Rattle.netkat_steps.specs.Handles.{Link, Entry}
 use Rattle.sp_steps.specs.Model as Sp
-use Rattle.sp_steps.specs.Laws as SpLaws
+use Rattle.sp_steps.specs.Wf as SpLaws
 use Rattle.spp_steps.specs.ImageModel as Images
 use Rattle.spp_steps.specs.ImageModel.{stores}
 use Rattle.aut_steps.specs.Tables.{Limits as StepLimits}
-use Rattle.delta_steps.specs.Delta.{listAt}
-use Rattle.delta_stage.specs.OnStore.{storeOf}
-use Rattle.query_steps.specs.Tables.{Tables, makingSets}
-use Rattle.query_steps.specs.Search.{link, machine}
-use Rattle.query_stage.specs.Layer.{tablesOf}
-use Rattle.query_stage.proofs.Layer.{queryLayer}
-use Rattle.aut.specs.Seen.{limitsOf}
-use Rattle.aut.specs.declared.Counts.{Counts}
-use Rattle.aut.specs.declared.Limits.{Limits}
+use Rattle.aut_delta_steps.specs.Delta.{listAt}
+use Rattle.aut_delta_stage.specs.OnStore.{storeOf}
+use Rattle.aut_query_steps.specs.Tables.{Tables, makingSets}
+use Rattle.aut_query_steps.specs.Search.{link, machine}
+use Rattle.aut_query_stage.specs.Layer.{tablesOf}
+use Rattle.aut_query_stage.proofs.Layer.{queryLayer}
+use Rattle.aut_states.specs.Contracts.{limitsOf}
+use Rattle.aut_states.specs.declared.Counts.{Counts}
+use Rattle.aut_states.specs.declared.Limits.{Limits}
 use Rattle.aut_stage.specs.Stage.{Answer, gave, refusal, Post}
 use Rattle.aut_sets.specs.Contracts.{PreLead}
-use Rattle.query_calls.specs.Working.{clearOf, Working, ListIn}
+use Rattle.aut_query_calls.specs.Working.{clearOf, Working, ListIn}
 use Rattle.aut_empty_walk.specs.declared.Walked.{Walked}
 use Rattle.aut_empty_walk.specs.declared.Walked.the-variants as walked
 use Rattle.aut_empty_words.specs.Words.{entriesOf, Stack}

@@ -1,6 +1,6 @@
 // A pair of is_empty of aut.rs: its fresh packets along the transitions of its state, onto the pending table.
-use aut::Config;
-use aut::Counts;
+use aut_states::Config;
+use aut_states::Counts;
 use sp::SP;
 use spp::SPP;
 ghost use Rattle.aut_empty_walk.specs.Contracts.{PreFollow, Follows, PreWalk, Walks, PreSpread, PostSpread};
@@ -28,7 +28,7 @@ fn follow(
     ensures { λ r. ⌜ Follows fields c n (fresh .0) target (label .0) r (now (sp .entry)) (now (nodes .entry)) (now (pending .entry)) (now (scratch .entry)) (now (sp .exit)) (now (pending .exit)) (now (scratch .exit)) ⌝ }
 {
     let sp::Made::Node(next, k) = aut_sets::push(sp, nodes, scratch, c, fields, fresh, label) else {
-        return Walked::Refused(aut::refusal::SP);
+        return Walked::Refused(aut_states::refusal::SP);
     };
     let d = Counts { sp: k, ..c };
     if sp::is_zero(fields, next) {
@@ -37,7 +37,7 @@ fn follow(
     if aut_empty_words::put(pending, n, target, next) {
         return Walked::On(d, n + 1);
     }
-    Walked::Refused(aut::refusal::PENDING)
+    Walked::Refused(aut_states::refusal::PENDING)
 }
 
 // the fresh packets along the stored list of a state
@@ -58,8 +58,8 @@ fn walk(
     ensures { λ r. ⌜ Walks fields c n x (fresh .0) r (now (sp .entry)) (now (nodes .entry)) (now (states .entry)) (now (transitions .entry)) (now (pending .entry)) (now (scratch .entry)) (now (sp .exit)) (now (pending .exit)) (now (scratch .exit)) ⌝ }
 {
     let i = x as usize;
-    let start = states[aut::STATE * i + aut::word::START] as usize;
-    let marked = states[aut::STATE * i + aut::word::COUNT] as usize;
+    let start = states[aut_states::STATE * i + aut_states::word::START] as usize;
+    let marked = states[aut_states::STATE * i + aut_states::word::COUNT] as usize;
     let mut d = c;
     let mut m = n;
     let mut j = 1;

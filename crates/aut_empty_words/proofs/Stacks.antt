@@ -13,14 +13,14 @@ use Rattle.common.specs.Outcome.{Outcome, refused, given, Step, after, if_then_
 use Rattle.common.specs.Runs.{Table}
 use Rattle.netkat_steps.specs.Handles.{Entry}
 use Rattle.sp_steps.specs.Model as Sp
-use Rattle.sp_steps.specs.Laws as SpLaws
+use Rattle.sp_steps.specs.Wf as SpLaws
 use Rattle.sp_steps.proofs.Laws as SpLawsProofs
 use Rattle.spp_steps.proofs.Laws.{by-test}
-use Rattle.aut_steps.specs.Good.{states}
-use Rattle.aut_steps.proofs.Good.{state-grown}
-use Rattle.query_steps.specs.Tables.{Tables, ExtTables}
-use Rattle.query_steps.specs.Search.{capacity}
-use Rattle.query_steps.specs.SearchEnds.{Pending, Entries}
+use Rattle.aut_steps.specs.Wf.{states}
+use Rattle.aut_steps.proofs.Wf.{state-grown}
+use Rattle.aut_query_steps.specs.Tables.{Tables, ExtTables}
+use Rattle.aut_query_steps.specs.Search.{capacity}
+use Rattle.aut_query_steps.specs.Pending.{Pending, Entries}
 use Rattle.aut_empty_words.specs.Words.{entryAt, entriesOf, seenIn, Stack, Rested, Emptied}
 
 -- one step after two others

@@ -8,9 +8,9 @@ use lib.ListN.{length, getD, set}
 use Rattle.common.specs.Outcome.{if_then_else_}
 use Rattle.netkat_steps.specs.Handles.{Entry}
 use Rattle.sp_steps.specs.Model as Sp
-use Rattle.query_steps.specs.Tables.{Tables}
-use Rattle.query_steps.specs.Search.{capacity}
-use Rattle.query_steps.specs.SearchEnds.{Entries}
+use Rattle.aut_query_steps.specs.Tables.{Tables}
+use Rattle.aut_query_steps.specs.Search.{capacity}
+use Rattle.aut_query_steps.specs.Pending.{Entries}
 
 abbrev pub entryAt : List ℕ → ℕ → Entry ℕ
 entryAt p i = record { state = getD p (2 * i) 0; packets = getD p (2 * i + 1) 0 }

@@ -12,7 +12,7 @@ pub fn seen_at(states: &[u32], fields: u32, x: u32) -> SP
     ensures { λ r. ⌜ r .0 ≡ seenIn fields (now (states .entry)) x ⌝ }
 {
     let i = x as usize;
-    let word = states[aut::STATE * i + aut::word::SEEN];
+    let word = states[aut_states::STATE * i + aut_states::word::SEEN];
     if word == 0 {
         return sp::zero_at_depth(fields);
     }
@@ -23,7 +23,7 @@ pub fn seen_at(states: &[u32], fields: u32, x: u32) -> SP
 pub fn put(pending: &mut [u32], n: usize, target: u32, packets: SP) -> bool
     ensures { λ r. ⌜ Puts r (now (pending .entry)) n target (packets .0) (now (pending .exit)) ⌝ }
 {
-    if n < query_calls::capacity(pending.len()) {
+    if n < aut_query_calls::capacity(pending.len()) {
         pending[2 * n] = target;
         pending[2 * n + 1] = packets.0;
         return true;
@@ -38,7 +38,7 @@ pub fn clear_seen(states: &mut [u32], count: usize)
 {
     let mut i = 0;
     while i < count {
-        states[aut::STATE * i + aut::word::SEEN] = 0;
+        states[aut_states::STATE * i + aut_states::word::SEEN] = 0;
         i += 1;
     }
 }

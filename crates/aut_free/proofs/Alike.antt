@@ -7,7 +7,7 @@ use lib.ListN.{length, getD}
 use Rattle.common.specs.Outcome.{Outcome, refused, given, Step}
 use Rattle.common.specs.Runs.{Table}
 use Rattle.aut_steps.specs.Tables.{Exprs, Aut}
-use Rattle.delta_steps.specs.Delta.{Store}
+use Rattle.aut_delta_steps.specs.Delta.{Store}
 
 -- ---- tables
 

@@ -5,7 +5,7 @@ use Prim.Native.Nat.{ℕ, _+_, _*_, _≤_, _<_}
 use lib.ListN.{length, getD, set}
 use Rattle.common.specs.Outcome.{Outcome, refused, given}
 use Rattle.aut_steps.specs.Tables.{Aut}
-use Rattle.delta_steps.specs.Delta.{Store}
+use Rattle.aut_delta_steps.specs.Delta.{Store}
 use Rattle.aut_free.proofs.Alike.{Framed}
 use Rattle.aut_free.specs.Clear.{inAut, inStore, clear}
 

@@ -11,8 +11,8 @@ use Rattle.aut_steps.specs.Relations as Rel
 use Rattle.aut_steps.specs.Tables.{SPP, UNION, INTERSECT, XOR, DIFFERENCE, COMPLEMENT, SEQUENCE, STAR, DUP, UNTIL, TOP, words, Limits, Exprs, exprs, Aut, putNodes, putStates, putExprs, onNodes, onStates, onExprs, onStatesOf}
 use Rattle.aut_steps.specs.Lists.{sorted}
 use Rattle.aut_steps.specs.Constructors.{Within, within, beyond, thenWithin, opened, extend, openAll, Opened, list, top, long, thenOpen, openUnion, each, countOne, countAll, product, mk-spp, mk-dup, mk-top, mk-until, spp-of, relations, is-relation, Parts, parts, Met, met, addLast, uniteOne, addRelation, meetOne, finish, unite, uniteOpened, mk-union-n, mk-union, meetFinish, meet, meetOpened, mk-intersect-n-base, base, bases, distribute, intersectOpened, mk-intersect-n, mk-intersect, mk-xor, mk-difference, mk-complement, sequence-with, sequence-by, mk-sequence, mk-star}
-use Rattle.line_steps.specs.Lines as Lines
-use Rattle.line_steps.specs.Lines.{Constant, Single, Pair, Listed, Line, constant, bit, single, pair, listed, constantOf, bitOf, singleOf, pairOf, listedOf, make}
+use Rattle.book_construct_steps.specs.Lines as Lines
+use Rattle.book_construct_steps.specs.Lines.{Constant, Single, Pair, Listed, Line, constant, bit, single, pair, listed, constantOf, bitOf, singleOf, pairOf, listedOf, make}
 use Rattle.aut_free.proofs.Alike.{AlikeWords, AlikeStates, AlikeExprs, AlikeAut, AlikeRuns, stops, comes, Respects}
 use Rattle.aut_free.proofs.Runs.{alike-bind, alike-placed, alike-given, alike-when, alike-if, along, reading, returns, test, bind}
 use Rattle.aut_free.proofs.Words.{kinds, firsts, seconds, nests}

@@ -10,10 +10,10 @@ use Rattle.common.specs.Runs.{Table}
 use Rattle.netkat_steps.specs.ListSteps.{Edge, st-xor, st-difference}
 use Rattle.aut_steps.specs.Relations as Rel
 use Rattle.aut_steps.specs.Tables.{SPP, UNION, INTERSECT, XOR, DIFFERENCE, COMPLEMENT, SEQUENCE, STAR, DUP, NEXT, UNTIL, TOP, words, listOf, Limits, Aut, putStates, onNodes}
-use Rattle.st_steps.specs.Operations.{ops, complement}
-use Rattle.st_steps.specs.Edges.{edges}
-use Rattle.delta_steps.specs.Epsilon.{setWord, keepEpsilon, uniteAll, meetAll, meetFirst, epsilon-by-kind, epsilon-with, epsilon-by, epsilon}
-use Rattle.delta_steps.specs.Delta.{Store, store, putAut, onAut, roomT, append, listAt, keepList, unionAll, intersectAll, intersectFirst, sequenceList, starList, untilList, dupList, topList, delta-by-kind, delta-with, delta-by, delta}
+use Rattle.aut_st_steps.specs.Operations.{ops, complement}
+use Rattle.aut_st_steps.specs.Edges.{edges}
+use Rattle.aut_delta_steps.specs.Epsilon.{setWord, keepEpsilon, uniteAll, meetAll, meetFirst, epsilon-by-kind, epsilon-with, epsilon-by, epsilon}
+use Rattle.aut_delta_steps.specs.Delta.{Store, store, putAut, onAut, roomT, append, listAt, keepList, unionAll, intersectAll, intersectFirst, sequenceList, starList, untilList, dupList, topList, delta-by-kind, delta-with, delta-by, delta}
 use Rattle.aut_free.proofs.Alike.{AlikeAut, AlikeStore, AlikeRuns, stops, comes, Respects}
 use Rattle.aut_free.proofs.Runs.{alike-placed, alike-given, alike-if, along, reading, returns, bind, eachOf-respects}
 use Rattle.aut_free.proofs.Words.{kinds, firsts, seconds, nests, epsilons, starts, counts, alike-word}

@@ -13,11 +13,11 @@ use Rattle.netkat_steps.specs.ListSteps.{Edge}
 use Rattle.spp_steps.proofs.Laws.{by-test}
 use Rattle.spp_steps.specs.ImageModel.{Stores}
 use Rattle.aut_steps.specs.Tables.{Limits, Aut, aut, putStates}
-use Rattle.line_steps.specs.Lines.{Line, make}
-use Rattle.delta_steps.specs.Epsilon.{setWord, epsilon}
-use Rattle.delta_steps.specs.Delta.{Store, store, onAut, listAt, delta}
-use Rattle.query_steps.specs.Tables.{Tables, diagrams, putSets, putBase, putRelations, onSets, onBase, makingSets, makingRelations, liveOf}
-use Rattle.query_steps.specs.Live.{keepIn, keepLives}
+use Rattle.book_construct_steps.specs.Lines.{Line, make}
+use Rattle.aut_delta_steps.specs.Epsilon.{setWord, epsilon}
+use Rattle.aut_delta_steps.specs.Delta.{Store, store, onAut, listAt, delta}
+use Rattle.aut_query_steps.specs.Tables.{Tables, diagrams, putSets, putBase, putRelations, onSets, onBase, makingSets, makingRelations, liveOf}
+use Rattle.aut_query_steps.specs.Live.{keepIn, keepLives}
 use Rattle.aut_free.proofs.Alike.{Framed, AlikeWords, AlikeAut, AlikeStore, AlikeRuns, stops, comes}
 use Rattle.aut_free.specs.Clear.{inAut, inStore, inTables, clear, clearTables}
 use Rattle.aut_free.proofs.Clear.{cleared, Beyond, writing, clearAut, clearStore, AtRest}

@@ -7,7 +7,7 @@ use Rattle.common.specs.Outcome.{Step}
 use Rattle.netkat_steps.specs.ListSteps.{Edge, edge, Operations, leadsTo, unite, enter, enterIn, place, st-singleton, split, insert, insertEach, insertPairs, st-union, st-intersect, Summed, subtractRow, subtractRows, st-difference, st-xor, coverAll, st-complement, st-postcompose, st-precompose, st-intersect-expr}
 use Rattle.aut_steps.specs.Relations as Rel
 use Rattle.aut_steps.specs.Tables.{Limits}
-use Rattle.st_steps.specs.Operations.{ops, complement}
+use Rattle.aut_st_steps.specs.Operations.{ops, complement}
 use Rattle.aut_free.proofs.Alike.{AlikeAut, stops, Respects}
 use Rattle.aut_free.proofs.Runs.{returns, test, bind}
 use Rattle.aut_free.proofs.Constructors.{on-nodes, on-states, mk-spp-free, mk-top-free, mk-union-free, mk-intersect-free, mk-difference-free, mk-complement-free, mk-sequence-free}

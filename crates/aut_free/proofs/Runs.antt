@@ -5,7 +5,7 @@ use mathlib.Core.List.{List, [], _∷_}
 use Prim.Native.Nat.{ℕ}
 use Rattle.common.specs.Outcome.{Outcome, given, Step, return, after, _>>=_, if_then_else_}
 use Rattle.common.specs.Runs.{placed}
-use Rattle.delta_steps.specs.Epsilon.{eachOf}
+use Rattle.aut_delta_steps.specs.Epsilon.{eachOf}
 use Rattle.aut_free.proofs.Alike.{AlikeRuns, stops, comes, Respects}
 
 -- ---- outcomes

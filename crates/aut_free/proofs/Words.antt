@@ -10,8 +10,8 @@ use borrow.Author.Tests.{eqb-true, eqb-false, ltb-true, ltb-false}
 use Rattle.spp_steps.proofs.Laws.{by-test}
 use Rattle.common.specs.Runs.{Table}
 use Rattle.aut_steps.specs.Tables.{kindOf, op1, op2, nest, put4}
-use Rattle.delta_steps.specs.Epsilon.{epsilonOf, setWord}
-use Rattle.delta_steps.specs.Delta.{startOf, countOf}
+use Rattle.aut_delta_steps.specs.Epsilon.{epsilonOf, setWord}
+use Rattle.aut_delta_steps.specs.Delta.{startOf, countOf}
 use Rattle.aut_free.proofs.Alike.{Framed, AlikeWords, AlikeStates}
 
 -- ---- reading

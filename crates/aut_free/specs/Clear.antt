@@ -5,8 +5,8 @@ use lib.Dec.{leb}
 use Rattle.common.specs.Outcome.{if_then_else_}
 use Rattle.common.specs.Runs.{table}
 use Rattle.aut_steps.specs.Tables.{Aut, putStates}
-use Rattle.delta_steps.specs.Delta.{Store, putAut}
-use Rattle.query_steps.specs.Tables.{Tables, putBase}
+use Rattle.aut_delta_steps.specs.Delta.{Store, putAut}
+use Rattle.aut_query_steps.specs.Tables.{Tables, putBase}
 
 -- ---- a change of the states' words, on all tables
 

@@ -13,35 +13,35 @@ use Rattle.common.specs.Outcome.{Outcome, refused, given, Step, return, after, 
 use Rattle.common.proofs.Follow.{given-of}
 use Rattle.common.specs.Runs.{Table, table}
 use Rattle.sp_steps.specs.Model as Sp
-use Rattle.sp_steps.specs.Laws as SpLaws
+use Rattle.sp_steps.specs.Wf as SpLaws
 use Rattle.spp_steps.proofs.Laws.{by-test}
-use Rattle.aut_steps.specs.Good.{states}
+use Rattle.aut_steps.specs.Wf.{states}
 use Rattle.aut_steps.specs.Tables.{putStates}
-use Rattle.delta_steps.specs.Epsilon.{setWord}
-use Rattle.delta_steps.specs.Delta.{store}
-use Rattle.query_steps.specs.Tables.{Tables, putBase, liveOf}
-use Rattle.query_steps.specs.Search.{capacity}
-use Rattle.query_steps.proofs.Steps.{ends-gives}
-use Rattle.query_steps.specs.Live as M
-use Rattle.query_steps.specs.Live.{Found, found, work, takes, keepIn, keepLives, live-sets, live-anew, live-packets}
-use Rattle.query_steps.proofs.ExploreLaws as Explores
-use Rattle.query_steps.proofs.ExploreLaws.{explore-ends}
-use Rattle.query_steps.proofs.SettleLaws as Settles
-use Rattle.query_steps.proofs.LiveLaws as LiveLaws
-use Rattle.query_steps.proofs.LiveLaws.{live-goes}
-use Rattle.query_stage.specs.Layer.{Zeroed, tablesOf, PreQuery}
-use Rattle.query_stage.proofs.Layer.{Leaves, query-ready, queryLayer}
-use Rattle.aut.specs.Seen.{limitsOf}
-use Rattle.aut.specs.declared.Counts.{Counts}
-use Rattle.aut.specs.declared.Limits.{Limits}
+use Rattle.aut_delta_steps.specs.Epsilon.{setWord}
+use Rattle.aut_delta_steps.specs.Delta.{store}
+use Rattle.aut_query_steps.specs.Tables.{Tables, putBase, liveOf}
+use Rattle.aut_query_steps.specs.Search.{capacity}
+use Rattle.aut_query_steps.proofs.Steps.{ends-gives}
+use Rattle.aut_query_steps.specs.Live as M
+use Rattle.aut_query_steps.specs.Live.{Found, found, work, takes, keepIn, keepLives, live-sets, live-anew, live-packets}
+use Rattle.aut_query_steps.proofs.ExploreLaws as Explores
+use Rattle.aut_query_steps.proofs.ExploreLaws.{explore-ends}
+use Rattle.aut_query_steps.proofs.SettleLaws as Settles
+use Rattle.aut_query_steps.proofs.LiveLaws as LiveLaws
+use Rattle.aut_query_steps.proofs.LiveLaws.{live-goes}
+use Rattle.aut_query_stage.specs.Layer.{Zeroed, tablesOf, PreQuery}
+use Rattle.aut_query_stage.proofs.Layer.{Leaves, query-ready, queryLayer}
+use Rattle.aut_states.specs.Contracts.{limitsOf}
+use Rattle.aut_states.specs.declared.Counts.{Counts}
+use Rattle.aut_states.specs.declared.Limits.{Limits}
 use Rattle.aut_stage.specs.Stage.{Stage}
 use Rattle.aut_stage.proofs.Stage.{begin, next, instead, done, all-of}
 use Rattle.aut_free.specs.Clear.{clear, clearTables}
 use Rattle.aut_free.proofs.Clear.{AtRest}
 use Rattle.aut_free.proofs.Clearing.{clear-rest, is-clear}
 use Rattle.aut_free.proofs.Free.{clear-keepLives}
-use Rattle.query_calls.specs.Working.{clearOf}
-use Rattle.query_calls.proofs.Works.{working-begin}
+use Rattle.aut_query_calls.specs.Working.{clearOf}
+use Rattle.aut_query_calls.proofs.Works.{working-begin}
 use Rattle.sp.specs.declared.SP.{SP}
 use Rattle.aut_live.specs.declared.Lived.the-variants as lived
 use Rattle.aut_live_words.specs.declared.Room.{Room}

@@ -4,14 +4,14 @@ use mathlib.Core.List.{List}
 use Prim.Native.Nat.{ℕ, _/_}
 use lib.ListN.{length}
 use Rattle.common.specs.Outcome.{refused}
-use Rattle.sp_steps.specs.Laws as SpLaws
-use Rattle.query_steps.specs.Tables.{Tables}
-use Rattle.query_steps.specs.Live.{found, live-sets, live-packets}
-use Rattle.query_stage.specs.Layer.{Zeroed}
-use Rattle.query_stage.proofs.Layer.{queryLayer}
-use Rattle.aut.specs.Seen.{limitsOf}
-use Rattle.aut.specs.declared.Counts.{Counts}
-use Rattle.aut.specs.declared.Limits.{Limits}
+use Rattle.sp_steps.specs.Wf as SpLaws
+use Rattle.aut_query_steps.specs.Tables.{Tables}
+use Rattle.aut_query_steps.specs.Live.{found, live-sets, live-packets}
+use Rattle.aut_query_stage.specs.Layer.{Zeroed}
+use Rattle.aut_query_stage.proofs.Layer.{queryLayer}
+use Rattle.aut_states.specs.Contracts.{limitsOf}
+use Rattle.aut_states.specs.declared.Counts.{Counts}
+use Rattle.aut_states.specs.declared.Limits.{Limits}
 use Rattle.aut_stage.specs.Stage.{Answer, gave, refusal, Post}
 use Rattle.aut_free.specs.Clear.{clearTables}
 use Rattle.aut_live.specs.declared.Lived.{Lived}

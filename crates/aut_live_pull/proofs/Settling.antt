@@ -14,35 +14,35 @@ use Rattle.common.specs.Runs.{Table, table}
 use Rattle.netkat.specs.Lists.{State, Transition}
 use Rattle.netkat_steps.specs.ListSteps.{Edge, Are}
 use Rattle.sp_steps.specs.Model as Sp
-use Rattle.sp_steps.specs.Laws as SpLaws
+use Rattle.sp_steps.specs.Wf as SpLaws
 use Rattle.sp_steps.proofs.Laws as SpLawsProofs
 use Rattle.sp.specs.declared.SP.{SP}
 use Rattle.sp.specs.declared.Made as sets
-use Rattle.spp_steps.specs.Laws.{ValidAt}
+use Rattle.spp_steps.specs.Wf.{ValidAt}
 use Rattle.spp_steps.proofs.Laws.{by-test}
 use Rattle.spp_steps.specs.ImageModel as Images
 use Rattle.aut_steps.specs.Tables as Aut
-use Rattle.st_steps.specs.Edges.{edges}
-use Rattle.delta_steps.specs.Delta.{startOf, countOf, listAt}
-use Rattle.delta_steps.specs.Fits.{tables as readings}
-use Rattle.query_steps.specs.Tables.{Tables, diagrams, onSets, makingSets}
-use Rattle.query_steps.specs.Search.{capacity}
-use Rattle.query_steps.specs.Live as M
-use Rattle.query_steps.specs.Live.{liveAt, work, labelTo}
-use Rattle.query_stage.specs.Layer.{tablesOf}
-use Rattle.query_stage.proofs.Layer.{queryLayer}
-use Rattle.aut.specs.Seen.{limitsOf}
-use Rattle.aut.specs.declared.Counts.{Counts}
-use Rattle.aut.specs.declared.Limits.{Limits}
+use Rattle.aut_st_steps.specs.Edges.{edges}
+use Rattle.aut_delta_steps.specs.Delta.{startOf, countOf, listAt}
+use Rattle.aut_delta_steps.specs.Fits.{tables as readings}
+use Rattle.aut_query_steps.specs.Tables.{Tables, diagrams, onSets, makingSets}
+use Rattle.aut_query_steps.specs.Search.{capacity}
+use Rattle.aut_query_steps.specs.Live as M
+use Rattle.aut_query_steps.specs.Live.{liveAt, work, labelTo}
+use Rattle.aut_query_stage.specs.Layer.{tablesOf}
+use Rattle.aut_query_stage.proofs.Layer.{queryLayer}
+use Rattle.aut_states.specs.Contracts.{limitsOf}
+use Rattle.aut_states.specs.declared.Counts.{Counts}
+use Rattle.aut_states.specs.declared.Limits.{Limits}
 use Rattle.aut_stage.specs.Stage.{Stage}
 use Rattle.aut_stage.proofs.Stage.{begin, next, instead, done, all-of}
 use Rattle.aut_sets.specs.Contracts.{PreSets, PostSets, PreLead, PostImage}
 use Rattle.aut_free.specs.Clear.{clear, clearTables}
 use Rattle.aut_free.proofs.Clearing.{clear-kept}
-use Rattle.query_calls.specs.Working.{clearOf, Working}
-use Rattle.query_calls.proofs.Working.{Ran, withSets, SetIn}
-use Rattle.query_calls.proofs.Calls.{asks-lead, asks-sets, pull-given, images-refused, union-given, sets-refused}
-use Rattle.query_calls.proofs.Works.{clear-written, working-written}
+use Rattle.aut_query_calls.specs.Working.{clearOf, Working}
+use Rattle.aut_query_calls.proofs.Working.{Ran, withSets, SetIn}
+use Rattle.aut_query_calls.proofs.Calls.{asks-lead, asks-sets, pull-given, images-refused, union-given, sets-refused}
+use Rattle.aut_query_calls.proofs.Works.{clear-written, working-written}
 use Rattle.aut_live_words.specs.declared.Room.{Room}
 use Rattle.aut_live_words.specs.declared.Room.the-variants as room
 use Rattle.aut_live_words.specs.Work.{workOf, liveBy, seconds, stack, Held, Enlarges}

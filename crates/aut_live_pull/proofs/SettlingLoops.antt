@@ -16,25 +16,25 @@ use Rattle.netkat.proofs.Laws.Tally.{tally, total}
 use Rattle.sp_steps.specs.Model as Sp
 use Rattle.spp_steps.proofs.Laws.{by-test}
 use Rattle.aut_steps.specs.Tables as Aut
-use Rattle.delta_steps.specs.Delta.{countOf, Store}
-use Rattle.delta_steps.specs.Worked.{WfStore}
-use Rattle.query_steps.specs.Tables.{Tables}
-use Rattle.query_steps.specs.Search.{capacity}
-use Rattle.query_steps.proofs.Steps.{Ends, comes}
-use Rattle.query_steps.specs.Live as M
-use Rattle.query_steps.specs.Live.{Work, work, takes}
-use Rattle.query_steps.specs.ExploreLaws.{Linked}
-use Rattle.query_steps.proofs.ExploreLaws.{any-mem}
-use Rattle.query_steps.proofs.SettleLaws.{reached, stepsTo, Pulls, PullsFrom, all-ends, none-left, take-next, settle-more}
-use Rattle.query_stage.specs.Layer.{tablesOf}
-use Rattle.query_stage.proofs.Layer.{queryLayer}
-use Rattle.aut.specs.Seen.{limitsOf}
-use Rattle.aut.specs.declared.Counts.{Counts}
-use Rattle.aut.specs.declared.Limits.{Limits}
+use Rattle.aut_delta_steps.specs.Delta.{countOf, Store}
+use Rattle.aut_delta_steps.specs.Wf.{WfStore}
+use Rattle.aut_query_steps.specs.Tables.{Tables}
+use Rattle.aut_query_steps.specs.Search.{capacity}
+use Rattle.aut_query_steps.proofs.Steps.{Ends, comes}
+use Rattle.aut_query_steps.specs.Live as M
+use Rattle.aut_query_steps.specs.Live.{Work, work, takes}
+use Rattle.aut_query_steps.specs.Explored.{Linked}
+use Rattle.aut_query_steps.proofs.ExploreLaws.{any-mem}
+use Rattle.aut_query_steps.proofs.SettleLaws.{reached, stepsTo, Pulls, PullsFrom, all-ends, none-left, take-next, settle-more}
+use Rattle.aut_query_stage.specs.Layer.{tablesOf}
+use Rattle.aut_query_stage.proofs.Layer.{queryLayer}
+use Rattle.aut_states.specs.Contracts.{limitsOf}
+use Rattle.aut_states.specs.declared.Counts.{Counts}
+use Rattle.aut_states.specs.declared.Limits.{Limits}
 use Rattle.aut_stage.specs.Stage.{Stage}
 use Rattle.aut_stage.proofs.Stage.{begin, next, instead, done, all-of}
 use Rattle.aut_free.specs.Clear.{clearTables}
-use Rattle.query_calls.specs.Working.{clearOf}
+use Rattle.aut_query_calls.specs.Working.{clearOf}
 use Rattle.aut_live_words.specs.declared.Walked.{Walked}
 use Rattle.aut_live_words.specs.declared.Walked.the-variants as walked
 use Rattle.aut_live_words.specs.Work.{workOf, liveBy, seconds, stack, Held}

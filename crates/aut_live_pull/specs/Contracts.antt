@@ -4,20 +4,20 @@ use mathlib.Core.List.{List, [], List·Memᴰ}
 use Prim.Native.Nat.{ℕ, _+_, _*_, _/_, _<_}
 use lib.ListN.{length, getD}
 use Rattle.common.specs.Outcome.{Outcome, refused}
-use Rattle.delta_steps.specs.Delta.{countOf}
-use Rattle.query_steps.specs.Tables.{Tables}
-use Rattle.query_steps.specs.Live as M
-use Rattle.query_steps.specs.Live.{work, takes}
-use Rattle.query_steps.specs.ExploreLaws.{Linked}
-use Rattle.query_steps.proofs.SettleLaws.{Pulls}
-use Rattle.query_stage.specs.Layer.{tablesOf}
-use Rattle.query_stage.proofs.Layer.{queryLayer}
-use Rattle.aut.specs.Seen.{limitsOf}
-use Rattle.aut.specs.declared.Counts.{Counts}
-use Rattle.aut.specs.declared.Limits.{Limits}
+use Rattle.aut_delta_steps.specs.Delta.{countOf}
+use Rattle.aut_query_steps.specs.Tables.{Tables}
+use Rattle.aut_query_steps.specs.Live as M
+use Rattle.aut_query_steps.specs.Live.{work, takes}
+use Rattle.aut_query_steps.specs.Explored.{Linked}
+use Rattle.aut_query_steps.proofs.SettleLaws.{Pulls}
+use Rattle.aut_query_stage.specs.Layer.{tablesOf}
+use Rattle.aut_query_stage.proofs.Layer.{queryLayer}
+use Rattle.aut_states.specs.Contracts.{limitsOf}
+use Rattle.aut_states.specs.declared.Counts.{Counts}
+use Rattle.aut_states.specs.declared.Limits.{Limits}
 use Rattle.aut_stage.specs.Stage.{gave, Post}
 use Rattle.aut_free.specs.Clear.{clearTables}
-use Rattle.query_calls.specs.Working.{clearOf}
+use Rattle.aut_query_calls.specs.Working.{clearOf}
 use Rattle.aut_live_words.specs.declared.Walked.{Walked}
 use Rattle.aut_live_words.specs.declared.Walked.the-variants as walked
 use Rattle.aut_live_words.specs.Work.{workOf, liveBy, seconds, stack, Held}

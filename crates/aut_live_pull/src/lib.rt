@@ -1,9 +1,9 @@
 // live_packets of aut.rs: the sets of the states reached are pulled back along transitions until none grows.
-use aut::Config;
-use aut::Counts;
 use aut_live_words::Label;
 use aut_live_words::Room;
 use aut_live_words::Walked;
+use aut_states::Config;
+use aut_states::Counts;
 use sp::SP;
 ghost use Rattle.aut_live_pull.specs.Contracts.{PrePull, PostPull, PrePullAll, PostPullAll, PreSettle, PostSettle};
 
@@ -28,7 +28,7 @@ fn pull_from(
     match label {
         Label::Nothing => Walked::To(c, m),
         Label::By(l) => {
-            let i = aut::STATE * (t as usize) + aut::word::WORK;
+            let i = aut_states::STATE * (t as usize) + aut_states::word::WORK;
             let ahead = SP(states[i] - 1);
             let sp::Made::Node(accepted, n1) = aut_sets::pull(
                 sp,
@@ -39,10 +39,10 @@ fn pull_from(
                 l,
                 ahead,
             ) else {
-                return Walked::Refused(aut::refusal::SP);
+                return Walked::Refused(aut_states::refusal::SP);
             };
             let c1 = Counts { sp: n1, ..c };
-            let j = aut::STATE * (s as usize) + aut::word::WORK;
+            let j = aut_states::STATE * (s as usize) + aut_states::word::WORK;
             let here = SP(states[j] - 1);
             let sp::Made::Node(combined, n2) = aut_sets::union(
                 sp,
@@ -52,10 +52,10 @@ fn pull_from(
                 here,
                 accepted,
             ) else {
-                return Walked::Refused(aut::refusal::SP);
+                return Walked::Refused(aut_states::refusal::SP);
             };
             let Room::At(m1) = aut_live_words::enlarge(states, pending, m, s, combined) else {
-                return Walked::Refused(aut::refusal::PENDING);
+                return Walked::Refused(aut_states::refusal::PENDING);
             };
             Walked::To(Counts { sp: n2, ..c1 }, m1)
         }

@@ -10,29 +10,29 @@ use borrow.Author.Tests.{eq-eqb}
 use Rattle.common.specs.Outcome.{Outcome, refused, given, Step, return, after, if_then_else_}
 use Rattle.common.specs.Runs.{Table, table}
 use Rattle.netkat_steps.specs.ListSteps.{Edge}
-use Rattle.sp_steps.specs.Laws as SpLaws
+use Rattle.sp_steps.specs.Wf as SpLaws
 use Rattle.sp.specs.declared.SP.{SP}
 use Rattle.sp.specs.declared.Made as sets
 use Rattle.spp_steps.specs.ImageModel as Images
 use Rattle.spp_steps.specs.ImageModel.{stores}
 use Rattle.spp.specs.declared.SPP.{SPP}
 use Rattle.spp.specs.declared.Made as relations
-use Rattle.st_steps.specs.Edges.{edges}
-use Rattle.st_steps.proofs.Places.{edgeAt}
-use Rattle.delta_steps.specs.Epsilon.{epsilon}
-use Rattle.delta_steps.specs.Delta.{onAut, startOf, countOf, listAt, delta}
-use Rattle.delta_stage.specs.OnStore.{storeOf}
-use Rattle.query_steps.specs.Tables.{Tables, onBase, makingSets}
-use Rattle.query_steps.specs.Search.{capacity}
-use Rattle.query_steps.specs.Live as M
-use Rattle.query_steps.specs.Live.{Visit, found, liveAt}
-use Rattle.query_stage.specs.Layer.{tablesOf}
-use Rattle.query_stage.proofs.Layer.{queryLayer}
-use Rattle.aut.specs.Seen.{limitsOf}
-use Rattle.aut.specs.declared.Counts.{Counts}
-use Rattle.aut.specs.declared.Limits.{Limits}
-use Rattle.aut_rel.specs.Seen.{autOf}
-use Rattle.aut_eps.specs.Seen.{Asks, Works}
+use Rattle.aut_st_steps.specs.Edges.{edges}
+use Rattle.aut_st_steps.proofs.Places.{edgeAt}
+use Rattle.aut_delta_steps.specs.Epsilon.{epsilon}
+use Rattle.aut_delta_steps.specs.Delta.{onAut, startOf, countOf, listAt, delta}
+use Rattle.aut_delta_stage.specs.OnStore.{storeOf}
+use Rattle.aut_query_steps.specs.Tables.{Tables, onBase, makingSets}
+use Rattle.aut_query_steps.specs.Search.{capacity}
+use Rattle.aut_query_steps.specs.Live as M
+use Rattle.aut_query_steps.specs.Live.{Visit, found, liveAt}
+use Rattle.aut_query_stage.specs.Layer.{tablesOf}
+use Rattle.aut_query_stage.proofs.Layer.{queryLayer}
+use Rattle.aut_states.specs.Contracts.{limitsOf}
+use Rattle.aut_states.specs.declared.Counts.{Counts}
+use Rattle.aut_states.specs.declared.Limits.{Limits}
+use Rattle.aut_relations.specs.Contracts.{autOf}
+use Rattle.aut_epsilon.specs.Contracts.{Asks, Works}
 use Rattle.aut_stage.specs.Stage.{Stage}
 use Rattle.aut_stage.proofs.Stage.{begin, next, instead, done, all-of}
 use Rattle.aut_stage.specs.OnNodes.{withNodes}
@@ -42,10 +42,10 @@ use Rattle.aut_delta.specs.declared.Worked.{Worked}
 use Rattle.aut_delta.specs.declared.Worked.the-variants as worked
 use Rattle.aut_free.specs.Clear.{clear, clearTables}
 use Rattle.aut_free.proofs.Clearing.{clear-kept}
-use Rattle.query_calls.specs.Working.{clearOf, ListIn}
-use Rattle.query_calls.proofs.Working.{Ran, withSets, SetIn, RelIn}
-use Rattle.query_calls.proofs.Works.{prepared, asks-epsilon, clear-written}
-use Rattle.query_calls.proofs.Calls.{asks-image, bwd-given, images-refused, epsilon-ran, epsilon-stuck, delta-ran, delta-stuck}
+use Rattle.aut_query_calls.specs.Working.{clearOf, ListIn}
+use Rattle.aut_query_calls.proofs.Working.{Ran, withSets, SetIn, RelIn}
+use Rattle.aut_query_calls.proofs.Works.{prepared, asks-epsilon, clear-written}
+use Rattle.aut_query_calls.proofs.Calls.{asks-image, bwd-given, images-refused, epsilon-ran, epsilon-stuck, delta-ran, delta-stuck}
 use Rattle.aut_live_words.specs.declared.Room.{Room}
 use Rattle.aut_live_words.specs.declared.Room.the-variants as room
 use Rattle.aut_live_words.specs.declared.Walked.{Walked}

@@ -1,11 +1,11 @@
 // live_packets of aut.rs: the states reached from one, each with the packets that end a string there.
-use aut::Config;
-use aut::Counts;
 use aut_delta::Worked;
 use aut_live_words::Room;
 use aut_live_words::Walked;
+use aut_states::Config;
+use aut_states::Counts;
 use spp::Made;
-ghost use Rattle.query_stage.specs.Layer.{tablesOf};
+ghost use Rattle.aut_query_stage.specs.Layer.{tablesOf};
 ghost use Rattle.aut_live_reach.specs.Contracts.{PreVisit, PostVisit, PreExplore, PostExplore};
 
 // the state of entry `head`: its set, its list, and the targets of that
@@ -26,15 +26,22 @@ fn visit(
     ensures { λ r. ⌜ PostVisit (config .fields) (config .limits) head n (tablesOf (now (sp .entry)) (now (nodes .entry)) (now (states .entry)) (now (members .entry)) (now (transitions .entry)) c) c r (tablesOf (now (sp .exit)) (now (nodes .exit)) (now (states .exit)) (now (members .exit)) (now (transitions .exit))) (now (scratch .entry)) (now (scratch .exit)) (now (pending .entry)) (now (pending .exit)) ⌝ }
 {
     let x = pending[2 * head + 1];
-    let Made::Node(e, n1) = aut_eps::epsilon(nodes, states, members, scratch, c, config.fields, x)
-    else {
-        return Walked::Refused(aut::refusal::SPP);
+    let Made::Node(e, n1) = aut_epsilon::epsilon(
+        nodes,
+        states,
+        members,
+        scratch,
+        c,
+        config.fields,
+        x,
+    ) else {
+        return Walked::Refused(aut_states::refusal::SPP);
     };
     let c1 = Counts { spp: n1, ..c };
     let sp::Made::Node(h, n2) = aut_sets::bwd(sp, nodes, scratch, c1, config.fields, e) else {
-        return Walked::Refused(aut::refusal::SP);
+        return Walked::Refused(aut_states::refusal::SP);
     };
-    let i = aut::STATE * (x as usize) + aut::word::WORK;
+    let i = aut_states::STATE * (x as usize) + aut_states::word::WORK;
     states[i] = h.0 + 1;
     let c2 = Counts { sp: n2, ..c1 };
     let worked = aut_delta::delta(nodes, states, members, transitions, scratch, c2, config, x);
@@ -49,7 +56,7 @@ fn visit(
                 n,
                 x,
             ) else {
-                return Walked::Refused(aut::refusal::PENDING);
+                return Walked::Refused(aut_states::refusal::PENDING);
             };
             Walked::To(d, n3)
         }

@@ -15,25 +15,25 @@ use Rattle.common.specs.Outcome.{refused, given, if_then_else_}
 use Rattle.common.specs.Runs.{table}
 use Rattle.netkat_steps.specs.ListSteps.{Edge}
 use Rattle.sp_steps.specs.Model as Sp
-use Rattle.sp_steps.specs.Laws as SpLaws
+use Rattle.sp_steps.specs.Wf as SpLaws
 use Rattle.sp_steps.proofs.Laws as SpLawsProofs
 use Rattle.spp_steps.proofs.Laws.{by-test}
-use Rattle.st_steps.specs.Places.{putEdge}
-use Rattle.st_steps.proofs.Places.{put-length}
-use Rattle.aut_steps.specs.Good.{states}
-use Rattle.query_steps.specs.Tables.{Tables}
-use Rattle.query_steps.specs.Search.{capacity}
-use Rattle.query_steps.specs.Live as M
-use Rattle.query_steps.specs.Live.{liveAt}
-use Rattle.query_steps.proofs.ExploreLaws.{any-mem}
-use Rattle.query_stage.specs.Layer.{tablesOf}
-use Rattle.aut.specs.declared.Counts.{Counts}
-use Rattle.aut.specs.declared.Limits.{Limits}
+use Rattle.aut_st_steps.specs.Places.{putEdge}
+use Rattle.aut_st_steps.proofs.Places.{put-length}
+use Rattle.aut_steps.specs.Wf.{states}
+use Rattle.aut_query_steps.specs.Tables.{Tables}
+use Rattle.aut_query_steps.specs.Search.{capacity}
+use Rattle.aut_query_steps.specs.Live as M
+use Rattle.aut_query_steps.specs.Live.{liveAt}
+use Rattle.aut_query_steps.proofs.ExploreLaws.{any-mem}
+use Rattle.aut_query_stage.specs.Layer.{tablesOf}
+use Rattle.aut_states.specs.declared.Counts.{Counts}
+use Rattle.aut_states.specs.declared.Limits.{Limits}
 use Rattle.aut_free.specs.Clear.{clear}
 use Rattle.aut_free.proofs.Clearing.{clear-set, clear-length}
-use Rattle.query_calls.specs.Working.{Working}
-use Rattle.query_calls.proofs.Working.{Unwritten}
-use Rattle.query_calls.proofs.Works.{working-written}
+use Rattle.aut_query_calls.specs.Working.{Working}
+use Rattle.aut_query_calls.proofs.Working.{Unwritten}
+use Rattle.aut_query_calls.proofs.Works.{working-written}
 use Rattle.aut_live_words.specs.declared.Room.the-variants as room
 use Rattle.aut_live_words.specs.Work.{workOf, liveBy, seconds, Held, Doubled, Reaches, there, new, full, Enqueues, none, one, over}
 use Rattle.aut_live_words.proofs.Words.{seconds-length, seconds-same, seconds-split, seconds-one, second-in}

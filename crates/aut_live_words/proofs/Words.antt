@@ -10,19 +10,19 @@ use borrow.Author.Tests.{eqb-true, eqb-false}
 use Rattle.netkat_steps.specs.ListSteps.{Edge}
 use Rattle.sp_steps.specs.Model as Sp
 use Rattle.spp_steps.proofs.Laws.{by-test}
-use Rattle.st_steps.specs.Edges.{edges}
-use Rattle.st_steps.specs.Places.{putEdge, seekEdge, seekTarget}
-use Rattle.st_steps.proofs.Places.{edgeAt, edges-on, edges-done}
-use Rattle.delta_steps.specs.Delta.{startOf, countOf}
-use Rattle.query_steps.specs.Search.{capacity}
+use Rattle.aut_st_steps.specs.Edges.{edges}
+use Rattle.aut_st_steps.specs.Places.{putEdge, seekEdge, seekTarget}
+use Rattle.aut_st_steps.proofs.Places.{edgeAt, edges-on, edges-done}
+use Rattle.aut_delta_steps.specs.Delta.{startOf, countOf}
+use Rattle.aut_query_steps.specs.Search.{capacity}
 use Rattle.aut_live_words.specs.declared.Room.{Room}
 use Rattle.aut_live_words.specs.declared.Room.the-variants as room
 use Rattle.aut_live_words.specs.Work.{workOf, seconds, Reaches, there, new, full, Enqueues, none, one, over, keepWords, clearWords}
 use Rattle.aut_live_words.specs.Contracts.{PreReach, Listed, PreEnqueue, PostEnqueue, PostClear}
 use mathlib.Core.Bool.{Bool}
 use Rattle.common.specs.Outcome.{if_then_else_}
-use Rattle.query_steps.specs.Live as M
-use Rattle.query_steps.specs.Live.{labelTo}
+use Rattle.aut_query_steps.specs.Live as M
+use Rattle.aut_query_steps.specs.Live.{labelTo}
 
 -- ---- lists of entries
 

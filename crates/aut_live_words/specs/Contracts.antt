@@ -3,11 +3,11 @@ use mathlib.Core.Path.{_≡_}
 use mathlib.Core.List.{List}
 use Prim.Native.Nat.{ℕ, _+_, _*_, _-_, _/_, _≤_, _<_}
 use lib.ListN.{length, getD}
-use Rattle.st_steps.specs.Edges.{edges}
-use Rattle.aut_steps.specs.Good.{states}
-use Rattle.delta_steps.specs.Delta.{startOf, countOf}
-use Rattle.query_steps.specs.Search.{capacity}
-use Rattle.query_steps.specs.Live as M
+use Rattle.aut_st_steps.specs.Edges.{edges}
+use Rattle.aut_steps.specs.Wf.{states}
+use Rattle.aut_delta_steps.specs.Delta.{startOf, countOf}
+use Rattle.aut_query_steps.specs.Search.{capacity}
+use Rattle.aut_query_steps.specs.Live as M
 use Rattle.aut_live_words.specs.declared.Room.{Room}
 use Rattle.aut_live_words.specs.declared.Label.{Label}
 use Rattle.aut_live_words.specs.declared.Label.the-variants as label

@@ -10,12 +10,12 @@ use Rattle.common.specs.Packets.{any}
 use Rattle.common.specs.Outcome.{if_then_else_}
 use Rattle.netkat_steps.specs.ListSteps.{Edge}
 use Rattle.sp_steps.specs.Model as Sp
-use Rattle.sp_steps.specs.Laws as SpLaws
-use Rattle.st_steps.specs.Places.{putEdge}
-use Rattle.query_steps.specs.Tables.{Tables}
-use Rattle.query_steps.specs.Search.{capacity}
-use Rattle.aut.specs.declared.Limits.{Limits}
-use Rattle.query_calls.specs.Working.{Working}
+use Rattle.sp_steps.specs.Wf as SpLaws
+use Rattle.aut_st_steps.specs.Places.{putEdge}
+use Rattle.aut_query_steps.specs.Tables.{Tables}
+use Rattle.aut_query_steps.specs.Search.{capacity}
+use Rattle.aut_states.specs.declared.Limits.{Limits}
+use Rattle.aut_query_calls.specs.Working.{Working}
 use Rattle.aut_live_words.specs.declared.Room.{Room}
 use Rattle.aut_live_words.specs.declared.Room.the-variants as room
 

@@ -1,12 +1,12 @@
 // How live_packets of aut.rs stands in words while sets are worked out: word WORK of a state is its set + 1, or 0 if it is not reached. Entry i of the pending table: its second word is the
 // i-th state reached, its first word the i-th of the states to be looked at, the last on top.
-use aut::Counts;
+use aut_states::Counts;
 use sp::SP;
 use spp::SPP;
 ghost use mathlib.Core.Path.{_≡_};
 ghost use Prim.Native.Nat.{_/_};
 ghost use lib.ListN.{length};
-ghost use Rattle.query_steps.specs.Search as M;
+ghost use Rattle.aut_query_steps.specs.Search as M;
 ghost use Rattle.aut_live_words.specs.Work.{seconds, keepWords, Reaches, Enlarges};
 ghost use Rattle.aut_live_words.specs.Contracts.{PreReach, PreEnqueue, PostEnqueue, PreLabel, PostLabel, PreEnlarge, PreKeep, PostClear};
 
@@ -33,11 +33,11 @@ pub fn reach(states: &mut [u32], pending: &mut [u32], fields: u32, n: usize, y: 
     requires { ⌜ PreReach fields (now states) (now pending) n y ⌝ }
     ensures { λ r. ⌜ Reaches fields (M.capacity (length (now (pending .entry)) / 2)) n y (now (states .entry)) (now (pending .entry)) r (now (states .exit)) (now (pending .exit)) ⌝ }
 {
-    let i = aut::STATE * (y as usize) + aut::word::WORK;
+    let i = aut_states::STATE * (y as usize) + aut_states::word::WORK;
     if states[i] > 0 {
         return Room::At(n);
     }
-    if n < query_calls::capacity(pending.len()) {
+    if n < aut_query_calls::capacity(pending.len()) {
         let zero = sp::zero_at_depth(fields);
         states[i] = zero.0 + 1;
         pending[2 * n] = y;
@@ -60,8 +60,8 @@ pub fn enqueue(
     ensures { λ r. ⌜ PostEnqueue fields n x r (now (states .entry)) (now (transitions .entry)) (now (pending .entry)) (now (states .exit)) (now (pending .exit)) ⌝ }
 {
     let j = x as usize;
-    let start = states[aut::STATE * j + aut::word::START] as usize;
-    let k = states[aut::STATE * j + aut::word::COUNT] as usize - 1;
+    let start = states[aut_states::STATE * j + aut_states::word::START] as usize;
+    let k = states[aut_states::STATE * j + aut_states::word::COUNT] as usize - 1;
     let mut n = n;
     let mut i = 0;
     while i < k {
@@ -81,9 +81,9 @@ pub fn label_to(states: &[u32], transitions: &[u32], t: u32, s: u32) -> Label
     ensures { λ r. ⌜ PostLabel (now (states .entry)) (now (transitions .entry)) t s r ⌝ }
 {
     let j = s as usize;
-    let start = states[aut::STATE * j + aut::word::START] as usize;
-    let k = states[aut::STATE * j + aut::word::COUNT] as usize - 1;
-    let i = st_edges::seek_target(transitions, t, start, k);
+    let start = states[aut_states::STATE * j + aut_states::word::START] as usize;
+    let k = states[aut_states::STATE * j + aut_states::word::COUNT] as usize - 1;
+    let i = aut_st_edges::seek_target(transitions, t, start, k);
     if i < k {
         return Label::By(SPP(transitions[2 * (start + i) + 1]));
     }
@@ -95,11 +95,11 @@ pub fn enlarge(states: &mut [u32], pending: &mut [u32], m: usize, s: u32, combin
     requires { ⌜ PreEnlarge (now states) (now pending) m s (combined .0) ⌝ }
     ensures { λ r. ⌜ Enlarges (M.capacity (length (now (pending .entry)) / 2)) m s (combined .0) (now (states .entry)) (now (pending .entry)) r (now (states .exit)) (now (pending .exit)) ⌝ }
 {
-    let i = aut::STATE * (s as usize) + aut::word::WORK;
+    let i = aut_states::STATE * (s as usize) + aut_states::word::WORK;
     if combined.0 == states[i] - 1 {
         return Room::At(m);
     }
-    if m < query_calls::capacity(pending.len()) {
+    if m < aut_query_calls::capacity(pending.len()) {
         states[i] = combined.0 + 1;
         pending[2 * m] = s;
         return Room::At(m + 1);
@@ -114,9 +114,9 @@ pub fn keep(states: &mut [u32], pending: &[u32], n: usize)
 {
     let mut i = 0;
     while i < n {
-        let at = aut::STATE * (pending[2 * i + 1] as usize);
-        let live = states[at + aut::word::WORK];
-        states[at + aut::word::LIVE] = live;
+        let at = aut_states::STATE * (pending[2 * i + 1] as usize);
+        let live = states[at + aut_states::word::WORK];
+        states[at + aut_states::word::LIVE] = live;
         i += 1;
     }
 }
@@ -128,7 +128,7 @@ pub fn clear(states: &mut [u32], pending: &mut [u32], n: usize)
 {
     let mut i = 0;
     while i < n {
-        let at = aut::STATE * (pending[2 * i + 1] as usize) + aut::word::WORK;
+        let at = aut_states::STATE * (pending[2 * i + 1] as usize) + aut_states::word::WORK;
         states[at] = 0;
         pending[2 * i + 1] = 0;
         i += 1;

@@ -10,10 +10,10 @@ use borrow.Author.Tests.{eqb-true, eqb-false, ne-eqb}
 use Rattle.spp_steps.proofs.Apply.{by-if}
 use Rattle.aut_steps.specs.Tables.{SPP, UNION, INTERSECT, XOR, DIFFERENCE, COMPLEMENT, SEQUENCE, STAR, UNTIL, kindOf, op1, op2, words}
 use Rattle.aut_steps.proofs.Facts.{words-length}
-use Rattle.delta_steps.specs.Epsilon.{epsilonOf}
-use Rattle.delta_steps.specs.Delta.{countOf}
-use Rattle.delta_steps.specs.EpsilonReads.{operandsWith}
-use Rattle.delta_steps.specs.DeltaReads.{listOperandsWith}
+use Rattle.aut_delta_steps.specs.Epsilon.{epsilonOf}
+use Rattle.aut_delta_steps.specs.Delta.{countOf}
+use Rattle.aut_delta_steps.specs.EpsilonReads.{operandsWith}
+use Rattle.aut_delta_steps.specs.DeltaReads.{listOperandsWith}
 use Rattle.aut_operands.specs.declared.Part.{Part}
 use Rattle.aut_operands.specs.declared.Part.the-variants as part
 use Rattle.aut_operands.specs.declared.Shape.{Shape}

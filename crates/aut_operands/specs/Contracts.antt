@@ -8,11 +8,11 @@ use lib.Dec.{eqb}
 use lib.ListN.{length}
 use Rattle.common.specs.Outcome.{if_then_else_}
 use Rattle.aut_steps.specs.Tables.{UNION, INTERSECT, XOR, DIFFERENCE, COMPLEMENT, SEQUENCE, STAR, UNTIL, kindOf, op1, op2, nest, words}
-use Rattle.aut_steps.specs.ListLaws.{All}
-use Rattle.delta_steps.specs.Delta.{countOf}
-use Rattle.delta_steps.specs.EpsilonReads.{operandsWith}
-use Rattle.delta_steps.specs.EpsilonDown.{Known, Open, First}
-use Rattle.delta_steps.specs.DeltaReads.{listOperandsWith}
+use Rattle.aut_steps.specs.Ascending.{All}
+use Rattle.aut_delta_steps.specs.Delta.{countOf}
+use Rattle.aut_delta_steps.specs.EpsilonReads.{operandsWith}
+use Rattle.aut_delta_steps.specs.EpsilonDown.{Known, Open, First}
+use Rattle.aut_delta_steps.specs.DeltaReads.{listOperandsWith}
 use Rattle.aut_operands.specs.declared.Part.{Part}
 use Rattle.aut_operands.specs.declared.Part.the-variants as part
 use Rattle.aut_operands.specs.declared.Shape.{Shape}

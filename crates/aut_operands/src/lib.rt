@@ -3,7 +3,7 @@ ghost use mathlib.Core.Path.{_≡_};
 ghost use mathlib.Core.List.{List};
 ghost use Prim.Native.Nat.{ℕ, _+_, _*_, _<_};
 ghost use lib.ListN.{length, getD};
-ghost use Rattle.delta_steps.specs.EpsilonDown.{Way};
+ghost use Rattle.aut_delta_steps.specs.EpsilonDown.{Way};
 ghost use Rattle.aut_operands.specs.Contracts.{untilShape, shapeOf, operandsOf, Inside, Told, Looks, Next, Descends};
 
 // what is worked out of a state
@@ -36,28 +36,28 @@ fn until_shape(part: Part) -> Shape
 pub fn shape_of(part: Part, kind: u32) -> Shape
     ensures { λ r. ⌜ shapeOf part kind ≡ r ⌝ }
 {
-    if kind == aut::kind::UNION {
+    if kind == aut_states::kind::UNION {
         return Shape::Many;
     }
-    if kind == aut::kind::INTERSECT {
+    if kind == aut_states::kind::INTERSECT {
         return Shape::Many;
     }
-    if kind == aut::kind::XOR {
+    if kind == aut_states::kind::XOR {
         return Shape::Both;
     }
-    if kind == aut::kind::DIFFERENCE {
+    if kind == aut_states::kind::DIFFERENCE {
         return Shape::Both;
     }
-    if kind == aut::kind::COMPLEMENT {
+    if kind == aut_states::kind::COMPLEMENT {
         return Shape::First;
     }
-    if kind == aut::kind::SEQUENCE {
+    if kind == aut_states::kind::SEQUENCE {
         return Shape::Both;
     }
-    if kind == aut::kind::STAR {
+    if kind == aut_states::kind::STAR {
         return Shape::First;
     }
-    if kind == aut::kind::UNTIL {
+    if kind == aut_states::kind::UNTIL {
         return until_shape(part);
     }
     Shape::Alone
@@ -68,9 +68,9 @@ fn operand_count(states: &[u32], part: Part, x: u32) -> usize
     ensures { λ r. ⌜ ((mem : List ℕ) → length (operandsOf part (now (states .entry)) mem x) ≡ r) ⌝ }
 {
     let i = x as usize;
-    let shape = shape_of(part, states[aut::STATE * i + aut::word::KIND]);
+    let shape = shape_of(part, states[aut_states::STATE * i + aut_states::word::KIND]);
     match shape {
-        Shape::Many => states[aut::STATE * i + aut::word::SECOND] as usize,
+        Shape::Many => states[aut_states::STATE * i + aut_states::word::SECOND] as usize,
         Shape::Both => 2,
         Shape::First => 1,
         Shape::Second => 1,
@@ -83,15 +83,15 @@ fn operand(states: &[u32], members: &[u32], part: Part, x: u32, j: usize) -> u32
     ensures { λ r. ⌜ getD (operandsOf part (now (states .entry)) (now (members .entry)) x) j 0 ≡ r ⌝ }
 {
     let i = x as usize;
-    let shape = shape_of(part, states[aut::STATE * i + aut::word::KIND]);
+    let shape = shape_of(part, states[aut_states::STATE * i + aut_states::word::KIND]);
     match shape {
         Shape::Many => {
-            let from = states[aut::STATE * i + aut::word::FIRST] as usize;
+            let from = states[aut_states::STATE * i + aut_states::word::FIRST] as usize;
             members[from + j]
         }
-        Shape::Both => states[aut::STATE * i + aut::word::FIRST + j],
-        Shape::First => states[aut::STATE * i + aut::word::FIRST],
-        Shape::Second => states[aut::STATE * i + aut::word::SECOND],
+        Shape::Both => states[aut_states::STATE * i + aut_states::word::FIRST + j],
+        Shape::First => states[aut_states::STATE * i + aut_states::word::FIRST],
+        Shape::Second => states[aut_states::STATE * i + aut_states::word::SECOND],
         Shape::Alone => 0,
     }
 }
@@ -106,12 +106,12 @@ fn is_open(states: &[u32], part: Part, y: u32) -> bool
     let i = y as usize;
     match part {
         Part::Epsilon => {
-            if states[aut::STATE * i + aut::word::KIND] == aut::kind::SPP {
+            if states[aut_states::STATE * i + aut_states::word::KIND] == aut_states::kind::SPP {
                 return false;
             }
-            states[aut::STATE * i + aut::word::EPSILON] == 0
+            states[aut_states::STATE * i + aut_states::word::EPSILON] == 0
         }
-        Part::Delta => states[aut::STATE * i + aut::word::COUNT] == 0,
+        Part::Delta => states[aut_states::STATE * i + aut_states::word::COUNT] == 0,
     }
 }
 

@@ -9,36 +9,36 @@ use Rattle.common.specs.Outcome.{refused, given}
 use Rattle.common.specs.Runs.{table, placed}
 use Rattle.cache.proofs.Cache.{sound-map, notes-map}
 use Rattle.sp_steps.specs.Model as Sp
-use Rattle.sp_steps.specs.Laws as SpLaws
+use Rattle.sp_steps.specs.Wf as SpLaws
 use Rattle.sp_steps.proofs.Laws as SpLawsProofs
-use Rattle.spp_steps.specs.Laws.{ValidAt, Denotes}
+use Rattle.spp_steps.specs.Wf.{ValidAt, Denotes}
 use Rattle.spp_steps.proofs.Laws.{den-mem}
 use Rattle.spp_steps.specs.ImageModel as Images
 use Rattle.spp_steps.specs.ImageModel.{stores}
 use Rattle.spp_steps.proofs.Images.{ifwd-exact}
-use Rattle.spp.specs.Seen as Spp
+use Rattle.spp.specs.Contracts as Spp
 use Rattle.spp.specs.declared.SPP.{SPP}
 use Rattle.spp.specs.declared.Made.{Made}
 use Rattle.spp.specs.declared.Made.the-variants.{Node, Full}
-use Rattle.spp_img2.specs.Seen.{lifted}
+use Rattle.spp_query.specs.Contracts.{lifted}
 use Rattle.aut_steps.specs.Relations as Rel
 use Rattle.aut_steps.specs.Tables.{putNodes, onNodes}
-use Rattle.aut_steps.specs.Good.{states}
+use Rattle.aut_steps.specs.Wf.{states}
 use Rattle.aut_steps.proofs.StateLaws.{nodes-goes}
-use Rattle.delta_steps.proofs.Labels.{intersect-makes}
-use Rattle.delta_steps.specs.Delta.{putAut, onAut, listAt, delta}
-use Rattle.delta_steps.specs.Worked.{Stored}
-use Rattle.delta_stage.specs.OnStore.{storeOf}
-use Rattle.query_steps.specs.Tables.{Tables, diagrams, putBase, putRelations, onBase, makingRelations}
-use Rattle.query_steps.proofs.Tables.{both-wf}
-use Rattle.query_steps.proofs.Steps.{Ends, Steps, ends-map, relations-step, goes-ends, delta-ends}
-use Rattle.query_stage.specs.Layer.{tablesOf, QueryReady}
-use Rattle.query_stage.proofs.Layer.{Leaves, queryLayer, by-ends}
-use Rattle.aut.specs.Seen.{limitsOf}
-use Rattle.aut.specs.declared.Counts.{Counts}
-use Rattle.aut.specs.declared.Limits.{Limits}
-use Rattle.aut_rel.specs.Behind.{Modifies}
-use Rattle.aut_rel.specs.Seen.{MadeLeft, Relates, RelateReady}
+use Rattle.aut_delta_steps.proofs.Labels.{intersect-makes}
+use Rattle.aut_delta_steps.specs.Delta.{putAut, onAut, listAt, delta}
+use Rattle.aut_delta_steps.specs.Wf.{Stored}
+use Rattle.aut_delta_stage.specs.OnStore.{storeOf}
+use Rattle.aut_query_steps.specs.Tables.{Tables, diagrams, putBase, putRelations, onBase, makingRelations}
+use Rattle.aut_query_steps.proofs.Tables.{both-wf}
+use Rattle.aut_query_steps.proofs.Steps.{Ends, Steps, ends-map, relations-step, goes-ends, delta-ends}
+use Rattle.aut_query_stage.specs.Layer.{tablesOf, QueryReady}
+use Rattle.aut_query_stage.proofs.Layer.{Leaves, queryLayer, by-ends}
+use Rattle.aut_states.specs.Contracts.{limitsOf}
+use Rattle.aut_states.specs.declared.Counts.{Counts}
+use Rattle.aut_states.specs.declared.Limits.{Limits}
+use Rattle.aut_relations.specs.Behind.{Modifies}
+use Rattle.aut_relations.specs.Contracts.{MadeLeft, Relates, RelateReady}
 use Rattle.aut_stage.specs.Stage.{gave, Post}
 use Rattle.aut_stage.specs.OnNodes.{withNodes}
 use Rattle.aut_sets.specs.Contracts.{PreLift, LiftNotes, PostLift}

@@ -7,21 +7,21 @@ use lib.ListN.{length}
 use Rattle.common.specs.Outcome.{after}
 use Rattle.common.proofs.Follow.{given-of}
 use Rattle.sp.specs.declared.SP.{SP}
-use Rattle.aut_steps.specs.Good.{states}
-use Rattle.aut_steps.proofs.Good.{state-grown}
-use Rattle.delta_steps.specs.Delta.{delta, listAt}
-use Rattle.delta_steps.specs.Worked.{Stored}
-use Rattle.delta_stage.specs.OnStore.{storeOf}
-use Rattle.query_steps.specs.Tables.{Tables, onBase}
-use Rattle.query_steps.specs.Live.{live-packets}
-use Rattle.query_steps.proofs.LiveLaws as LiveLaws
-use Rattle.query_steps.proofs.LiveLaws.{live-goes}
-use Rattle.query_steps.specs.Pruned.{prune, delta-pruned}
-use Rattle.query_stage.specs.Layer.{tablesOf, PreQuery}
-use Rattle.query_stage.proofs.Layer.{queryLayer}
-use Rattle.aut.specs.Seen.{limitsOf}
-use Rattle.aut.specs.declared.Counts.{Counts}
-use Rattle.aut.specs.declared.Limits.{Limits}
+use Rattle.aut_steps.specs.Wf.{states}
+use Rattle.aut_steps.proofs.Wf.{state-grown}
+use Rattle.aut_delta_steps.specs.Delta.{delta, listAt}
+use Rattle.aut_delta_steps.specs.Wf.{Stored}
+use Rattle.aut_delta_stage.specs.OnStore.{storeOf}
+use Rattle.aut_query_steps.specs.Tables.{Tables, onBase}
+use Rattle.aut_query_steps.specs.Live.{live-packets}
+use Rattle.aut_query_steps.proofs.LiveLaws as LiveLaws
+use Rattle.aut_query_steps.proofs.LiveLaws.{live-goes}
+use Rattle.aut_query_steps.specs.Pruned.{prune, delta-pruned}
+use Rattle.aut_query_stage.specs.Layer.{tablesOf, PreQuery}
+use Rattle.aut_query_stage.proofs.Layer.{queryLayer}
+use Rattle.aut_states.specs.Contracts.{limitsOf}
+use Rattle.aut_states.specs.declared.Counts.{Counts}
+use Rattle.aut_states.specs.declared.Limits.{Limits}
 use Rattle.aut_stage.specs.Stage.{gave, Post, Stage}
 use Rattle.aut_stage.proofs.Stage.{begin, next, stuck, finish, all-of}
 use Rattle.aut_delta.specs.Contracts.{PreDelta, PostDelta}

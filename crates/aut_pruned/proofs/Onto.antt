@@ -7,8 +7,8 @@ use lib.Dec.{eqb}
 use Rattle.common.specs.Outcome.{Outcome, refused, given, Step, return, after, _>>=_, if_then_else_}
 use Rattle.netkat_steps.specs.ListSteps.{Edge, edge}
 use Rattle.aut_steps.specs.Relations as Rel
-use Rattle.query_steps.specs.Tables.{Tables}
-use Rattle.query_steps.specs.Pruned.{viable, prune}
+use Rattle.aut_query_steps.specs.Tables.{Tables}
+use Rattle.aut_query_steps.specs.Pruned.{viable, prune}
 use Rattle.aut_pruned.specs.Onto.{behind}
 
 module _ (N : ℕ) where

@@ -10,8 +10,8 @@ use borrow.Author.Tests.{eq-eqb, ne-eqb}
 use Rattle.common.specs.Outcome.{after, if_then_else_}
 use Rattle.common.specs.Runs.{table}
 use Rattle.netkat_steps.specs.ListSteps.{Edge, edge}
-use Rattle.sp_steps.specs.Laws as SpLaws
-use Rattle.spp_steps.specs.Laws.{ValidAt}
+use Rattle.sp_steps.specs.Wf as SpLaws
+use Rattle.spp_steps.specs.Wf.{ValidAt}
 use Rattle.spp_steps.proofs.Laws.{at-ext}
 use Rattle.spp_steps.specs.ImageModel as Images
 use Rattle.spp_steps.specs.ImageModel.{stores}
@@ -21,25 +21,25 @@ use Rattle.spp.specs.declared.Made.the-variants.{Node, Full}
 use Rattle.aut_steps.specs.Relations as Rel
 use Rattle.aut_steps.specs.Tables.{Aut, onNodes}
 use Rattle.aut_steps.proofs.Scratch.{kept-refl, kept-wide}
-use Rattle.st_steps.specs.Edges.{edges, EdgeAt, EdgesAt, none, also}
-use Rattle.st_steps.proofs.Edges.{edges-grown}
-use Rattle.st_steps.specs.Places.{putEdge}
-use Rattle.st_steps.proofs.Places.{edgeAt, put-kept, edges-length, edges-same, edges-on, edges-done, edges-snoc, edge-at}
-use Rattle.delta_steps.specs.Delta.{onAut, startOf, countOf, listAt}
-use Rattle.delta_steps.proofs.ListGoes.{list-at}
-use Rattle.query_steps.specs.Tables.{Tables, liveOf, onBase, makingRelations}
-use Rattle.query_steps.specs.Pruned as M
-use Rattle.query_stage.specs.Layer.{tablesOf, QueryReady}
-use Rattle.query_stage.proofs.Layer.{queryLayer}
-use Rattle.aut.specs.Seen.{limitsOf}
-use Rattle.aut.specs.declared.Counts.{Counts}
-use Rattle.aut.specs.declared.Limits.{Limits}
-use Rattle.aut_rel.specs.Seen.{RelateReady, Relates}
+use Rattle.aut_st_steps.specs.Edges.{edges, EdgeAt, EdgesAt, none, also}
+use Rattle.aut_st_steps.proofs.Edges.{edges-grown}
+use Rattle.aut_st_steps.specs.Places.{putEdge}
+use Rattle.aut_st_steps.proofs.Places.{edgeAt, put-kept, edges-length, edges-same, edges-on, edges-done, edges-snoc, edge-at}
+use Rattle.aut_delta_steps.specs.Delta.{onAut, startOf, countOf, listAt}
+use Rattle.aut_delta_steps.proofs.ListGoes.{list-at}
+use Rattle.aut_query_steps.specs.Tables.{Tables, liveOf, onBase, makingRelations}
+use Rattle.aut_query_steps.specs.Pruned as M
+use Rattle.aut_query_stage.specs.Layer.{tablesOf, QueryReady}
+use Rattle.aut_query_stage.proofs.Layer.{queryLayer}
+use Rattle.aut_states.specs.Contracts.{limitsOf}
+use Rattle.aut_states.specs.declared.Counts.{Counts}
+use Rattle.aut_states.specs.declared.Limits.{Limits}
+use Rattle.aut_relations.specs.Contracts.{RelateReady, Relates}
 use Rattle.aut_stage.specs.Stage.{gave, Post, Stage}
 use Rattle.aut_stage.proofs.Stage.{Turned, begin, next, stuck, instead, wrote, finish, done, all-of}
 use Rattle.aut_stage.specs.OnNodes.{withNodes}
 use Rattle.aut_sets.specs.Contracts.{PreLift, PostLift}
-use Rattle.st.specs.Seen.{RESULT}
+use Rattle.aut_st_insert.specs.Contracts.{RESULT}
 use Rattle.aut_pruned.specs.Onto.{behind}
 use Rattle.aut_pruned.proofs.Onto.{pruneOnto, prune-is}
 use Rattle.aut_pruned.specs.Contracts.{cutOf, PreViable, PostViable, PreKeep, PostKeep, Pruning, PostPrune}

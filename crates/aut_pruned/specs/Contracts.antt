@@ -5,26 +5,26 @@ use Prim.Native.Nat.{ℕ, _+_, _-_, _/_, _≤_, _<_}
 use lib.ListN.{length}
 use Rattle.common.specs.Runs.{table}
 use Rattle.netkat_steps.specs.ListSteps.{Edge, edge}
-use Rattle.sp_steps.specs.Laws as SpLaws
-use Rattle.spp_steps.specs.Laws.{ValidAt}
+use Rattle.sp_steps.specs.Wf as SpLaws
+use Rattle.spp_steps.specs.Wf.{ValidAt}
 use Rattle.spp.specs.declared.Made.{Made}
 use Rattle.spp.specs.declared.Made.the-variants.{Node, Full}
-use Rattle.aut_steps.specs.Good.{states}
+use Rattle.aut_steps.specs.Wf.{states}
 use Rattle.aut_steps.specs.Scratch.{Kept}
-use Rattle.st_steps.specs.Edges.{edges, EdgesAt}
-use Rattle.delta_steps.specs.Delta.{listAt}
-use Rattle.query_steps.specs.Tables.{Tables, liveOf}
-use Rattle.query_steps.specs.Pruned as M
-use Rattle.query_steps.specs.Pruned.{delta-pruned}
-use Rattle.query_stage.specs.Layer.{tablesOf, QueryReady, Zeroed}
-use Rattle.query_stage.proofs.Layer.{queryLayer}
-use Rattle.aut.specs.Seen.{limitsOf}
-use Rattle.aut.specs.declared.Counts.{Counts}
-use Rattle.aut.specs.declared.Limits.{Limits}
-use Rattle.aut_rel.specs.Behind.{LISTS}
+use Rattle.aut_st_steps.specs.Edges.{edges, EdgesAt}
+use Rattle.aut_delta_steps.specs.Delta.{listAt}
+use Rattle.aut_query_steps.specs.Tables.{Tables, liveOf}
+use Rattle.aut_query_steps.specs.Pruned as M
+use Rattle.aut_query_steps.specs.Pruned.{delta-pruned}
+use Rattle.aut_query_stage.specs.Layer.{tablesOf, QueryReady, Zeroed}
+use Rattle.aut_query_stage.proofs.Layer.{queryLayer}
+use Rattle.aut_states.specs.Contracts.{limitsOf}
+use Rattle.aut_states.specs.declared.Counts.{Counts}
+use Rattle.aut_states.specs.declared.Limits.{Limits}
+use Rattle.aut_relations.specs.Behind.{LISTS}
 use Rattle.aut_stage.specs.Stage.{Answer, gave, refusal, Post}
 use Rattle.aut_stage.specs.OnNodes.{withNodes}
-use Rattle.st.specs.Seen.{RESULT}
+use Rattle.aut_st_insert.specs.Contracts.{RESULT}
 use Rattle.aut_pruned.specs.declared.Pruned.{Pruned}
 use Rattle.aut_pruned.specs.declared.Pruned.the-variants as pruned
 use Rattle.aut_pruned.specs.Onto.{behind}

@@ -1,13 +1,13 @@
 // delta_pruned of aut.rs: a state's transitions, each cut to packets that lead somewhere. The list stands in scratch, at record RESULT of st.
-use aut::Config;
-use aut::Counts;
 use aut_delta::Worked;
 use aut_live::Lived;
+use aut_states::Config;
+use aut_states::Counts;
 use sp::SP;
 use spp::Made;
 use spp::Op;
 use spp::SPP;
-ghost use Rattle.query_stage.specs.Layer.{tablesOf, PreQuery};
+ghost use Rattle.aut_query_stage.specs.Layer.{tablesOf, PreQuery};
 ghost use Rattle.aut_pruned.specs.Contracts.{PostPruned, PreViable, PostViable, PreKeep, PostKeep, PrePrune, PostPrune};
 
 // so many transitions; or 01's number
@@ -31,11 +31,11 @@ fn viable(
     ensures { λ r. ⌜ PostViable fields (now (sp .entry)) (now (nodes .entry)) (now (states .entry)) (now (scratch .entry)) c target (label .0) r (now (nodes .exit)) (now (scratch .exit)) ⌝ }
 {
     let i = target as usize;
-    let live = SP(states[aut::STATE * i + aut::word::LIVE] - 1);
+    let live = SP(states[aut_states::STATE * i + aut_states::word::LIVE] - 1);
     let Made::Node(allowed, n) = aut_sets::ifwd(sp, nodes, scratch, c, fields, live) else {
         return Made::Full;
     };
-    aut_rel::apply(nodes, scratch, n, fields, Op::Intersect, label, allowed)
+    aut_relations::apply(nodes, scratch, n, fields, Op::Intersect, label, allowed)
 }
 
 // a transition behind the m at RESULT, unless its label is empty
@@ -47,7 +47,7 @@ fn keep(scratch: &mut [u32], fields: u32, m: usize, target: u32, label: SPP) -> 
     if label.0 == zero.0 {
         return m;
     }
-    let at = 2 * (st::RESULT + m);
+    let at = 2 * (aut_st_insert::RESULT + m);
     scratch[at] = target;
     scratch[at + 1] = label.0;
     m + 1
@@ -68,8 +68,8 @@ fn prune(
     ensures { λ r. ⌜ PostPrune (config .fields) (config .limits) (now (sp .entry)) (now (nodes .entry)) (now (states .entry)) (now (transitions .entry)) (now (scratch .entry)) c x r (now (nodes .exit)) (now (scratch .exit)) ⌝ }
 {
     let j = x as usize;
-    let start = states[aut::STATE * j + aut::word::START] as usize;
-    let k = states[aut::STATE * j + aut::word::COUNT] as usize - 1;
+    let start = states[aut_states::STATE * j + aut_states::word::START] as usize;
+    let k = states[aut_states::STATE * j + aut_states::word::COUNT] as usize - 1;
     let mut n = c.spp;
     let mut m = 0;
     let mut i = 0;
@@ -86,7 +86,7 @@ fn prune(
             target,
             label,
         ) else {
-            return Pruned::Refused(aut::refusal::SPP);
+            return Pruned::Refused(aut_states::refusal::SPP);
         };
         m = keep(scratch, config.fields, m, target, h);
         n = n1;

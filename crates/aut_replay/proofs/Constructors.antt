@@ -12,7 +12,7 @@ use Rattle.common.proofs.Runs as Runs
 use Rattle.common.specs.Runs.{Table, placed}
 use Rattle.common.proofs.Runs.{runs-bind, runs-return, runs-map}
 use Rattle.spp_steps.specs.Model as Spp
-use Rattle.spp_steps.specs.Laws.{Wf, Ext, ValidAt}
+use Rattle.spp_steps.specs.Wf.{Wf, Ext, ValidAt}
 use Rattle.spp_steps.proofs.Laws.{at-ext, den-mem, den-top, sppTheory}
 use Rattle.spp_steps.proofs.Apply.{apply-exact}
 use Rattle.spp_steps.proofs.Sequence.{sequence-exact}
@@ -24,17 +24,17 @@ use Rattle.aut_steps.specs.Lists.{sorted}
 use Rattle.aut_steps.specs.Constructors.{Within, within, beyond, openAll, Opened, list, top, long, openUnion, each, countAll, product, mk-spp, mk-dup, mk-top, mk-until, spp-of, relations, is-relation, Parts, parts, Met, met, addLast, uniteOne, addRelation, meetOne, finish, unite, uniteOpened, mk-union-n, mk-union, meetFinish, meet, meetOpened, mk-intersect-n-base, base, bases, distribute, intersectOpened, mk-intersect-n, mk-intersect, mk-xor, mk-difference, mk-complement, sequence-with, sequence-by, mk-sequence, mk-star}
 use Rattle.netkat.specs.Rules.{union, intersection}
 use Rattle.aut_steps.specs.Kinds.{form}
-use Rattle.aut_steps.specs.ListLaws.{All}
+use Rattle.aut_steps.specs.Ascending.{All}
 use Rattle.aut_steps.proofs.ListLaws.{all-map, all-append}
-use Rattle.aut_steps.specs.Good.{states, kind, first, second, nesting, Two, WfAut}
-use Rattle.aut_steps.proofs.Good.{nesting-grown, state-grown, states-grown, ok-as}
-use Rattle.aut_steps.proofs.Goes.{goes-map}
+use Rattle.aut_steps.specs.Wf.{states, kind, first, second, nesting, Two, WfAut}
+use Rattle.aut_steps.proofs.Wf.{nesting-grown, state-grown, states-grown, ok-as}
+use Rattle.aut_steps.proofs.StepSpec.{goes-map}
 use Rattle.aut_steps.proofs.StateLaws.{handle, both-spp, mk-spp-goes, mk-dup-goes, mk-top-goes, mk-until-goes, mk-xor-goes, mk-difference-goes, mk-complement-goes, mk-star-goes}
 use Rattle.aut_steps.proofs.UnionLaws.{mk-union-n-goes}
 use Rattle.aut_steps.proofs.SequenceLaws.{sequence-by-goes}
 use Rattle.aut_steps.proofs.IntersectLaws.{mk-intersect-n-base-goes, mk-intersect-n-goes}
-use Rattle.st_steps.specs.ListGoes.{Label, State}
-use Rattle.st_steps.proofs.ListGoes.{zero-label}
+use Rattle.aut_st_steps.specs.ListSpec.{Label, State}
+use Rattle.aut_st_steps.proofs.ListSpec.{zero-label}
 use Rattle.aut_replay.specs.Replay.{Later, Wider, Replays, stops, In}
 use Rattle.aut_replay.proofs.Runs.{later-refl, kind-later, first-later, second-later, nesting-later, replays-return, replays-map, replays-as, replays-from, replays-bind, replays-choose, replays-test, replays-limit, replays-in, replays-goes, states-then, nodes-replay}
 use Rattle.aut_replay.proofs.Interning.{Some, intern0-replays, intern1-replays, intern2-replays, internL-replays}

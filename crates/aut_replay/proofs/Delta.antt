@@ -13,37 +13,37 @@ use Rattle.common.proofs.Follow.{given-of, given-same, refused≢given}
 use Rattle.common.specs.Runs.{Table, placed}
 use Rattle.netkat.specs.Rules.{sequence, star, until, next}
 use Rattle.netkat_steps.specs.ListSteps.{Edge}
-use Rattle.spp_steps.specs.Laws.{Ext, ValidAt}
+use Rattle.spp_steps.specs.Wf.{Ext, ValidAt}
 use Rattle.spp_steps.proofs.Laws.{ext-refl, by-test}
 use Rattle.aut_steps.specs.Relations as Rel
 use Rattle.aut_steps.specs.Tables.{SEQUENCE, STAR, NEXT, UNTIL, Limits, Aut, putNodes, onNodes}
 use Rattle.aut_steps.specs.Kinds.{form}
-use Rattle.aut_steps.specs.ListLaws.{All}
+use Rattle.aut_steps.specs.Ascending.{All}
 use Rattle.aut_steps.proofs.ListLaws.{all-map, all-with}
 use Rattle.aut_steps.proofs.StateLaws as StateLaws
-use Rattle.aut_steps.specs.Good.{states, kind, first, second, nesting, members, ExtM, ExtAut, WfAut}
-use Rattle.aut_steps.proofs.Good.{extm-refl, grown-nodes, kind-grown, first-grown, nesting-grown, state-grown}
-use Rattle.st_steps.specs.Edges.{edges}
-use Rattle.st_steps.specs.ListGoes.{ListAt}
-use Rattle.delta_steps.proofs.ListGoes.{list-at}
-use Rattle.delta_steps.specs.Epsilon.{epsilonOf, epsilon}
-use Rattle.delta_steps.specs.Delta.{startOf, countOf, Store, store, putAut, roomT, append, listAt, keepList, delta}
-use Rattle.delta_steps.proofs.Agree.{agree-given}
-use Rattle.delta_steps.specs.Fits.{Since}
-use Rattle.delta_steps.specs.Noted.{Noted}
-use Rattle.delta_steps.proofs.Noted.{noted-grown, written, written-other, written-count}
-use Rattle.delta_steps.specs.Worked.{Valued, handle, memo, WfStore, Stored}
-use Rattle.delta_steps.proofs.Worked.{valued-reads, worked-since}
-use Rattle.delta_steps.proofs.Operands.{below-one, below-two}
-use Rattle.delta_steps.specs.EpsilonLaws.{Ready, Epsiloned}
-use Rattle.delta_steps.specs.EpsilonReads.{workAll}
-use Rattle.delta_steps.proofs.EpsilonReads.{given-store}
-use Rattle.delta_steps.specs.Stored.{ExtStore}
-use Rattle.delta_steps.proofs.Stored.{went-refl, went-trans, went-since, went-noted, stored-went, edges-length, keeping, keeping-stored, keeping-went}
-use Rattle.delta_steps.proofs.DeltaRuns.{Deltaed}
-use Rattle.delta_steps.proofs.DeltaLaws.{delta-goes}
-use Rattle.delta_steps.specs.DeltaReads.{listOperands, quit, enterWith, enter}
-use Rattle.delta_steps.proofs.DeltaReads.{together, finishList, list-operands-below, entered, entered-went, entered-worked, star-noted, star-went, star-worked, star-again, delta-stored, delta-works}
+use Rattle.aut_steps.specs.Wf.{states, kind, first, second, nesting, members, ExtM, ExtAut, WfAut}
+use Rattle.aut_steps.proofs.Wf.{extm-refl, grown-nodes, kind-grown, first-grown, nesting-grown, state-grown}
+use Rattle.aut_st_steps.specs.Edges.{edges}
+use Rattle.aut_st_steps.specs.ListSpec.{ListAt}
+use Rattle.aut_delta_steps.proofs.ListGoes.{list-at}
+use Rattle.aut_delta_steps.specs.Epsilon.{epsilonOf, epsilon}
+use Rattle.aut_delta_steps.specs.Delta.{startOf, countOf, Store, store, putAut, roomT, append, listAt, keepList, delta}
+use Rattle.aut_delta_steps.proofs.Agree.{agree-given}
+use Rattle.aut_delta_steps.specs.Fits.{Since}
+use Rattle.aut_delta_steps.specs.Noted.{Noted}
+use Rattle.aut_delta_steps.proofs.Noted.{noted-grown, written, written-other, written-count}
+use Rattle.aut_delta_steps.specs.Wf.{Valued, handle, memo, WfStore, Stored}
+use Rattle.aut_delta_steps.proofs.Wf.{valued-reads, worked-since}
+use Rattle.aut_delta_steps.proofs.Operands.{below-one, below-two}
+use Rattle.aut_delta_steps.specs.EpsilonSpec.{Ready, Epsiloned}
+use Rattle.aut_delta_steps.specs.EpsilonReads.{workAll}
+use Rattle.aut_delta_steps.proofs.EpsilonReads.{given-store}
+use Rattle.aut_delta_steps.specs.Extends.{ExtStore}
+use Rattle.aut_delta_steps.proofs.Extends.{went-refl, went-trans, went-since, went-noted, stored-went, edges-length, keeping, keeping-stored, keeping-went}
+use Rattle.aut_delta_steps.proofs.DeltaRuns.{Deltaed}
+use Rattle.aut_delta_steps.proofs.DeltaLaws.{delta-goes}
+use Rattle.aut_delta_steps.specs.DeltaReads.{listOperands, quit, enterWith, enter}
+use Rattle.aut_delta_steps.proofs.DeltaReads.{together, finishList, list-operands-below, entered, entered-went, entered-worked, star-noted, star-went, star-worked, star-again, delta-stored, delta-works}
 use Rattle.aut_replay.specs.Replay.{Later, Wider, Again, Replays, stops, comes, In, values, HasEpsilon, Settled, EpsilonDone, listFrom, ListKept, SettledLists, Written, DeltaDone, lacks, gives, DeltaAgain}
 use Rattle.aut_replay.proofs.Runs.{later-refl, grown-later, again-grown, kind-later, first-later}
 use Rattle.aut_replay.proofs.Values.{star-runs}

@@ -11,24 +11,24 @@ use Rattle.common.specs.Outcome.{Outcome, refused, given, Step, after, Gives, g
 use Rattle.common.proofs.Follow.{given-same, refused≢given}
 use Rattle.common.specs.Runs as Runs
 use Rattle.common.specs.Runs.{Table, placed}
-use Rattle.spp_steps.specs.Laws.{Ext, ValidAt}
+use Rattle.spp_steps.specs.Wf.{Ext, ValidAt}
 use Rattle.spp_steps.proofs.Laws.{sppTheory, by-test}
 use Rattle.aut_steps.specs.Tables.{SPP, nest, Limits, Aut, putNodes}
-use Rattle.aut_steps.specs.ListLaws.{All}
+use Rattle.aut_steps.specs.Ascending.{All}
 use Rattle.aut_steps.proofs.ListLaws.{all-map, all-with}
-use Rattle.aut_steps.specs.Good.{states, kind, first, second, nesting, members, ExtAut, WfAut}
-use Rattle.aut_steps.proofs.Good.{grown-trans, grown-nodes, kind-grown, first-grown, state-grown}
-use Rattle.aut_steps.specs.Goes.{Memos}
-use Rattle.delta_steps.specs.Epsilon.{epsilonOf, keepEpsilon, epsilon}
-use Rattle.delta_steps.proofs.Agree.{agree-given}
-use Rattle.delta_steps.specs.Noted.{Noted}
-use Rattle.delta_steps.proofs.Noted.{noted-refl, noted-trans, noted-grown, noted-word, written, written-other, written-here, written-grown, written-count}
-use Rattle.delta_steps.specs.Worked.{Valued, handle, memo}
-use Rattle.delta_steps.proofs.Worked.{valued-noted, valued-reads}
-use Rattle.delta_steps.specs.EpsilonLaws.{Ready, Epsiloned}
-use Rattle.delta_steps.proofs.EpsilonLaws.{epsilon-goes}
-use Rattle.delta_steps.specs.EpsilonReads.{operandsOf, workAll, combineBy}
-use Rattle.delta_steps.proofs.EpsilonReads.{combineAt, given-store, operands-below, worked-out, epsilon-spp, epsilon-kept, epsilon-works}
+use Rattle.aut_steps.specs.Wf.{states, kind, first, second, nesting, members, ExtAut, WfAut}
+use Rattle.aut_steps.proofs.Wf.{grown-trans, grown-nodes, kind-grown, first-grown, state-grown}
+use Rattle.aut_steps.specs.StepSpec.{Memos}
+use Rattle.aut_delta_steps.specs.Epsilon.{epsilonOf, keepEpsilon, epsilon}
+use Rattle.aut_delta_steps.proofs.Agree.{agree-given}
+use Rattle.aut_delta_steps.specs.Noted.{Noted}
+use Rattle.aut_delta_steps.proofs.Noted.{noted-refl, noted-trans, noted-grown, noted-word, written, written-other, written-here, written-grown, written-count}
+use Rattle.aut_delta_steps.specs.Wf.{Valued, handle, memo}
+use Rattle.aut_delta_steps.proofs.Wf.{valued-noted, valued-reads}
+use Rattle.aut_delta_steps.specs.EpsilonSpec.{Ready, Epsiloned}
+use Rattle.aut_delta_steps.proofs.EpsilonLaws.{epsilon-goes}
+use Rattle.aut_delta_steps.specs.EpsilonReads.{operandsOf, workAll, combineBy}
+use Rattle.aut_delta_steps.proofs.EpsilonReads.{combineAt, given-store, operands-below, worked-out, epsilon-spp, epsilon-kept, epsilon-works}
 use Rattle.aut_replay.specs.Replay.{Later, Again, values, HasEpsilon, epsilonFrom, EpsilonKept, Settled, EpsilonDone, EpsilonAgain}
 use Rattle.aut_replay.proofs.Runs.{later-refl, grown-later, again-grown, kind-later, first-later}
 use Rattle.aut_replay.proofs.Values.{combine-as, combine-runs, operands-later, from-later}

@@ -16,9 +16,9 @@ use Rattle.aut_steps.specs.Tables.{op1, op2, nest, words, Limits, roomS, roomM,
 use Rattle.aut_steps.specs.Intern.{seek, same2, sameL, put, intern0, intern1, intern2, nestL, store, putL, internL}
 use Rattle.aut_steps.specs.Kinds.{Form, leaf, constant, one, two, many, nothing, form, operandsBy}
 use Rattle.aut_steps.proofs.Facts.{seek-hit, seek-miss, Is2, same2-is, is-same2, IsL, sameL-is, is-sameL, sets-below, sets-above, words-sets, room-state, room-members}
-use Rattle.aut_steps.specs.Good.{states, kind, ExtM, Ok, WfAut, operands}
-use Rattle.aut_steps.proofs.Good.{extm-refl, grown-refl, ok-as}
-use Rattle.aut_steps.proofs.Goes.{plus, grown-plus, memos-plus, kind-plus, first-plus, second-plus}
+use Rattle.aut_steps.specs.Wf.{states, kind, ExtM, Ok, WfAut, operands}
+use Rattle.aut_steps.proofs.Wf.{extm-refl, grown-refl, ok-as}
+use Rattle.aut_steps.proofs.StepSpec.{plus, grown-plus, memos-plus, kind-plus, first-plus, second-plus}
 use Rattle.aut_steps.proofs.InternLaws.{State2, StateL}
 use Rattle.aut_replay.specs.Replay.{Later, Again, Replays, stops, comes}
 use Rattle.aut_replay.proofs.Runs.{kind-later, first-later, second-later, members-later}

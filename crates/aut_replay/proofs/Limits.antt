@@ -17,9 +17,9 @@ use Rattle.aut_steps.specs.Intern.{seek, same2, sameL, nestL, intern1, intern2,
 use Rattle.aut_steps.specs.Lists.{sorted}
 use Rattle.aut_steps.specs.Constructors as Make
 use Rattle.aut_steps.specs.Constructors.{Within, within, beyond, thenWithin, opened, extend, openAll, Opened, thenOpen, openUnion, countOne, countAll, product, each, mk-spp, mk-top, mk-until, relations, is-relation, Met, addLast, parts, met, uniteOne, meetOne, addRelation, finish, uniteOpened, mk-union-n, mk-union, meetFinish, meet, meetOpened, mk-intersect-n-base, base, bases, distribute, intersectOpened, mk-intersect-n, mk-intersect, mk-xor, mk-difference, mk-complement, sequence-with, sequence-by, mk-sequence, mk-star}
-use Rattle.st_steps.specs.Operations.{ops, complement}
-use Rattle.delta_steps.specs.Epsilon.{eachOf, epsilon}
-use Rattle.delta_steps.specs.Delta.{countOf, Store, putAut, onAut, keepList, unionAll, intersectAll, intersectFirst, sequenceList, starList, untilList, dupList, topList, delta-by-kind, delta-with, delta-by, delta}
+use Rattle.aut_st_steps.specs.Operations.{ops, complement}
+use Rattle.aut_delta_steps.specs.Epsilon.{eachOf, epsilon}
+use Rattle.aut_delta_steps.specs.Delta.{countOf, Store, putAut, onAut, keepList, unionAll, intersectAll, intersectFirst, sequenceList, starList, untilList, dupList, topList, delta-by-kind, delta-with, delta-by, delta}
 use Rattle.spp_steps.proofs.Laws.{false-true}
 use Rattle.aut_replay.specs.Replay as Replay
 use Rattle.aut_replay.specs.Replay.{Wider, Call, called, ListCall, listed}

@@ -13,13 +13,13 @@ use Rattle.netkat_steps.specs.ListSteps.{Edge, edge, leadsTo, unite, enter, ent
 use Rattle.spp_steps.specs.Model as Spp
 use Rattle.aut_steps.specs.Relations as Rel
 use Rattle.aut_steps.specs.Tables.{Limits, Aut}
-use Rattle.aut_steps.specs.Good.{ExtAut, WfAut}
-use Rattle.aut_steps.proofs.Good.{grown-refl, grown-trans, state-grown}
-use Rattle.st_steps.specs.Operations.{ops}
-use Rattle.st_steps.specs.Edges.{EdgeAt, EdgesAt, none, also}
-use Rattle.st_steps.proofs.Edges.{first-at, rest-at, edge-grown, edges-grown}
-use Rattle.st_steps.specs.ListGoes.{ListAt, Label, State, SumAt}
-use Rattle.st_steps.proofs.ListGoes.{list-grown, list-empty, label-grown, relation-of, zero-label, enterIn-goes}
+use Rattle.aut_steps.specs.Wf.{ExtAut, WfAut}
+use Rattle.aut_steps.proofs.Wf.{grown-refl, grown-trans, state-grown}
+use Rattle.aut_st_steps.specs.Operations.{ops}
+use Rattle.aut_st_steps.specs.Edges.{EdgeAt, EdgesAt, none, also}
+use Rattle.aut_st_steps.proofs.Edges.{first-at, rest-at, edge-grown, edges-grown}
+use Rattle.aut_st_steps.specs.ListSpec.{ListAt, Label, State, SumAt}
+use Rattle.aut_st_steps.proofs.ListSpec.{list-grown, list-empty, label-grown, relation-of, zero-label, enterIn-goes}
 use Rattle.aut_replay.specs.Replay.{Wider, Replays, stops, In}
 use Rattle.aut_replay.proofs.Runs.{replays-return, replays-map, replays-as, assoc, replays-bind, replays-assoc, replays-branch, replays-goes}
 use Rattle.aut_replay.proofs.Constructors.{apply-replay, sequence-replay, complement-replay, zero-replay, mk-top-replay, mk-union-replay, mk-intersect-replay, mk-difference-replay, mk-complement-replay, mk-sequence-replay}

@@ -13,11 +13,11 @@ use Rattle.netkat.specs.Rules.{Rule, Rules, union, intersection}
 use Rattle.aut_steps.specs.Tables.{UNION, INTERSECT, TOP, words, Limits, Aut}
 use Rattle.aut_steps.specs.Constructors.{Within, within, beyond, thenWithin, opened, extend, openAll, Opened, list, top, long, thenOpen, openUnion, countOne, countAll, product}
 use Rattle.aut_steps.specs.Kinds.{Form, many, form}
-use Rattle.aut_steps.specs.ListLaws.{All}
+use Rattle.aut_steps.specs.Ascending.{All}
 use Rattle.aut_steps.proofs.ListLaws.{all-append}
 use Rattle.aut_steps.proofs.Scratch.{all-word}
-use Rattle.aut_steps.specs.Good.{states, kind, first, second, members, Many, Ok, WfAut}
-use Rattle.aut_steps.proofs.Good.{ok-as}
+use Rattle.aut_steps.specs.Wf.{states, kind, first, second, members, Many, Ok, WfAut}
+use Rattle.aut_steps.proofs.Wf.{ok-as}
 use Rattle.aut_steps.proofs.UnionLaws.{opened-states}
 use Rattle.aut_steps.proofs.Products.{union-size}
 use Rattle.aut_replay.specs.Replay.{Later}

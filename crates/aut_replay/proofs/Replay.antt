@@ -1,5 +1,5 @@
 -- The laws of specs/Replay.
-use Rattle.st_steps.specs.ListGoes.{ListAt, State}
+use Rattle.aut_st_steps.specs.ListSpec.{ListAt, State}
 use Rattle.aut_replay.specs.Replay as Replay
 use Rattle.aut_replay.specs.Replay.{Call, called, CallAt, DoneAgain, ConstructorsAgain, ListCall, listed, ListCallAt, ListsAgain}
 use Rattle.aut_replay.proofs.Constructors.{mk-spp-replay, mk-dup-replay, mk-top-replay, mk-until-replay, mk-union-n-replay, mk-union-replay, mk-intersect-n-base-replay, mk-intersect-n-replay, mk-intersect-replay, mk-xor-replay, mk-difference-replay, mk-complement-replay, mk-sequence-replay, mk-star-replay}

@@ -12,10 +12,10 @@ use Rattle.common.specs.Runs.{Table, placed}
 use Rattle.spp_steps.proofs.Laws.{ext-refl, ext-trans, sppTheory}
 use Rattle.aut_steps.specs.Tables.{kindOf, op1, op2, nest, words, Limits, Aut, putNodes, onNodes, onStates, putStates}
 use Rattle.aut_steps.proofs.Facts.{words-same}
-use Rattle.aut_steps.specs.Good.{states, kind, first, second, nesting, members, ExtAut, WfAut}
-use Rattle.aut_steps.proofs.Good.{grown-refl, grown-trans, grown-nodes}
-use Rattle.aut_steps.proofs.Goes.{StepSpec, good-nodes}
-use Rattle.aut_steps.proofs.Goes as Going
+use Rattle.aut_steps.specs.Wf.{states, kind, first, second, nesting, members, ExtAut, WfAut}
+use Rattle.aut_steps.proofs.Wf.{grown-refl, grown-trans, grown-nodes}
+use Rattle.aut_steps.proofs.StepSpec.{StepSpec, good-nodes}
+use Rattle.aut_steps.proofs.StepSpec as Going
 use Rattle.aut_replay.specs.Replay.{Later, Again, Replays, stops, comes, In}
 
 -- ---- later tables

@@ -13,17 +13,17 @@ use Rattle.spp_steps.proofs.Laws.{den-one, den-top}
 use Rattle.aut_steps.specs.Relations as Rel
 use Rattle.aut_steps.specs.Tables.{SPP, UNION, INTERSECT, XOR, DIFFERENCE, COMPLEMENT, SEQUENCE, STAR, DUP, NEXT, UNTIL, Limits, Aut, onNodes}
 use Rattle.aut_steps.specs.Kinds.{form}
-use Rattle.aut_steps.specs.ListLaws.{All}
-use Rattle.aut_steps.specs.Good.{states, kind, first, second, members, ExtAut, WfAut}
-use Rattle.aut_steps.proofs.Good.{grown-trans, state-grown}
-use Rattle.st_steps.specs.Operations.{ops}
-use Rattle.st_steps.specs.Edges.{EdgesAt}
-use Rattle.st_steps.proofs.Edges.{edges-grown}
-use Rattle.st_steps.specs.ListGoes.{ListAt, Label, State}
-use Rattle.st_steps.proofs.ListGoes.{list-grown, list-empty, label-grown}
-use Rattle.delta_steps.proofs.ListGoes.{ListsAt, empties, with-list}
-use Rattle.delta_steps.specs.Delta.{unionAll, intersectAll, intersectFirst, sequenceList, starList, untilList, dupList, topList}
-use Rattle.delta_steps.specs.DeltaReads.{listOperandsWith, togetherWith}
+use Rattle.aut_steps.specs.Ascending.{All}
+use Rattle.aut_steps.specs.Wf.{states, kind, first, second, members, ExtAut, WfAut}
+use Rattle.aut_steps.proofs.Wf.{grown-trans, state-grown}
+use Rattle.aut_st_steps.specs.Operations.{ops}
+use Rattle.aut_st_steps.specs.Edges.{EdgesAt}
+use Rattle.aut_st_steps.proofs.Edges.{edges-grown}
+use Rattle.aut_st_steps.specs.ListSpec.{ListAt, Label, State}
+use Rattle.aut_st_steps.proofs.ListSpec.{list-grown, list-empty, label-grown}
+use Rattle.aut_delta_steps.proofs.ListGoes.{ListsAt, empties, with-list}
+use Rattle.aut_delta_steps.specs.Delta.{unionAll, intersectAll, intersectFirst, sequenceList, starList, untilList, dupList, topList}
+use Rattle.aut_delta_steps.specs.DeltaReads.{listOperandsWith, togetherWith}
 use Rattle.aut_replay.specs.Replay.{Later, Wider, Replays, In, listFrom}
 use Rattle.aut_replay.proofs.Runs.{kind-later, first-later, second-later, replays-return, replays-bind, replays-branch}
 use Rattle.aut_replay.proofs.Opening.{list-later}

@@ -12,7 +12,7 @@ use Rattle.common.specs.Runs.{Table, placed}
 use Rattle.common.proofs.Runs.{runs-bind, runs-return, runs-map}
 use Rattle.netkat.specs.Rules.{union, intersection}
 use Rattle.spp_steps.specs.Model as Spp
-use Rattle.spp_steps.specs.Laws.{Wf, ValidAt}
+use Rattle.spp_steps.specs.Wf.{Wf, ValidAt}
 use Rattle.spp_steps.proofs.Laws.{at-ext, den-mem, den-zero, den-one, den-top, sppTheory}
 use Rattle.spp_steps.proofs.Sequence.{sequence-exact}
 use Rattle.spp_steps.proofs.Star.{star-exact}
@@ -20,11 +20,11 @@ use Rattle.aut_steps.specs.Relations as Rel
 use Rattle.aut_steps.specs.Tables.{UNION, INTERSECT, XOR, DIFFERENCE, COMPLEMENT, SEQUENCE, STAR, UNTIL, TOP, Limits, Aut, putNodes}
 use Rattle.aut_steps.specs.Constructors.{each}
 use Rattle.aut_steps.specs.Kinds.{form}
-use Rattle.aut_steps.specs.ListLaws.{All}
+use Rattle.aut_steps.specs.Ascending.{All}
 use Rattle.aut_steps.proofs.ListLaws.{all-map}
-use Rattle.aut_steps.specs.Good.{states, kind, members, WfAut}
-use Rattle.st_steps.specs.Operations as Ops
-use Rattle.delta_steps.specs.EpsilonReads.{operandsWith, operandsOf, uniteValues, meetValues, combineBy}
+use Rattle.aut_steps.specs.Wf.{states, kind, members, WfAut}
+use Rattle.aut_st_steps.specs.Operations as Ops
+use Rattle.aut_delta_steps.specs.EpsilonReads.{operandsWith, operandsOf, uniteValues, meetValues, combineBy}
 use Rattle.aut_replay.specs.Replay.{Later, epsilonFrom}
 use Rattle.aut_replay.proofs.Runs.{kind-later, first-later, second-later}
 use Rattle.aut_replay.proofs.Opening.{list-later}

@@ -2,7 +2,7 @@
 use Prim.Native.Nat.{ℕ}
 use Rattle.common.specs.Outcome.{Outcome, refused, Step}
 use Rattle.aut_steps.specs.Tables.{Limits}
-use Rattle.delta_steps.specs.Delta.{delta}
+use Rattle.aut_delta_steps.specs.Delta.{delta}
 use Rattle.aut_replay.specs.Replay.{Call, called, ListCall, listed}
 
 -- the numbers of limits

@@ -7,25 +7,25 @@ use lib.ListN.{length, getD}
 use Rattle.common.specs.Outcome.{Outcome, refused, given, Step}
 use Rattle.netkat_steps.specs.ListSteps as Lists
 use Rattle.netkat_steps.specs.ListSteps.{Edge}
-use Rattle.spp_steps.specs.Laws.{Ext}
+use Rattle.spp_steps.specs.Wf.{Ext}
 use Rattle.aut_steps.specs.Relations as Rel
 use Rattle.aut_steps.specs.Tables.{SEQUENCE, STAR, Limits, Aut, onNodes, onStates}
 use Rattle.aut_steps.specs.Constructors as Make
-use Rattle.aut_steps.specs.ListLaws.{All}
-use Rattle.aut_steps.specs.Goes.{Memos}
-use Rattle.aut_steps.specs.Good.{states, kind, first, second, members, ExtAut, WfAut}
-use Rattle.st_steps.specs.Operations.{ops}
-use Rattle.st_steps.specs.Edges.{EdgesAt}
-use Rattle.st_steps.specs.ListGoes.{ListAt, Label, State}
-use Rattle.delta_steps.specs.Epsilon.{epsilonOf, valueOf, epsilon}
-use Rattle.delta_steps.specs.Delta.{countOf, Store, store, listAt, delta}
-use Rattle.delta_steps.specs.Fits.{Since}
-use Rattle.delta_steps.specs.Noted.{Noted}
-use Rattle.delta_steps.specs.Worked.{Valued, WfStore, Stored}
-use Rattle.delta_steps.specs.EpsilonLaws.{Ready}
-use Rattle.delta_steps.specs.EpsilonReads.{operandsOf, combineBy}
-use Rattle.delta_steps.specs.Stored.{ExtStore}
-use Rattle.delta_steps.specs.DeltaReads.{listOperands, togetherWith}
+use Rattle.aut_steps.specs.Ascending.{All}
+use Rattle.aut_steps.specs.StepSpec.{Memos}
+use Rattle.aut_steps.specs.Wf.{states, kind, first, second, members, ExtAut, WfAut}
+use Rattle.aut_st_steps.specs.Operations.{ops}
+use Rattle.aut_st_steps.specs.Edges.{EdgesAt}
+use Rattle.aut_st_steps.specs.ListSpec.{ListAt, Label, State}
+use Rattle.aut_delta_steps.specs.Epsilon.{epsilonOf, valueOf, epsilon}
+use Rattle.aut_delta_steps.specs.Delta.{countOf, Store, store, listAt, delta}
+use Rattle.aut_delta_steps.specs.Fits.{Since}
+use Rattle.aut_delta_steps.specs.Noted.{Noted}
+use Rattle.aut_delta_steps.specs.Wf.{Valued, WfStore, Stored}
+use Rattle.aut_delta_steps.specs.EpsilonSpec.{Ready}
+use Rattle.aut_delta_steps.specs.EpsilonReads.{operandsOf, combineBy}
+use Rattle.aut_delta_steps.specs.Extends.{ExtStore}
+use Rattle.aut_delta_steps.specs.DeltaReads.{listOperands, togetherWith}
 
 -- ---- later tables
 

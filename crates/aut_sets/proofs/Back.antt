@@ -8,15 +8,15 @@ use lib.Seq.{getD-take, drop-at, length-take-le}
 use Rattle.common.specs.Runs.{Table}
 use Rattle.cache.specs.Cache.{Valid, OnCodes, Sound, WritesValid}
 use Rattle.cache.proofs.Cache.{sound-map}
-use Rattle.sp.specs.Seen as Sets
+use Rattle.sp.specs.Contracts as Sets
 use Rattle.sp.specs.declared.Made as sets
 use Rattle.spp.specs.declared.Made as relations
 use Rattle.spp_steps.specs.ImageModel.{Stores}
-use Rattle.spp_img.specs.Reuse.{Held, Kept}
-use Rattle.spp_img.specs.Seen as Img
-use Rattle.spp_img2.specs.Seen as Lifts
-use Rattle.aut_rel.specs.Behind.{LISTS, cached}
-use Rattle.aut_rel.proofs.Behind.{lent, back, lent-is}
+use Rattle.spp_image.specs.Reuse.{Held, Kept}
+use Rattle.spp_image.specs.Contracts as Img
+use Rattle.spp_query.specs.Contracts as Lifts
+use Rattle.aut_relations.specs.Behind.{LISTS, cached}
+use Rattle.aut_relations.proofs.Behind.{lent, back, lent-is}
 use Rattle.aut_sets.specs.Contracts.{NotesBehind, SetNotes, ImageNotes, LiftNotes}
 
 pub notes-back : {P : Valid} (s m : List ℕ) → LISTS ≤ length s → WritesValid P (lent s) m → NotesBehind P s (back s m)

@@ -9,19 +9,19 @@ use Rattle.common.specs.Outcome.{Step}
 use Rattle.common.specs.Runs.{Table, table}
 use Rattle.cache.specs.Cache.{Valid, OnCodes, OnlyCodes, Sound, WritesValid}
 use Rattle.sp_steps.specs.Model as Sp
-use Rattle.sp_steps.specs.Laws as SpLaws
+use Rattle.sp_steps.specs.Wf as SpLaws
 use Rattle.sp_steps.specs.Reuse.{SpValid, SpNoted}
-use Rattle.sp.specs.Seen as Sets
+use Rattle.sp.specs.Contracts as Sets
 use Rattle.sp.specs.declared.Made as sets
 use Rattle.spp_steps.specs.Model as Spp
-use Rattle.spp_steps.specs.Laws.{Wf, ValidAt}
+use Rattle.spp_steps.specs.Wf.{Wf, ValidAt}
 use Rattle.spp_steps.specs.ImageModel.{Stores, stores, hasImage}
 use Rattle.spp_steps.specs.Images.{BothWf}
 use Rattle.spp.specs.declared.Made as relations
-use Rattle.spp_img.specs.Seen as Img
-use Rattle.spp_img.specs.Reuse.{Held, Written, Kept, Counted}
-use Rattle.spp_img2.specs.Seen as Lifts
-use Rattle.aut_rel.specs.Behind.{LISTS, cached}
+use Rattle.spp_image.specs.Contracts as Img
+use Rattle.spp_image.specs.Reuse.{Held, Written, Kept, Counted}
+use Rattle.spp_query.specs.Contracts as Lifts
+use Rattle.aut_relations.specs.Behind.{LISTS, cached}
 
 -- the lists are as they were, and each slot of the cache is as it was or satisfies P
 pub record NotesBehind (P : Valid) (s s′ : List ℕ) : Type 0 where

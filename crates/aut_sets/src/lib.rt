@@ -1,5 +1,5 @@
 // Packet sets and images for the queries: the cache that the operations take lies in scratch, behind the lists.
-use aut::Counts;
+use aut_states::Counts;
 use sp::SP;
 use spp::SPP;
 ghost use mathlib.Core.Path.{_≡_};
@@ -21,7 +21,7 @@ pub fn difference(
     requires { ⌜ PreSets fields (table (now sp) (c .sp)) (now scratch) (a .0) (b .0) ⌝ }
     ensures { λ r. ⌜ PostSets (Sp.difference fields (a .0) (b .0)) (table (now (sp .entry)) (c .sp)) r (now (sp .exit)) (now (scratch .entry)) (now (scratch .exit)) ⌝ }
 {
-    let at = aut_lists::LISTS;
+    let at = aut_scratch::LISTS;
     let n = c.sp;
     sp::difference(sp, &mut scratch[at..], n, fields, a, b)
 }
@@ -30,7 +30,7 @@ pub fn union(sp: &mut [u32], scratch: &mut [u32], c: Counts, fields: u32, a: SP,
     requires { ⌜ PreSets fields (table (now sp) (c .sp)) (now scratch) (a .0) (b .0) ⌝ }
     ensures { λ r. ⌜ PostSets (Sp.union fields (a .0) (b .0)) (table (now (sp .entry)) (c .sp)) r (now (sp .exit)) (now (scratch .entry)) (now (scratch .exit)) ⌝ }
 {
-    let at = aut_lists::LISTS;
+    let at = aut_scratch::LISTS;
     let n = c.sp;
     sp::union(sp, &mut scratch[at..], n, fields, a, b)
 }
@@ -48,10 +48,10 @@ pub fn push(
     requires { ⌜ PreLead fields (stores (table (now sp) (c .sp)) (table (now nodes) (c .spp))) (now scratch) (s .0) (r .0) ⌝ }
     ensures { λ k. ⌜ PostImage fields (Images.push fields fields (s .0) (r .0)) (stores (table (now (sp .entry)) (c .sp)) (table (now (nodes .entry)) (c .spp))) k (now (sp .exit)) (now (scratch .entry)) (now (scratch .exit)) ⌝ }
 {
-    let at = aut_lists::LISTS;
+    let at = aut_scratch::LISTS;
     let n = c.sp;
     let m = c.spp;
-    spp_img::push(nodes, sp, &mut scratch[at..], m, n, fields, fields, s, r)
+    spp_image::push(nodes, sp, &mut scratch[at..], m, n, fields, fields, s, r)
 }
 
 // the packets that a relation leads to a packet of the set
@@ -67,10 +67,10 @@ pub fn pull(
     requires { ⌜ PreLead fields (stores (table (now sp) (c .sp)) (table (now nodes) (c .spp))) (now scratch) (s .0) (r .0) ⌝ }
     ensures { λ k. ⌜ PostImage fields (Images.pull fields fields (r .0) (s .0)) (stores (table (now (sp .entry)) (c .sp)) (table (now (nodes .entry)) (c .spp))) k (now (sp .exit)) (now (scratch .entry)) (now (scratch .exit)) ⌝ }
 {
-    let at = aut_lists::LISTS;
+    let at = aut_scratch::LISTS;
     let n = c.sp;
     let m = c.spp;
-    spp_img::pull(nodes, sp, &mut scratch[at..], m, n, fields, fields, r, s)
+    spp_image::pull(nodes, sp, &mut scratch[at..], m, n, fields, fields, r, s)
 }
 
 // the packets that a relation leads on
@@ -85,10 +85,10 @@ pub fn bwd(
     requires { ⌜ PreImage fields (stores (table (now sp) (c .sp)) (table (now nodes) (c .spp))) (now scratch) (r .0) ⌝ }
     ensures { λ k. ⌜ PostImage fields (Images.bwd fields (r .0)) (stores (table (now (sp .entry)) (c .sp)) (table (now (nodes .entry)) (c .spp))) k (now (sp .exit)) (now (scratch .entry)) (now (scratch .exit)) ⌝ }
 {
-    let at = aut_lists::LISTS;
+    let at = aut_scratch::LISTS;
     let n = c.sp;
     let m = c.spp;
-    spp_img::bwd(nodes, sp, &mut scratch[at..], m, n, fields, fields, r)
+    spp_image::bwd(nodes, sp, &mut scratch[at..], m, n, fields, fields, r)
 }
 
 // whether some packet of the set is related to some packet
@@ -104,10 +104,10 @@ pub fn has_image(
     requires { ⌜ PreLead fields (stores (table (now sp) (c .sp)) (table (now nodes) (c .spp))) (now scratch) (s .0) (r .0) ⌝ }
     ensures { λ b. ⌜ PostHas fields (stores (table (now (sp .entry)) (c .sp)) (table (now (nodes .entry)) (c .spp))) (s .0) (r .0) b (now (scratch .entry)) (now (scratch .exit)) ⌝ }
 {
-    let at = aut_lists::LISTS;
+    let at = aut_scratch::LISTS;
     let n = c.sp;
     let m = c.spp;
-    spp_img2::has_image(nodes, sp, &mut scratch[at..], m, n, fields, fields, s, r)
+    spp_query::has_image(nodes, sp, &mut scratch[at..], m, n, fields, fields, s, r)
 }
 
 // the pairs whose second packet is in the set
@@ -122,10 +122,10 @@ pub fn ifwd(
     requires { ⌜ PreLift fields (stores (table (now sp) (c .sp)) (table (now nodes) (c .spp))) (now scratch) (s .0) ⌝ }
     ensures { λ k. ⌜ PostLift fields (Images.ifwd fields (s .0)) (stores (table (now (sp .entry)) (c .sp)) (table (now (nodes .entry)) (c .spp))) k (now (nodes .exit)) (now (scratch .entry)) (now (scratch .exit)) ⌝ }
 {
-    let at = aut_lists::LISTS;
+    let at = aut_scratch::LISTS;
     let n = c.sp;
     let m = c.spp;
-    spp_img2::ifwd(nodes, sp, &mut scratch[at..], m, n, fields, fields, s)
+    spp_query::ifwd(nodes, sp, &mut scratch[at..], m, n, fields, fields, s)
 }
 
 // the number of packets in a set
@@ -133,7 +133,7 @@ pub fn set_size(sp: &[u32], scratch: &mut [u32], c: Counts, fields: u32, s: SP) 
     requires { ⌜ PreSet fields (table (now sp) (c .sp)) (now scratch) (s .0) ⌝ }
     ensures { λ k. ⌜ PostSize fields (table (now (sp .entry)) (c .sp)) (s .0) k (now (scratch .entry)) (now (scratch .exit)) ⌝ }
 {
-    let at = aut_lists::LISTS;
+    let at = aut_scratch::LISTS;
     let n = c.sp;
     sp::size(sp, &mut scratch[at..], n, fields, s)
 }
@@ -143,7 +143,7 @@ pub fn pair_count(nodes: &[u32], scratch: &mut [u32], c: Counts, fields: u32, r:
     requires { ⌜ PreCount fields (table (now nodes) (c .spp)) (now scratch) (r .0) ⌝ }
     ensures { λ k. ⌜ PostCount fields (table (now (nodes .entry)) (c .spp)) (r .0) k (now (scratch .entry)) (now (scratch .exit)) ⌝ }
 {
-    let at = aut_lists::LISTS;
+    let at = aut_scratch::LISTS;
     let n = c.spp;
-    spp_img2::size(nodes, &mut scratch[at..], n, fields, fields, r)
+    spp_query::size(nodes, &mut scratch[at..], n, fields, fields, r)
 }

@@ -7,16 +7,16 @@ use Rattle.common.specs.Outcome.{Outcome, given}
 use Rattle.common.specs.Runs.{table}
 use Rattle.spp_steps.proofs.Laws.{ext-refl}
 use Rattle.aut_steps.specs.Tables.{Aut}
-use Rattle.aut_steps.specs.Good.{ExtAut, WfAut}
-use Rattle.aut_steps.proofs.Good.{grown-refl, grown-trans}
-use Rattle.aut_steps.specs.Goes.{Memos}
-use Rattle.aut_steps.proofs.Goes.{StepSpec, came}
-use Rattle.aut.specs.Seen.{limitsOf}
-use Rattle.aut.specs.declared.Counts.{Counts}
-use Rattle.aut.specs.declared.Limits.{Limits}
-use Rattle.aut_rel.specs.Behind.{LISTS, Modifies, CacheReady}
-use Rattle.aut_rel.proofs.Behind.{left-refl, left-trans, left-wide, left-kept, backed-left}
-use Rattle.aut_rel.specs.Seen.{autOf, Ready}
+use Rattle.aut_steps.specs.Wf.{ExtAut, WfAut}
+use Rattle.aut_steps.proofs.Wf.{grown-refl, grown-trans}
+use Rattle.aut_steps.specs.StepSpec.{Memos}
+use Rattle.aut_steps.proofs.StepSpec.{StepSpec, came}
+use Rattle.aut_states.specs.Contracts.{limitsOf}
+use Rattle.aut_states.specs.declared.Counts.{Counts}
+use Rattle.aut_states.specs.declared.Limits.{Limits}
+use Rattle.aut_relations.specs.Behind.{LISTS, Modifies, CacheReady}
+use Rattle.aut_relations.proofs.Behind.{left-refl, left-trans, left-wide, left-kept, backed-left}
+use Rattle.aut_relations.specs.Contracts.{autOf, Ready}
 use Rattle.aut_stage.specs.Stage.{Layer, gave, Post}
 
 pub record Onward (σ τ : Aut) : Type 0 where

@@ -9,20 +9,20 @@ use Rattle.common.specs.Packets.{Relation}
 use Rattle.spp.specs.declared.SPP.{SPP}
 use Rattle.spp.specs.declared.Made.{Made}
 use Rattle.spp.specs.declared.Made.the-variants.{Node, Full}
-use Rattle.spp.specs.Seen as Spp
+use Rattle.spp.specs.Contracts as Spp
 use Rattle.aut_steps.specs.Tables.{Aut, putNodes, putStates, onNodes, onStates}
-use Rattle.aut_steps.proofs.Good.{grown-nodes}
-use Rattle.aut_steps.proofs.Goes.{StepSpec, good-nodes}
+use Rattle.aut_steps.proofs.Wf.{grown-nodes}
+use Rattle.aut_steps.proofs.StepSpec.{StepSpec, good-nodes}
 use Rattle.aut_steps.proofs.RelationLaws as Laws
-use Rattle.aut.specs.Seen.{limitsOf, seenPut}
-use Rattle.aut.specs.declared.Counts.{Counts}
-use Rattle.aut.specs.declared.Limits.{Limits}
-use Rattle.aut.specs.declared.Put.{Put}
-use Rattle.aut.specs.declared.State.{State}
-use Rattle.aut.specs.declared.State.the-variants as state
-use Rattle.aut_rel.specs.Behind.{LISTS, Modifies, CacheReady}
-use Rattle.aut_rel.proofs.Behind.{left-refl, left-any, backed-left}
-use Rattle.aut_rel.specs.Seen.{autOf, seenAut, Beside, MadeLeft, Relates, Places, Ready}
+use Rattle.aut_states.specs.Contracts.{limitsOf, seenPut}
+use Rattle.aut_states.specs.declared.Counts.{Counts}
+use Rattle.aut_states.specs.declared.Limits.{Limits}
+use Rattle.aut_states.specs.declared.Put.{Put}
+use Rattle.aut_states.specs.declared.State.{State}
+use Rattle.aut_states.specs.declared.State.the-variants as state
+use Rattle.aut_relations.specs.Behind.{LISTS, Modifies, CacheReady}
+use Rattle.aut_relations.proofs.Behind.{left-refl, left-any, backed-left}
+use Rattle.aut_relations.specs.Contracts.{autOf, seenAut, Beside, MadeLeft, Relates, Places, Ready}
 use Rattle.aut_stage.specs.Stage.{gave, Post}
 use Rattle.aut_stage.proofs.OnAut.{autLayer, by-law}
 use Rattle.aut_stage.specs.OnNodes.{nodesLayer, Handle, madeOf, withNodes}

@@ -2,14 +2,14 @@
 -- states, as answers of the rule.
 use Prim.Native.Nat.{ℕ}
 use Rattle.common.specs.Runs.{Table}
-use Rattle.spp_steps.specs.Laws.{Ext, ValidAt}
+use Rattle.spp_steps.specs.Wf.{Ext, ValidAt}
 use Rattle.spp_steps.proofs.Laws.{ext-refl, ext-trans}
 use Rattle.spp.specs.declared.Made.{Made}
 use Rattle.spp.specs.declared.Made.the-variants.{Node, Full}
-use Rattle.aut.specs.declared.Counts.{Counts}
-use Rattle.aut_rel.specs.Behind.{LISTS, Modifies, CacheReady}
-use Rattle.aut_rel.proofs.Behind.{left-refl, left-trans, left-wide, left-kept, backed-left}
-use Rattle.aut_rel.specs.Seen.{Beside, Ready}
+use Rattle.aut_states.specs.declared.Counts.{Counts}
+use Rattle.aut_relations.specs.Behind.{LISTS, Modifies, CacheReady}
+use Rattle.aut_relations.proofs.Behind.{left-refl, left-trans, left-wide, left-kept, backed-left}
+use Rattle.aut_relations.specs.Contracts.{Beside, Ready}
 use Rattle.aut_stage.specs.Stage.{Layer, Answer, gave, refusal}
 
 abbrev pub nodesLayer : ℕ → Layer

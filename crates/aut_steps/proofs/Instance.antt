@@ -8,8 +8,8 @@ use Rattle.common.specs.Runs.{table}
 use Rattle.spp_steps.specs.Model as Spp
 use Rattle.spp_steps.proofs.Begin.{begun}
 use Rattle.aut_steps.specs.Tables.{limits01}
-use Rattle.aut_steps.specs.Good.{WfAut}
-use Rattle.aut_steps.proofs.Goes.{good-begun}
+use Rattle.aut_steps.specs.Wf.{WfAut}
+use Rattle.aut_steps.proofs.StepSpec.{good-begun}
 use Rattle.aut_steps.specs.Corners.{room}
 
 zeros : (n j : ℕ) → _≡_ {A = ℕ} (getD (replicate n 0) j 0) 0

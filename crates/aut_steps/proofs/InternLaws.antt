@@ -10,19 +10,19 @@ use lib.Seq.{length-sets}
 use borrow.Author.Tests.{eqb-true, eqb-false, ltb-true, ltb-false}
 use Rattle.common.specs.Outcome.{Outcome, refused, given, if_then_else_}
 use Rattle.common.specs.Runs.{Table, table, placed}
-use Rattle.spp_steps.specs.Laws.{ValidAt}
+use Rattle.spp_steps.specs.Wf.{ValidAt}
 use Rattle.spp_steps.proofs.Laws.{by-test}
 use Rattle.netkat.specs.Rules.{Rule, Rules}
 use Rattle.aut_steps.specs.Tables.{UNION, INTERSECT, STAR, op1, op2, words, Limits, roomS, roomM, put4, exprs, Aut, putStates, putExprs, onStates, onExprs, kindOf, memberCap}
 use Rattle.aut_steps.specs.Intern.{seek, same2, sameL, put, intern0, intern1, intern2, nestL, store, putL, internL}
 use Rattle.aut_steps.specs.Kinds.{Form, leaf, constant, one, two, many, nothing, form, operandsBy}
-use Rattle.aut_steps.specs.ListLaws.{All}
+use Rattle.aut_steps.specs.Ascending.{All}
 use Rattle.aut_steps.specs.Made.{MadeOf}
 use Rattle.aut_steps.proofs.Facts.{seek-hit, seek-miss, Is2, same2-is, is-same2, IsL, sameL-is, is-sameL, sets-below, sets-above, words-sets, room-state, room-members}
-use Rattle.aut_steps.specs.Good.{states, kind, first, second, nesting, members, ExtM, ExtAut, Ok, United, Meeting, lengthAs, WfAut}
-use Rattle.aut_steps.proofs.Good.{extm-refl, nesting-grown, nestL-grown, kind-grown}
+use Rattle.aut_steps.specs.Wf.{states, kind, first, second, nesting, members, ExtM, ExtAut, Ok, United, Meeting, lengthAs, WfAut}
+use Rattle.aut_steps.proofs.Wf.{extm-refl, nesting-grown, nestL-grown, kind-grown}
 use Rattle.aut_steps.proofs.MadeLaws.{made-given, made-list, Below, made-grown, none-as}
-use Rattle.aut_steps.proofs.Goes.{too-deep, no-state, no-members, StepSpec, comes, stops-here, goes-return, plus, grown-plus, memos-plus, kind-plus, first-plus, second-plus, nesting-plus, good-plus}
+use Rattle.aut_steps.proofs.StepSpec.{too-deep, no-state, no-members, StepSpec, comes, stops-here, goes-return, plus, grown-plus, memos-plus, kind-plus, first-plus, second-plus, nesting-plus, good-plus}
 
 -- state z of τ has this kind and these operands
 pub record State2 (k x y : ℕ) (τ : Aut) (z : ℕ) : Type 0 where

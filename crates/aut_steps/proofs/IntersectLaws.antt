@@ -14,14 +14,14 @@ use Rattle.common.specs.Outcome.{return, _>>=_, if_then_else_}
 use Rattle.common.specs.Runs.{placed}
 use Rattle.netkat.specs.Strings.{Str}
 use Rattle.netkat.specs.Rules.{Language, intersection}
-use Rattle.spp_steps.specs.Laws.{ValidAt}
+use Rattle.spp_steps.specs.Wf.{ValidAt}
 use Rattle.spp_steps.proofs.Laws.{den-mem, den-zero, den-top, by-test}
 use Rattle.aut_steps.specs.Relations as Spp
 use Rattle.aut_steps.specs.Tables.{SPP, INTERSECT, TOP, kindOf, op1, Limits, Aut, putNodes, putStates, onNodes, onStates}
 use Rattle.aut_steps.specs.Lists.{sorted}
 use Rattle.aut_steps.specs.Constructors.{sizes, opened, Within, within, beyond, thenWithin, openAll, each, mk-spp, mk-top, Met, met, meetOne, addLast, meetFinish, meet, meetOpened, mk-intersect-n-base, countAll, product, base, bases, distribute, intersectOpened, mk-intersect-n, relations, mk-intersect}
 use Rattle.aut_steps.specs.Kinds.{form}
-use Rattle.aut_steps.specs.ListLaws.{All}
+use Rattle.aut_steps.specs.Ascending.{All}
 use Rattle.aut_steps.proofs.ListLaws.{one-if, all-map, all-append, all-split, st-singleton, all-sorted, sorted-length, sorted-rising, all-with}
 use Rattle.aut_steps.specs.Languages.{_≈_}
 use Rattle.aut_steps.proofs.Languages.{_so_, back, same, sum-same, sum-assoc, sum-none, none-sum, _then_, Rel, Both, both-rel, rel-same}
@@ -29,9 +29,9 @@ use Rattle.aut_steps.proofs.RelationLaws.{Makes, intersect-made}
 use Rattle.aut_steps.proofs.Facts.{and-true, and-false}
 use Rattle.aut_steps.specs.Made.{Part}
 use Rattle.aut_steps.proofs.MadeLaws.{made-intersect}
-use Rattle.aut_steps.specs.Good.{states, kind, first, members, ExtAut, Meeting, WfAut}
-use Rattle.aut_steps.proofs.Good.{grown-refl, kind-grown, state-grown, states-grown}
-use Rattle.aut_steps.proofs.Goes.{long-list, many-products, StepSpec, stops-here, goes-return, goes-bind, goes-map, choose, branch, branch-in, nodes-after, placed-map}
+use Rattle.aut_steps.specs.Wf.{states, kind, first, members, ExtAut, Meeting, WfAut}
+use Rattle.aut_steps.proofs.Wf.{grown-refl, kind-grown, state-grown, states-grown}
+use Rattle.aut_steps.proofs.StepSpec.{long-list, many-products, StepSpec, stops-here, goes-return, goes-bind, goes-map, choose, branch, branch-in, nodes-after, placed-map}
 use Rattle.aut_steps.proofs.InternLaws.{internL-goes}
 use Rattle.aut_steps.specs.Meaning.{Holds}
 use Rattle.aut_steps.proofs.Meaning.{HoldsSome, HoldsAll, Is, is-same, holds-spp, holds-top, holds-intersect}

@@ -3,9 +3,9 @@ pub mod Corners
 pub mod ListLaws
 pub mod Facts
 pub mod Scratch
-pub mod Good
+pub mod Wf
 pub mod MadeLaws
-pub mod Goes
+pub mod StepSpec
 pub mod InternLaws
 pub mod Languages
 pub mod Decide

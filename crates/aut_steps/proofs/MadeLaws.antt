@@ -11,11 +11,11 @@ use Rattle.common.specs.Outcome.{if_then_else_}
 use Rattle.spp_steps.proofs.Laws.{by-test}
 use Rattle.aut_steps.specs.Tables.{SPP, UNION, INTERSECT, XOR, DIFFERENCE, COMPLEMENT, SEQUENCE, STAR, TOP, kindOf, Limits, Aut}
 use Rattle.aut_steps.specs.Kinds.{Form, leaf, constant, one, two, many, nothing, form}
-use Rattle.aut_steps.specs.ListLaws.{All}
+use Rattle.aut_steps.specs.Ascending.{All}
 use Rattle.aut_steps.proofs.ListLaws.{all-map, all-with}
 use Rattle.aut_steps.specs.Made.{IsRelation, NotBoth, Part, Summands, Sequenced, MadeOf}
-use Rattle.aut_steps.specs.Good.{states, kind, first, second, members, ExtAut, Ok, Made, lengthAs, membersBefore, WfAut}
-use Rattle.aut_steps.proofs.Good.{kind-grown, first-grown, second-grown, members-grown, ok-as}
+use Rattle.aut_steps.specs.Wf.{states, kind, first, second, members, ExtAut, Ok, Made, lengthAs, membersBefore, WfAut}
+use Rattle.aut_steps.proofs.Wf.{kind-grown, first-grown, second-grown, members-grown, ok-as}
 
 -- ---- for each kind
 

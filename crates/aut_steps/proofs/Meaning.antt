@@ -8,12 +8,12 @@ use Rattle.spp_steps.proofs.Laws.{mem-ext}
 use Rattle.aut_steps.specs.Relations.{pairs}
 use Rattle.aut_steps.specs.Tables.{SPP, UNION, INTERSECT, XOR, DIFFERENCE, COMPLEMENT, SEQUENCE, STAR, DUP, NEXT, UNTIL, TOP, Limits, Aut}
 use Rattle.aut_steps.specs.Kinds.{Form, leaf, constant, one, two, many, nothing, form}
-use Rattle.aut_steps.specs.ListLaws.{All}
+use Rattle.aut_steps.specs.Ascending.{All}
 use Rattle.aut_steps.proofs.ListLaws.{Some, all-map}
 use Rattle.aut_steps.specs.Languages.{_≈_}
 use Rattle.aut_steps.proofs.Languages.{_then_, Rel, Whole, Differ, Minus, Not, either-same, both-same}
-use Rattle.aut_steps.specs.Good.{states, kind, first, second, members, ExtAut, Ok, WfAut}
-use Rattle.aut_steps.proofs.Good.{grown-refl, kind-grown, first-grown, second-grown, members-grown}
+use Rattle.aut_steps.specs.Wf.{states, kind, first, second, members, ExtAut, Ok, WfAut}
+use Rattle.aut_steps.proofs.Wf.{grown-refl, kind-grown, first-grown, second-grown, members-grown}
 use Rattle.aut_steps.specs.Meaning.{rulesOf, shape, ruleBelow, rule, Holds}
 
 module _ (N : ℕ) where

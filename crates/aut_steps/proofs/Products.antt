@@ -14,11 +14,11 @@ use Rattle.netkat.specs.Strings.{Str}
 use Rattle.aut_steps.specs.Tables.{UNION, kindOf, op2, words, Limits, Aut}
 use Rattle.aut_steps.specs.Constructors.{size, sizes, within, beyond, thenWithin, countOne, countAll, product}
 use Rattle.aut_steps.specs.Kinds.{form}
-use Rattle.aut_steps.specs.ListLaws.{All}
+use Rattle.aut_steps.specs.Ascending.{All}
 use Rattle.aut_steps.proofs.ListLaws.{Some, all-at}
 use Rattle.aut_steps.proofs.Facts.{words-length, some-word, word-of}
-use Rattle.aut_steps.specs.Good.{states, kind, first, second, members, ExtAut, WfAut}
-use Rattle.aut_steps.proofs.Good.{kind-grown, first-grown, second-grown, ok-as}
+use Rattle.aut_steps.specs.Wf.{states, kind, first, second, members, ExtAut, WfAut}
+use Rattle.aut_steps.proofs.Wf.{kind-grown, first-grown, second-grown, ok-as}
 use Rattle.aut_steps.specs.Meaning.{Holds}
 use Rattle.aut_steps.proofs.Meaning.{HoldsAll, holds-union}
 

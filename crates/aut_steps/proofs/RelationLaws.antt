@@ -11,7 +11,7 @@ use Rattle.common.specs.Runs as Runs
 use Rattle.common.specs.Runs.{Table}
 use Rattle.spp_steps.specs.Model as Spp
 use Rattle.spp_steps.specs.Relations.{compose}
-use Rattle.spp_steps.specs.Laws.{Wf, Ext, ValidAt, Denotes}
+use Rattle.spp_steps.specs.Wf.{Wf, Ext, ValidAt, Denotes}
 use Rattle.spp_steps.proofs.Laws.{sppTheory, den-mem}
 use Rattle.spp_steps.proofs.Exact.{Exact, Stops, stuck}
 use Rattle.spp_steps.proofs.Make.{Lacks, sppLimits}

@@ -9,7 +9,7 @@ use lib.Seq.{sets}
 use Rattle.common.specs.Outcome.{if_then_else_}
 use Rattle.aut_steps.specs.Tables.{words}
 use Rattle.aut_steps.specs.Intern.{seek}
-use Rattle.aut_steps.specs.ListLaws.{All}
+use Rattle.aut_steps.specs.Ascending.{All}
 use Rattle.aut_steps.proofs.Facts.{words-same, words-sets, sets-below, sets-above}
 use Rattle.aut_steps.specs.Scratch.{Kept}
 

@@ -14,9 +14,9 @@ use Rattle.aut_steps.specs.Tables.{SEQUENCE, TOP, Limits, Aut, onStates}
 use Rattle.aut_steps.specs.Intern.{intern2}
 use Rattle.aut_steps.specs.Constructors.{mk-spp, mk-top, spp-of, relations, is-relation, sequence-with, sequence-by, mk-sequence}
 use Rattle.aut_steps.specs.Kinds.{form}
-use Rattle.aut_steps.specs.Good.{states, kind, first, second, nesting, Two, WfAut}
-use Rattle.aut_steps.proofs.Good.{kind-grown, ok-as}
-use Rattle.aut_steps.proofs.Goes.{StepSpec, came}
+use Rattle.aut_steps.specs.Wf.{states, kind, first, second, nesting, Two, WfAut}
+use Rattle.aut_steps.proofs.Wf.{kind-grown, ok-as}
+use Rattle.aut_steps.proofs.StepSpec.{StepSpec, came}
 use Rattle.aut_steps.specs.Meaning.{Holds}
 use Rattle.aut_steps.proofs.Meaning.{Is}
 use Rattle.aut_steps.proofs.SequenceLaws.{sequence-by-goes, sequence-depth}

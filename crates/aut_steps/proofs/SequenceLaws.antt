@@ -22,9 +22,9 @@ use Rattle.aut_steps.proofs.RelationLaws.{sequence-made}
 use Rattle.aut_steps.proofs.Facts.{and-true, and-false}
 use Rattle.aut_steps.specs.Made.{IsRelation}
 use Rattle.aut_steps.proofs.MadeLaws.{made-sequence}
-use Rattle.aut_steps.specs.Good.{states, kind, first, second, nesting, Two, WfAut}
-use Rattle.aut_steps.proofs.Good.{nesting-grown, state-grown, ok-as}
-use Rattle.aut_steps.proofs.Goes.{StepSpec, came, goes-return, goes-bind, goes-map, choose}
+use Rattle.aut_steps.specs.Wf.{states, kind, first, second, nesting, Two, WfAut}
+use Rattle.aut_steps.proofs.Wf.{nesting-grown, state-grown, ok-as}
+use Rattle.aut_steps.proofs.StepSpec.{StepSpec, came, goes-return, goes-bind, goes-map, choose}
 use Rattle.aut_steps.specs.Meaning.{Holds}
 use Rattle.aut_steps.proofs.Meaning.{Is, is-same, holds-grown, holds-spp, holds-sequence, holds-top}
 use Rattle.aut_steps.proofs.StateLaws.{handle, zero-goes, mk-top-goes, spp-of-goes, both-spp, not-both, two-goes}

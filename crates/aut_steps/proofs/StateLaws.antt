@@ -11,7 +11,7 @@ use Rattle.common.specs.Packets.{Relation}
 use Rattle.common.specs.Outcome.{Outcome, Step}
 use Rattle.common.specs.Runs.{Table, placed}
 use Rattle.netkat.specs.Rules.{Rule, In, Star, Until, dup, complement, star, xor, difference, until}
-use Rattle.spp_steps.specs.Laws.{ValidAt, Denotes}
+use Rattle.spp_steps.specs.Wf.{ValidAt, Denotes}
 use Rattle.spp_steps.proofs.Laws.{den-ext, den-zero}
 use Rattle.aut_steps.specs.Relations as Spp
 use Rattle.aut_steps.specs.Tables.{SPP, XOR, DIFFERENCE, COMPLEMENT, STAR, DUP, UNTIL, TOP, Limits, Aut, putStates, putNodes, onStates}
@@ -26,9 +26,9 @@ use Rattle.aut_steps.proofs.Decide.{not-not}
 use Rattle.aut_steps.proofs.Facts.{and-true, and-false}
 use Rattle.aut_steps.specs.Made.{IsRelation, NotBoth, MadeOf}
 use Rattle.aut_steps.proofs.MadeLaws.{made-given, made-xor, made-difference, made-complement, made-star}
-use Rattle.aut_steps.specs.Good.{states, kind, first, nesting, WfAut}
-use Rattle.aut_steps.proofs.Good.{grown-nodes, ok-as}
-use Rattle.aut_steps.proofs.Goes.{no-node, StepSpec, stops, comes, goes-return, goes-bind, goes-map, good-nodes, choose, choose-in}
+use Rattle.aut_steps.specs.Wf.{states, kind, first, nesting, WfAut}
+use Rattle.aut_steps.proofs.Wf.{grown-nodes, ok-as}
+use Rattle.aut_steps.proofs.StepSpec.{no-node, StepSpec, stops, comes, goes-return, goes-bind, goes-map, good-nodes, choose, choose-in}
 use Rattle.aut_steps.proofs.InternLaws.{Fit, intern0-goes, intern1-goes, intern2-goes}
 use Rattle.aut_steps.specs.Meaning.{shape, rule, Holds}
 use Rattle.aut_steps.proofs.Meaning.{Is, is-same, in-same, rule-is, rule-grown, holds-spp, holds-complement, holds-star, holds-dup, holds-top}

@@ -13,23 +13,23 @@ use Rattle.common.specs.Outcome.{Outcome, refused, given, if_then_else_}
 use Rattle.common.specs.Runs.{Table, placed}
 use Rattle.netkat.specs.Strings.{Str}
 use Rattle.netkat.specs.Rules.{Rule, Rules, Language, union}
-use Rattle.spp_steps.specs.Laws.{ValidAt}
+use Rattle.spp_steps.specs.Wf.{ValidAt}
 use Rattle.spp_steps.proofs.Laws.{den-mem, den-zero}
 use Rattle.aut_steps.specs.Relations as Spp
 use Rattle.aut_steps.specs.Tables.{SPP, UNION, TOP, kindOf, op1, Limits, exprs, Aut, putNodes, putStates, putExprs, onNodes, onStates, onExprs}
 use Rattle.aut_steps.specs.Lists.{sorted}
 use Rattle.aut_steps.specs.Constructors.{opened, extend, Within, within, beyond, Opened, list, top, long, thenOpen, openUnion, each, mk-spp, Parts, parts, uniteOne, addRelation, finish, unite, uniteOpened, mk-union-n, relations, mk-union}
 use Rattle.aut_steps.specs.Kinds.{Form, many, form}
-use Rattle.aut_steps.specs.ListLaws.{All, Increasing}
+use Rattle.aut_steps.specs.Ascending.{All, Increasing}
 use Rattle.aut_steps.proofs.ListLaws.{one-if, Some, all-map, all-append, some-left, some-right, some-split, some-with, some-map, all-with, st-singleton, all-sorted, some-sorted, sorted-length, sorted-rising}
 use Rattle.aut_steps.specs.Made.{IsRelation, Part, Summands}
 use Rattle.aut_steps.proofs.MadeLaws.{made-union}
 use Rattle.aut_steps.specs.Languages.{_≈_}
 use Rattle.aut_steps.proofs.Languages.{_so_, back, same, sum-same, sum-assoc, sum-swap, sum-none, none-sum, sum-turn, ≈-sym, _then_, Rel, None, Either, either-rel, rel-same}
 use Rattle.aut_steps.proofs.RelationLaws.{Makes, union-made}
-use Rattle.aut_steps.specs.Good.{states, kind, first, members, ExtAut, Ok, WfAut}
-use Rattle.aut_steps.proofs.Good.{kind-grown, first-grown, state-grown, states-grown, ok-as}
-use Rattle.aut_steps.proofs.Goes.{long-list, StepSpec, stops-here, goes-return, goes-bind, goes-map, choose, branch-in, nodes-after, placed-map}
+use Rattle.aut_steps.specs.Wf.{states, kind, first, members, ExtAut, Ok, WfAut}
+use Rattle.aut_steps.proofs.Wf.{kind-grown, first-grown, state-grown, states-grown, ok-as}
+use Rattle.aut_steps.proofs.StepSpec.{long-list, StepSpec, stops-here, goes-return, goes-bind, goes-map, choose, branch-in, nodes-after, placed-map}
 use Rattle.aut_steps.proofs.InternLaws.{internL-goes}
 use Rattle.aut_steps.specs.Meaning.{Holds}
 use Rattle.aut_steps.proofs.Meaning.{HoldsSome, HoldsAll, Is, is-same, holds-grown, holds-spp, holds-top, holds-union}

@@ -7,11 +7,11 @@ pub mod Intern
 pub mod Lists
 pub mod Constructors
 pub mod Corners
-pub mod ListLaws
+pub mod Ascending
 pub mod Scratch
 pub mod Kinds
 pub mod Made
-pub mod Good
-pub mod Goes
+pub mod Wf
+pub mod StepSpec
 pub mod Languages
 pub mod Meaning

@@ -6,7 +6,7 @@ use Rattle.netkat.specs.Rules.{Rule, Rules, Language, In, relation, none, also,
 use Rattle.aut_steps.specs.Relations.{pairs}
 use Rattle.aut_steps.specs.Tables.{Aut}
 use Rattle.aut_steps.specs.Kinds.{Form, leaf, constant, one, two, many, nothing, form}
-use Rattle.aut_steps.specs.Good.{kind, first, second, members}
+use Rattle.aut_steps.specs.Wf.{kind, first, second, members}
 
 module _ {N : ℕ} where
   unfoldable pub rulesOf : (ℕ → Rule N) → List ℕ → Rules N

@@ -11,46 +11,46 @@ use borrow.Author.Tests.{eq-eqb, ne-eqb, lt-ltb, le-ltb, eqb-true}
 use Rattle.common.specs.Outcome.{Outcome, refused, given, Step, return, after, _>>=_, Gives, if_then_else_}
 use Rattle.common.proofs.Follow.{given-of}
 use Rattle.common.specs.Runs.{Table, table, placed}
-use Rattle.spp_steps.specs.Laws.{Wf, Ext, ValidAt}
+use Rattle.spp_steps.specs.Wf.{Wf, Ext, ValidAt}
 use Rattle.spp_steps.proofs.Laws.{ext-refl, den-zero, den-mem}
 use Rattle.spp.specs.declared.SPP as Spp
 use Rattle.aut_steps.specs.Tables.{SPP, UNION, kindOf, op1, words, Limits, Aut, aut, Exprs, exprs, putNodes, putStates, putExprs, onNodes, onStates, onExprs}
 use Rattle.aut_steps.specs.Relations as Rel
-use Rattle.aut_steps.specs.ListLaws.{All}
+use Rattle.aut_steps.specs.Ascending.{All}
 use Rattle.aut_steps.proofs.ListLaws.{all-map, all-append, all-sorted}
 use Rattle.aut_steps.specs.Lists.{sorted}
 use Rattle.aut_steps.proofs.Facts.{words-length, and-true}
-use Rattle.aut_steps.specs.Good.{states, ExtAut, WfAut}
-use Rattle.aut_steps.proofs.Good.{states-grown}
-use Rattle.aut_steps.specs.Goes.{Gone}
-use Rattle.aut_steps.proofs.Goes.{StepSpec, goes-return, came, good-nodes, branch-in, placed-map}
+use Rattle.aut_steps.specs.Wf.{states, ExtAut, WfAut}
+use Rattle.aut_steps.proofs.Wf.{states-grown}
+use Rattle.aut_steps.specs.StepSpec.{Gone}
+use Rattle.aut_steps.proofs.StepSpec.{StepSpec, goes-return, came, good-nodes, branch-in, placed-map}
 use Rattle.aut_steps.proofs.StateLaws.{mk-spp-goes}
 use Rattle.aut_steps.specs.Constructors as C
 use Rattle.aut_steps.specs.Constructors.{Parts, parts, each, uniteOne, addRelation, mk-spp, mk-top, Opened, list, top, long, openUnion, uniteOpened, relations, spp-of}
 use Rattle.aut_steps.specs.Scratch.{Kept}
 use Rattle.aut_steps.proofs.Scratch.{kept-trans, kept-wide, kept-sets}
-use Rattle.aut.specs.declared.Counts.{Counts}
-use Rattle.aut.specs.declared.Limits.{Limits as Bounds}
-use Rattle.aut.specs.declared.State.{State}
-use Rattle.aut.specs.declared.State.the-variants.{Is, Refused}
-use Rattle.aut.specs.Seen as Put
-use Rattle.aut.specs.Seen.{limitsOf, Interned, seenState, seenPut, ListReady}
-use Rattle.aut_lists.specs.Seen.{OpenReady, OpenedUnion, openedOf, openedMost, SortReady, Sorts}
-use Rattle.aut_lists.specs.declared.Opened.{Opened as Answer}
-use Rattle.aut_lists.specs.declared.Opened.the-variants as answer
-use Rattle.aut_rel.specs.Behind.{LISTS, Modifies, CacheReady}
-use Rattle.aut_rel.proofs.Behind.{left-refl, left-any, left-wide, left-trans, left-kept, kept-left}
-use Rattle.aut_rel.specs.Seen.{autOf, seenAut, Beside, ModifiesBy, Ready, Does, Places, DoesSpp}
-use Rattle.aut_rel.proofs.Join as join
-use Rattle.aut_rel.proofs.Order as order
-use Rattle.aut_rel.proofs.Order.{backed-of, ready-after}
-use Rattle.aut_rel.proofs.Opens.{AllOpen, union-states}
-use Rattle.aut_rel.proofs.Each.{Grows, each-gives}
+use Rattle.aut_states.specs.declared.Counts.{Counts}
+use Rattle.aut_states.specs.declared.Limits.{Limits as Bounds}
+use Rattle.aut_states.specs.declared.State.{State}
+use Rattle.aut_states.specs.declared.State.the-variants.{Is, Refused}
+use Rattle.aut_states.specs.Contracts as Put
+use Rattle.aut_states.specs.Contracts.{limitsOf, Interned, seenState, seenPut, ListReady}
+use Rattle.aut_scratch.specs.Contracts.{OpenReady, OpenedUnion, openedOf, openedMost, SortReady, Sorts}
+use Rattle.aut_scratch.specs.declared.Opened.{Opened as Answer}
+use Rattle.aut_scratch.specs.declared.Opened.the-variants as answer
+use Rattle.aut_relations.specs.Behind.{LISTS, Modifies, CacheReady}
+use Rattle.aut_relations.proofs.Behind.{left-refl, left-any, left-wide, left-trans, left-kept, kept-left}
+use Rattle.aut_relations.specs.Contracts.{autOf, seenAut, Beside, ModifiesBy, Ready, Does, Places, DoesSpp}
+use Rattle.aut_relations.proofs.Join as join
+use Rattle.aut_relations.proofs.Order as order
+use Rattle.aut_relations.proofs.Order.{backed-of, ready-after}
+use Rattle.aut_relations.proofs.Opens.{AllOpen, union-states}
+use Rattle.aut_relations.proofs.Each.{Grows, each-gives}
 use Rattle.aut_union.specs.declared.Gathered.{Gathered}
 use Rattle.aut_union.specs.declared.Gathered.the-variants.{Rest, Full}
 use Rattle.aut_union.specs.declared.Added.{Added}
 use Rattle.aut_union.specs.declared.Added.the-variants as added
-use Rattle.aut_union.specs.Seen.{seenParts, PartsLeft, PartsMost, Unites, UnitesReady, seenAdded, AddedMost, AddReady, Adds, ListAt, PairAt}
+use Rattle.aut_union.specs.Contracts.{seenParts, PartsLeft, PartsMost, Unites, UnitesReady, seenAdded, AddedMost, AddReady, Adds, ListAt, PairAt}
 use Rattle.aut_union.proofs.Gather.{keeps, Held}
 
 -- the list with the relation's state
@@ -244,7 +244,7 @@ module _ (N : ℕ) (l : Bounds) (t st mem s : List ℕ) (c : Counts) (from k : �
 
         pub unite-ready : Ready N l σn s1 × ListAt s1 (c .states) 256 m 320 × (m ≤ 64)
         unite-ready = (
-          ready-after R (Rattle.aut_steps.proofs.Good.grown-refl σn) (R .good) top-left len1,
+          ready-after R (Rattle.aut_steps.proofs.Wf.grown-refl σn) (R .good) top-left len1,
           record { states = subst (AllOpen (λ x. x < c .states)) is-list (union-states (R .good) (l .list) (words s from k) [] (A .states) tt); apart = omega (arith, few-m) },
           few-m,
         )
@@ -301,7 +301,7 @@ module _ (N : ℕ) (l : Bounds) (t st mem s : List ℕ) (c : Counts) (x y : ℕ)
 
     pub pair-ready : Ready N l σ2′ pair × ListAt pair (c .states) 192 2 256
     pair-ready = (
-      ready-after {a = 192} {n = 2} R (Rattle.aut_steps.proofs.Good.grown-refl σ2′) (R .good) (left-kept kept-pair len-pair (omega arith)) len-pair,
+      ready-after {a = 192} {n = 2} R (Rattle.aut_steps.proofs.Wf.grown-refl σ2′) (R .good) (left-kept kept-pair len-pair (omega arith)) len-pair,
       record { states = subst (All (λ z. z < c .states)) (sym words-pair) (A .has-x, (A .has-y, tt)); apart = omega arith },
     )
 

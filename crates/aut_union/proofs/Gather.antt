@@ -10,13 +10,13 @@ use borrow.Author.Tests.{eq-eqb, ne-eqb, eqb-true}
 use Rattle.common.specs.Outcome.{Outcome, refused, given, Step, return, after, _>>=_, Gives, refusal, gives, if_then_else_}
 use Rattle.common.proofs.Follow.{call, branch}
 use Rattle.common.specs.Runs.{Table, table, placed}
-use Rattle.spp_steps.specs.Laws.{Wf, Ext, ValidAt}
+use Rattle.spp_steps.specs.Wf.{Wf, Ext, ValidAt}
 use Rattle.spp_steps.proofs.Laws.{ext-refl, at-ext, den-zero}
 use Rattle.spp.specs.declared.SPP as Spp
 use Rattle.aut_steps.specs.Tables.{SPP, UNION, kindOf, op1, words, Limits, Exprs, exprs}
 use Rattle.aut_steps.specs.Relations as Rel
 use Rattle.aut_steps.proofs.RelationLaws.{union-made}
-use Rattle.aut_steps.specs.ListLaws.{All}
+use Rattle.aut_steps.specs.Ascending.{All}
 use Rattle.aut_steps.proofs.ListLaws.{all-append}
 use Rattle.aut_steps.proofs.Facts.{words-length}
 use Rattle.aut_steps.specs.Intern.{internL}
@@ -24,20 +24,20 @@ use Rattle.aut_steps.specs.Constructors as C
 use Rattle.aut_steps.specs.Constructors.{Parts, parts, each, uniteOne, addRelation, mk-spp}
 use Rattle.aut_steps.specs.Scratch.{Kept}
 use Rattle.aut_steps.proofs.Scratch.{kept-refl, kept-sets, words-append}
-use Rattle.aut.specs.declared.Counts.{Counts}
-use Rattle.aut.specs.declared.State.{State}
-use Rattle.aut.specs.declared.State.the-variants.{Is, Refused}
-use Rattle.aut.specs.Seen.{Interned, seenState}
-use Rattle.aut.specs.Seen as Put
-use Rattle.aut_rel.specs.Behind.{LISTS, Modifies, CacheReady}
-use Rattle.aut_rel.proofs.Behind.{left-any, left-kept, words-behind}
-use Rattle.aut_rel.specs.Seen.{RelAt, Beside, SameNodes}
-use Rattle.aut_rel.proofs.Each.{Grows, Keeps, makes-gives}
+use Rattle.aut_states.specs.declared.Counts.{Counts}
+use Rattle.aut_states.specs.declared.State.{State}
+use Rattle.aut_states.specs.declared.State.the-variants.{Is, Refused}
+use Rattle.aut_states.specs.Contracts.{Interned, seenState}
+use Rattle.aut_states.specs.Contracts as Put
+use Rattle.aut_relations.specs.Behind.{LISTS, Modifies, CacheReady}
+use Rattle.aut_relations.proofs.Behind.{left-any, left-kept, words-behind}
+use Rattle.aut_relations.specs.Contracts.{RelAt, Beside, SameNodes}
+use Rattle.aut_relations.proofs.Each.{Grows, Keeps, makes-gives}
 use Rattle.aut_union.specs.declared.Gathered.{Gathered}
 use Rattle.aut_union.specs.declared.Gathered.the-variants.{Rest, Full}
 use Rattle.aut_union.specs.declared.Added.{Added}
 use Rattle.aut_union.specs.declared.Added.the-variants as added
-use Rattle.aut_union.specs.Seen.{seenParts, PartsLeft, PartsMost, Unites, seenAdded, Adds}
+use Rattle.aut_union.specs.Contracts.{seenParts, PartsLeft, PartsMost, Unites, seenAdded, Adds}
 
 -- ---- one member
 

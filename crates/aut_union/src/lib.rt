@@ -1,9 +1,9 @@
 // mk_union_n and mk_union of aut.rs. A list is k words of scratch (the map of scratch is aut_lists').
-use aut::Config;
-use aut::Counts;
-use aut::Put;
-use aut::State;
-use aut_lists::Opened;
+use aut_scratch::Opened;
+use aut_states::Config;
+use aut_states::Counts;
+use aut_states::Put;
+use aut_states::State;
 use spp::Made;
 use spp::Op;
 use spp::SPP;
@@ -16,9 +16,9 @@ ghost use Rattle.aut_steps.specs.Tables.{exprs, words, UNION};
 ghost use Rattle.aut_steps.specs.Relations.{zeroAt};
 ghost use Rattle.aut_steps.specs.Constructors as C;
 ghost use Rattle.aut_steps.specs.Constructors.{parts, each};
-ghost use Rattle.aut.specs.Seen.{limitsOf, Interned, ListReady};
-ghost use Rattle.aut_rel.specs.Seen.{autOf, Ready, Does};
-ghost use Rattle.aut_union.specs.Seen.{UniteReady, Unites, UnitesReady, AddReady, Adds, ListAt, PairAt};
+ghost use Rattle.aut_states.specs.Contracts.{limitsOf, Interned, ListReady};
+ghost use Rattle.aut_relations.specs.Contracts.{autOf, Ready, Does};
+ghost use Rattle.aut_union.specs.Contracts.{UniteReady, Unites, UnitesReady, AddReady, Adds, ListAt, PairAt};
 
 // the united relation, the number of nodes, and how many other members there are
 pub enum Gathered {
@@ -48,9 +48,10 @@ fn unite_one(
     ensures { λ r. ⌜ Unites fields (to + m) 1 (m + 1) (C.uniteOne fields (now (states .entry)) x (parts (h .0) (words (now (scratch .entry)) to m)) (table (now (nodes .entry)) count)) r (now (nodes .exit)) (now (scratch .entry)) (now (scratch .exit)) to ⌝ }
 {
     let i = x as usize;
-    if states[12 * i] == aut::kind::SPP {
+    if states[12 * i] == aut_states::kind::SPP {
         let g = SPP(states[12 * i + 1]);
-        let Made::Node(u, n) = aut_rel::apply(nodes, scratch, count, fields, Op::Union, h, g) else {
+        let Made::Node(u, n) = aut_relations::apply(nodes, scratch, count, fields, Op::Union, h, g)
+        else {
             return Gathered::Full;
         };
         return Gathered::Rest(u, n, m);
@@ -108,7 +109,7 @@ fn add_relation(
     if h.0 == zero.0 {
         return Added::List(k, count);
     }
-    let put = aut::mk_spp(states, count, h);
+    let put = aut_states::mk_spp(states, count, h);
     match put {
         Put::Refused(e) => Added::Refused(e),
         Put::At(i, n) => {
@@ -136,16 +137,16 @@ fn finish(
     }
     if k == 0 {
         let zero = spp::zero_at_depth(config.fields);
-        let put = aut::mk_spp(states, c.states, zero);
-        return aut_rel::placed(put, c);
+        let put = aut_states::mk_spp(states, c.states, zero);
+        return aut_relations::placed(put, c);
     }
-    aut::intern_list(
+    aut_states::intern_list(
         states,
         members,
         scratch,
         c,
         config.limits,
-        aut::kind::UNION,
+        aut_states::kind::UNION,
         at,
         k,
     )
@@ -170,9 +171,9 @@ fn unite(
         scratch,
         c.spp,
         config.fields,
-        aut_lists::BASE,
+        aut_scratch::BASE,
         k,
-        aut_lists::OTHERS,
+        aut_scratch::OTHERS,
     ) else {
         return State::Refused(21);
     };
@@ -182,19 +183,19 @@ fn unite(
         c.states,
         config.fields,
         h,
-        aut_lists::OTHERS,
+        aut_scratch::OTHERS,
         m,
     );
     match added {
         Added::Refused(e) => State::Refused(e),
         Added::List(l, n2) => {
-            let r = aut_lists::sorted(scratch, aut_lists::OTHERS, l, aut_lists::SORTED);
+            let r = aut_scratch::sorted(scratch, aut_scratch::OTHERS, l, aut_scratch::SORTED);
             let d = Counts {
                 spp: n,
                 states: n2,
                 ..c
             };
-            finish(states, members, scratch, d, config, aut_lists::SORTED, r)
+            finish(states, members, scratch, d, config, aut_scratch::SORTED, r)
         }
     }
 }
@@ -219,20 +220,20 @@ pub fn mk_union_n(
     if k == 1 {
         return State::Is(scratch[from], c);
     }
-    let opened = aut_lists::open_union(
+    let opened = aut_scratch::open_union(
         states,
         members,
         scratch,
         config.limits.list,
         from,
         k,
-        aut_lists::BASE,
+        aut_scratch::BASE,
     );
     match opened {
         Opened::Long => State::Refused(6),
         Opened::Top => {
-            let put = aut::mk_top(states, c.states);
-            aut_rel::placed(put, c)
+            let put = aut_states::mk_top(states, c.states);
+            aut_relations::placed(put, c)
         }
         Opened::List(m) => unite(nodes, states, members, scratch, c, config, m),
     }
@@ -254,11 +255,11 @@ pub fn mk_union(
     if x == y {
         return State::Is(x, c);
     }
-    if aut_rel::both_relations(states, x, y) {
-        return aut_rel::spp_of(nodes, states, scratch, c, config.fields, Op::Union, x, y);
+    if aut_relations::both_relations(states, x, y) {
+        return aut_relations::spp_of(nodes, states, scratch, c, config.fields, Op::Union, x, y);
     }
-    scratch[aut_lists::PRODUCT] = x;
-    scratch[aut_lists::PRODUCT + 1] = y;
+    scratch[aut_scratch::PRODUCT] = x;
+    scratch[aut_scratch::PRODUCT + 1] = y;
     mk_union_n(
         nodes,
         states,
@@ -266,7 +267,7 @@ pub fn mk_union(
         scratch,
         c,
         config,
-        aut_lists::PRODUCT,
+        aut_scratch::PRODUCT,
         2,
     )
 }

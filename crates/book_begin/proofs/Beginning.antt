@@ -16,30 +16,30 @@ use Rattle.cache.specs.Cache.{Sound}
 use Rattle.cache.proofs.Cache.{sound-zero, sound-map}
 use Rattle.sp_steps.specs.Model as Sp
 use Rattle.sp_steps.proofs.Reuse.{valid-not, code-range}
-use Rattle.sp.specs.Seen as Sets
+use Rattle.sp.specs.Contracts as Sets
 use Rattle.sp.specs.declared.Made as sets
 use Rattle.sp.specs.declared.Made.the-variants as set-made
 use Rattle.sp.specs.declared.SP.{SP}
 use Rattle.spp_steps.specs.Model as Spp
-use Rattle.spp.specs.Seen as Relations
+use Rattle.spp.specs.Contracts as Relations
 use Rattle.spp.specs.declared.Started.{Started}
 use Rattle.spp.specs.declared.Started.the-variants as started
 use Rattle.spp.specs.declared.Constants.{Constants}
 use Rattle.aut_steps.specs.Tables.{aut}
-use Rattle.delta_steps.specs.Delta.{store}
-use Rattle.query_steps.specs.Tables.{Tables, tables, WfTables}
-use Rattle.query_steps.proofs.Tables.{begun-ordered}
-use Rattle.aut.specs.Seen.{limitsOf}
-use Rattle.aut.specs.declared.Counts.{Counts}
-use Rattle.aut_rel.specs.Behind.{LISTS, cached}
-use Rattle.query_stage.specs.Layer.{Readable}
+use Rattle.aut_delta_steps.specs.Delta.{store}
+use Rattle.aut_query_steps.specs.Tables.{Tables, tables, WfTables}
+use Rattle.aut_query_steps.proofs.Tables.{begun-ordered}
+use Rattle.aut_states.specs.Contracts.{limitsOf}
+use Rattle.aut_states.specs.declared.Counts.{Counts}
+use Rattle.aut_relations.specs.Behind.{LISTS, cached}
+use Rattle.aut_query_stage.specs.Layer.{Readable}
 use Rattle.book_steps.specs.Answers.{fieldsAnswer}
 use Rattle.book_steps.specs.Run as Run
 use Rattle.book_steps.specs.Run.{Lent, zeroed, place}
-use Rattle.writer.specs.Seen.{Put, Answers}
-use Rattle.writer.proofs.Seen.{put-take}
-use Rattle.writer.specs.declared.Answered.{Answered}
-use Rattle.writer.specs.declared.Answered.the-variants as answered
+use Rattle.book_writer.specs.Contracts.{Put, Answers}
+use Rattle.book_writer.proofs.Contracts.{put-take}
+use Rattle.book_writer.specs.declared.Answered.{Answered}
+use Rattle.book_writer.specs.declared.Answered.the-variants as answered
 use Rattle.book_line.specs.declared.Place.{Place}
 use Rattle.book_line.specs.Contracts.{WORK, work, linesOf, tablesAt, Standing}
 use Rattle.book_line.proofs.Scratch.{line-beyond}

@@ -11,7 +11,7 @@ use lib.Seq.{ext-getD, getD-set-same, getD-set-other}
 use borrow.Author.Tests.{ltb-true, ltb-false}
 use Rattle.spp_steps.proofs.Laws.{by-test}
 use Rattle.book_steps.specs.Run.{zeroed}
-use Rattle.query_stage.specs.Layer.{Zeroed}
+use Rattle.aut_query_stage.specs.Layer.{Zeroed}
 
 -- i words are zero
 pub record Clearing (t₀ t : List ℕ) (i : ℕ) : Type 0 where

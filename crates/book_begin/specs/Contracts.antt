@@ -7,8 +7,8 @@ use Rattle.common.specs.Outcome.{Outcome, refused, given}
 use Rattle.book_steps.specs.Reader as Reader
 use Rattle.book_steps.specs.Run as Run
 use Rattle.book_steps.specs.Run.{Lent, zeroed}
-use Rattle.aut.specs.declared.Limits.{Limits}
-use Rattle.aut_rel.specs.Behind.{LISTS}
+use Rattle.aut_states.specs.declared.Limits.{Limits}
+use Rattle.aut_relations.specs.Behind.{LISTS}
 use Rattle.book_query.specs.declared.Setting.{Setting}
 use Rattle.book_line.specs.declared.Place.{Place}
 use Rattle.book_line.specs.Contracts.{WORK, Memory, memory, placeOf, Standing}

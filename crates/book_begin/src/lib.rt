@@ -1,10 +1,10 @@
 // Before the instructions of a book: what is lent is zeroed, the limits are set, and the constants are made.
-use aut::Config;
-use aut::Counts;
-use aut::Limits;
+use aut_states::Config;
+use aut_states::Counts;
+use aut_states::Limits;
 use book_line::Place;
 use book_query::Setting;
-use writer::Answered;
+use book_writer::Answered;
 ghost use mathlib.Core.Path.{_≡_};
 ghost use lib.ListN.{length};
 ghost use Rattle.book_steps.specs.Run.{zeroed};
@@ -87,7 +87,7 @@ pub fn begin(sp: &mut [u32], nodes: &mut [u32], output: &mut [u8], h: Header) ->
     let spp::Started::Store(_, b) = spp::start(nodes, h.fields) else {
         return Begun::Refused(21);
     };
-    let Answered::At(end) = writer::fields_answer(output, 0, h.fields) else {
+    let Answered::At(end) = book_writer::fields_answer(output, 0, h.fields) else {
         return Begun::Refused(27);
     };
     let place = Place {

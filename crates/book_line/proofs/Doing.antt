@@ -12,39 +12,39 @@ use Rattle.common.specs.Runs.{table, placed}
 use Rattle.cache.proofs.Cache.{notes-map}
 use Rattle.netkat.specs.Rules.{In}
 use Rattle.aut_steps.specs.Tables.{Aut}
-use Rattle.aut_steps.specs.Good.{states}
+use Rattle.aut_steps.specs.Wf.{states}
 use Rattle.aut_steps.specs.Meaning.{rule}
 use Rattle.aut_steps.proofs.Meaning.{Is}
-use Rattle.line_steps.specs.Lines as Lines
-use Rattle.line_steps.proofs.LineLaws.{make-goes}
-use Rattle.delta_steps.specs.Delta.{store, putAut, onAut}
-use Rattle.query_steps.specs.Tables.{Tables, tables, putBase, onBase}
-use Rattle.query_steps.proofs.Steps.{Ends, Steps, goes-ends}
+use Rattle.book_construct_steps.specs.Lines as Lines
+use Rattle.book_construct_steps.proofs.LineLaws.{make-goes}
+use Rattle.aut_delta_steps.specs.Delta.{store, putAut, onAut}
+use Rattle.aut_query_steps.specs.Tables.{Tables, tables, putBase, onBase}
+use Rattle.aut_query_steps.proofs.Steps.{Ends, Steps, goes-ends}
 use Rattle.book_steps.specs.Answers.{nameOf}
 use Rattle.book_steps.specs.Reader as Reader
 use Rattle.book_steps.specs.Reader.{makes, asks, refuses}
 use Rattle.book_steps.specs.Run as Run
 use Rattle.book_steps.specs.Run.{place, execute, step, after-making, query}
-use Rattle.aut.specs.Seen.{limitsOf}
-use Rattle.aut.specs.declared.Config.{Config}
-use Rattle.aut.specs.declared.Counts.{Counts}
-use Rattle.aut.specs.declared.State.{State}
-use Rattle.aut.specs.declared.State.the-variants as state
-use Rattle.aut_rel.specs.Behind.{LISTS}
-use Rattle.aut_rel.specs.Seen as Rel
-use Rattle.aut_rel.specs.Seen.{autOf, Ready}
+use Rattle.aut_states.specs.Contracts.{limitsOf}
+use Rattle.aut_states.specs.declared.Config.{Config}
+use Rattle.aut_states.specs.declared.Counts.{Counts}
+use Rattle.aut_states.specs.declared.State.{State}
+use Rattle.aut_states.specs.declared.State.the-variants as state
+use Rattle.aut_relations.specs.Behind.{LISTS}
+use Rattle.aut_relations.specs.Contracts as Rel
+use Rattle.aut_relations.specs.Contracts.{autOf, Ready}
 use Rattle.aut_stage.specs.Stage.{Post, gave}
-use Rattle.line.specs.Seen as Line
-use Rattle.line.specs.Seen.{LineReady, Made}
-use Rattle.line.specs.declared.Line as line
-use Rattle.reader.specs.Seen.{rest, queryOf, Says}
-use Rattle.reader.specs.declared.Cursor.{Cursor}
-use Rattle.reader.specs.declared.Query.{Query}
-use Rattle.reader.specs.declared.Said.{Said}
-use Rattle.query_stage.specs.Layer.{QueryReady}
-use Rattle.query_stage.proofs.Layer.{Leaves, queryLayer, by-ends}
-use Rattle.writer.specs.Seen.{Put}
-use Rattle.writer.proofs.Seen.{put-take}
+use Rattle.book_construct.specs.Contracts as Line
+use Rattle.book_construct.specs.Contracts.{LineReady, Made}
+use Rattle.book_construct.specs.declared.Line as line
+use Rattle.book_reader.specs.Contracts.{rest, queryOf, Says}
+use Rattle.book_reader.specs.declared.Cursor.{Cursor}
+use Rattle.book_reader.specs.declared.Query.{Query}
+use Rattle.book_reader.specs.declared.Said.{Said}
+use Rattle.aut_query_stage.specs.Layer.{QueryReady}
+use Rattle.aut_query_stage.proofs.Layer.{Leaves, queryLayer, by-ends}
+use Rattle.book_writer.specs.Contracts.{Put}
+use Rattle.book_writer.proofs.Contracts.{put-take}
 use Rattle.book_query.specs.Contracts.{PreAsk, PostAsk}
 use Rattle.book_query.specs.declared.Setting.{Setting}
 use Rattle.book_query.specs.declared.Asked.{Asked}

@@ -11,17 +11,17 @@ use Rattle.spp_steps.proofs.Laws.{by-test}
 use lib.ListN.{length, getD, set, drop, length-append, length-drop}
 use lib.Seq.{drop-set-add}
 use Rattle.aut_steps.specs.Tables.{words}
-use Rattle.aut_steps.specs.ListLaws.{All}
+use Rattle.aut_steps.specs.Ascending.{All}
 use Rattle.aut_steps.proofs.ListLaws.{all-append}
 use Rattle.aut_steps.specs.Scratch.{Kept}
 use Rattle.aut_steps.proofs.Scratch.{kept-refl, kept-trans, kept-sets, words-append}
 use Rattle.book_steps.specs.Reader as Reader
 use Rattle.book_steps.specs.Reader.{given, giving, numbers, refuses}
-use Rattle.reader.specs.Seen.{rest, behind, bad, taken, TakesNumber, counted}
-use Rattle.reader.specs.declared.Number.{Number}
-use Rattle.reader.specs.declared.Number.the-variants as number-read
-use Rattle.reader.specs.declared.Cursor.{Cursor}
-use Rattle.reader.proofs.Saying.{number-by, number-within, numbers-behind, numbers-bad, list-is}
+use Rattle.book_reader.specs.Contracts.{rest, behind, bad, taken, TakesNumber, counted}
+use Rattle.book_reader.specs.declared.Number.{Number}
+use Rattle.book_reader.specs.declared.Number.the-variants as number-read
+use Rattle.book_reader.specs.declared.Cursor.{Cursor}
+use Rattle.book_reader.proofs.Saying.{number-by, number-within, numbers-behind, numbers-bad, list-is}
 use Rattle.book_line.specs.declared.Named.{Named}
 use Rattle.book_line.specs.declared.Named.the-variants as named
 use Rattle.book_line.specs.declared.Operand.{Operand}

@@ -11,31 +11,31 @@ use borrow.Author.Tests.{lt-ltb, le-ltb}
 use Rattle.common.specs.Outcome.{Outcome, refused, if_then_else_}
 use Rattle.common.specs.Runs.{placed}
 use Rattle.aut_steps.specs.Tables.{Limits, Aut, words}
-use Rattle.aut_steps.specs.ListLaws.{All}
+use Rattle.aut_steps.specs.Ascending.{All}
 use Rattle.aut_steps.specs.Constructors.{mk-union-n, mk-intersect-n}
 use Rattle.aut_steps.proofs.Scratch.{kept-refl}
-use Rattle.line_steps.specs.Lines as Lines
-use Rattle.delta_steps.specs.Delta.{putAut}
-use Rattle.query_steps.specs.Tables.{putBase}
+use Rattle.book_construct_steps.specs.Lines as Lines
+use Rattle.aut_delta_steps.specs.Delta.{putAut}
+use Rattle.aut_query_steps.specs.Tables.{putBase}
 use Rattle.book_steps.specs.Reader as Reader
 use Rattle.book_steps.specs.Reader.{given, resolve, makes, asks, refuses, numbers}
 use Rattle.book_steps.specs.Run.{place, execute, step, after-making}
-use Rattle.aut.specs.Seen.{limitsOf}
-use Rattle.aut.specs.declared.Config.{Config}
-use Rattle.line.specs.Seen.{constantOf, bitOf, singleOf, pairOf, listedOf}
-use Rattle.line.specs.declared.Constant.{Constant}
-use Rattle.line.specs.declared.Bit.{Bit}
-use Rattle.line.specs.declared.Single.{Single}
-use Rattle.line.specs.declared.Pair.{Pair}
-use Rattle.line.specs.declared.Listed.{Listed}
-use Rattle.line.specs.declared.Listed.the-variants as listed
-use Rattle.line.specs.declared.Line.the-variants as line
-use Rattle.reader.specs.Seen.{rest, queryOf, saidOf, SaidListed}
-use Rattle.reader.specs.declared.Cursor.{Cursor}
-use Rattle.reader.specs.declared.Query.{Query}
-use Rattle.reader.specs.declared.Said.{Said}
-use Rattle.reader.specs.declared.Said.the-variants as said
-use Rattle.reader.proofs.Saying.{list-is}
+use Rattle.aut_states.specs.Contracts.{limitsOf}
+use Rattle.aut_states.specs.declared.Config.{Config}
+use Rattle.book_construct.specs.Contracts.{constantOf, bitOf, singleOf, pairOf, listedOf}
+use Rattle.book_construct.specs.declared.Constant.{Constant}
+use Rattle.book_construct.specs.declared.Bit.{Bit}
+use Rattle.book_construct.specs.declared.Single.{Single}
+use Rattle.book_construct.specs.declared.Pair.{Pair}
+use Rattle.book_construct.specs.declared.Listed.{Listed}
+use Rattle.book_construct.specs.declared.Listed.the-variants as listed
+use Rattle.book_construct.specs.declared.Line.the-variants as line
+use Rattle.book_reader.specs.Contracts.{rest, queryOf, saidOf, SaidListed}
+use Rattle.book_reader.specs.declared.Cursor.{Cursor}
+use Rattle.book_reader.specs.declared.Query.{Query}
+use Rattle.book_reader.specs.declared.Said.{Said}
+use Rattle.book_reader.specs.declared.Said.the-variants as said
+use Rattle.book_reader.proofs.Saying.{list-is}
 use Rattle.book_line.specs.declared.Named.{Named}
 use Rattle.book_line.specs.declared.Named.the-variants as named
 use Rattle.book_line.specs.declared.Told.{Told}

@@ -7,32 +7,32 @@ use Prim.Native.Nat.{ℕ, zero, suc, _+_, _/_, _≤_, _<_}
 use lib.ListN.{length, getD, set, take, drop}
 use Rattle.common.specs.Outcome.{Outcome, refused, given}
 use Rattle.aut_steps.specs.Tables.{Limits, Aut, words}
-use Rattle.aut_steps.specs.Good.{states}
-use Rattle.aut_steps.specs.ListLaws.{All}
+use Rattle.aut_steps.specs.Wf.{states}
+use Rattle.aut_steps.specs.Ascending.{All}
 use Rattle.aut_steps.specs.Scratch.{Kept}
-use Rattle.query_steps.specs.Tables.{Tables}
+use Rattle.aut_query_steps.specs.Tables.{Tables}
 use Rattle.book_steps.specs.Reader as Reader
 use Rattle.book_steps.specs.Reader.{giving, resolve, makes, asks, refuses, numbers}
 use Rattle.book_steps.specs.Answers.{nameOf}
 use Rattle.book_steps.specs.Run as Run
 use Rattle.book_steps.specs.Run.{place, execute, step}
-use Rattle.aut.specs.Seen.{limitsOf}
-use Rattle.aut.specs.declared.Config.{Config}
-use Rattle.aut.specs.declared.Counts.{Counts}
-use Rattle.aut.specs.declared.State.{State}
-use Rattle.aut.specs.declared.State.the-variants as state
-use Rattle.aut_rel.specs.Seen.{Ready}
-use Rattle.line.specs.Seen as Line
-use Rattle.line.specs.Seen.{bitOf, pairOf, listedOf, LineReady, Made}
-use Rattle.line.specs.declared.Bit.{Bit}
-use Rattle.line.specs.declared.Pair.{Pair}
-use Rattle.line.specs.declared.Listed.{Listed}
-use Rattle.line.specs.declared.Line as line
-use Rattle.reader.specs.Seen.{rest, Within, behind, bad, taken, counted, queryOf, saidOf, SaidListed}
-use Rattle.reader.specs.declared.Cursor.{Cursor}
-use Rattle.reader.specs.declared.Query.{Query}
-use Rattle.reader.specs.declared.Said.{Said}
-use Rattle.query_stage.specs.Layer.{tablesOf, QueryReady, Zeroed}
+use Rattle.aut_states.specs.Contracts.{limitsOf}
+use Rattle.aut_states.specs.declared.Config.{Config}
+use Rattle.aut_states.specs.declared.Counts.{Counts}
+use Rattle.aut_states.specs.declared.State.{State}
+use Rattle.aut_states.specs.declared.State.the-variants as state
+use Rattle.aut_relations.specs.Contracts.{Ready}
+use Rattle.book_construct.specs.Contracts as Line
+use Rattle.book_construct.specs.Contracts.{bitOf, pairOf, listedOf, LineReady, Made}
+use Rattle.book_construct.specs.declared.Bit.{Bit}
+use Rattle.book_construct.specs.declared.Pair.{Pair}
+use Rattle.book_construct.specs.declared.Listed.{Listed}
+use Rattle.book_construct.specs.declared.Line as line
+use Rattle.book_reader.specs.Contracts.{rest, Within, behind, bad, taken, counted, queryOf, saidOf, SaidListed}
+use Rattle.book_reader.specs.declared.Cursor.{Cursor}
+use Rattle.book_reader.specs.declared.Query.{Query}
+use Rattle.book_reader.specs.declared.Said.{Said}
+use Rattle.aut_query_stage.specs.Layer.{tablesOf, QueryReady, Zeroed}
 use Rattle.book_query.specs.Contracts.{settingOf, PostAsk}
 use Rattle.book_query.specs.declared.Setting.{Setting}
 use Rattle.book_query.specs.declared.Asked.{Asked}

@@ -1,20 +1,20 @@
 // A line of a book behind the first: the lines that it names are looked up, its constructor or its query is done, and told it stands for is kept in the table of lines.
-use aut::Config;
-use aut::Counts;
-use aut::State;
+use aut_states::Config;
+use aut_states::Counts;
+use aut_states::State;
+use book_construct::Bit;
+use book_construct::Line;
+use book_construct::Listed;
+use book_construct::Pair;
 use book_query::Asked;
 use book_query::Setting;
-use line::Bit;
-use line::Line;
-use line::Listed;
-use line::Pair;
-use reader::Cursor;
-use reader::Number;
-use reader::Query;
-use reader::Said;
+use book_reader::Cursor;
+use book_reader::Number;
+use book_reader::Query;
+use book_reader::Said;
 ghost use Prim.Native.Nat.{_+_, _≤_, _<_};
 ghost use lib.ListN.{length};
-ghost use Rattle.aut_rel.specs.Seen.{autOf};
+ghost use Rattle.aut_relations.specs.Contracts.{autOf};
 ghost use Rattle.book_line.specs.Contracts as Its;
 ghost use Rattle.book_line.specs.Contracts.{NamedIs, PreOperand, PostOperand, PreOperands, PostOperands, PostTold, PreMake, PostMake, PreAskLine, PostAskLine, memory};
 
@@ -201,7 +201,7 @@ fn make_line(
     ensures { λ r. ⌜ PostMake config k line r c (now (nodes .entry)) (now (states .entry)) (now (members .entry)) (now (scratch .entry)) (now (nodes .exit)) (now (states .exit)) (now (members .exit)) (now (scratch .exit)) ⌝ }
 {
     let at = WORK;
-    let made = line::make(nodes, states, members, &mut scratch[at..], c, config, line);
+    let made = book_construct::make(nodes, states, members, &mut scratch[at..], c, config, line);
     match made {
         State::Refused(e) => State::Refused(e),
         State::Is(z, d) => {
@@ -232,7 +232,7 @@ fn ask_line(
     ensures { λ r. ⌜ PostAskLine setting (memory (now (sp .entry)) (now (nodes .entry)) (now (states .entry)) (now (members .entry)) (now (transitions .entry)) (now (pending .entry)) (now (scratch .entry)) (now (output .entry))) place query a x r (memory (now (sp .exit)) (now (nodes .exit)) (now (states .exit)) (now (members .exit)) (now (transitions .exit)) (now (pending .exit)) (now (scratch .exit)) (now (output .exit))) ⌝ }
 {
     let mut name = [0u8; 20];
-    let n = writer::put_decimal(&mut name, 0, a as u64);
+    let n = book_writer::put_decimal(&mut name, 0, a as u64);
     let at = WORK;
     let asked = book_query::ask(
         sp,
@@ -344,7 +344,7 @@ pub fn obey(
     requires { ⌜ Its.PreObey (now book) setting (memory (now sp) (now nodes) (now states) (now members) (now transitions) (now pending) (now scratch) (now output)) place c ⌝ }
     ensures { λ r. ⌜ Its.PostObey (now (book .entry)) setting (memory (now (sp .entry)) (now (nodes .entry)) (now (states .entry)) (now (members .entry)) (now (transitions .entry)) (now (pending .entry)) (now (scratch .entry)) (now (output .entry))) place c r (memory (now (sp .exit)) (now (nodes .exit)) (now (states .exit)) (now (members .exit)) (now (transitions .exit)) (now (pending .exit)) (now (scratch .exit)) (now (output .exit))) ⌝ }
 {
-    let said = reader::instruction(book, c);
+    let said = book_reader::instruction(book, c);
     let told = tell(book, scratch, place.lines, setting.config, said);
     perform(
         sp,

@@ -16,24 +16,24 @@ use Rattle.netkat_steps.specs.ListSteps.{Edge}
 use Rattle.netkat.specs.Search as Plain
 use Rattle.sp_steps.specs.Model as Sp
 use Rattle.sp_steps.proofs.Size.{size-most}
-use Rattle.sp_steps.specs.Laws as SpLaws
-use Rattle.st_steps.specs.Edges.{edges}
-use Rattle.st_steps.proofs.Places.{edge-at, edges-length}
-use Rattle.st.specs.Seen.{RESULT}
-use Rattle.query_steps.specs.Tables.{Tables, ExtTables}
-use Rattle.query_steps.proofs.Tables.{later-refl}
-use Rattle.query_steps.specs.Search.{is-empty}
-use Rattle.query_steps.specs.Live.{live-packets}
-use Rattle.query_steps.specs.Pruned.{delta-pruned}
+use Rattle.sp_steps.specs.Wf as SpLaws
+use Rattle.aut_st_steps.specs.Edges.{edges}
+use Rattle.aut_st_steps.proofs.Places.{edge-at, edges-length}
+use Rattle.aut_st_insert.specs.Contracts.{RESULT}
+use Rattle.aut_query_steps.specs.Tables.{Tables, ExtTables}
+use Rattle.aut_query_steps.proofs.Tables.{later-refl}
+use Rattle.aut_query_steps.specs.Search.{is-empty}
+use Rattle.aut_query_steps.specs.Live.{live-packets}
+use Rattle.aut_query_steps.specs.Pruned.{delta-pruned}
 use Rattle.book_steps.specs.Answers.{emptyAnswer, liveAnswer, prunedAnswer}
 use Rattle.book_steps.specs.Reader as Reader
 use Rattle.book_steps.specs.Run.{place, query, after-asking}
-use Rattle.aut.specs.Seen.{limitsOf}
-use Rattle.aut.specs.declared.Counts.{Counts}
+use Rattle.aut_states.specs.Contracts.{limitsOf}
+use Rattle.aut_states.specs.declared.Counts.{Counts}
 use Rattle.aut_stage.specs.Stage.{Post}
 use Rattle.aut_sets.specs.Contracts.{PreSet, PostSize}
-use Rattle.query_stage.specs.Layer.{QueryReady, Zeroed}
-use Rattle.query_stage.proofs.Layer.{Leaves, query-ready, queryLayer}
+use Rattle.aut_query_stage.specs.Layer.{QueryReady, Zeroed}
+use Rattle.aut_query_stage.proofs.Layer.{Leaves, query-ready, queryLayer}
 use Rattle.aut_empty.specs.Contracts as Empty
 use Rattle.aut_empty.specs.Contracts.{PostSearch}
 use Rattle.aut_empty.specs.declared.Verdict as empty-verdict
@@ -48,18 +48,18 @@ use Rattle.aut_pruned.specs.Contracts.{PrunedAt}
 use Rattle.aut_pruned.specs.declared.Pruned.{Pruned}
 use Rattle.aut_pruned.specs.declared.Pruned.the-variants as pruned
 use Rattle.sp.specs.declared.SP.{SP}
-use Rattle.writer.specs.Seen.{Put, Answers}
-use Rattle.writer.proofs.Seen.{put-take}
-use Rattle.writer.specs.Seen as Writer
-use Rattle.writer.specs.declared.Verdict.{Verdict}
-use Rattle.writer.specs.declared.Answered.{Answered}
-use Rattle.writer.specs.declared.Answered.the-variants as answered
+use Rattle.book_writer.specs.Contracts.{Put, Answers}
+use Rattle.book_writer.proofs.Contracts.{put-take}
+use Rattle.book_writer.specs.Contracts as Writer
+use Rattle.book_writer.specs.declared.Verdict.{Verdict}
+use Rattle.book_writer.specs.declared.Answered.{Answered}
+use Rattle.book_writer.specs.declared.Answered.the-variants as answered
 use Rattle.book_query.specs.declared.Setting.{Setting}
 use Rattle.book_query.specs.declared.Asked.{Asked}
 use Rattle.book_query.specs.declared.Asked.the-variants as asked
-use Rattle.reader.specs.declared.Query.{Query}
-use Rattle.reader.specs.declared.Query.the-variants as queries
-use Rattle.reader.specs.Seen.{queryOf}
+use Rattle.book_reader.specs.declared.Query.{Query}
+use Rattle.book_reader.specs.declared.Query.the-variants as queries
+use Rattle.book_reader.specs.Contracts.{queryOf}
 use Rattle.book_query.specs.Contracts.{settingOf, told, PrePairs, PostPruned, PostAsk}
 
 -- ---- the ends of a query

@@ -9,17 +9,17 @@ use Rattle.cache.specs.Cache.{Valid, OnlyCodes}
 use Rattle.cache.proofs.Cache.{notes-refl, notes-trans, sound-own}
 use Rattle.netkat_steps.specs.ListSteps.{Edge}
 use Rattle.spp_steps.specs.Model as Spp
-use Rattle.spp_steps.specs.Laws.{ValidAt}
-use Rattle.spp_img.specs.Reuse.{Counted}
-use Rattle.st_steps.specs.Edges.{edges}
-use Rattle.st_steps.proofs.Places.{edges-on, edges-done, edges-same, edges-length}
-use Rattle.st.specs.Seen.{RESULT}
+use Rattle.spp_steps.specs.Wf.{ValidAt}
+use Rattle.spp_image.specs.Reuse.{Counted}
+use Rattle.aut_st_steps.specs.Edges.{edges}
+use Rattle.aut_st_steps.proofs.Places.{edges-on, edges-done, edges-same, edges-length}
+use Rattle.aut_st_insert.specs.Contracts.{RESULT}
 use Rattle.book_steps.specs.Answers.{pairLines, prunedAnswer}
 use Rattle.aut_sets.specs.Contracts.{NotesBehind}
-use Rattle.writer.specs.Seen.{Put, Answers, pairLine, prunedHead}
-use Rattle.writer.proofs.Seen.{put-append, pairs-are}
-use Rattle.writer.specs.declared.Answered.{Answered}
-use Rattle.writer.specs.declared.Answered.the-variants as answered
+use Rattle.book_writer.specs.Contracts.{Put, Answers, pairLine, prunedHead}
+use Rattle.book_writer.proofs.Contracts.{put-append, pairs-are}
+use Rattle.book_writer.specs.declared.Answered.{Answered}
+use Rattle.book_writer.specs.declared.Answered.the-variants as answered
 use Rattle.book_query.specs.Contracts.{told, PrePairs, PostNumber, PostLength, PrePut, PostPairs, PostPruned}
 
 pub notes-none : {P : Valid} {s : List ℕ} → NotesBehind P s s

@@ -10,22 +10,22 @@ use Rattle.common.specs.Runs.{Table}
 use Rattle.cache.specs.Cache.{OnCodes, OnlyCodes, Sound}
 use Rattle.netkat_steps.specs.ListSteps.{Edge}
 use Rattle.spp_steps.specs.Model as Spp
-use Rattle.spp_steps.specs.Laws.{Wf, ValidAt}
-use Rattle.spp_img.specs.Reuse.{Counted}
-use Rattle.st_steps.specs.Edges.{edges}
-use Rattle.st.specs.Seen.{RESULT}
-use Rattle.query_steps.specs.Tables.{Tables, ExtTables}
+use Rattle.spp_steps.specs.Wf.{Wf, ValidAt}
+use Rattle.spp_image.specs.Reuse.{Counted}
+use Rattle.aut_st_steps.specs.Edges.{edges}
+use Rattle.aut_st_insert.specs.Contracts.{RESULT}
+use Rattle.aut_query_steps.specs.Tables.{Tables, ExtTables}
 use Rattle.book_steps.specs.Answers.{Pairs, pairLines, prunedAnswer}
 use Rattle.book_steps.specs.Reader as Reader
 use Rattle.book_steps.specs.Run as Run
 use Rattle.book_steps.specs.Run.{RunState, place, query, after-asking}
-use Rattle.aut.specs.Seen.{limitsOf}
-use Rattle.aut.specs.declared.Counts.{Counts}
-use Rattle.aut_rel.specs.Behind.{LISTS, cached}
+use Rattle.aut_states.specs.Contracts.{limitsOf}
+use Rattle.aut_states.specs.declared.Counts.{Counts}
+use Rattle.aut_relations.specs.Behind.{LISTS, cached}
 use Rattle.aut_sets.specs.Contracts.{NotesBehind}
-use Rattle.query_stage.specs.Layer.{QueryReady, Zeroed, PreQuery}
-use Rattle.writer.specs.Seen.{Put, Answers}
-use Rattle.writer.specs.declared.Answered.{Answered}
+use Rattle.aut_query_stage.specs.Layer.{QueryReady, Zeroed, PreQuery}
+use Rattle.book_writer.specs.Contracts.{Put, Answers}
+use Rattle.book_writer.specs.declared.Answered.{Answered}
 use Rattle.book_query.specs.declared.Setting.{Setting}
 use Rattle.book_query.specs.declared.Asked.{Asked}
 use Rattle.book_query.specs.declared.Asked.the-variants as asked

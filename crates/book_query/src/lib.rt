@@ -1,21 +1,21 @@
 // The queries of a book: each does its step and writes its answer, whole or not at all. The lists that the steps leave and the cache lie in scratch.
-use aut::Config;
-use aut::Counts;
 use aut_empty::Searched;
 use aut_live::Lived;
 use aut_pruned::Pruned;
-use reader::Query;
+use aut_states::Config;
+use aut_states::Counts;
+use book_reader::Query;
+use book_writer::Answered;
 use spp::SPP;
-use writer::Answered;
 ghost use mathlib.Core.Path.{_≡_};
 ghost use Prim.Native.Nat.{_≤_, _<_};
 ghost use lib.ListN.{length};
 ghost use Rattle.common.specs.Runs.{table};
 ghost use Rattle.book_steps.specs.Reader as Reader;
-ghost use Rattle.query_stage.specs.Layer.{tablesOf};
-ghost use Rattle.reader.specs.Seen.{queryOf};
+ghost use Rattle.aut_query_stage.specs.Layer.{tablesOf};
+ghost use Rattle.book_reader.specs.Contracts.{queryOf};
 ghost use Rattle.aut_empty.specs.Contracts as Empty;
-ghost use Rattle.writer.specs.Seen as Writer;
+ghost use Rattle.book_writer.specs.Contracts as Writer;
 ghost use Rattle.book_query.specs.Contracts.{PrePairs, PostNumber, PostLength, PrePut, PostPairs, PostPruned, PreAsk, PostAsk};
 
 // what holds for the whole book
@@ -30,13 +30,13 @@ pub enum Asked {
     Refused(u32),
 }
 
-fn verdict_of(v: aut_empty::Verdict) -> writer::Verdict
+fn verdict_of(v: aut_empty::Verdict) -> book_writer::Verdict
     ensures { λ r. ⌜ Writer.verdictOf r ≡ Empty.verdictOf v ⌝ }
 {
     match v {
-        aut_empty::Verdict::Yes => writer::Verdict::Yes,
-        aut_empty::Verdict::No => writer::Verdict::No,
-        aut_empty::Verdict::Spent => writer::Verdict::Spent,
+        aut_empty::Verdict::Yes => book_writer::Verdict::Yes,
+        aut_empty::Verdict::No => book_writer::Verdict::No,
+        aut_empty::Verdict::Spent => book_writer::Verdict::Spent,
     }
 }
 
@@ -75,7 +75,7 @@ pub fn ask_empty(
     match searched {
         Searched::Refused(e) => Asked::Refused(e),
         Searched::Answer(v, k, d) => {
-            let told = writer::empty_answer(output, at, name, verdict_of(v), k);
+            let told = book_writer::empty_answer(output, at, name, verdict_of(v), k);
             match told {
                 Answered::Full => Asked::Refused(27),
                 Answered::At(end) => Asked::Told(d, end),
@@ -120,7 +120,7 @@ pub fn ask_live(
         Lived::Refused(e) => Asked::Refused(e),
         Lived::Live(h, d) => {
             let k = aut_sets::set_size(sp, scratch, d, fields, h);
-            let told = writer::live_answer(output, at, name, k, fields);
+            let told = book_writer::live_answer(output, at, name, k, fields);
             match told {
                 Answered::Full => Asked::Refused(27),
                 Answered::At(end) => Asked::Told(d, end),
@@ -134,7 +134,7 @@ fn number_at(nodes: &[u32], scratch: &mut [u32], c: Counts, fields: u32, m: usiz
     requires { ⌜ PrePairs fields (table (now nodes) (c .spp)) (now scratch) m × (i < m) ⌝ }
     ensures { λ r. ⌜ PostNumber fields (table (now (nodes .entry)) (c .spp)) i r (now (scratch .entry)) (now (scratch .exit)) ⌝ }
 {
-    let label = SPP(scratch[2 * (st::RESULT + i) + 1]);
+    let label = SPP(scratch[2 * (aut_st_insert::RESULT + i) + 1]);
     aut_sets::pair_count(nodes, scratch, c, fields, label)
 }
 
@@ -146,9 +146,9 @@ fn pairs_length(nodes: &[u32], scratch: &mut [u32], c: Counts, fields: u32, m: u
     let mut total = 0;
     let mut i = 0;
     while i < m {
-        let target = scratch[2 * (st::RESULT + i)];
+        let target = scratch[2 * (aut_st_insert::RESULT + i)];
         let n = number_at(nodes, scratch, c, fields, m, i);
-        total += writer::pair_length(target, n);
+        total += book_writer::pair_length(target, n);
         i += 1;
     }
     total
@@ -170,9 +170,9 @@ fn put_pairs(
     let mut end = at;
     let mut i = 0;
     while i < m {
-        let target = scratch[2 * (st::RESULT + i)];
+        let target = scratch[2 * (aut_st_insert::RESULT + i)];
         let n = number_at(nodes, scratch, c, fields, m, i);
-        let Answered::At(next) = writer::pair_line(output, end, target, n) else {
+        let Answered::At(next) = book_writer::pair_line(output, end, target, n) else {
             return end;
         };
         end = next;
@@ -195,11 +195,11 @@ fn pruned_answer(
     requires { ⌜ PrePairs fields (table (now nodes) (c .spp)) (now scratch) m × (at ≤ length (now output)) ⌝ }
     ensures { λ r. ⌜ PostPruned fields (table (now (nodes .entry)) (c .spp)) at (now (name .entry)) m r (now (scratch .entry)) (now (scratch .exit)) (now (output .entry)) (now (output .exit)) ⌝ }
 {
-    let n = writer::head_length(name, m) + pairs_length(nodes, scratch, c, fields, m);
+    let n = book_writer::head_length(name, m) + pairs_length(nodes, scratch, c, fields, m);
     if output.len() - at < n {
         return Answered::Full;
     }
-    let Answered::At(next) = writer::pruned_head(output, at, name, m) else {
+    let Answered::At(next) = book_writer::pruned_head(output, at, name, m) else {
         return Answered::Full;
     };
     let end = put_pairs(nodes, scratch, output, c, fields, next, m);

@@ -9,10 +9,10 @@ use Rattle.book_steps.specs.Text.{cut}
 use Rattle.book_steps.specs.Reader as Reader
 use Rattle.book_steps.specs.Run as Run
 use Rattle.book_steps.specs.Run.{with-line, onward, answered, stopped, step as obey}
-use Rattle.reader.specs.Seen.{Begins, BeginsBy, Cuts, cutOf, rest}
-use Rattle.reader.specs.declared.Cursor.{Cursor}
-use Rattle.reader.specs.declared.Cut.{Cut}
-use Rattle.reader.specs.declared.Cut.the-variants as cut-read
+use Rattle.book_reader.specs.Contracts.{Begins, BeginsBy, Cuts, cutOf, rest}
+use Rattle.book_reader.specs.declared.Cursor.{Cursor}
+use Rattle.book_reader.specs.declared.Cut.{Cut}
+use Rattle.book_reader.specs.declared.Cut.the-variants as cut-read
 use Rattle.book_query.specs.declared.Setting.{Setting}
 use Rattle.book_line.specs.declared.Place.{Place}
 use Rattle.book_line.specs.declared.Obeyed.{Obeyed}

@@ -19,12 +19,12 @@ use Rattle.book_steps.specs.Run as Run
 use Rattle.book_steps.specs.Run.{Lent, zeroed, Result, refusal, finish, headed, opened, outcome}
 use Rattle.book_steps.specs.Claim.{Slices, WritesOnly, Refines, EntrySpec}
 use Rattle.book_steps.proofs.Claim as Claim
-use Rattle.reader.specs.Seen.{Begins, BeginsBy, Cuts, cutOf, Within, rest, headingOf}
-use Rattle.reader.specs.declared.Cursor.{Cursor}
-use Rattle.reader.specs.declared.Cut.{Cut}
-use Rattle.reader.specs.declared.Cut.the-variants as cut-read
-use Rattle.reader.specs.declared.Heading.{Heading}
-use Rattle.reader.specs.declared.Heading.the-variants as heading
+use Rattle.book_reader.specs.Contracts.{Begins, BeginsBy, Cuts, cutOf, Within, rest, headingOf}
+use Rattle.book_reader.specs.declared.Cursor.{Cursor}
+use Rattle.book_reader.specs.declared.Cut.{Cut}
+use Rattle.book_reader.specs.declared.Cut.the-variants as cut-read
+use Rattle.book_reader.specs.declared.Heading.{Heading}
+use Rattle.book_reader.specs.declared.Heading.the-variants as heading
 use Rattle.book_query.specs.declared.Setting.{Setting}
 use Rattle.book_line.specs.declared.Place.{Place}
 use Rattle.book_line.specs.Contracts.{Memory, memory, Standing}

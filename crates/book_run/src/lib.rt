@@ -4,8 +4,8 @@ use book_begin::Header;
 use book_line::Obeyed;
 use book_line::Place;
 use book_query::Setting;
-use reader::Cut;
-use reader::Heading;
+use book_reader::Cut;
+use book_reader::Heading;
 ghost use mathlib.Core.List.{[]};
 ghost use Rattle.book_line.specs.Contracts.{memory};
 ghost use Rattle.book_steps.specs.Claim.{EntrySpec};
@@ -56,7 +56,7 @@ fn turn(
     requires { ⌜ Its.PreTurn (now book) setting (memory (now sp) (now nodes) (now states) (now members) (now transitions) (now pending) (now scratch) (now output)) place at ⌝ }
     ensures { λ r. ⌜ Its.PostTurn (now (book .entry)) setting (memory (now (sp .entry)) (now (nodes .entry)) (now (states .entry)) (now (members .entry)) (now (transitions .entry)) (now (pending .entry)) (now (scratch .entry)) (now (output .entry))) place at r (memory (now (sp .exit)) (now (nodes .exit)) (now (states .exit)) (now (members .exit)) (now (transitions .exit)) (now (pending .exit)) (now (scratch .exit)) (now (output .exit))) ⌝ }
 {
-    let Cut::Line(c) = reader::line_at(book, at) else {
+    let Cut::Line(c) = book_reader::line_at(book, at) else {
         return Turned::Refused(3);
     };
     let done = book_line::obey(
@@ -195,10 +195,10 @@ fn open(
     if scratch.len() < SCRATCH {
         return Went::Stopped(26, 0, 0);
     }
-    let Cut::Line(c) = reader::line_at(book, 0) else {
+    let Cut::Line(c) = book_reader::line_at(book, 0) else {
         return Went::Stopped(1, 1, 0);
     };
-    let Heading::Is(n, budget) = reader::header(book, c) else {
+    let Heading::Is(n, budget) = book_reader::header(book, c) else {
         return Went::Stopped(1, 1, 0);
     };
     if n > 31 {

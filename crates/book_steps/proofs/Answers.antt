@@ -18,15 +18,15 @@ use Rattle.sp_steps.proofs.Size as SpSize
 use Rattle.spp_steps.proofs.Laws.{by-test}
 use Rattle.spp_steps.proofs.Size as SppSize
 use Rattle.aut_steps.specs.Tables.{Limits, Aut}
-use Rattle.aut_steps.proofs.Goes.{RefusalReason}
-use Rattle.delta_steps.proofs.DeltaRuns.{listing, no-transitions}
-use Rattle.delta_steps.specs.Fits.{tables as readings}
-use Rattle.query_steps.specs.Tables.{Tables, WfTables}
-use Rattle.query_steps.proofs.Tables.{is-live-same}
-use Rattle.query_steps.proofs.Steps.{QueryReason, no-packet-node, working, no-entry}
-use Rattle.query_steps.proofs.SearchLaws.{Searched}
-use Rattle.query_steps.proofs.LiveLaws.{Lived}
-use Rattle.query_steps.proofs.PrunedLaws.{PrunedTo}
+use Rattle.aut_steps.proofs.StepSpec.{RefusalReason}
+use Rattle.aut_delta_steps.proofs.DeltaRuns.{listing, no-transitions}
+use Rattle.aut_delta_steps.specs.Fits.{tables as readings}
+use Rattle.aut_query_steps.specs.Tables.{Tables, WfTables}
+use Rattle.aut_query_steps.proofs.Tables.{is-live-same}
+use Rattle.aut_query_steps.proofs.Steps.{QueryReason, no-packet-node, working, no-entry}
+use Rattle.aut_query_steps.proofs.SearchLaws.{Searched}
+use Rattle.aut_query_steps.proofs.LiveLaws.{Lived}
+use Rattle.aut_query_steps.proofs.PrunedLaws.{PrunedTo}
 use Rattle.book_steps.specs.Answers.{Pairs}
 use Rattle.book_steps.specs.Run.{Setting}
 use Rattle.book_steps.specs.Meaning.{Same}

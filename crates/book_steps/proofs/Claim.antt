@@ -18,9 +18,9 @@ use Rattle.spp_steps.specs.Model as Spp
 use Rattle.spp_steps.proofs.Laws.{by-test}
 use Rattle.spp_steps.proofs.Begin as SppBegin
 use Rattle.aut_steps.specs.Tables.{aut}
-use Rattle.delta_steps.specs.Delta.{store}
-use Rattle.query_steps.specs.Tables.{tables}
-use Rattle.query_steps.proofs.Tables.{begun-ordered}
+use Rattle.aut_delta_steps.specs.Delta.{store}
+use Rattle.aut_query_steps.specs.Tables.{tables}
+use Rattle.aut_query_steps.proofs.Tables.{begun-ordered}
 use Rattle.book_steps.specs.Text.{Cut, line, unended, cut, words}
 use Rattle.book_steps.specs.Reader.{Header, header}
 use Rattle.book_steps.specs.Answers.{fieldsAnswer}

@@ -29,15 +29,15 @@ use Rattle.aut_steps.specs.Intern.{seek, same2, sameL, nestL, put, putL, intern
 use Rattle.aut_steps.proofs.Facts.{seek-hit, seek-miss}
 use Rattle.aut_steps.specs.Constructors as C
 use Rattle.aut_steps.proofs.Products.{counted as products-counted}
-use Rattle.st_steps.specs.Operations.{ops}
-use Rattle.st_steps.specs.Edges.{edges}
-use Rattle.delta_steps.specs.Delta.{startOf, countOf, Store, store, roomT, append, listAt, keepList}
-use Rattle.delta_steps.specs.Epsilon.{setWord}
-use Rattle.delta_steps.proofs.Noted.{written, written-here, written-other, written-length}
-use Rattle.delta_steps.proofs.Stored.{edges-sets, room-transitions}
-use Rattle.query_steps.specs.Tables.{Tables}
-use Rattle.query_steps.specs.Search.{machine, capacity}
-use Rattle.query_steps.specs.Live.{liveAt, Found, found, Work, work, enqueue, enlarge, live-sets, explore, settled}
+use Rattle.aut_st_steps.specs.Operations.{ops}
+use Rattle.aut_st_steps.specs.Edges.{edges}
+use Rattle.aut_delta_steps.specs.Delta.{startOf, countOf, Store, store, roomT, append, listAt, keepList}
+use Rattle.aut_delta_steps.specs.Epsilon.{setWord}
+use Rattle.aut_delta_steps.proofs.Noted.{written, written-here, written-other, written-length}
+use Rattle.aut_delta_steps.proofs.Extends.{edges-sets, room-transitions}
+use Rattle.aut_query_steps.specs.Tables.{Tables}
+use Rattle.aut_query_steps.specs.Search.{machine, capacity}
+use Rattle.aut_query_steps.specs.Live.{liveAt, Found, found, Work, work, enqueue, enlarge, live-sets, explore, settled}
 use Rattle.book_steps.specs.Conditions.{opens, beforeTop, unseen, Lacks, New, Conditions}
 use Rattle.book_steps.proofs.Numbers.{Only, stops, then-only, unite-only, meet-only, bases-only, union-n-only, top-only, placed-only}
 

@@ -4,8 +4,8 @@ use mathlib.Core.List.{List, [], _∷_}
 use mathlib.Core.Option.{Option, none, some}
 use Prim.Native.Nat.{ℕ}
 use Prim.Native.String.{String}
-use Rattle.line_steps.specs.Lines as Lines
-use Rattle.line_steps.specs.Lines.{test, seq, union}
+use Rattle.book_construct_steps.specs.Lines as Lines
+use Rattle.book_construct_steps.specs.Lines.{test, seq, union}
 use Rattle.book_steps.specs.Text.{bytes, line, words, same, digits, reading, number, decimalBy, decimal}
 use Rattle.book_steps.specs.Reader.{header, Instruction, bit, pair, listed, query, empty, find, numbers, exact, parse, makes, refuses, giving, resolve}
 

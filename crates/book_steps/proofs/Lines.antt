@@ -16,28 +16,28 @@ use Rattle.netkat.specs.Lists.{State, Transition, Ascending, IsDelta}
 use Rattle.sp_steps.specs.Model as Sp
 use Rattle.aut_steps.specs.Tables.{Aut}
 use Rattle.aut_steps.proofs.Languages.{_then_}
-use Rattle.aut_steps.specs.Good.{states}
-use Rattle.aut_steps.proofs.Goes as Goes
-use Rattle.aut_steps.proofs.Goes.{StepSpec}
+use Rattle.aut_steps.specs.Wf.{states}
+use Rattle.aut_steps.proofs.StepSpec as Goes
+use Rattle.aut_steps.proofs.StepSpec.{StepSpec}
 use Rattle.aut_steps.specs.Meaning.{rule, Holds}
 use Rattle.aut_steps.proofs.Meaning.{Is}
-use Rattle.line_steps.specs.Lines.{Line, means, make}
-use Rattle.line_steps.proofs.LineLaws.{make-goes}
-use Rattle.delta_steps.specs.Delta.{putAut}
-use Rattle.delta_steps.specs.Fits.{Since}
-use Rattle.delta_steps.proofs.Worked.{worked-since}
-use Rattle.delta_steps.proofs.Stored.{went-since}
-use Rattle.query_steps.specs.Tables.{Tables, putBase, WfTables, ExtTables}
-use Rattle.query_steps.proofs.Tables.{gone-later}
-use Rattle.query_steps.specs.Search.{is-empty}
-use Rattle.query_steps.specs.Live.{live-packets}
-use Rattle.query_steps.specs.Pruned.{delta-pruned}
-use Rattle.query_steps.proofs.Steps as Steps
-use Rattle.query_steps.proofs.Steps.{Ends, gone-base, ordered-base}
-use Rattle.query_steps.proofs.SettleLaws.{decodes}
-use Rattle.query_steps.proofs.SearchEnds.{search-ends}
-use Rattle.query_steps.proofs.LiveLaws.{live-ends}
-use Rattle.query_steps.proofs.PrunedLaws.{pruned-ends}
+use Rattle.book_construct_steps.specs.Lines.{Line, means, make}
+use Rattle.book_construct_steps.proofs.LineLaws.{make-goes}
+use Rattle.aut_delta_steps.specs.Delta.{putAut}
+use Rattle.aut_delta_steps.specs.Fits.{Since}
+use Rattle.aut_delta_steps.proofs.Wf.{worked-since}
+use Rattle.aut_delta_steps.proofs.Extends.{went-since}
+use Rattle.aut_query_steps.specs.Tables.{Tables, putBase, WfTables, ExtTables}
+use Rattle.aut_query_steps.proofs.Tables.{gone-later}
+use Rattle.aut_query_steps.specs.Search.{is-empty}
+use Rattle.aut_query_steps.specs.Live.{live-packets}
+use Rattle.aut_query_steps.specs.Pruned.{delta-pruned}
+use Rattle.aut_query_steps.proofs.Steps as Steps
+use Rattle.aut_query_steps.proofs.Steps.{Ends, gone-base, ordered-base}
+use Rattle.aut_query_steps.proofs.SettleLaws.{decodes}
+use Rattle.aut_query_steps.proofs.SearchEnds.{search-ends}
+use Rattle.aut_query_steps.proofs.LiveLaws.{live-ends}
+use Rattle.aut_query_steps.proofs.PrunedLaws.{pruned-ends}
 use Rattle.book_steps.specs.Reader as Reader
 use Rattle.book_steps.specs.Reader.{Query, Instruction, Resolved, makes, asks, refuses, resolve}
 use Rattle.book_steps.specs.Answers.{nameOf, emptyAnswer, liveAnswer, prunedAnswer}

@@ -10,15 +10,15 @@ use borrow.Author.Tests.{ltb-true}
 use Rattle.common.specs.Outcome.{if_then_else_}
 use Rattle.netkat.specs.Rules.{Rule, In, InSome, InEach}
 use Rattle.aut_steps.specs.Tables.{Limits, Aut}
-use Rattle.aut_steps.specs.ListLaws.{All}
+use Rattle.aut_steps.specs.Ascending.{All}
 use Rattle.aut_steps.specs.Languages.{_≈_}
 use Rattle.aut_steps.proofs.Languages.{_then_, either-same, both-same, join-same, star-same, until-same, not-same, minus-same, differ-same}
-use Rattle.aut_steps.specs.Good.{states, ExtAut, WfAut}
-use Rattle.aut_steps.proofs.Good.{state-grown}
+use Rattle.aut_steps.specs.Wf.{states, ExtAut, WfAut}
+use Rattle.aut_steps.proofs.Wf.{state-grown}
 use Rattle.aut_steps.specs.Meaning.{rule, Holds}
 use Rattle.aut_steps.proofs.Meaning.{holds-grown}
-use Rattle.line_steps.specs.Lines as Lines
-use Rattle.line_steps.specs.Lines.{Line, Constant, Bit, Single, Pair, Listed, each, means, Asked}
+use Rattle.book_construct_steps.specs.Lines as Lines
+use Rattle.book_construct_steps.specs.Lines.{Line, Constant, Bit, Single, Pair, Listed, each, means, Asked}
 use Rattle.book_steps.specs.Reader as Reader
 use Rattle.book_steps.specs.Reader.{Query, Instruction, Resolved, given, giving, resolve}
 use Rattle.book_steps.specs.Meaning.{Same, Matched, done, asked, made}

@@ -3,7 +3,7 @@ use mathlib.Core.List.{List, [], _∷_, _++_}
 use mathlib.Core.Option.{Option, none, some}
 use Prim.Native.Nat.{ℕ}
 use Rattle.netkat.specs.Rules.{Rule}
-use Rattle.line_steps.specs.Lines.{means}
+use Rattle.book_construct_steps.specs.Lines.{means}
 use Rattle.book_steps.specs.Reader as Reader
 use Rattle.book_steps.specs.Reader.{Resolved}
 

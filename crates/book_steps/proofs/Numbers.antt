@@ -15,8 +15,8 @@ use Rattle.aut_steps.specs.Intern as Intern
 use Rattle.aut_steps.specs.Intern.{seek, same2, sameL, nestL, intern0, intern1, intern2, internL, put, putL}
 use Rattle.aut_steps.specs.Lists.{sorted}
 use Rattle.aut_steps.specs.Constructors as C
-use Rattle.line_steps.specs.Lines as Lines
-use Rattle.line_steps.specs.Lines.{Line, make}
+use Rattle.book_construct_steps.specs.Lines as Lines
+use Rattle.book_construct_steps.specs.Lines.{Line, make}
 
 module _ (P : ℕ → Type 0) (m8 : P 8) (m21 : P 21) (m22 : P 22) (m23 : P 23) where
   pub data Only {S A : Type 0} : Outcome S A → Type 0 where

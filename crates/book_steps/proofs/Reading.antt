@@ -10,8 +10,8 @@ use lib.Dec.{eqb, ltb}
 use lib.ListN.{getD}
 use borrow.Author.Tests.{ltb-true, ltb-false}
 use Rattle.common.specs.Outcome.{if_then_else_}
-use Rattle.line_steps.specs.Lines as Lines
-use Rattle.line_steps.specs.Lines.{Line}
+use Rattle.book_construct_steps.specs.Lines as Lines
+use Rattle.book_construct_steps.specs.Lines.{Line}
 use Rattle.book_steps.specs.Reader as Reader
 use Rattle.book_steps.specs.Reader.{Query, Instruction, Resolved, makes, asks, refuses, resolve, giving, given as lookedUp}
 use Rattle.book_steps.specs.Conditions.{named, OutOfRange, ReadSpec}

@@ -25,16 +25,16 @@ use Rattle.spp_steps.proofs.Laws.{by-test}
 use Rattle.aut_steps.specs.Tables.{Aut}
 use Rattle.aut_steps.specs.Languages.{_≈_}
 use Rattle.aut_steps.proofs.Languages.{≈-sym}
-use Rattle.aut_steps.specs.Good.{states}
+use Rattle.aut_steps.specs.Wf.{states}
 use Rattle.aut_steps.specs.Meaning.{Holds}
 use Rattle.aut_steps.proofs.Meaning.{holds-grown}
-use Rattle.delta_steps.specs.Delta.{putAut}
-use Rattle.query_steps.specs.Tables.{Tables, putBase, WfTables, ExtTables}
-use Rattle.query_steps.proofs.Tables.{is-live-same, later-refl, later-trans}
-use Rattle.query_steps.specs.Search.{is-empty}
-use Rattle.query_steps.specs.Live.{live-packets}
-use Rattle.query_steps.proofs.SearchLaws.{search-goes}
-use Rattle.query_steps.proofs.LiveLaws.{live-goes}
+use Rattle.aut_delta_steps.specs.Delta.{putAut}
+use Rattle.aut_query_steps.specs.Tables.{Tables, putBase, WfTables, ExtTables}
+use Rattle.aut_query_steps.proofs.Tables.{is-live-same, later-refl, later-trans}
+use Rattle.aut_query_steps.specs.Search.{is-empty}
+use Rattle.aut_query_steps.specs.Live.{live-packets}
+use Rattle.aut_query_steps.proofs.SearchLaws.{search-goes}
+use Rattle.aut_query_steps.proofs.LiveLaws.{live-goes}
 use Rattle.book_steps.specs.Text.{Cut, line, unended, cut, words}
 use Rattle.book_steps.specs.Reader as Reader
 use Rattle.book_steps.specs.Reader.{Query, Instruction, parse, Resolved, resolve}

@@ -13,8 +13,8 @@ use Rattle.common.specs.Runs.{Table, table}
 use Rattle.sp_steps.specs.Model as Sp
 use Rattle.spp_steps.specs.Model as Spp
 use Rattle.aut_steps.specs.Tables.{Limits, aut}
-use Rattle.delta_steps.specs.Delta.{store}
-use Rattle.query_steps.specs.Tables.{tables}
+use Rattle.aut_delta_steps.specs.Delta.{store}
+use Rattle.aut_query_steps.specs.Tables.{tables}
 use Rattle.book_steps.specs.Text.{bytes, line, unended, cut, words, decimal}
 use Rattle.book_steps.specs.Reader.{Header, header, Instruction}
 use Rattle.book_steps.specs.Answers.{say, fieldsAnswer}

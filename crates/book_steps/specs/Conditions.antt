@@ -24,12 +24,12 @@ use Rattle.aut_steps.specs.Tables.{UNION, INTERSECT, TOP, kindOf, op2, nest, Li
 use Rattle.aut_steps.specs.Intern.{seek, same2, sameL, nestL, put, putL, intern1, intern2, internL}
 use Rattle.aut_steps.specs.Constructors as C
 use Rattle.aut_steps.specs.Constructors.{within, beyond, opened, openAll, countAll, sizes, bases, mk-union-n}
-use Rattle.line_steps.specs.Lines.{Bit}
-use Rattle.st_steps.specs.Operations.{ops}
-use Rattle.delta_steps.specs.Delta.{startOf, countOf, Store, listAt, keepList}
-use Rattle.query_steps.specs.Tables.{Tables}
-use Rattle.query_steps.specs.Search.{machine}
-use Rattle.query_steps.specs.Live.{found, Work, enqueue, explore, settled, enlarge, live-sets}
+use Rattle.book_construct_steps.specs.Lines.{Bit}
+use Rattle.aut_st_steps.specs.Operations.{ops}
+use Rattle.aut_delta_steps.specs.Delta.{startOf, countOf, Store, listAt, keepList}
+use Rattle.aut_query_steps.specs.Tables.{Tables}
+use Rattle.aut_query_steps.specs.Search.{machine}
+use Rattle.aut_query_steps.specs.Live.{found, Work, enqueue, explore, settled, enlarge, live-sets}
 use Rattle.book_steps.specs.Reader as Reader
 use Rattle.book_steps.specs.Reader.{Instruction, refuses, resolve}
 

@@ -23,13 +23,13 @@ use Rattle.spp_steps.specs.Size as SppSize
 use Rattle.aut_steps.specs.Relations as Rel
 use Rattle.aut_steps.specs.Tables.{SPP, Aut}
 use Rattle.aut_steps.specs.Kinds as Kinds
-use Rattle.aut_steps.specs.Good as Good
-use Rattle.aut_steps.specs.Good.{states, kind, operands, Ok}
+use Rattle.aut_steps.specs.Wf as Good
+use Rattle.aut_steps.specs.Wf.{states, kind, operands, Ok}
 use Rattle.aut_steps.specs.Meaning.{Holds}
-use Rattle.delta_steps.specs.Epsilon.{epsilonOf}
-use Rattle.delta_steps.specs.Delta.{startOf, countOf, Store, listAt}
-use Rattle.delta_steps.specs.PlainSearch.{decoded, answers}
-use Rattle.query_steps.specs.Tables.{Tables, liveOf, WfTables}
+use Rattle.aut_delta_steps.specs.Epsilon.{epsilonOf}
+use Rattle.aut_delta_steps.specs.Delta.{startOf, countOf, Store, listAt}
+use Rattle.aut_delta_steps.specs.PlainSearch.{decoded, answers}
+use Rattle.aut_query_steps.specs.Tables.{Tables, liveOf, WfTables}
 use Rattle.book_steps.specs.Answers.{Pairs}
 use Rattle.book_steps.specs.Meaning.{Same, Matched}
 use Rattle.book_steps.specs.Run.{Lent, Setting, RunState}

@@ -6,7 +6,7 @@ use Prim.Native.Nat.{ℕ, _<_}
 use Rattle.netkat.specs.Rules.{Rule, In}
 use Rattle.aut_steps.specs.Tables.{Aut}
 use Rattle.aut_steps.specs.Languages.{_≈_}
-use Rattle.aut_steps.specs.Good.{states}
+use Rattle.aut_steps.specs.Wf.{states}
 use Rattle.aut_steps.specs.Meaning.{Holds}
 
 -- ---- states and rules, line by line

@@ -8,8 +8,8 @@ use Prim.Native.String.{String}
 use lib.Dec.{eqb, ltb}
 use lib.ListN.{getD}
 use Rattle.common.specs.Outcome.{if_then_else_}
-use Rattle.line_steps.specs.Lines as Lines
-use Rattle.line_steps.specs.Lines.{Line, Constant, Bit, Single, Pair, Listed, zero, one, all, dup, top, test, set, or, and, xor, minus, seq, until, union, inter, not, star}
+use Rattle.book_construct_steps.specs.Lines as Lines
+use Rattle.book_construct_steps.specs.Lines.{Line, Constant, Bit, Single, Pair, Listed, zero, one, all, dup, top, test, set, or, and, xor, minus, seq, until, union, inter, not, star}
 use Rattle.book_steps.specs.Text.{bytes, same, number}
 
 -- ---- the first line

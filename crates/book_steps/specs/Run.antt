@@ -11,12 +11,12 @@ use Rattle.netkat_steps.specs.ListSteps.{Edge}
 use Rattle.sp_steps.specs.Model as Sp
 use Rattle.spp_steps.specs.Model as Spp
 use Rattle.aut_steps.specs.Tables.{Limits, limits01, aut}
-use Rattle.line_steps.specs.Lines.{make}
-use Rattle.delta_steps.specs.Delta.{store, onAut}
-use Rattle.query_steps.specs.Tables.{Tables, tables, onBase}
-use Rattle.query_steps.specs.Search.{is-empty}
-use Rattle.query_steps.specs.Live.{live-packets}
-use Rattle.query_steps.specs.Pruned.{delta-pruned}
+use Rattle.book_construct_steps.specs.Lines.{make}
+use Rattle.aut_delta_steps.specs.Delta.{store, onAut}
+use Rattle.aut_query_steps.specs.Tables.{Tables, tables, onBase}
+use Rattle.aut_query_steps.specs.Search.{is-empty}
+use Rattle.aut_query_steps.specs.Live.{live-packets}
+use Rattle.aut_query_steps.specs.Pruned.{delta-pruned}
 use Rattle.book_steps.specs.Text.{Cut, line, unended, cut, words}
 use Rattle.book_steps.specs.Reader.{Header, header, Query, empty, live, pruned, Instruction, parse, Resolved, makes, asks, refuses, resolve}
 use Rattle.book_steps.specs.Answers.{nameOf, fieldsAnswer, emptyAnswer, liveAnswer, prunedAnswer}

@@ -15,12 +15,12 @@ use Rattle.netkat.specs.Search.{Verdict, yes, spent}
 use Rattle.sp_steps.specs.Model as Sp
 use Rattle.spp_steps.specs.Model as Spp
 use Rattle.aut_steps.specs.Tables.{Aut}
-use Rattle.line_steps.specs.Lines.{Line, means, make}
-use Rattle.delta_steps.specs.Delta.{putAut}
-use Rattle.query_steps.specs.Tables.{Tables, putBase, ExtTables}
-use Rattle.query_steps.specs.Search.{is-empty}
-use Rattle.query_steps.specs.Live.{live-packets}
-use Rattle.query_steps.specs.Pruned.{delta-pruned}
+use Rattle.book_construct_steps.specs.Lines.{Line, means, make}
+use Rattle.aut_delta_steps.specs.Delta.{putAut}
+use Rattle.aut_query_steps.specs.Tables.{Tables, putBase, ExtTables}
+use Rattle.aut_query_steps.specs.Search.{is-empty}
+use Rattle.aut_query_steps.specs.Live.{live-packets}
+use Rattle.aut_query_steps.specs.Pruned.{delta-pruned}
 use Rattle.book_steps.specs.Text.{line, unended, cut, words}
 use Rattle.book_steps.specs.Reader as Reader
 use Rattle.book_steps.specs.Reader.{Query, Instruction, parse, makes, asks, resolve}

@@ -15,12 +15,12 @@ use Rattle.book_steps.specs.Run.{Lent, Result, outcome}
 use Rattle.book_steps.specs.Text.{bytes, decimal}
 use Rattle.book_steps.specs.Answers.{say}
 use Rattle.io.specs.Counts.{Counts}
-use Rattle.writer.specs.Seen.{Put, Answers}
-use Rattle.writer.proofs.Seen.{put-take}
-use Rattle.writer.specs.declared.Answered.{Answered}
-use Rattle.writer.specs.declared.Answered.the-variants as answered
-use Rattle.writer.proofs.Rights.{most-digits}
-use Rattle.writer.proofs.Lines.{length-three}
+use Rattle.book_writer.specs.Contracts.{Put, Answers}
+use Rattle.book_writer.proofs.Contracts.{put-take}
+use Rattle.book_writer.specs.declared.Answered.{Answered}
+use Rattle.book_writer.specs.declared.Answered.the-variants as answered
+use Rattle.book_writer.proofs.Rights.{most-digits}
+use Rattle.book_writer.proofs.Lines.{length-three}
 use Rattle.netcheck_entry.specs.Outcome.{lentIn, Entered}
 use Rattle.netcheck_entry.specs.declared.Outcome.{Outcome}
 use Rattle.netcheck.specs.Output.{refusedLine, closing, tooLong, writes, Stands, Prepared}

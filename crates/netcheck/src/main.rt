@@ -1,11 +1,11 @@
 // Reads a book on standard input, runs it, and writes the output, and after a refusal a line `refused`, number, text line. For a book over 4,096
 // bytes it writes only `too long`.
+use book_writer::Answered;
 use libc::STDOUT_FILENO;
-use writer::Answered;
 ghost use Prim.Native.Nat.{_≤_};
 ghost use lib.ListN.{length};
 ghost use Rattle.book_steps.specs.Claim.{Lends, netcheckLent};
-ghost use Rattle.writer.specs.Seen.{Put};
+ghost use Rattle.book_writer.specs.Contracts.{Put};
 ghost use Rattle.netcheck_entry.specs.Outcome.{slices};
 ghost use Rattle.netcheck.specs.Output.{refusedLine, closing as Output·closing, tooLong, Stands, Prepared};
 
@@ -21,7 +21,7 @@ fn refused_line(out: &mut [u8], number: u32, line: u32) -> usize
     requires { ⌜ 64 ≤ length (now out) ⌝ }
     ensures { λ r. ⌜ Put 0 (refusedLine number line) r (now (out .entry)) (now (out .exit)) ⌝ }
 {
-    let Answered::At(end) = writer::line_of_two(out, 0, b"refused", number as u64, line as u64)
+    let Answered::At(end) = book_writer::line_of_two(out, 0, b"refused", number as u64, line as u64)
     else {
         return 0;
     };
@@ -42,7 +42,7 @@ fn too_long(out: &mut [u8]) -> usize
     requires { ⌜ 64 ≤ length (now out) ⌝ }
     ensures { λ r. ⌜ Stands tooLong r (now (out .exit)) ⌝ }
 {
-    writer::put(out, 0, b"too long\n")
+    book_writer::put(out, 0, b"too long\n")
 }
 
 // ---- a book

@@ -9,7 +9,7 @@ use lib.ListN.{length, getD}
 use Rattle.common.specs.Runs.{Table}
 use Rattle.cache.specs.Cache.{Valid, Sound, WritesValid}
 use Rattle.cache.proofs.Cache.{sound-notes, sound-map, notes-map, sound-zero}
-use Rattle.sp_steps.specs.Laws.{Ext}
+use Rattle.sp_steps.specs.Wf.{Ext}
 use Rattle.sp_steps.specs.Reuse.{SpCode, SpValid, SpNoted}
 use Rattle.sp_steps.proofs.Reuse.{valid-ext, valid-not, noted-ext, code-range}
 

@@ -16,7 +16,7 @@ use Rattle.sp_steps.specs.Word.{flip}
 use Rattle.sp_steps.specs.Op.{Op}
 use Rattle.sp_steps.proofs.Op.{sem}
 use Rattle.sp_steps.specs.Model.{child, zeroAt, oneAt, Exit, out, on, pick, ordered, exit, join, both, follow, last, apply}
-use Rattle.sp_steps.specs.Laws.{WfIn, Ext, ValidAt, Denotes}
+use Rattle.sp_steps.specs.Wf.{WfIn, Ext, ValidAt, Denotes}
 use Rattle.sp_steps.proofs.Laws.{theoryIn, at-low, child-ext, den-ext, den-map, den-child, den-flip, den-zero, den-one}
 use Rattle.sp_steps.proofs.Make.{node, mk-runs}
 

@@ -1,4 +1,4 @@
--- What holds of the definitions of specs/Laws.
+-- What holds of the definitions of specs/Wf.
 use mathlib.Core.Path.{_≡_, refl, sym, _∙_, ap, subst}
 use mathlib.Core.Bool.{Bool, true, false, not}
 use mathlib.Core.List.{List}
@@ -12,7 +12,7 @@ use Rattle.common.specs.Runs.{Table, Theory}
 use Rattle.sp_steps.specs.Word.{flip}
 use Rattle.sp_steps.proofs.Word.{flip-half, flip-mod, flip-flip, flip-one, flip-zero, halves}
 use Rattle.sp_steps.specs.Model.{kid, child, mem, zeroAt, oneAt}
-use Rattle.sp_steps.specs.Laws.{Ext, ValidAt, Level, WfIn, Below, Wf, WfAny, Denotes}
+use Rattle.sp_steps.specs.Wf.{Ext, ValidAt, Level, WfIn, Below, Wf, WfAny, Denotes}
 
 pub ext-refl : (σ : Table) → Ext σ σ
 ext-refl σ = record { more = omega arith; len = refl; keep = λ b i l. refl; beyond = λ i l. refl }

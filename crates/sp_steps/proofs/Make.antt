@@ -17,7 +17,7 @@ use Rattle.common.proofs.Runs.{StableSpec, runs-map}
 use Rattle.sp_steps.specs.Word.{flip}
 use Rattle.sp_steps.proofs.Word.{flip-half, flip-mod, flip-flip, halves}
 use Rattle.sp_steps.specs.Model.{kid, child, mem, most, same, seek, room, put, handle, putIf, foundIf, intern, mk}
-use Rattle.sp_steps.specs.Laws.{WfIn, Ext, ValidAt, Denotes}
+use Rattle.sp_steps.specs.Wf.{WfIn, Ext, ValidAt, Denotes}
 use Rattle.sp_steps.proofs.Laws.{theoryIn, ext-refl, at-ext, mem-ext, child-ext, low-child, level-ext, at-half, at-flip-by}
 use Rattle.sp_steps.specs.Make.{side, Missing, Short}
 

@@ -10,7 +10,7 @@ use Rattle.common.specs.Runs.{Table, StableResult}
 use Rattle.sp_steps.specs.Op.{Op}
 use Rattle.sp_steps.proofs.Op.{sem}
 use Rattle.sp_steps.specs.Model.{child, mk, Exit, out, on, exit, join, both, follow, apply, union, xor, complement, intersect, difference}
-use Rattle.sp_steps.specs.Laws.{Wf, Below, Ext, ValidAt, Denotes}
+use Rattle.sp_steps.specs.Wf.{Wf, Below, Ext, ValidAt, Denotes}
 use Rattle.sp_steps.proofs.Laws.{spTheory, ext-refl, ext-trans, den-child, den-ext}
 use Rattle.sp_steps.specs.Make.{Short}
 use Rattle.sp_steps.proofs.Make.{mk-refused}

@@ -10,7 +10,7 @@ use Rattle.common.specs.Runs.{Table, StableResult}
 use Rattle.sp_steps.specs.Op.{Op}
 use Rattle.sp_steps.proofs.Op.{sem}
 use Rattle.sp_steps.specs.Model.{mem, both, apply, size}
-use Rattle.sp_steps.specs.Laws.{WfAny, Any, Ext, ValidAt, Denotes}
+use Rattle.sp_steps.specs.Wf.{WfAny, Any, Ext, ValidAt, Denotes}
 use Rattle.sp_steps.proofs.Laws.{theoryIn, ext-refl, ext-trans, at-ext, one-depth, den-mem, wf-down}
 use Rattle.sp_steps.proofs.Size.{size-ext}
 use Rattle.sp_steps.proofs.Apply.{apply-runs, both-runs}

@@ -10,7 +10,7 @@ use Rattle.common.proofs.Runs.{StableSpec, runs-bind, runs-return}
 use Rattle.sp_steps.specs.Op.{Op}
 use Rattle.sp_steps.proofs.Op.{sem}
 use Rattle.sp_steps.specs.Model.{zeroAt, oneAt, union, xor, complement, intersect, difference, isZero, isUniversal}
-use Rattle.sp_steps.specs.Laws.{Wf, Below, Denotes}
+use Rattle.sp_steps.specs.Wf.{Wf, Below, Denotes}
 use Rattle.sp_steps.proofs.Laws.{spTheory, den-map, den-flip, den-zero, den-one, den-same}
 use Rattle.sp_steps.proofs.Apply.{apply-runs, agree}
 

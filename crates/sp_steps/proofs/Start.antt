@@ -16,7 +16,7 @@ use Rattle.common.specs.Runs.{Table, table}
 use Rattle.sp_steps.specs.Word.{flip}
 use Rattle.sp_steps.proofs.Word.{flip-zero}
 use Rattle.sp_steps.specs.Model.{kid, child, room, most, mk, zeroAt, oneAt, constants}
-use Rattle.sp_steps.specs.Laws.{WfIn, Wf, WfAny, Ext, ValidAt}
+use Rattle.sp_steps.specs.Wf.{WfIn, Wf, WfAny, Ext, ValidAt}
 use Rattle.sp_steps.proofs.Laws.{ext-refl, ext-trans, low-child, zero-at, child-zero, den-one, one-flip, child-flip}
 use Rattle.sp_steps.specs.Make.{side}
 use Rattle.sp_steps.proofs.Make.{Made, mk-made, mk-again, mk-refused, by-test}

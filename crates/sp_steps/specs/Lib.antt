@@ -2,7 +2,7 @@
 pub mod Word
 pub mod Op
 pub mod Model
-pub mod Laws
+pub mod Wf
 pub mod Make
 pub mod Size
 pub mod Reuse

@@ -6,7 +6,7 @@ use Rattle.common.specs.Outcome.{given}
 use Rattle.common.specs.Runs.{Table}
 use Rattle.sp_steps.specs.Op.{Op}
 use Rattle.sp_steps.specs.Model.{both, apply, size}
-use Rattle.sp_steps.specs.Laws.{WfAny, Ext, ValidAt}
+use Rattle.sp_steps.specs.Wf.{WfAny, Ext, ValidAt}
 
 -- the operations' codes in the cache
 abbrev pub code : Op → ℕ

@@ -12,13 +12,13 @@ use Rattle.common.proofs.Runs.{StableSpec, runs-map}
 use Rattle.cache.proofs.Stage.{Gave}
 use Rattle.cache.proofs.Cache.{notes-refl}
 use Rattle.spp_steps.specs.Model.{Op, Quad, quad, kids, mem, mk, apply}
-use Rattle.spp_steps.specs.Laws.{Wf, Ext, ValidAt, Denotes}
+use Rattle.spp_steps.specs.Wf.{Wf, Ext, ValidAt, Denotes}
 use Rattle.spp_steps.proofs.Laws.{sppTheory, at-ext, den-mem}
 use Rattle.spp_steps.proofs.Make.{mk-exact}
 use Rattle.spp_steps.proofs.Apply.{apply-exact}
 use Rattle.spp.specs.Reuse.{Kept}
 use Rattle.spp.proofs.Reuse.{sppMemo}
-use Rattle.spp.specs.Seen.{seen, Noted, Answer, AllValidAt, Fits}
+use Rattle.spp.specs.Contracts.{seen, Noted, Answer, AllValidAt, Fits}
 use Rattle.spp.specs.declared.Made.{Made}
 use Rattle.spp.specs.declared.Made.the-variants.{Node, Full}
 use Rattle.spp.specs.declared.SPP.{SPP}

@@ -7,10 +7,10 @@ use Rattle.common.specs.Runs.{Table, table}
 use Rattle.cache.proofs.Stage as stage
 use Rattle.cache.proofs.Stage.{Gave, Stage}
 use Rattle.spp_steps.specs.Model.{quad, mk}
-use Rattle.spp_steps.specs.Laws.{ValidAt, Ext}
+use Rattle.spp_steps.specs.Wf.{ValidAt, Ext}
 use Rattle.spp_steps.proofs.Laws.{at-ext}
 use Rattle.spp.proofs.Reuse.{sppMemo}
-use Rattle.spp.specs.Seen.{seen, Asked, AllValidAt, Noted, Fits}
+use Rattle.spp.specs.Contracts.{seen, Asked, AllValidAt, Noted, Fits}
 use Rattle.spp.specs.declared.Made.{Made}
 use Rattle.spp.specs.declared.Made.the-variants.{Node, Full}
 use Rattle.spp.proofs.Calls.{gave-alone, fits, ats-ext, mk-can, quad-at}

@@ -8,7 +8,7 @@ use Rattle.cache.specs.Cache.{OnCodes, OnlyCodes, Sound, Holds}
 use Rattle.cache.proofs.Cache.{sound-holds}
 use Rattle.cache.proofs.Stage.{Memo}
 use Rattle.spp_steps.specs.Model.{Op, union, intersect, xor, difference, not, down, each, apply}
-use Rattle.spp_steps.specs.Laws.{Wf, Ext, ValidAt}
+use Rattle.spp_steps.specs.Wf.{Wf, Ext, ValidAt}
 use Rattle.spp_steps.proofs.Laws.{sppTheory}
 use Rattle.spp_steps.proofs.Reuse as Reuse
 use Rattle.spp_steps.proofs.Reuse.{ofRel}

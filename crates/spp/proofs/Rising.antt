@@ -10,12 +10,12 @@ use Rattle.common.specs.Outcome.{Outcome, refused, given, Step, return, after, 
 use Rattle.common.proofs.Follow.{given-of, call}
 use Rattle.common.specs.Runs.{Table, table}
 use Rattle.spp_steps.specs.Model.{Quad, quad, mk, zeroAt, oneAt, zeros, ones, tops, constants, Constants, field, test, assign}
-use Rattle.spp_steps.specs.Laws.{Wf}
+use Rattle.spp_steps.specs.Wf.{Wf}
 use Rattle.spp_steps.proofs.Laws.{false-true}
 use Rattle.spp_steps.proofs.Make.{Ways, there, fresh, short, ways, grown, put-len, room-fits, grown-rising}
 use Rattle.spp_steps.proofs.Begin.{zeros-count}
 use Rattle.spp_steps.proofs.Field.{test-exact, assign-exact}
-use Rattle.spp.specs.Seen.{Fits, ColumnAsked, columns, beside, entryOf}
+use Rattle.spp.specs.Contracts.{Fits, ColumnAsked, columns, beside, entryOf}
 use Rattle.spp.proofs.Calls.{fits}
 
 -- ---- the nodes still fit, and the handle is one of them

@@ -10,10 +10,10 @@ use lib.Dec.{eqb}
 use lib.ListN.{getD}
 use borrow.Author.Tests.{eq-eqb, ne-eqb}
 use Rattle.spp_steps.specs.Model.{Quad, quad, seek, same, kid, kids}
-use Rattle.spp_steps.specs.Laws.{Rising}
+use Rattle.spp_steps.specs.Wf.{Rising}
 use Rattle.spp_steps.proofs.Laws.{by-test}
 use Rattle.spp_steps.proofs.Make.{same-kids, seek-yes, seek-no, seek-none}
-use Rattle.spp.specs.Seen.{First, Larger}
+use Rattle.spp.specs.Contracts.{First, Larger}
 
 pub quad-is : (X : Quad) → quad (X false false) (X false true) (X true false) (X true true) ≡ X
 quad-is X = fun-ext (λ i. fun-ext (λ j. go i j))

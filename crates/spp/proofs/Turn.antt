@@ -14,12 +14,12 @@ use Rattle.cache.specs.Cache.{OnCodes, OnlyCodes, WritesValid, Holds, Exactly}
 use Rattle.cache.proofs.Stage as stage
 use Rattle.cache.proofs.Stage.{Stage}
 use Rattle.spp_steps.specs.Model.{Op, Exit, out, on, Quad, quad, kids, mem, mk, exit, follow, down, each, apply}
-use Rattle.spp_steps.specs.Laws.{Wf, Ext, ValidAt, Denotes}
+use Rattle.spp_steps.specs.Wf.{Wf, Ext, ValidAt, Denotes}
 use Rattle.spp_steps.proofs.Laws.{sppTheory, at-ext, ext-trans, den-mem}
 use Rattle.spp_steps.proofs.Apply.{Leads, Going, pointwise, exit-right, exit-low, apply-exact}
 use Rattle.spp.specs.Reuse.{Kept, codeOf, run}
 use Rattle.spp.proofs.Reuse.{sppMemo, run-code, reused, to-note}
-use Rattle.spp.specs.Seen.{Asked}
+use Rattle.spp.specs.Contracts.{Asked}
 use Rattle.spp.proofs.Calls.{inside, at-kids, apply-can}
 use Rattle.spp.proofs.Quartet.{Quartet}
 

@@ -7,7 +7,7 @@ ghost use lib.ListN.{length, getD};
 ghost use Rattle.common.specs.Runs.{table};
 ghost use Rattle.spp_steps.specs.Model as M;
 ghost use Rattle.spp.specs.Reuse.{codeOf};
-ghost use Rattle.spp.specs.Seen.{seen, opOf, exitOf, quadOf, entryOf, columns, seenStart, Fits, First, Larger, ColumnAsked, FieldAsked, Asked, Answer};
+ghost use Rattle.spp.specs.Contracts.{seen, opOf, exitOf, quadOf, entryOf, columns, seenStart, Fits, First, Larger, ColumnAsked, FieldAsked, Asked, Answer};
 use cache::Looked;
 
 pub struct SPP(pub u32);

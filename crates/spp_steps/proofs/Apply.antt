@@ -13,7 +13,7 @@ use Rattle.common.specs.Runs.{Table}
 use Rattle.spp_steps.proofs.Exact.{Exact, exact-bind, exact-map, exact-read, exact-return}
 use Rattle.spp_steps.specs.Model.{Quad, quad, kids, mem, zeroAt, topAt, Op, union, intersect, xor, difference, not, Exit, out, on, sorted, exit, follow, each, down, apply}
 use Rattle.spp_steps.specs.Relations.{part}
-use Rattle.spp_steps.specs.Laws.{Wf, Ext, ValidAt, Denotes}
+use Rattle.spp_steps.specs.Wf.{Wf, Ext, ValidAt, Denotes}
 use Rattle.spp_steps.proofs.Laws.{at-low, ext-refl, ext-trans, kids-path, den-ext, den-is, den-kid, den-zero, den-top, agree}
 use Rattle.spp_steps.proofs.Make.{sppLimits, mk-exact, quad-den}
 

@@ -13,7 +13,7 @@ use Rattle.common.specs.Outcome.{Outcome, refused, given, Step, after, Gives, r
 use Rattle.common.proofs.Follow.{given-of}
 use Rattle.common.specs.Runs.{Table, table}
 use Rattle.spp_steps.specs.Model.{Quad, quad, kid, cap, room, mk, zeroAt, oneAt, topAt, zeros, ones, tops, Constants, constants}
-use Rattle.spp_steps.specs.Laws.{Nodes, Fixed, Level, Wf, Ext, ValidAt}
+use Rattle.spp_steps.specs.Wf.{Nodes, Fixed, Level, Wf, Ext, ValidAt}
 use Rattle.spp_steps.proofs.Laws.{ext-refl, ext-trans, zero-den, one-den, top-den, by-test}
 use Rattle.spp_steps.specs.Make.{Missing}
 use Rattle.spp_steps.proofs.Make.{Ways, there, fresh, short, ways, grown-nodes, put-ext, put-new, room-fits}

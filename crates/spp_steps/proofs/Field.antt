@@ -9,7 +9,7 @@ use Rattle.spp_steps.proofs.Exact.{Exact, exact-bind}
 use Rattle.spp_steps.specs.Model.{Quad, quad, zeroAt, oneAt, field, testEntry, assignEntry, test, assign}
 use Rattle.common.specs.Relations.{same as samePacket}
 use Rattle.spp_steps.specs.Relations.{part, equal, bitAt, setBit, alike, testing, assigning}
-use Rattle.spp_steps.specs.Laws.{Wf, Denotes}
+use Rattle.spp_steps.specs.Wf.{Wf, Denotes}
 use Rattle.spp_steps.proofs.Laws.{den-is, den-zero, den-one}
 use Rattle.spp_steps.proofs.Make.{sppLimits, mk-exact}
 

@@ -11,7 +11,7 @@ use Rattle.common.specs.Outcome.{Outcome, refused, given, Step, return, _>>=_}
 use Rattle.common.specs.Runs.{Table, Theory}
 use Rattle.common.proofs.Runs.{Inside}
 use Rattle.sp_steps.specs.Model as Sp
-use Rattle.sp_steps.specs.Laws as SpLaws
+use Rattle.sp_steps.specs.Wf as SpLaws
 use Rattle.sp_steps.proofs.Laws as SpLawsProofs
 use Rattle.sp_steps.specs.Make as SpMake
 use Rattle.sp_steps.proofs.Make as SpMakeLaws
@@ -24,7 +24,7 @@ use Rattle.common.specs.Relations.{starts}
 use Rattle.common.proofs.RelationLaws.{same-refl, same-eq, preimage-of, preimage-to}
 use Rattle.spp_steps.specs.Relations.{part, equal}
 use Rattle.spp_steps.proofs.Relations.{domain, leads, image-part, domain-part, leads-part, image-all, leads-all, uninhabited, inhabited-end, tests-equal}
-use Rattle.spp_steps.specs.Laws.{Wf, Ext, ValidAt, Denotes}
+use Rattle.spp_steps.specs.Wf.{Wf, Ext, ValidAt, Denotes}
 use Rattle.spp_steps.proofs.Laws.{sppTheory, ext-refl, ext-trans, kids-path, den-ext, den-kid, den-zero, den-one, den-top, agree-path, by-test, false-true}
 use Rattle.spp_steps.proofs.Make.{sppLimits, mk-exact, quad-den}
 use Rattle.spp_steps.proofs.Apply.{by-if, or-cases, by-bits}

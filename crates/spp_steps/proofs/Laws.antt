@@ -1,4 +1,4 @@
--- What holds of the definitions of specs/Laws.
+-- What holds of the definitions of specs/Wf.
 use mathlib.Core.Path.{_≡_, refl, sym, _∙_, ap, subst, fun-ext}
 use mathlib.Core.Bool.{Bool, true, false}
 use Prim.Native.Nat.{ℕ, zero, suc, _+_, _*_, _-_, _≤_, _<_}
@@ -12,7 +12,7 @@ pub use Rattle.sp_steps.proofs.Make.{false-true, by-test}
 use Rattle.spp_steps.specs.Model.{quad, kid, kids, mem, zeroAt, oneAt, topAt}
 use Rattle.common.specs.Relations.{same as samePacket}
 use Rattle.spp_steps.specs.Relations.{part, equal}
-use Rattle.spp_steps.specs.Laws.{Ext, ValidAt, Nodes, Fixed, Level, Wf, Denotes}
+use Rattle.spp_steps.specs.Wf.{Ext, ValidAt, Nodes, Fixed, Level, Wf, Denotes}
 
 pub ext-refl : (σ : Table) → Ext σ σ
 ext-refl σ = record { more = omega arith; len = refl; keep = λ k l i j. refl; beyond = λ k l. refl }

@@ -16,7 +16,7 @@ use Rattle.common.specs.Runs.{Table, table, StableResult}
 use Rattle.spp_steps.proofs.Exact.{Limited, Stops, stuck, goes, Exact}
 use Rattle.spp_steps.specs.Model.{Quad, quad, kid, kids, same, seek, cap, room, put, putIf, foundIf, mk}
 use Rattle.spp_steps.specs.Relations.{part}
-use Rattle.spp_steps.specs.Laws.{Rising, Nodes, Wf, Ext, ValidAt, Denotes}
+use Rattle.spp_steps.specs.Wf.{Rising, Nodes, Wf, Ext, ValidAt, Denotes}
 use Rattle.spp_steps.proofs.Laws.{sppTheory, ext-refl, at-ext, fixed-ext, level-ext, at-below, den-ext, den-node, by-test, false-true}
 use Rattle.spp_steps.specs.Make.{Missing}
 

@@ -16,7 +16,7 @@ use Rattle.spp_steps.specs.Relations.{part, compose, testing, assigning}
 use Rattle.spp_steps.proofs.Relations.{domain, leads}
 use Rattle.spp_steps.specs.Closure.{closure, Way}
 use Rattle.spp_steps.proofs.Closure.{closure-paths}
-use Rattle.spp_steps.specs.Laws.{Wf, Denotes}
+use Rattle.spp_steps.specs.Wf.{Wf, Denotes}
 use Rattle.spp_steps.proofs.Laws.{sppTheory}
 use Rattle.spp_steps.proofs.Make.{mk-exact}
 use Rattle.spp_steps.proofs.Apply.{pointwise, apply-exact}

@@ -6,10 +6,10 @@ use Rattle.common.specs.Outcome.{given, Step}
 use Rattle.common.proofs.Follow.{given-of}
 use Rattle.common.specs.Runs.{Theory, StableResult}
 use Rattle.common.proofs.Runs.{StableSpec}
-use Rattle.sp_steps.specs.Laws as SpLaws
+use Rattle.sp_steps.specs.Wf as SpLaws
 use Rattle.sp_steps.proofs.Laws as SpLawsProofs
 use Rattle.spp_steps.specs.ImageModel.{Stores, hasImage}
-use Rattle.spp_steps.specs.Laws.{Ext, ValidAt}
+use Rattle.spp_steps.specs.Wf.{Ext, ValidAt}
 use Rattle.spp_steps.proofs.Laws.{sppTheory, at-ext, one-depth, den-mem, den-ext}
 use Rattle.spp_steps.specs.Images.{BothWf}
 use Rattle.spp_steps.proofs.Images.{BothExt, bothTheory}

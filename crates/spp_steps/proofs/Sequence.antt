@@ -12,7 +12,7 @@ use Rattle.spp_steps.proofs.Exact.{Exact, exact-bind, exact-return}
 use Rattle.spp_steps.specs.Model.{quad, kids, zeroAt, oneAt, union, apply, down, Early, done, more, finish, seqExit, product, sequence}
 use Rattle.spp_steps.specs.Relations.{part, compose}
 use Rattle.spp_steps.proofs.Relations.{compose-part, compose-equal, equal-compose, compose-nothing, nothing-compose}
-use Rattle.spp_steps.specs.Laws.{Wf, Ext, Denotes}
+use Rattle.spp_steps.specs.Wf.{Wf, Ext, Denotes}
 use Rattle.spp_steps.proofs.Laws.{at-low, ext-refl, ext-trans, den-ext, den-is, den-kid, den-zero, den-one, agree-path}
 use Rattle.spp_steps.proofs.Make.{sppLimits, mk-exact, quad-den}
 use Rattle.spp_steps.proofs.Apply.{Makes, pointwise, down-exact, apply-exact, by-if, or-cases, by-bits}

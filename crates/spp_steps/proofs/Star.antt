@@ -13,7 +13,7 @@ use Rattle.spp_steps.specs.Model.{quad, kids, zeroAt, oneAt, topAt, unio
 use Rattle.spp_steps.specs.Relations.{part, compose}
 use Rattle.spp_steps.specs.Closure.{closure, block}
 use Rattle.spp_steps.proofs.Closure.{closure-nothing, closure-equal, closure-top, closure-part}
-use Rattle.spp_steps.specs.Laws.{Wf, Denotes}
+use Rattle.spp_steps.specs.Wf.{Wf, Denotes}
 use Rattle.spp_steps.proofs.Laws.{at-low, ext-trans, kids-path, den-ext, den-is, den-kid, den-zero, den-one, den-top, agree-path}
 use Rattle.spp_steps.proofs.Make.{sppLimits, mk-exact, quad-den}
 use Rattle.spp_steps.proofs.Apply.{Makes, pointwise, apply-exact, by-if, or-cases}

@@ -2,7 +2,7 @@
 pub mod Model
 pub mod ImageModel
 pub mod Relations
-pub mod Laws
+pub mod Wf
 pub mod Make
 pub mod Closure
 pub mod Size

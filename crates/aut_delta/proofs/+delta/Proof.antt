@@ -1,8 +1,8 @@
 use mathlib.Core.Path.{_∙_}
 use borrow.Author.Needs.{needs}
 use Rattle.aut_steps.specs.Tables.{nest}
-use Rattle.delta_steps.specs.Delta.{countOf}
-use Rattle.delta_steps.proofs.EpsilonDown.{opens}
+use Rattle.aut_delta_steps.specs.Delta.{countOf}
+use Rattle.aut_delta_steps.proofs.EpsilonDown.{opens}
 use Rattle.aut_delta.proofs.Turns as turns
 use Rattle.aut_delta.proofs.Turns.{Turn}
 use Prim.Native.Nat.{ℕ, _<_}

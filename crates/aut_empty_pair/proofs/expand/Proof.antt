@@ -10,7 +10,7 @@ use Rattle.aut_empty_pair.proofs.expand.Reads as reads
 use Rattle.aut_empty_pair.proofs.expand.Lts as lts
 use Rattle.aut_empty_words.proofs.seen_at.Reads as seen-at-reads
 use Rattle.aut_empty_walk.proofs.spread.Reads as spread-reads
-use Rattle.aut_eps.proofs.epsilon.Reads as epsilon-reads
+use Rattle.aut_epsilon.proofs.epsilon.Reads as epsilon-reads
 use Rattle.aut_sets.proofs.has_image.Reads as has-image-reads
 use Rattle.aut_sets.proofs.union.Reads as union-reads
 

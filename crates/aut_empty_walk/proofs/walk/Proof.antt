@@ -4,7 +4,7 @@ use mathlib.Core.List.{List}
 use Prim.Native.Nat.{ℕ, _*_, _+_, _-_, _≤_}
 use native.Mathlib.Omega.{arith}
 use lib.ListN.{length, getD}
-use Rattle.aut.specs.declared.Limits.{Limits}
+use Rattle.aut_states.specs.declared.Limits.{Limits}
 use Rattle.aut_empty_walk.specs.Contracts.{Walking}
 use Rattle.aut_empty_walk.proofs.Walks as walks
 use Rattle.aut_empty_walk.proofs.Walks.{Along}

@@ -5,7 +5,7 @@ use Rattle.aut_empty_words.proofs.put.Statement.{statement}
 use Rattle.aut_empty_words.proofs.put.Tie as tie
 use Rattle.aut_empty_words.proofs.put.Reads as reads
 use Rattle.aut_empty_words.proofs.put.Lts as lts
-use Rattle.query_calls.proofs.capacity.Reads as capacity-reads
+use Rattle.aut_query_calls.proofs.capacity.Reads as capacity-reads
 
 -- src/lib.rt:26:12
 capacity-requires : tie.Need-capacity-requires

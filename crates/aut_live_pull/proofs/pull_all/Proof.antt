@@ -4,11 +4,11 @@ use Prim.Native.Nat.{ℕ, _+_, _*_, _-_, _/_}
 use native.Mathlib.Omega.{arith}
 use lib.ListN.{length}
 use borrow.Author.Needs.{needs}
-use Rattle.query_steps.specs.Live as M
-use Rattle.query_steps.specs.Live.{work}
-use Rattle.query_stage.specs.Layer.{tablesOf}
-use Rattle.aut.specs.Seen.{limitsOf}
-use Rattle.query_calls.specs.Working.{clearOf}
+use Rattle.aut_query_steps.specs.Live as M
+use Rattle.aut_query_steps.specs.Live.{work}
+use Rattle.aut_query_stage.specs.Layer.{tablesOf}
+use Rattle.aut_states.specs.Contracts.{limitsOf}
+use Rattle.aut_query_calls.specs.Working.{clearOf}
 use Rattle.aut_live_words.specs.Work.{liveBy, seconds, stack}
 use Rattle.aut_live_pull.specs.Contracts.{Target}
 use Rattle.aut_live_pull.proofs.Settling as settling

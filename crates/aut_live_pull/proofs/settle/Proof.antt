@@ -4,7 +4,7 @@ use Prim.Native.Nat.{ℕ, _+_, _*_, _-_, _/_}
 use native.Mathlib.Omega.{arith}
 use lib.ListN.{length, length-set}
 use borrow.Author.Needs.{needs}
-use Rattle.query_stage.specs.Layer.{tablesOf}
+use Rattle.aut_query_stage.specs.Layer.{tablesOf}
 use Rattle.aut_live_words.specs.Work.{seconds}
 use Rattle.aut_live_pull.specs.Contracts.{Settles}
 use Rattle.aut_live_pull.proofs.SettlingLoops as loops

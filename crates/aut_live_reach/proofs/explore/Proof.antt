@@ -3,8 +3,8 @@ use Prim.Native.Nat.{_-_, _/_}
 use native.Mathlib.Omega.{arith}
 use borrow.Author.Needs.{needs}
 use lib.ListN.{length}
-use Rattle.query_steps.specs.Search.{capacity}
-use Rattle.query_stage.specs.Layer.{tablesOf}
+use Rattle.aut_query_steps.specs.Search.{capacity}
+use Rattle.aut_query_stage.specs.Layer.{tablesOf}
 use Rattle.aut_live_reach.proofs.Visiting as visiting
 use Rattle.aut_live_reach.proofs.Visiting.{Walking}
 use Rattle.aut_live_reach.proofs.explore.Statement.{statement}

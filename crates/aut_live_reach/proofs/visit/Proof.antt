@@ -8,7 +8,7 @@ use Rattle.aut_live_reach.proofs.visit.Tie as tie
 use Rattle.aut_live_reach.proofs.visit.Reads as reads
 use Rattle.aut_live_reach.proofs.visit.Lts as lts
 use Rattle.aut_delta.proofs.delta.Reads as delta-reads
-use Rattle.aut_eps.proofs.epsilon.Reads as epsilon-reads
+use Rattle.aut_epsilon.proofs.epsilon.Reads as epsilon-reads
 use Rattle.aut_live_words.proofs.enqueue.Reads as enqueue-reads
 use Rattle.aut_sets.proofs.bwd.Reads as bwd-reads
 

@@ -5,7 +5,7 @@ use Rattle.aut_live_words.proofs.enlarge.Statement.{statement}
 use Rattle.aut_live_words.proofs.enlarge.Tie as tie
 use Rattle.aut_live_words.proofs.enlarge.Reads as reads
 use Rattle.aut_live_words.proofs.enlarge.Lts as lts
-use Rattle.query_calls.proofs.capacity.Reads as capacity-reads
+use Rattle.aut_query_calls.proofs.capacity.Reads as capacity-reads
 
 -- src/lib.rt:98:13
 mul-i : tie.Need-mul-i

@@ -1,14 +1,14 @@
 use Prim.Native.Nat.{_+_, _*_, _-_}
 use native.Mathlib.Omega.{arith}
 use lib.ListN.{getD}
-use Rattle.delta_steps.specs.Delta.{startOf, countOf}
+use Rattle.aut_delta_steps.specs.Delta.{startOf, countOf}
 use Rattle.aut_live_words.proofs.Words as words
 use borrow.Author.Needs.{needs}
 use Rattle.aut_live_words.proofs.label_to.Statement.{statement}
 use Rattle.aut_live_words.proofs.label_to.Tie as tie
 use Rattle.aut_live_words.proofs.label_to.Reads as reads
 use Rattle.aut_live_words.proofs.label_to.Lts as lts
-use Rattle.st_edges.proofs.seek_target.Reads as seek-target-reads
+use Rattle.aut_st_edges.proofs.seek_target.Reads as seek-target-reads
 
 -- src/lib.rt:84:24
 mul-start : tie.Need-mul-start

@@ -6,7 +6,7 @@ use Rattle.aut_live_words.proofs.reach.Statement.{statement}
 use Rattle.aut_live_words.proofs.reach.Tie as tie
 use Rattle.aut_live_words.proofs.reach.Reads as reads
 use Rattle.aut_live_words.proofs.reach.Lts as lts
-use Rattle.query_calls.proofs.capacity.Reads as capacity-reads
+use Rattle.aut_query_calls.proofs.capacity.Reads as capacity-reads
 use Rattle.sp.proofs.zero_at_depth.Reads as zero-at-depth-reads
 
 -- src/lib.rt:36:13

@@ -5,7 +5,7 @@ use Rattle.aut_pruned.proofs.viable.Statement.{statement}
 use Rattle.aut_pruned.proofs.viable.Tie as tie
 use Rattle.aut_pruned.proofs.viable.Reads as reads
 use Rattle.aut_pruned.proofs.viable.Lts as lts
-use Rattle.aut_rel.proofs.apply.Reads as apply-reads
+use Rattle.aut_relations.proofs.apply.Reads as apply-reads
 use Rattle.aut_sets.proofs.ifwd.Reads as ifwd-reads
 
 -- src/lib.rt:34:26

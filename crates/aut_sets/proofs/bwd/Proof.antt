@@ -6,7 +6,7 @@ use Rattle.aut_sets.proofs.bwd.Statement.{statement}
 use Rattle.aut_sets.proofs.bwd.Tie as tie
 use Rattle.aut_sets.proofs.bwd.Reads as reads
 use Rattle.aut_sets.proofs.bwd.Lts as lts
-use Rattle.spp_img.proofs.bwd.Reads as bwd-reads
+use Rattle.spp_image.proofs.bwd.Reads as bwd-reads
 
 -- src/lib.rt:98:29
 mul-bwd : tie.Need-mul-bwd

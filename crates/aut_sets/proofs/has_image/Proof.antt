@@ -6,7 +6,7 @@ use Rattle.aut_sets.proofs.has_image.Statement.{statement}
 use Rattle.aut_sets.proofs.has_image.Tie as tie
 use Rattle.aut_sets.proofs.has_image.Reads as reads
 use Rattle.aut_sets.proofs.has_image.Lts as lts
-use Rattle.spp_img2.proofs.has_image.Reads as has-image-reads
+use Rattle.spp_query.proofs.has_image.Reads as has-image-reads
 
 -- src/lib.rt:117:36
 mul-has-image : tie.Need-mul-has-image

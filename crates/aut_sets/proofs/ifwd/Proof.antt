@@ -6,7 +6,7 @@ use Rattle.aut_sets.proofs.ifwd.Statement.{statement}
 use Rattle.aut_sets.proofs.ifwd.Tie as tie
 use Rattle.aut_sets.proofs.ifwd.Reads as reads
 use Rattle.aut_sets.proofs.ifwd.Lts as lts
-use Rattle.spp_img2.proofs.ifwd.Reads as ifwd-reads
+use Rattle.spp_query.proofs.ifwd.Reads as ifwd-reads
 
 -- src/lib.rt:135:31
 mul-ifwd : tie.Need-mul-ifwd

@@ -6,7 +6,7 @@ use Rattle.aut_sets.proofs.pair_count.Statement.{statement}
 use Rattle.aut_sets.proofs.pair_count.Tie as tie
 use Rattle.aut_sets.proofs.pair_count.Reads as reads
 use Rattle.aut_sets.proofs.pair_count.Lts as lts
-use Rattle.spp_img2.proofs.size.Reads as size-reads
+use Rattle.spp_query.proofs.size.Reads as size-reads
 
 -- src/lib.rt:155:27
 mul-size : tie.Need-mul-size

@@ -6,7 +6,7 @@ use Rattle.aut_sets.proofs.pull.Statement.{statement}
 use Rattle.aut_sets.proofs.pull.Tie as tie
 use Rattle.aut_sets.proofs.pull.Reads as reads
 use Rattle.aut_sets.proofs.pull.Lts as lts
-use Rattle.spp_img.proofs.pull.Reads as pull-reads
+use Rattle.spp_image.proofs.pull.Reads as pull-reads
 
 -- src/lib.rt:80:30
 mul-pull : tie.Need-mul-pull

@@ -6,7 +6,7 @@ use Rattle.aut_sets.proofs.push.Statement.{statement}
 use Rattle.aut_sets.proofs.push.Tie as tie
 use Rattle.aut_sets.proofs.push.Reads as reads
 use Rattle.aut_sets.proofs.push.Lts as lts
-use Rattle.spp_img.proofs.push.Reads as push-reads
+use Rattle.spp_image.proofs.push.Reads as push-reads
 
 -- src/lib.rt:61:30
 mul-push : tie.Need-mul-push

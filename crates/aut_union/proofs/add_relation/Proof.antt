@@ -1,13 +1,13 @@
 use mathlib.Core.Path.{_≡_, _∙_, ap}
-use Rattle.aut.specs.Seen.{seenPut}
-use Rattle.aut.specs.declared.Put.{Put}
+use Rattle.aut_states.specs.Contracts.{seenPut}
+use Rattle.aut_states.specs.declared.Put.{Put}
 use Rattle.aut_union.proofs.Gather as gather
 use borrow.Author.Needs.{needs}
 use Rattle.aut_union.proofs.add_relation.Statement.{statement}
 use Rattle.aut_union.proofs.add_relation.Tie as tie
 use Rattle.aut_union.proofs.add_relation.Reads as reads
 use Rattle.aut_union.proofs.add_relation.Lts as lts
-use Rattle.aut.proofs.mk_spp.Reads as mk-spp-reads
+use Rattle.aut_states.proofs.mk_spp.Reads as mk-spp-reads
 use Rattle.spp.proofs.zero_at_depth.Reads as zero-at-depth-reads
 
 -- src/lib.rt:79:9

@@ -1,14 +1,14 @@
 use mathlib.Core.Path.{_≡_, refl, _∙_, ap}
-use Rattle.aut.specs.Seen.{limitsOf}
+use Rattle.aut_states.specs.Contracts.{limitsOf}
 use Rattle.aut_union.proofs.Gather as gather
 use borrow.Author.Needs.{needs}
 use Rattle.aut_union.proofs.finish.Statement.{statement}
 use Rattle.aut_union.proofs.finish.Tie as tie
 use Rattle.aut_union.proofs.finish.Reads as reads
 use Rattle.aut_union.proofs.finish.Lts as lts
-use Rattle.aut.proofs.intern_list.Reads as intern-list-reads
-use Rattle.aut.proofs.mk_spp.Reads as mk-spp-reads
-use Rattle.aut_rel.proofs.placed.Reads as placed-reads
+use Rattle.aut_states.proofs.intern_list.Reads as intern-list-reads
+use Rattle.aut_states.proofs.mk_spp.Reads as mk-spp-reads
+use Rattle.aut_relations.proofs.placed.Reads as placed-reads
 use Rattle.spp.proofs.zero_at_depth.Reads as zero-at-depth-reads
 
 -- src/lib.rt:99:26

@@ -2,15 +2,15 @@ use mathlib.Core.Path.{_≡_, refl, _∙_, ap}
 use native.Mathlib.Omega.{arith}
 use lib.ListN.{length-set}
 use Rattle.aut_steps.proofs.StateLaws.{both-spp}
-use Rattle.aut_rel.proofs.Order as order
+use Rattle.aut_relations.proofs.Order as order
 use Rattle.aut_union.proofs.Chain as chain
 use borrow.Author.Needs.{needs}
 use Rattle.aut_union.proofs.mk_union.Statement.{statement}
 use Rattle.aut_union.proofs.mk_union.Tie as tie
 use Rattle.aut_union.proofs.mk_union.Reads as reads
 use Rattle.aut_union.proofs.mk_union.Lts as lts
-use Rattle.aut_rel.proofs.both_relations.Reads as both-relations-reads
-use Rattle.aut_rel.proofs.spp_of.Reads as spp-of-reads
+use Rattle.aut_relations.proofs.both_relations.Reads as both-relations-reads
+use Rattle.aut_relations.proofs.spp_of.Reads as spp-of-reads
 use Rattle.aut_union.proofs.mk_union_n.Reads as mk-union-n-reads
 
 -- src/lib.rt:155:9

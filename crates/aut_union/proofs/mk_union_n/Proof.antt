@@ -1,15 +1,15 @@
 use mathlib.Core.Path.{_≡_, refl, _∙_, ap}
 use Rattle.common.specs.Runs.{table}
-use Rattle.aut_rel.proofs.Join as join
+use Rattle.aut_relations.proofs.Join as join
 use Rattle.aut_union.proofs.Chain as chain
 use borrow.Author.Needs.{needs}
 use Rattle.aut_union.proofs.mk_union_n.Statement.{statement}
 use Rattle.aut_union.proofs.mk_union_n.Tie as tie
 use Rattle.aut_union.proofs.mk_union_n.Reads as reads
 use Rattle.aut_union.proofs.mk_union_n.Lts as lts
-use Rattle.aut.proofs.mk_top.Reads as mk-top-reads
-use Rattle.aut_lists.proofs.open_union.Reads as open-union-reads
-use Rattle.aut_rel.proofs.placed.Reads as placed-reads
+use Rattle.aut_states.proofs.mk_top.Reads as mk-top-reads
+use Rattle.aut_scratch.proofs.open_union.Reads as open-union-reads
+use Rattle.aut_relations.proofs.placed.Reads as placed-reads
 use Rattle.aut_union.proofs.unite.Reads as unite-reads
 
 -- src/lib.rt:134:9

@@ -1,5 +1,5 @@
 use mathlib.Core.Path.{_≡_, refl, _∙_, ap}
-use Rattle.aut_union.specs.Seen.{seenParts}
+use Rattle.aut_union.specs.Contracts.{seenParts}
 use Rattle.aut_union.specs.declared.Gathered.{Gathered}
 use Rattle.aut_union.proofs.Chain as chain
 use borrow.Author.Needs.{needs}
@@ -7,7 +7,7 @@ use Rattle.aut_union.proofs.unite.Statement.{statement}
 use Rattle.aut_union.proofs.unite.Tie as tie
 use Rattle.aut_union.proofs.unite.Reads as reads
 use Rattle.aut_union.proofs.unite.Lts as lts
-use Rattle.aut_lists.proofs.sorted.Reads as sorted-reads
+use Rattle.aut_scratch.proofs.sorted.Reads as sorted-reads
 use Rattle.aut_union.proofs.add_relation.Reads as add-relation-reads
 use Rattle.aut_union.proofs.finish.Reads as finish-reads
 use Rattle.aut_union.proofs.unite_each.Reads as unite-each-reads

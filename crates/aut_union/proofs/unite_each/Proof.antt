@@ -7,16 +7,16 @@ use lib.ListN.{length}
 use Rattle.common.specs.Runs.{Table, table}
 use Rattle.spp_steps.proofs.Laws.{den-zero}
 use Rattle.aut_steps.specs.Tables.{words}
-use Rattle.aut_steps.specs.ListLaws.{All}
+use Rattle.aut_steps.specs.Ascending.{All}
 use Rattle.aut_steps.proofs.ListLaws.{all-map}
 use Rattle.aut_steps.specs.Relations.{zeroAt}
 use Rattle.aut_steps.specs.Constructors.{Parts, parts, uniteOne}
-use Rattle.aut_rel.specs.Behind.{CacheReady}
-use Rattle.aut_rel.specs.Seen.{RelAt}
-use Rattle.aut_rel.proofs.Each as each
-use Rattle.aut_rel.proofs.Each.{Turn}
+use Rattle.aut_relations.specs.Behind.{CacheReady}
+use Rattle.aut_relations.specs.Contracts.{RelAt}
+use Rattle.aut_relations.proofs.Each as each
+use Rattle.aut_relations.proofs.Each.{Turn}
 use Rattle.aut_union.specs.declared.Gathered.{Gathered}
-use Rattle.aut_union.specs.Seen.{seenParts, PartsLeft, PartsMost}
+use Rattle.aut_union.specs.Contracts.{seenParts, PartsLeft, PartsMost}
 use Rattle.aut_union.proofs.Gather as gather
 use Rattle.aut_union.proofs.unite_each.Statement.{statement}
 use Rattle.aut_union.proofs.unite_each.Tie as tie

@@ -1,16 +1,16 @@
 use mathlib.Core.Path.{_≡_, _∙_, ap, subst}
 use Rattle.common.specs.Runs.{table}
-use Rattle.spp.specs.Seen.{seen}
+use Rattle.spp.specs.Contracts.{seen}
 use Rattle.spp.specs.declared.Made.{Made}
 use Rattle.aut_steps.specs.Tables.{kindOf, op1}
-use Rattle.aut_rel.specs.Seen.{MadeLeft}
+use Rattle.aut_relations.specs.Contracts.{MadeLeft}
 use Rattle.aut_union.proofs.Gather as gather
 use borrow.Author.Needs.{needs}
 use Rattle.aut_union.proofs.unite_one.Statement.{statement}
 use Rattle.aut_union.proofs.unite_one.Tie as tie
 use Rattle.aut_union.proofs.unite_one.Reads as reads
 use Rattle.aut_union.proofs.unite_one.Lts as lts
-use Rattle.aut_rel.proofs.apply.Reads as apply-reads
+use Rattle.aut_relations.proofs.apply.Reads as apply-reads
 
 -- src/lib.rt:41:15
 mul-if1 : tie.Need-mul-if1

@@ -1,7 +1,7 @@
 use mathlib.Core.Path.{_∙_}
 use native.Mathlib.Omega.{arith}
 use lib.ListN.{length-drop, length-set}
-use Rattle.writer.proofs.Rights.{most-digits}
+use Rattle.book_writer.proofs.Rights.{most-digits}
 use Rattle.book_line.proofs.Doing as doing
 use borrow.Author.Needs.{needs}
 use Rattle.book_line.proofs.ask_line.Statement.{statement}
@@ -9,7 +9,7 @@ use Rattle.book_line.proofs.ask_line.Tie as tie
 use Rattle.book_line.proofs.ask_line.Reads as reads
 use Rattle.book_line.proofs.ask_line.Lts as lts
 use Rattle.book_query.proofs.ask.Reads as ask-reads
-use Rattle.writer.proofs.put_decimal.Reads as put-decimal-reads
+use Rattle.book_writer.proofs.put_decimal.Reads as put-decimal-reads
 
 slice-aggregate-put-decimal : tie.Need-slice-aggregate-put-decimal
 slice-aggregate-put-decimal c = search needs

@@ -7,7 +7,7 @@ use Rattle.book_line.proofs.make_line.Statement.{statement}
 use Rattle.book_line.proofs.make_line.Tie as tie
 use Rattle.book_line.proofs.make_line.Reads as reads
 use Rattle.book_line.proofs.make_line.Lts as lts
-use Rattle.line.proofs.make.Reads as make-reads
+use Rattle.book_construct.proofs.make.Reads as make-reads
 
 -- src/lib.rt:222:9
 mul-make : tie.Need-mul-make

@@ -8,7 +8,7 @@ use Rattle.book_line.proofs.obey.Reads as reads
 use Rattle.book_line.proofs.obey.Lts as lts
 use Rattle.book_line.proofs.perform.Reads as perform-reads
 use Rattle.book_line.proofs.tell.Reads as tell-reads
-use Rattle.reader.proofs.instruction.Reads as instruction-reads
+use Rattle.book_reader.proofs.instruction.Reads as instruction-reads
 
 -- src/lib.rt:368:9
 instruction-requires : tie.Need-instruction-requires

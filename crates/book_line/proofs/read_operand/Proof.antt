@@ -7,7 +7,7 @@ use Rattle.book_line.proofs.read_operand.Tie as tie
 use Rattle.book_line.proofs.read_operand.Reads as reads
 use Rattle.book_line.proofs.read_operand.Lts as lts
 use Rattle.book_line.proofs.look_up.Reads as look-up-reads
-use Rattle.reader.proofs.Cursor.number.Reads as number-reads
+use Rattle.book_reader.proofs.Cursor.number.Reads as number-reads
 
 -- src/lib.rt:93:31
 number-requires : tie.Need-number-requires

@@ -6,7 +6,7 @@ use Rattle.book_query.proofs.ask_empty.Reads as reads
 use Rattle.book_query.proofs.ask_empty.Lts as lts
 use Rattle.aut_empty.proofs.is_empty.Reads as is-empty-reads
 use Rattle.book_query.proofs.verdict_of.Reads as verdict-of-reads
-use Rattle.writer.proofs.empty_answer.Reads as empty-answer-reads
+use Rattle.book_writer.proofs.empty_answer.Reads as empty-answer-reads
 
 -- src/lib.rt:62:9
 is-empty-requires : tie.Need-is-empty-requires

@@ -7,7 +7,7 @@ use Rattle.book_query.proofs.ask_live.Reads as reads
 use Rattle.book_query.proofs.ask_live.Lts as lts
 use Rattle.aut_live.proofs.live_packets.Reads as live-packets-reads
 use Rattle.aut_sets.proofs.set_size.Reads as set-size-reads
-use Rattle.writer.proofs.live_answer.Reads as live-answer-reads
+use Rattle.book_writer.proofs.live_answer.Reads as live-answer-reads
 
 -- src/lib.rt:107:9
 live-packets-requires : tie.Need-live-packets-requires

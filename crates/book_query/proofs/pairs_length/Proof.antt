@@ -8,7 +8,7 @@ use Rattle.book_query.proofs.pairs_length.Tie as tie
 use Rattle.book_query.proofs.pairs_length.Reads as reads
 use Rattle.book_query.proofs.pairs_length.Lts as lts
 use Rattle.book_query.proofs.number_at.Reads as number-at-reads
-use Rattle.writer.proofs.pair_length.Reads as pair-length-reads
+use Rattle.book_writer.proofs.pair_length.Reads as pair-length-reads
 
 abbrev Inv-loop : tie.InvT-loop
 Inv-loop nodes scratch₀ c fields m total₀ i₀ scratch total i =

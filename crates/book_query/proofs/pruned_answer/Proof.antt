@@ -8,8 +8,8 @@ use Rattle.book_query.proofs.pruned_answer.Reads as reads
 use Rattle.book_query.proofs.pruned_answer.Lts as lts
 use Rattle.book_query.proofs.pairs_length.Reads as pairs-length-reads
 use Rattle.book_query.proofs.put_pairs.Reads as put-pairs-reads
-use Rattle.writer.proofs.head_length.Reads as head-length-reads
-use Rattle.writer.proofs.pruned_head.Reads as pruned-head-reads
+use Rattle.book_writer.proofs.head_length.Reads as head-length-reads
+use Rattle.book_writer.proofs.pruned_head.Reads as pruned-head-reads
 
 -- src/lib.rt:198:13
 head-length-requires : tie.Need-head-length-requires

@@ -9,7 +9,7 @@ use Rattle.book_query.proofs.put_pairs.Tie as tie
 use Rattle.book_query.proofs.put_pairs.Reads as reads
 use Rattle.book_query.proofs.put_pairs.Lts as lts
 use Rattle.book_query.proofs.number_at.Reads as number-at-reads
-use Rattle.writer.proofs.pair_line.Reads as pair-line-reads
+use Rattle.book_writer.proofs.pair_line.Reads as pair-line-reads
 
 abbrev Inv-loop : tie.InvT-loop
 Inv-loop nodes scratch₀ output₀ c fields at m end₀ i₀ scratch output end i =

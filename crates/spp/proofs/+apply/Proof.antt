@@ -4,7 +4,7 @@ use native.Mathlib.Omega.{arith}
 use Prim.Native.Nat.{suc, _-_}
 use Rattle.cache.specs.Cache.{Found}
 use Rattle.cache.proofs.Cache.{notes-refl}
-use Rattle.spp.specs.Seen.{seen, opOf, exitOf}
+use Rattle.spp.specs.Contracts.{seen, opOf, exitOf}
 use Rattle.spp.proofs.Calls.{gave, lost}
 use Rattle.spp.proofs.Quartet as quartet
 use Rattle.spp.proofs.Turn as turn

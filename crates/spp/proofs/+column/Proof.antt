@@ -4,7 +4,7 @@ use native.Mathlib.Omega.{arith}
 use Prim.Native.Nat.{_-_}
 use Rattle.common.specs.Runs.{table}
 use Rattle.spp_steps.specs.Model.{zeroAt}
-use Rattle.spp.specs.Seen.{seen, beside}
+use Rattle.spp.specs.Contracts.{seen, beside}
 use Rattle.spp.proofs.Rising as rising
 use Prim.Native.Nat.{ℕ, _<_}
 use borrow.Fn.Kinds.{In}

@@ -4,7 +4,7 @@ use native.Mathlib.Omega.{arith}
 use Prim.Native.Nat.{_-_}
 use Rattle.common.specs.Runs.{table}
 use Rattle.spp_steps.specs.Model.{mk, Quad}
-use Rattle.spp.specs.Seen.{seen, entryOf}
+use Rattle.spp.specs.Contracts.{seen, entryOf}
 use Rattle.spp.proofs.Calls.{fits}
 use Rattle.spp.proofs.Rising as rising
 use Prim.Native.Nat.{ℕ, _<_}

@@ -1,5 +1,5 @@
 use mathlib.Core.Path.{_≡_, ap₂, sym}
-use Rattle.spp.specs.Seen.{entryOf}
+use Rattle.spp.specs.Contracts.{entryOf}
 use Rattle.spp.proofs.entry.Statement.{statement}
 use Rattle.spp.proofs.entry.Tie as tie
 use Rattle.spp.proofs.entry.Reads as reads

@@ -3,7 +3,7 @@ use Prim.Native.Nat.{_≤_, _-_}
 use native.Mathlib.Omega.{arith}
 use borrow.Author.Needs.{needs}
 use Rattle.spp_steps.specs.Model.{seek}
-use Rattle.spp.specs.Seen.{quadOf}
+use Rattle.spp.specs.Contracts.{quadOf}
 use Rattle.spp.proofs.Scan.{scan-hit, scan-skip, scan-end, begins, beyond}
 use Rattle.spp.proofs.find.Statement.{statement}
 use Rattle.spp.proofs.find.Tie as tie

@@ -1,5 +1,5 @@
 use borrow.Author.Needs.{needs}
-use Rattle.spp.specs.Seen.{quadOf}
+use Rattle.spp.specs.Contracts.{quadOf}
 use Rattle.spp.proofs.Scan as scan
 use Rattle.spp.proofs.first.Statement.{statement}
 use Rattle.spp.proofs.first.Tie as tie

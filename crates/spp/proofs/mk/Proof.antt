@@ -1,7 +1,7 @@
 use native.Mathlib.Omega.{arith}
 use lib.ListN.{length-set}
 use Rattle.spp_steps.specs.Model.{put}
-use Rattle.spp.specs.Seen.{quadOf}
+use Rattle.spp.specs.Contracts.{quadOf}
 use Rattle.spp.proofs.Nodes as node
 use borrow.Author.Needs.{needs}
 use Rattle.spp.proofs.mk.Statement.{statement}

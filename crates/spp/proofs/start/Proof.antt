@@ -2,7 +2,7 @@ use mathlib.Core.Path.{_≡_, _∙_, ap}
 use mathlib.Core.Bool.{true, false}
 use Prim.Native.Nat.{ℕ}
 use Rattle.common.specs.Runs.{table}
-use Rattle.spp.specs.Seen.{seen}
+use Rattle.spp.specs.Contracts.{seen}
 use Rattle.spp.proofs.Rising as rising
 use borrow.Author.Needs.{needs}
 use Rattle.spp.proofs.start.Statement.{statement}

@@ -1,0 +1,22 @@
+-- The laws of delta_steps, each beside the definitions of the same name in specs/.
+pub mod Examples
+pub mod Order
+pub mod Labels
+pub mod Fits
+pub mod Agree
+pub mod Noted
+pub mod Wf
+pub mod Operands
+pub mod EpsilonLaws
+pub mod EpsilonReads
+pub mod EpsilonDown
+pub mod DeltaLists
+pub mod Extends
+pub mod Sizes
+pub mod ListGoes
+pub mod DeltaRuns
+pub mod DeltaLaws
+pub mod DeltaReads
+pub mod DeltaDown
+pub mod PlainSearch
+pub mod Books

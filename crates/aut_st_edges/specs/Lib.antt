@@ -1,0 +1,2 @@
+-- Transitions in a slice of words.
+pub mod Contracts

@@ -1,0 +1,140 @@
+use mathlib.Core.Path.{_≡_, refl, _∙_}
+use Prim.Native.Nat.{_-_}
+use native.Mathlib.Omega.{arith}
+use borrow.Author.Needs.{needs}
+use lib.ListN.{length}
+use Rattle.aut_relations.specs.Contracts.{autOf}
+use Rattle.aut_st_source.specs.Contracts.{edgeOf, sourceOf}
+use Rattle.aut_st_source.proofs.Sources.{length-few, walked-later}
+use Rattle.aut_st_minus.proofs.Loops as loops
+use Rattle.aut_st_minus.proofs.Loops.{Turning, rows, rows-folds}
+use Rattle.aut_st_minus.proofs.subtract_rows.Statement.{statement}
+use Rattle.aut_st_minus.proofs.subtract_rows.Tie as tie
+use Rattle.aut_st_minus.proofs.subtract_rows.Reads as reads
+use Rattle.aut_st_minus.proofs.subtract_rows.Lts as lts
+use Rattle.aut_st_minus.proofs.subtract_row.Reads as subtract-row-reads
+use Rattle.aut_st_source.proofs.read.Reads as read-reads
+
+abbrev Inv-loop : tie.InvT-loop
+Inv-loop nodes₀ states₀ members₀ transitions scratch₀ config first second m d₀ h₀ n₀ i₀ nodes states members scratch d h n i =
+    Turning (config .fields) (config .limits) (rows (config .fields) (config .limits) (sourceOf second transitions scratch₀)) transitions first (autOf nodes₀ states₀ members₀ d₀) d₀ scratch₀ (h₀ .0) n₀ (autOf nodes states members d) d scratch (h .0) n i
+    × (length nodes ≡ length nodes₀) × (length states ≡ length states₀) × (length members ≡ length members₀) × (length scratch ≡ length scratch₀)
+
+abbrev μ-loop : tie.MeasureT-loop
+μ-loop nodes₀ states₀ members₀ transitions scratch₀ config first second m d₀ h₀ n₀ i₀ nodes states members scratch d h n i =
+    first .length - i
+
+-- src/lib.rt:172:5
+loop-holds : tie.Need-loop-holds Inv-loop μ-loop
+loop-holds c =
+    (loops.turn-begin (rows-folds (c .before .before .before .before .before .args .config .fields) (c .before .before .before .before .before .args .config .limits) (sourceOf (c .before .before .before .before .before .args .second) (c .before .before .before .before .before .args .transitions .now) (c .before .before .before .before .before .args .scratch .now))) (c .before .before .before .before .before .pre .first) (c .before .before .before .before .before .pre .list) (c .before .before .before .before .before .pre .sum) (c .before .before .before .before .before .args .c), refl, refl, refl, refl)
+
+-- src/lib.rt:173:13
+read-requires : tie.Need-read-requires Inv-loop μ-loop
+read-requires c κs =
+    loops.turn-read (rows-folds (c .before .before .before .before .before .before .before .before .before .args .config .fields) (c .before .before .before .before .before .before .before .before .before .args .config .limits) (sourceOf (c .before .before .before .before .before .before .before .before .before .args .second) (c .before .before .before .before .before .before .before .before .before .args .transitions .now) (c .before .before .before .before .before .before .before .before .before .args .scratch .now))) (c .before .before .before .before .before .before .before .before .before .pre .first) (c .before .before .before .before .before .before .before .before .before .pre .list) (c .before .before .before .before .before .before .before .before .before .pre .sum) (c .before .before .before .before .before .before .before .before .before .args .c) (c .before .before .before .loop .h .0) (c .before .before .before .loop .n) (c .before .before .before .loop .inv .0) (c .before .if1 .taken)
+
+-- src/lib.rt:174:13
+subtract-row-requires : tie.Need-subtract-row-requires Inv-loop μ-loop
+subtract-row-requires c κs =
+    record { list = loops.turn-list (rows-folds (c .before .before .before .before .before .before .before .before .before .before .before .before .before .before .args .config .fields) (c .before .before .before .before .before .before .before .before .before .before .before .before .before .before .args .config .limits) (sourceOf (c .before .before .before .before .before .before .before .before .before .before .before .before .before .before .args .second) (c .before .before .before .before .before .before .before .before .before .before .before .before .before .before .args .transitions .now) (c .before .before .before .before .before .before .before .before .before .before .before .before .before .before .args .scratch .now))) (c .before .before .before .before .before .before .before .before .before .before .before .before .before .before .pre .first) (c .before .before .before .before .before .before .before .before .before .before .before .before .before .before .pre .list) (c .before .before .before .before .before .before .before .before .before .before .before .before .before .before .pre .sum) (c .before .before .before .before .before .before .before .before .before .before .before .before .before .before .args .c) (c .before .before .before .before .before .before .before .before .loop .h .0) (c .before .before .before .before .before .before .before .before .loop .n) (c .before .before .before .before .before .before .before .before .loop .inv .0); first = loops.turn-edge (rows-folds (c .before .before .before .before .before .before .before .before .before .before .before .before .before .before .args .config .fields) (c .before .before .before .before .before .before .before .before .before .before .before .before .before .before .args .config .limits) (sourceOf (c .before .before .before .before .before .before .before .before .before .before .before .before .before .before .args .second) (c .before .before .before .before .before .before .before .before .before .before .before .before .before .before .args .transitions .now) (c .before .before .before .before .before .before .before .before .before .before .before .before .before .before .args .scratch .now))) (c .before .before .before .before .before .before .before .before .before .before .before .before .before .before .pre .first) (c .before .before .before .before .before .before .before .before .before .before .before .before .before .before .pre .list) (c .before .before .before .before .before .before .before .before .before .before .before .before .before .before .pre .sum) (c .before .before .before .before .before .before .before .before .before .before .before .before .before .before .args .c) (c .before .before .before .before .before .before .before .before .loop .h .0) (c .before .before .before .before .before .before .before .before .loop .n) (c .before .before .before .before .before .before .before .before .loop .inv .0) (c .before .before .before .before .before .before .if1 .taken) (c .before .before .before .before .read .ensures); second = walked-later (c .before .before .before .before .before .before .before .before .loop .inv .0 .stage .frame) (c .before .before .before .before .before .before .before .before .before .before .before .before .before .before .args .transitions .now) (c .before .before .before .before .before .before .before .before .before .before .before .before .before .before .pre .second) (c .before .before .before .before .before .before .before .before .loop .inv .0 .stage .ext .grown); sum = c .before .before .before .before .before .before .before .before .loop .inv .0 .holds .sum }
+
+-- src/lib.rt:190:29
+enum-known-summed : tie.Need-enum-known-summed Inv-loop μ-loop
+enum-known-summed c =
+    search needs
+
+-- src/lib.rt:191:17
+same-length : tie.Need-same-length Inv-loop μ-loop
+same-length c =
+    c .before .before .before .before .before .before .before .before .before .before .before .subtract-row .kept .0 ∙ c .before .before .before .before .before .before .before .before .before .before .before .before .before .before .before .before .before .before .before .before .loop .inv .1
+
+-- src/lib.rt:191:17
+same-length-2 : tie.Need-same-length-2 Inv-loop μ-loop
+same-length-2 c =
+    c .before .before .before .before .before .before .before .before .before .before .before .subtract-row .kept .1 .0 ∙ c .before .before .before .before .before .before .before .before .before .before .before .before .before .before .before .before .before .before .before .before .loop .inv .2
+
+-- src/lib.rt:191:17
+same-length-3 : tie.Need-same-length-3 Inv-loop μ-loop
+same-length-3 c =
+    c .before .before .before .before .before .before .before .before .before .before .before .subtract-row .kept .1 .1 .0 ∙ c .before .before .before .before .before .before .before .before .before .before .before .before .before .before .before .before .before .before .before .before .loop .inv .3
+
+-- src/lib.rt:191:17
+same-length-4 : tie.Need-same-length-4 Inv-loop μ-loop
+same-length-4 c =
+    c .before .before .before .before .before .before .before .before .before .before .before .subtract-row .kept .1 .1 .1 .1 .0 ∙ c .before .before .before .before .before .before .before .before .before .before .before .before .before .before .before .before .before .before .before .before .loop .inv .4
+
+-- src/lib.rt:191:17
+returns : tie.Need-returns Inv-loop μ-loop
+returns c =
+    loops.turn-stuck (rows-folds (c .before .before .before .before .before .before .before .before .before .before .before .before .before .before .before .before .before .before .before .before .before .before .before .before .before .before .args .config .fields) (c .before .before .before .before .before .before .before .before .before .before .before .before .before .before .before .before .before .before .before .before .before .before .before .before .before .before .args .config .limits) (sourceOf (c .before .before .before .before .before .before .before .before .before .before .before .before .before .before .before .before .before .before .before .before .before .before .before .before .before .before .args .second) (c .before .before .before .before .before .before .before .before .before .before .before .before .before .before .before .before .before .before .before .before .before .before .before .before .before .before .args .transitions .now) (c .before .before .before .before .before .before .before .before .before .before .before .before .before .before .before .before .before .before .before .before .before .before .before .before .before .before .args .scratch .now))) (c .before .before .before .before .before .before .before .before .before .before .before .before .before .before .before .before .before .before .before .before .before .before .before .before .before .before .pre .first) (c .before .before .before .before .before .before .before .before .before .before .before .before .before .before .before .before .before .before .before .before .before .before .before .before .before .before .pre .list) (c .before .before .before .before .before .before .before .before .before .before .before .before .before .before .before .before .before .before .before .before .before .before .before .before .before .before .pre .sum) (c .before .before .before .before .before .before .before .before .before .before .before .before .before .before .before .before .before .before .before .before .before .before .before .before .before .before .args .c) (c .before .before .before .before .before .before .before .before .before .before .before .before .before .before .before .before .before .before .before .before .loop .h .0) (c .before .before .before .before .before .before .before .before .before .before .before .before .before .before .before .before .before .before .before .before .loop .n) (c .before .before .before .before .before .before .before .before .before .before .before .before .before .before .before .before .before .before .before .before .loop .inv .0) (c .before .before .before .before .before .before .before .before .before .before .before .before .before .before .before .before .before .before .if1 .taken) (c .before .before .before .before .before .before .before .before .before .before .before .before .before .before .before .before .read .ensures) (loops.row-of (c .before .before .before .before .before .before .before .before .before .before .before .before .before .before .before .before .before .before .before .before .loop .d) (edgeOf (c .before .before .before .before .before .before .before .before .before .before .before .before .before .before .before .before .read .result)) (c .before .before .before .before .before .before .before .before .before .before .before .before .before .before .before .before .before .before .before .before .loop .h .0) (c .before .before .before .before .before .before .before .before .before .before .before .before .before .before .before .before .before .before .before .before .loop .n) (c .before .before .before .before .before .before .before .before .before .before .before .before .before .before .before .before .before .before .before .before .loop .inv .0 .stage .frame) (c .before .before .before .before .before .before .before .before .before .before .before .before .before .before .before .before .before .before .before .before .before .before .before .before .before .before .pre .second) (c .before .before .before .before .before .before .before .before .before .before .before .subtract-row .ensures)) (c .before .summed .given .1)
+
+-- src/lib.rt:193:26
+enum-known-summed-2 : tie.Need-enum-known-summed-2 Inv-loop μ-loop
+enum-known-summed-2 c =
+    search needs
+
+-- src/lib.rt:199:9
+add-i : tie.Need-add-i Inv-loop μ-loop
+add-i c =
+    omega (arith, c .before .before .before .before .before .before .before .before .before .before .before .before .before .before .before .before .before .before .if1 .taken, c .before .before .before .before .before .before .before .before .before .before .before .before .before .before .before .before .before .before .before .before .before .before .before .before .before .before .good .1 .1 .1 .0 .0, length-few (c .before .before .before .before .before .before .before .before .before .before .before .before .before .before .before .before .before .before .before .before .before .before .before .before .before .before .args .transitions .now) (c .before .before .before .before .before .before .before .before .before .before .before .before .before .before .before .before .before .before .before .before .before .before .before .before .before .before .args .first) (c .before .before .before .before .before .before .before .before .before .before .before .before .before .before .before .before .before .before .before .before .before .before .before .before .before .before .pre .first .within))
+
+-- src/lib.rt:172:5
+loop-less : tie.Need-loop-less Inv-loop μ-loop
+loop-less c =
+    omega (arith, c .before .before .before .before .before .before .before .before .before .before .before .before .before .before .before .before .before .before .if1 .taken)
+
+-- src/lib.rt:172:5
+loop-again : tie.Need-loop-again Inv-loop μ-loop
+loop-again c =
+    (loops.turn-again (rows-folds (c .before .before .before .before .before .before .before .before .before .before .before .before .before .before .before .before .before .before .before .before .before .before .before .before .before .before .args .config .fields) (c .before .before .before .before .before .before .before .before .before .before .before .before .before .before .before .before .before .before .before .before .before .before .before .before .before .before .args .config .limits) (sourceOf (c .before .before .before .before .before .before .before .before .before .before .before .before .before .before .before .before .before .before .before .before .before .before .before .before .before .before .args .second) (c .before .before .before .before .before .before .before .before .before .before .before .before .before .before .before .before .before .before .before .before .before .before .before .before .before .before .args .transitions .now) (c .before .before .before .before .before .before .before .before .before .before .before .before .before .before .before .before .before .before .before .before .before .before .before .before .before .before .args .scratch .now))) (c .before .before .before .before .before .before .before .before .before .before .before .before .before .before .before .before .before .before .before .before .before .before .before .before .before .before .pre .first) (c .before .before .before .before .before .before .before .before .before .before .before .before .before .before .before .before .before .before .before .before .before .before .before .before .before .before .pre .list) (c .before .before .before .before .before .before .before .before .before .before .before .before .before .before .before .before .before .before .before .before .before .before .before .before .before .before .pre .sum) (c .before .before .before .before .before .before .before .before .before .before .before .before .before .before .before .before .before .before .before .before .before .before .before .before .before .before .args .c) (c .before .before .before .before .before .before .before .before .before .before .before .before .before .before .before .before .before .before .before .before .loop .h .0) (c .before .before .before .before .before .before .before .before .before .before .before .before .before .before .before .before .before .before .before .before .loop .n) (c .before .before .before .before .before .before .before .before .before .before .before .before .before .before .before .before .before .before .before .before .loop .inv .0) (c .before .before .before .before .before .before .before .before .before .before .before .before .before .before .before .before .before .before .if1 .taken) (c .before .before .before .before .before .before .before .before .before .before .before .before .before .before .before .before .read .ensures) (loops.row-of (c .before .before .before .before .before .before .before .before .before .before .before .before .before .before .before .before .before .before .before .before .loop .d) (edgeOf (c .before .before .before .before .before .before .before .before .before .before .before .before .before .before .before .before .read .result)) (c .before .before .before .before .before .before .before .before .before .before .before .before .before .before .before .before .before .before .before .before .loop .h .0) (c .before .before .before .before .before .before .before .before .before .before .before .before .before .before .before .before .before .before .before .before .loop .n) (c .before .before .before .before .before .before .before .before .before .before .before .before .before .before .before .before .before .before .before .before .loop .inv .0 .stage .frame) (c .before .before .before .before .before .before .before .before .before .before .before .before .before .before .before .before .before .before .before .before .before .before .before .before .before .before .pre .second) (c .before .before .before .before .before .before .before .before .before .before .before .subtract-row .ensures)) (c .before .summed2 .given .1), c .before .before .before .before .before .before .before .before .before .before .before .subtract-row .kept .0 ∙ c .before .before .before .before .before .before .before .before .before .before .before .before .before .before .before .before .before .before .before .before .loop .inv .1, c .before .before .before .before .before .before .before .before .before .before .before .subtract-row .kept .1 .0 ∙ c .before .before .before .before .before .before .before .before .before .before .before .before .before .before .before .before .before .before .before .before .loop .inv .2, c .before .before .before .before .before .before .before .before .before .before .before .subtract-row .kept .1 .1 .0 ∙ c .before .before .before .before .before .before .before .before .before .before .before .before .before .before .before .before .before .before .before .before .loop .inv .3, c .before .before .before .before .before .before .before .before .before .before .before .subtract-row .kept .1 .1 .1 .1 .0 ∙ c .before .before .before .before .before .before .before .before .before .before .before .before .before .before .before .before .before .before .before .before .loop .inv .4)
+
+-- src/lib.rt:149:1
+same-length-5 : tie.Need-same-length-5 Inv-loop μ-loop
+same-length-5 c =
+    c .before .before .loop .inv .1
+
+-- src/lib.rt:149:1
+same-length-6 : tie.Need-same-length-6 Inv-loop μ-loop
+same-length-6 c =
+    c .before .before .loop .inv .2
+
+-- src/lib.rt:149:1
+same-length-7 : tie.Need-same-length-7 Inv-loop μ-loop
+same-length-7 c =
+    c .before .before .loop .inv .3
+
+-- src/lib.rt:149:1
+same-length-8 : tie.Need-same-length-8 Inv-loop μ-loop
+same-length-8 c =
+    c .before .before .loop .inv .4
+
+-- src/lib.rt:149:1
+returns-2 : tie.Need-returns-2 Inv-loop μ-loop
+returns-2 c =
+    loops.turn-end (rows-folds (c .before .before .before .before .before .before .before .before .args .config .fields) (c .before .before .before .before .before .before .before .before .args .config .limits) (sourceOf (c .before .before .before .before .before .before .before .before .args .second) (c .before .before .before .before .before .before .before .before .args .transitions .now) (c .before .before .before .before .before .before .before .before .args .scratch .now))) (c .before .before .before .before .before .before .before .before .pre .first) (c .before .before .before .before .before .before .before .before .pre .list) (c .before .before .before .before .before .before .before .before .pre .sum) (c .before .before .before .before .before .before .before .before .args .c) (c .before .before .loop .h) (c .before .before .loop .n) (c .before .before .loop .inv .0) (c .if1 .left)
+
+pub subtract-rows-spec : {M : Type 1} → statement M
+subtract-rows-spec =
+    tie.close
+    (tie.spec
+    Inv-loop
+    μ-loop
+    loop-holds
+    read-requires
+    subtract-row-requires
+    enum-known-summed
+    same-length
+    same-length-2
+    same-length-3
+    same-length-4
+    returns
+    enum-known-summed-2
+    add-i
+    loop-less
+    loop-again
+    same-length-5
+    same-length-6
+    same-length-7
+    same-length-8
+    returns-2)

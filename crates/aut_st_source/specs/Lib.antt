@@ -1,0 +1,2 @@
+-- Transition lists that are walked.
+pub mod Contracts

@@ -1,0 +1,76 @@
+use mathlib.Core.Path.{refl}
+use Rattle.aut_sequence.proofs.Join as mk
+use Rattle.aut_steps.specs.Constructors as C
+use Rattle.aut_states.specs.Contracts.{limitsOf}
+use Rattle.book_construct.proofs.Join as join
+use borrow.Author.Needs.{needs}
+use Rattle.book_construct.proofs.make_single.Statement.{statement}
+use Rattle.book_construct.proofs.make_single.Tie as tie
+use Rattle.book_construct.proofs.make_single.Reads as reads
+use Rattle.book_construct.proofs.make_single.Lts as lts
+use Rattle.aut_states.proofs.mk_complement.Reads as mk-complement-reads
+use Rattle.aut_sequence.proofs.mk_star.Reads as mk-star-reads
+use Rattle.aut_relations.proofs.placed.Reads as placed-reads
+
+-- src/lib.rt:143:42
+enum-told : tie.Need-enum-told
+enum-told c = search needs
+
+-- src/lib.rt:143:17
+mk-complement-requires : tie.Need-mk-complement-requires
+mk-complement-requires c κs =
+    join.not-ready (c .before .before .before .before .before .before .pre)
+
+-- src/lib.rt:144:13
+placed-requires : tie.Need-placed-requires
+placed-requires c κs = search needs
+
+-- src/lib.rt:146:41
+enum-told-2 : tie.Need-enum-told-2
+enum-told-2 c = search needs
+
+-- src/lib.rt:146:25
+mk-star-requires : tie.Need-mk-star-requires
+mk-star-requires c κs = search needs
+
+-- src/lib.rt:128:1
+same-length : tie.Need-same-length
+same-length c = search needs
+
+-- src/lib.rt:128:1
+returns : tie.Need-returns
+returns c =
+    join.single-is (c .before .before .before .before .before .before .before .before .before .before .args .config .limits) (c .before .before .before .before .before .before .before .before .before .before .args .x) (c .before .before .before .before .before .enum-told .given .1) (mk.entered (λ mem. refl) (mk.enters {o = C.mk-complement (c .before .before .before .before .before .before .before .before .before .before .args .config .fields) (limitsOf (c .before .before .before .before .before .before .before .before .before .before .args .config .limits)) (c .before .before .before .before .before .before .before .before .before .before .args .x)} (c .before .before .before .mk-complement .result) (c .placed .result) (c .before .before .before .mk-complement .ensures) (c .placed .ensures)))
+
+-- src/lib.rt:128:1
+same-length-2 : tie.Need-same-length-2
+same-length-2 c = search needs
+
+-- src/lib.rt:128:1
+same-length-3 : tie.Need-same-length-3
+same-length-3 c = search needs
+
+-- src/lib.rt:128:1
+same-length-4 : tie.Need-same-length-4
+same-length-4 c = search needs
+
+-- src/lib.rt:128:1
+returns-2 : tie.Need-returns-2
+returns-2 c =
+    join.single-is (c .before .before .before .before .before .before .before .before .before .before .before .before .before .before .before .args .config .limits) (c .before .before .before .before .before .before .before .before .before .before .before .before .before .before .before .args .x) (c .before .before .before .before .before .before .before .before .before .before .enum-told2 .given .1) (c .before .before .before .before .before .before .mk-star .ensures)
+
+pub make-single-spec : {M : Type 1} → statement M
+make-single-spec =
+    tie.close
+    (tie.spec
+    enum-told
+    mk-complement-requires
+    placed-requires
+    enum-told-2
+    mk-star-requires
+    same-length
+    returns
+    same-length-2
+    same-length-3
+    same-length-4
+    returns-2)

@@ -1,0 +1,2 @@
+-- Answers written into the output.
+pub mod Contracts

@@ -1,2 +1,0 @@
--- The lists of delta, by kind: what is asked.
-pub mod Seen

@@ -1,2 +1,0 @@
--- Transitions in a slice of words.
-pub mod Seen

@@ -1,2 +1,0 @@
--- st_xor: what is asked.
-pub mod Seen

@@ -1,2 +1,0 @@
--- st_union, st_intersect and st_difference: what is asked.
-pub mod Seen

@@ -1,2 +1,0 @@
--- Transition lists that are walked.
-pub mod Seen

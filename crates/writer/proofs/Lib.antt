@@ -1,3 +1,0 @@
-pub mod Seen
-pub mod Rights
-pub mod Lines

@@ -1,2 +1,0 @@
--- Answers written into the output.
-pub mod Seen
