@@ -42,8 +42,10 @@ fn enter_star(
     config: Config,
     a: u32,
 ) -> Entered
-    requires { ⌜ PreEnter (config .fields) (config .limits) (autOf (now nodes) (now states) (now members) c) (now scratch) a ⌝ }
-    ensures { λ r. ⌜ PostStar (config .fields) (config .limits) a r c (now (nodes .entry)) (now (states .entry)) (now (members .entry)) (now (scratch .entry)) (now (nodes .exit)) (now (states .exit)) (now (scratch .exit)) ⌝ }
+    requires { ⌜ PreEnter (config .fields) (config .limits) (autOf (now nodes) (now states) (now members) c)
+        (now scratch) a ⌝ }
+    ensures { λ r. ⌜ PostStar (config .fields) (config .limits) a r c (now (nodes .entry)) (now (states .entry))
+        (now (members .entry)) (now (scratch .entry)) (now (nodes .exit)) (now (states .exit)) (now (scratch .exit)) ⌝ }
 {
     let Made::Node(e, n) = aut_epsilon::epsilon(
         nodes,
@@ -72,8 +74,10 @@ fn enter_epsilon(
     config: Config,
     a: u32,
 ) -> Entered
-    requires { ⌜ PreEnter (config .fields) (config .limits) (autOf (now nodes) (now states) (now members) c) (now scratch) a ⌝ }
-    ensures { λ r. ⌜ PostEpsilon (config .fields) (config .limits) a r c (now (nodes .entry)) (now (states .entry)) (now (members .entry)) (now (scratch .entry)) (now (nodes .exit)) (now (states .exit)) (now (scratch .exit)) ⌝ }
+    requires { ⌜ PreEnter (config .fields) (config .limits) (autOf (now nodes) (now states) (now members) c)
+        (now scratch) a ⌝ }
+    ensures { λ r. ⌜ PostEpsilon (config .fields) (config .limits) a r c (now (nodes .entry)) (now (states .entry))
+        (now (members .entry)) (now (scratch .entry)) (now (nodes .exit)) (now (states .exit)) (now (scratch .exit)) ⌝ }
 {
     let Made::Node(_, n) = aut_epsilon::epsilon(
         nodes,
@@ -99,8 +103,10 @@ fn enter(
     config: Config,
     x: u32,
 ) -> Entered
-    requires { ⌜ PreEnter (config .fields) (config .limits) (autOf (now nodes) (now states) (now members) c) (now scratch) x ⌝ }
-    ensures { λ r. ⌜ PostEnter (config .fields) (config .limits) x r c (now (nodes .entry)) (now (states .entry)) (now (members .entry)) (now (scratch .entry)) (now (nodes .exit)) (now (states .exit)) (now (scratch .exit)) ⌝ }
+    requires { ⌜ PreEnter (config .fields) (config .limits) (autOf (now nodes) (now states) (now members) c)
+        (now scratch) x ⌝ }
+    ensures { λ r. ⌜ PostEnter (config .fields) (config .limits) x r c (now (nodes .entry)) (now (states .entry))
+        (now (members .entry)) (now (scratch .entry)) (now (nodes .exit)) (now (states .exit)) (now (scratch .exit)) ⌝ }
 {
     let i = x as usize;
     let kind = states[aut_states::STATE * i + aut_states::word::KIND];
@@ -126,8 +132,11 @@ fn enter_new(
     i: usize,
     entered: usize,
 ) -> Entered
-    requires { ⌜ PreEnter (config .fields) (config .limits) (autOf (now nodes) (now states) (now members) c) (now scratch) x ⌝ }
-    ensures { λ r. ⌜ PostNew (config .fields) (config .limits) x i entered r c (now (nodes .entry)) (now (states .entry)) (now (members .entry)) (now (scratch .entry)) (now (nodes .exit)) (now (states .exit)) (now (scratch .exit)) ⌝ }
+    requires { ⌜ PreEnter (config .fields) (config .limits) (autOf (now nodes) (now states) (now members) c)
+        (now scratch) x ⌝ }
+    ensures { λ r. ⌜ PostNew (config .fields) (config .limits) x i entered r c (now (nodes .entry))
+        (now (states .entry)) (now (members .entry)) (now (scratch .entry)) (now (nodes .exit)) (now (states .exit))
+        (now (scratch .exit)) ⌝ }
 {
     if i < entered {
         return Entered::Nodes(c.spp);
@@ -146,8 +155,11 @@ fn descend(
     x: u32,
     entered: usize,
 ) -> Down
-    requires { ⌜ PreDescend (config .fields) (config .limits) (now nodes) (now states) (now members) (now scratch) c x ⌝ }
-    ensures { λ r. ⌜ PostDescend (config .fields) (config .limits) x entered r c (now (nodes .entry)) (now (states .entry)) (now (members .entry)) (now (scratch .entry)) (now (nodes .exit)) (now (states .exit)) (now (scratch .exit)) ⌝ }
+    requires { ⌜ PreDescend (config .fields) (config .limits) (now nodes) (now states) (now members) (now scratch) c x
+        ⌝ }
+    ensures { λ r. ⌜ PostDescend (config .fields) (config .limits) x entered r c (now (nodes .entry))
+        (now (states .entry)) (now (members .entry)) (now (scratch .entry)) (now (nodes .exit)) (now (states .exit))
+        (now (scratch .exit)) ⌝ }
 {
     let mut n = c.spp;
     let mut y = x;
@@ -189,8 +201,12 @@ fn finish(
     config: Config,
     x: u32,
 ) -> Worked
-    requires { ⌜ PreFinish (config .fields) (config .limits) (storeOf (now nodes) (now states) (now members) (now transitions) c) (now scratch) x ⌝ }
-    ensures { λ r. ⌜ PostDelta (config .fields) (config .limits) x (storeOf (now (nodes .entry)) (now (states .entry)) (now (members .entry)) (now (transitions .entry)) c) c r (storeOf (now (nodes .exit)) (now (states .exit)) (now (members .exit)) (now (transitions .exit))) (now (scratch .entry)) (now (scratch .exit)) ⌝ }
+    requires { ⌜ PreFinish (config .fields) (config .limits)
+        (storeOf (now nodes) (now states) (now members) (now transitions) c) (now scratch) x ⌝ }
+    ensures { λ r. ⌜ PostDelta (config .fields) (config .limits) x
+        (storeOf (now (nodes .entry)) (now (states .entry)) (now (members .entry)) (now (transitions .entry)) c) c r
+        (storeOf (now (nodes .exit)) (now (states .exit)) (now (members .exit)) (now (transitions .exit)))
+        (now (scratch .entry)) (now (scratch .exit)) ⌝ }
 {
     let Entered::Nodes(n) = enter(nodes, states, members, scratch, c, config, x) else {
         return Worked::Refused(aut_states::refusal::SPP);
@@ -228,8 +244,12 @@ pub fn delta(
     config: Config,
     x: u32,
 ) -> Worked
-    requires { ⌜ PreDelta (config .fields) (config .limits) (storeOf (now nodes) (now states) (now members) (now transitions) c) (now scratch) x ⌝ }
-    ensures { λ r. ⌜ PostDelta (config .fields) (config .limits) x (storeOf (now (nodes .entry)) (now (states .entry)) (now (members .entry)) (now (transitions .entry)) c) c r (storeOf (now (nodes .exit)) (now (states .exit)) (now (members .exit)) (now (transitions .exit))) (now (scratch .entry)) (now (scratch .exit)) ⌝ }
+    requires { ⌜ PreDelta (config .fields) (config .limits)
+        (storeOf (now nodes) (now states) (now members) (now transitions) c) (now scratch) x ⌝ }
+    ensures { λ r. ⌜ PostDelta (config .fields) (config .limits) x
+        (storeOf (now (nodes .entry)) (now (states .entry)) (now (members .entry)) (now (transitions .entry)) c) c r
+        (storeOf (now (nodes .exit)) (now (states .exit)) (now (members .exit)) (now (transitions .exit)))
+        (now (scratch .entry)) (now (scratch .exit)) ⌝ }
 {
     let at = x as usize;
     let mut d = c;

@@ -21,7 +21,8 @@ pub fn keep_list(
     m: usize,
 ) -> Kept
     requires { ⌜ PreKeep (now transitions) (now states) (now scratch) c x m ⌝ }
-    ensures { λ r. ⌜ PostKeep x m c r (now (states .entry)) (now (transitions .entry)) (now (scratch .entry)) (now (states .exit)) (now (transitions .exit)) ⌝ }
+    ensures { λ r. ⌜ PostKeep x m c r (now (states .entry)) (now (transitions .entry)) (now (scratch .entry))
+        (now (states .exit)) (now (transitions .exit)) ⌝ }
 {
     let start = c.transitions;
     let end = start + m;

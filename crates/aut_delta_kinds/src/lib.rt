@@ -66,8 +66,15 @@ fn together_boolean(
     config: Config,
     x: u32,
 ) -> Listed
-    requires { ⌜ PreTogether (config .fields) (config .limits) (storeOf (now nodes) (now states) (now members) (now transitions) c) (now scratch) x × (kindOf (now states) x < SEQUENCE) ⌝ }
-    ensures { λ r. ⌜ GivesList (config .fields) (config .limits) 0 1088 (togetherOf (config .fields) (config .limits) (storeOf (now (nodes .entry)) (now (states .entry)) (now (members .entry)) (now (transitions .entry)) c) x) (autOf (now (nodes .entry)) (now (states .entry)) (now (members .entry)) c) c r (autOf (now (nodes .exit)) (now (states .exit)) (now (members .exit))) (now (scratch .entry)) (now (scratch .exit)) ⌝ }
+    requires { ⌜ PreTogether (config .fields) (config .limits)
+        (storeOf (now nodes) (now states) (now members) (now transitions) c) (now scratch) x ×
+        (kindOf (now states) x < SEQUENCE) ⌝ }
+    ensures { λ r. ⌜ GivesList (config .fields) (config .limits) 0 1088
+        (togetherOf (config .fields) (config .limits)
+        (storeOf (now (nodes .entry)) (now (states .entry)) (now (members .entry)) (now (transitions .entry)) c) x)
+        (autOf (now (nodes .entry)) (now (states .entry)) (now (members .entry)) c) c r
+        (autOf (now (nodes .exit)) (now (states .exit)) (now (members .exit))) (now (scratch .entry))
+        (now (scratch .exit)) ⌝ }
 {
     let i = x as usize;
     let kind = states[aut_states::STATE * i + aut_states::word::KIND];
@@ -166,8 +173,15 @@ fn together_star(
     config: Config,
     x: u32,
 ) -> Listed
-    requires { ⌜ PreTogether (config .fields) (config .limits) (storeOf (now nodes) (now states) (now members) (now transitions) c) (now scratch) x × (kindOf (now states) x ≡ STAR) ⌝ }
-    ensures { λ r. ⌜ GivesList (config .fields) (config .limits) 0 1088 (togetherOf (config .fields) (config .limits) (storeOf (now (nodes .entry)) (now (states .entry)) (now (members .entry)) (now (transitions .entry)) c) x) (autOf (now (nodes .entry)) (now (states .entry)) (now (members .entry)) c) c r (autOf (now (nodes .exit)) (now (states .exit)) (now (members .exit))) (now (scratch .entry)) (now (scratch .exit)) ⌝ }
+    requires { ⌜ PreTogether (config .fields) (config .limits)
+        (storeOf (now nodes) (now states) (now members) (now transitions) c) (now scratch) x ×
+        (kindOf (now states) x ≡ STAR) ⌝ }
+    ensures { λ r. ⌜ GivesList (config .fields) (config .limits) 0 1088
+        (togetherOf (config .fields) (config .limits)
+        (storeOf (now (nodes .entry)) (now (states .entry)) (now (members .entry)) (now (transitions .entry)) c) x)
+        (autOf (now (nodes .entry)) (now (states .entry)) (now (members .entry)) c) c r
+        (autOf (now (nodes .exit)) (now (states .exit)) (now (members .exit))) (now (scratch .entry))
+        (now (scratch .exit)) ⌝ }
 {
     let i = x as usize;
     let a = states[aut_states::STATE * i + aut_states::word::FIRST];
@@ -210,8 +224,15 @@ fn together_string(
     config: Config,
     x: u32,
 ) -> Listed
-    requires { ⌜ PreTogether (config .fields) (config .limits) (storeOf (now nodes) (now states) (now members) (now transitions) c) (now scratch) x × (SEQUENCE ≤ kindOf (now states) x) ⌝ }
-    ensures { λ r. ⌜ GivesList (config .fields) (config .limits) 0 1088 (togetherOf (config .fields) (config .limits) (storeOf (now (nodes .entry)) (now (states .entry)) (now (members .entry)) (now (transitions .entry)) c) x) (autOf (now (nodes .entry)) (now (states .entry)) (now (members .entry)) c) c r (autOf (now (nodes .exit)) (now (states .exit)) (now (members .exit))) (now (scratch .entry)) (now (scratch .exit)) ⌝ }
+    requires { ⌜ PreTogether (config .fields) (config .limits)
+        (storeOf (now nodes) (now states) (now members) (now transitions) c) (now scratch) x ×
+        (SEQUENCE ≤ kindOf (now states) x) ⌝ }
+    ensures { λ r. ⌜ GivesList (config .fields) (config .limits) 0 1088
+        (togetherOf (config .fields) (config .limits)
+        (storeOf (now (nodes .entry)) (now (states .entry)) (now (members .entry)) (now (transitions .entry)) c) x)
+        (autOf (now (nodes .entry)) (now (states .entry)) (now (members .entry)) c) c r
+        (autOf (now (nodes .exit)) (now (states .exit)) (now (members .exit))) (now (scratch .entry))
+        (now (scratch .exit)) ⌝ }
 {
     let i = x as usize;
     let kind = states[aut_states::STATE * i + aut_states::word::KIND];
@@ -277,8 +298,14 @@ pub fn together(
     config: Config,
     x: u32,
 ) -> Listed
-    requires { ⌜ PreTogether (config .fields) (config .limits) (storeOf (now nodes) (now states) (now members) (now transitions) c) (now scratch) x ⌝ }
-    ensures { λ r. ⌜ GivesList (config .fields) (config .limits) 0 1088 (togetherOf (config .fields) (config .limits) (storeOf (now (nodes .entry)) (now (states .entry)) (now (members .entry)) (now (transitions .entry)) c) x) (autOf (now (nodes .entry)) (now (states .entry)) (now (members .entry)) c) c r (autOf (now (nodes .exit)) (now (states .exit)) (now (members .exit))) (now (scratch .entry)) (now (scratch .exit)) ⌝ }
+    requires { ⌜ PreTogether (config .fields) (config .limits)
+        (storeOf (now nodes) (now states) (now members) (now transitions) c) (now scratch) x ⌝ }
+    ensures { λ r. ⌜ GivesList (config .fields) (config .limits) 0 1088
+        (togetherOf (config .fields) (config .limits)
+        (storeOf (now (nodes .entry)) (now (states .entry)) (now (members .entry)) (now (transitions .entry)) c) x)
+        (autOf (now (nodes .entry)) (now (states .entry)) (now (members .entry)) c) c r
+        (autOf (now (nodes .exit)) (now (states .exit)) (now (members .exit))) (now (scratch .entry))
+        (now (scratch .exit)) ⌝ }
 {
     let i = x as usize;
     let kind = states[aut_states::STATE * i + aut_states::word::KIND];

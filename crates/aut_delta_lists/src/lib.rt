@@ -32,8 +32,14 @@ pub fn st_postcompose(
     source: Source,
     e: u32,
 ) -> Listed
-    requires { ⌜ ToReady (config .fields) (config .limits) (autOf (now nodes) (now states) (now members) c) (now transitions) (now scratch) source e ⌝ }
-    ensures { λ r. ⌜ GivesList (config .fields) (config .limits) 0 832 (St.st-postcompose (ops (config .fields) (limitsOf (config .limits))) (sourceOf source (now (transitions .entry)) (now (scratch .entry))) e) (autOf (now (nodes .entry)) (now (states .entry)) (now (members .entry)) c) c r (autOf (now (nodes .exit)) (now (states .exit)) (now (members .exit))) (now (scratch .entry)) (now (scratch .exit)) ⌝ }
+    requires { ⌜ ToReady (config .fields) (config .limits) (autOf (now nodes) (now states) (now members) c)
+        (now transitions) (now scratch) source e ⌝ }
+    ensures { λ r. ⌜ GivesList (config .fields) (config .limits) 0 832
+        (St.st-postcompose (ops (config .fields) (limitsOf (config .limits)))
+        (sourceOf source (now (transitions .entry)) (now (scratch .entry))) e)
+        (autOf (now (nodes .entry)) (now (states .entry)) (now (members .entry)) c) c r
+        (autOf (now (nodes .exit)) (now (states .exit)) (now (members .exit))) (now (scratch .entry))
+        (now (scratch .exit)) ⌝ }
 {
     aut_st_each::insert_each(
         nodes,
@@ -61,8 +67,14 @@ pub fn st_precompose(
     l: SPP,
     source: Source,
 ) -> Listed
-    requires { ⌜ BehindReady (config .fields) (config .limits) (autOf (now nodes) (now states) (now members) c) (now transitions) (now scratch) (l .0) source ⌝ }
-    ensures { λ r. ⌜ GivesList (config .fields) (config .limits) 0 832 (St.st-precompose (ops (config .fields) (limitsOf (config .limits))) (l .0) (sourceOf source (now (transitions .entry)) (now (scratch .entry)))) (autOf (now (nodes .entry)) (now (states .entry)) (now (members .entry)) c) c r (autOf (now (nodes .exit)) (now (states .exit)) (now (members .exit))) (now (scratch .entry)) (now (scratch .exit)) ⌝ }
+    requires { ⌜ BehindReady (config .fields) (config .limits) (autOf (now nodes) (now states) (now members) c)
+        (now transitions) (now scratch) (l .0) source ⌝ }
+    ensures { λ r. ⌜ GivesList (config .fields) (config .limits) 0 832
+        (St.st-precompose (ops (config .fields) (limitsOf (config .limits))) (l .0)
+        (sourceOf source (now (transitions .entry)) (now (scratch .entry))))
+        (autOf (now (nodes .entry)) (now (states .entry)) (now (members .entry)) c) c r
+        (autOf (now (nodes .exit)) (now (states .exit)) (now (members .exit))) (now (scratch .entry))
+        (now (scratch .exit)) ⌝ }
 {
     aut_st_each::insert_each(
         nodes,
@@ -90,8 +102,14 @@ pub fn st_intersect_expr(
     source: Source,
     e: u32,
 ) -> Listed
-    requires { ⌜ ToReady (config .fields) (config .limits) (autOf (now nodes) (now states) (now members) c) (now transitions) (now scratch) source e ⌝ }
-    ensures { λ r. ⌜ GivesList (config .fields) (config .limits) 0 832 (St.st-intersect-expr (ops (config .fields) (limitsOf (config .limits))) (sourceOf source (now (transitions .entry)) (now (scratch .entry))) e) (autOf (now (nodes .entry)) (now (states .entry)) (now (members .entry)) c) c r (autOf (now (nodes .exit)) (now (states .exit)) (now (members .exit))) (now (scratch .entry)) (now (scratch .exit)) ⌝ }
+    requires { ⌜ ToReady (config .fields) (config .limits) (autOf (now nodes) (now states) (now members) c)
+        (now transitions) (now scratch) source e ⌝ }
+    ensures { λ r. ⌜ GivesList (config .fields) (config .limits) 0 832
+        (St.st-intersect-expr (ops (config .fields) (limitsOf (config .limits)))
+        (sourceOf source (now (transitions .entry)) (now (scratch .entry))) e)
+        (autOf (now (nodes .entry)) (now (states .entry)) (now (members .entry)) c) c r
+        (autOf (now (nodes .exit)) (now (states .exit)) (now (members .exit))) (now (scratch .entry))
+        (now (scratch .exit)) ⌝ }
 {
     aut_st_each::insert_each(
         nodes,
@@ -117,7 +135,9 @@ pub fn st_singleton(
     target: u32,
 ) -> Listed
     requires { ⌜ AloneReady (config .fields) (config .limits) (now states) (now scratch) c ⌝ }
-    ensures { λ r. ⌜ GivesAlone (config .fields) (config .limits) (EdgeAlone (config .fields) target (label .0)) (St.st-singleton (ops (config .fields) (limitsOf (config .limits))) (label .0) target) c r (now (states .entry)) (now (scratch .entry)) (now (states .exit)) (now (scratch .exit)) ⌝ }
+    ensures { λ r. ⌜ GivesAlone (config .fields) (config .limits) (EdgeAlone (config .fields) target (label .0))
+        (St.st-singleton (ops (config .fields) (limitsOf (config .limits))) (label .0) target) c r
+        (now (states .entry)) (now (scratch .entry)) (now (states .exit)) (now (scratch .exit)) ⌝ }
 {
     let zero = spp::zero_at_depth(config.fields);
     if label.0 == zero.0 {
@@ -157,8 +177,14 @@ pub fn sequence_list(
     second: usize,
     j: usize,
 ) -> Listed
-    requires { ⌜ SequenceReady (config .fields) (config .limits) (autOf (now nodes) (now states) (now members) c) (now transitions) (now scratch) y (eps .0) first k second j ⌝ }
-    ensures { λ r. ⌜ GivesList (config .fields) (config .limits) 0 1088 (sequenceList (config .fields) (limitsOf (config .limits)) y (eps .0) (edges (now (transitions .entry)) first k) (edges (now (transitions .entry)) second j)) (autOf (now (nodes .entry)) (now (states .entry)) (now (members .entry)) c) c r (autOf (now (nodes .exit)) (now (states .exit)) (now (members .exit))) (now (scratch .entry)) (now (scratch .exit)) ⌝ }
+    requires { ⌜ SequenceReady (config .fields) (config .limits) (autOf (now nodes) (now states) (now members) c)
+        (now transitions) (now scratch) y (eps .0) first k second j ⌝ }
+    ensures { λ r. ⌜ GivesList (config .fields) (config .limits) 0 1088
+        (sequenceList (config .fields) (limitsOf (config .limits)) y (eps .0)
+        (edges (now (transitions .entry)) first k) (edges (now (transitions .entry)) second j))
+        (autOf (now (nodes .entry)) (now (states .entry)) (now (members .entry)) c) c r
+        (autOf (now (nodes .exit)) (now (states .exit)) (now (members .exit))) (now (scratch .entry))
+        (now (scratch .exit)) ⌝ }
 {
     let late = st_postcompose(
         nodes,
@@ -233,8 +259,13 @@ pub fn star_list(
     first: usize,
     k: usize,
 ) -> Listed
-    requires { ⌜ StarReady (config .fields) (config .limits) (autOf (now nodes) (now states) (now members) c) (now transitions) (now scratch) x (eps .0) first k ⌝ }
-    ensures { λ r. ⌜ GivesList (config .fields) (config .limits) 0 1088 (starList (config .fields) (limitsOf (config .limits)) x (eps .0) (edges (now (transitions .entry)) first k)) (autOf (now (nodes .entry)) (now (states .entry)) (now (members .entry)) c) c r (autOf (now (nodes .exit)) (now (states .exit)) (now (members .exit))) (now (scratch .entry)) (now (scratch .exit)) ⌝ }
+    requires { ⌜ StarReady (config .fields) (config .limits) (autOf (now nodes) (now states) (now members) c)
+        (now transitions) (now scratch) x (eps .0) first k ⌝ }
+    ensures { λ r. ⌜ GivesList (config .fields) (config .limits) 0 1088
+        (starList (config .fields) (limitsOf (config .limits)) x (eps .0) (edges (now (transitions .entry)) first k))
+        (autOf (now (nodes .entry)) (now (states .entry)) (now (members .entry)) c) c r
+        (autOf (now (nodes .exit)) (now (states .exit)) (now (members .exit))) (now (scratch .entry))
+        (now (scratch .exit)) ⌝ }
 {
     let late = st_postcompose(
         nodes,
@@ -288,8 +319,14 @@ pub fn until_list(
     second: usize,
     j: usize,
 ) -> Listed
-    requires { ⌜ UntilReady (config .fields) (config .limits) (autOf (now nodes) (now states) (now members) c) (now transitions) (now scratch) a b first k second j ⌝ }
-    ensures { λ r. ⌜ GivesList (config .fields) (config .limits) 0 1088 (untilList (config .fields) (limitsOf (config .limits)) a b (edges (now (transitions .entry)) first k) (edges (now (transitions .entry)) second j)) (autOf (now (nodes .entry)) (now (states .entry)) (now (members .entry)) c) c r (autOf (now (nodes .exit)) (now (states .exit)) (now (members .exit))) (now (scratch .entry)) (now (scratch .exit)) ⌝ }
+    requires { ⌜ UntilReady (config .fields) (config .limits) (autOf (now nodes) (now states) (now members) c)
+        (now transitions) (now scratch) a b first k second j ⌝ }
+    ensures { λ r. ⌜ GivesList (config .fields) (config .limits) 0 1088
+        (untilList (config .fields) (limitsOf (config .limits)) a b (edges (now (transitions .entry)) first k)
+        (edges (now (transitions .entry)) second j))
+        (autOf (now (nodes .entry)) (now (states .entry)) (now (members .entry)) c) c r
+        (autOf (now (nodes .exit)) (now (states .exit)) (now (members .exit))) (now (scratch .entry))
+        (now (scratch .exit)) ⌝ }
 {
     let put = aut_states::mk_until(states, c.states, config.limits, a, b);
     let state = aut_relations::placed(put, c);
@@ -339,7 +376,9 @@ pub fn until_list(
 
 pub fn dup_list(states: &mut [u32], scratch: &mut [u32], c: Counts, config: Config) -> Listed
     requires { ⌜ AloneReady (config .fields) (config .limits) (now states) (now scratch) c ⌝ }
-    ensures { λ r. ⌜ GivesAlone (config .fields) (config .limits) Anything (dupList (config .fields) (limitsOf (config .limits))) c r (now (states .entry)) (now (scratch .entry)) (now (states .exit)) (now (scratch .exit)) ⌝ }
+    ensures { λ r. ⌜ GivesAlone (config .fields) (config .limits) Anything
+        (dupList (config .fields) (limitsOf (config .limits))) c r (now (states .entry)) (now (scratch .entry))
+        (now (states .exit)) (now (scratch .exit)) ⌝ }
 {
     let one = spp::one_at_depth(config.fields, config.fields);
     let put = aut_states::mk_spp(states, c.states, one);
@@ -359,7 +398,9 @@ pub fn next_list(
     a: u32,
 ) -> Listed
     requires { ⌜ AloneReady (config .fields) (config .limits) (now states) (now scratch) c ⌝ }
-    ensures { λ r. ⌜ GivesAlone (config .fields) (config .limits) (StateAt a) (St.st-singleton (ops (config .fields) (limitsOf (config .limits))) (topAt (config .fields)) a) c r (now (states .entry)) (now (scratch .entry)) (now (states .exit)) (now (scratch .exit)) ⌝ }
+    ensures { λ r. ⌜ GivesAlone (config .fields) (config .limits) (StateAt a)
+        (St.st-singleton (ops (config .fields) (limitsOf (config .limits))) (topAt (config .fields)) a) c r
+        (now (states .entry)) (now (scratch .entry)) (now (states .exit)) (now (scratch .exit)) ⌝ }
 {
     let top = spp::top_at_depth(config.fields, config.fields);
     st_singleton(states, scratch, c, config, top, a)
@@ -367,7 +408,9 @@ pub fn next_list(
 
 pub fn top_list(states: &mut [u32], scratch: &mut [u32], c: Counts, config: Config) -> Listed
     requires { ⌜ AloneReady (config .fields) (config .limits) (now states) (now scratch) c ⌝ }
-    ensures { λ r. ⌜ GivesAlone (config .fields) (config .limits) Anything (topList (config .fields) (limitsOf (config .limits))) c r (now (states .entry)) (now (scratch .entry)) (now (states .exit)) (now (scratch .exit)) ⌝ }
+    ensures { λ r. ⌜ GivesAlone (config .fields) (config .limits) Anything
+        (topList (config .fields) (limitsOf (config .limits))) c r (now (states .entry)) (now (scratch .entry))
+        (now (states .exit)) (now (scratch .exit)) ⌝ }
 {
     let put = aut_states::mk_top(states, c.states);
     let state = aut_relations::placed(put, c);

@@ -56,8 +56,14 @@ fn join_two(
     first: Source,
     second: Source,
 ) -> Listed
-    requires { ⌜ TwoReady (config .fields) (config .limits) (autOf (now nodes) (now states) (now members) c) (now transitions) (now scratch) first second ⌝ }
-    ensures { λ r. ⌜ DoesList (config .fields) (config .limits) 0 832 (joinOne (config .fields) (limitsOf (config .limits)) join (sourceOf first (now (transitions .entry)) (now (scratch .entry))) (sourceOf second (now (transitions .entry)) (now (scratch .entry)))) (autOf (now (nodes .entry)) (now (states .entry)) (now (members .entry)) c) r c (now (nodes .exit)) (now (states .exit)) (now (members .exit)) (now (scratch .entry)) (now (scratch .exit)) ⌝ }
+    requires { ⌜ TwoReady (config .fields) (config .limits) (autOf (now nodes) (now states) (now members) c)
+        (now transitions) (now scratch) first second ⌝ }
+    ensures { λ r. ⌜ DoesList (config .fields) (config .limits) 0 832
+        (joinOne (config .fields) (limitsOf (config .limits)) join
+        (sourceOf first (now (transitions .entry)) (now (scratch .entry)))
+        (sourceOf second (now (transitions .entry)) (now (scratch .entry))))
+        (autOf (now (nodes .entry)) (now (states .entry)) (now (members .entry)) c) r c (now (nodes .exit))
+        (now (states .exit)) (now (members .exit)) (now (scratch .entry)) (now (scratch .exit)) ⌝ }
 {
     match join {
         Join::Union => aut_st_ops::st_union(
@@ -98,8 +104,15 @@ fn join_next(
     n: usize,
     y: u32,
 ) -> Listed
-    requires { ⌜ PreNext (config .fields) (config .limits) (storeOf (now nodes) (now states) (now members) (now transitions) c) (now scratch) n y ⌝ }
-    ensures { λ r. ⌜ GivesList (config .fields) (config .limits) 0 1088 (joinOne (config .fields) (limitsOf (config .limits)) join (edges (now (scratch .entry)) RESULT n) (listAt (storeOf (now (nodes .entry)) (now (states .entry)) (now (members .entry)) (now (transitions .entry)) c) y)) (autOf (now (nodes .entry)) (now (states .entry)) (now (members .entry)) c) c r (autOf (now (nodes .exit)) (now (states .exit)) (now (members .exit))) (now (scratch .entry)) (now (scratch .exit)) ⌝ }
+    requires { ⌜ PreNext (config .fields) (config .limits)
+        (storeOf (now nodes) (now states) (now members) (now transitions) c) (now scratch) n y ⌝ }
+    ensures { λ r. ⌜ GivesList (config .fields) (config .limits) 0 1088
+        (joinOne (config .fields) (limitsOf (config .limits)) join (edges (now (scratch .entry)) RESULT n)
+        (listAt
+        (storeOf (now (nodes .entry)) (now (states .entry)) (now (members .entry)) (now (transitions .entry)) c) y))
+        (autOf (now (nodes .entry)) (now (states .entry)) (now (members .entry)) c) c r
+        (autOf (now (nodes .exit)) (now (states .exit)) (now (members .exit))) (now (scratch .entry))
+        (now (scratch .exit)) ⌝ }
 {
     let place = find_list(states, y);
     aut_st_edges::copy(scratch, aut_st_insert::RESULT, n, aut_st_insert::FIRST);
@@ -137,8 +150,16 @@ fn join_all(
     from: usize,
     k: usize,
 ) -> Listed
-    requires { ⌜ PreAll (config .fields) (config .limits) (storeOf (now nodes) (now states) (now members) (now transitions) c) (now scratch) n from k ⌝ }
-    ensures { λ r. ⌜ GivesList (config .fields) (config .limits) 0 1088 (joinAll (config .fields) (limitsOf (config .limits)) join (listsAt (storeOf (now (nodes .entry)) (now (states .entry)) (now (members .entry)) (now (transitions .entry)) c) from k) (edges (now (scratch .entry)) RESULT n)) (autOf (now (nodes .entry)) (now (states .entry)) (now (members .entry)) c) c r (autOf (now (nodes .exit)) (now (states .exit)) (now (members .exit))) (now (scratch .entry)) (now (scratch .exit)) ⌝ }
+    requires { ⌜ PreAll (config .fields) (config .limits)
+        (storeOf (now nodes) (now states) (now members) (now transitions) c) (now scratch) n from k ⌝ }
+    ensures { λ r. ⌜ GivesList (config .fields) (config .limits) 0 1088
+        (joinAll (config .fields) (limitsOf (config .limits)) join
+        (listsAt
+        (storeOf (now (nodes .entry)) (now (states .entry)) (now (members .entry)) (now (transitions .entry)) c)
+        from k) (edges (now (scratch .entry)) RESULT n))
+        (autOf (now (nodes .entry)) (now (states .entry)) (now (members .entry)) c) c r
+        (autOf (now (nodes .exit)) (now (states .exit)) (now (members .exit))) (now (scratch .entry))
+        (now (scratch .exit)) ⌝ }
 {
     let mut d = c;
     let mut m = n;
@@ -183,8 +204,15 @@ pub fn union_all(
     from: usize,
     k: usize,
 ) -> Listed
-    requires { ⌜ PreMany (config .fields) (config .limits) (storeOf (now nodes) (now states) (now members) (now transitions) c) (now scratch) from k ⌝ }
-    ensures { λ r. ⌜ GivesList (config .fields) (config .limits) 0 1088 (unionAll (config .fields) (limitsOf (config .limits)) (listsAt (storeOf (now (nodes .entry)) (now (states .entry)) (now (members .entry)) (now (transitions .entry)) c) from k) []) (autOf (now (nodes .entry)) (now (states .entry)) (now (members .entry)) c) c r (autOf (now (nodes .exit)) (now (states .exit)) (now (members .exit))) (now (scratch .entry)) (now (scratch .exit)) ⌝ }
+    requires { ⌜ PreMany (config .fields) (config .limits)
+        (storeOf (now nodes) (now states) (now members) (now transitions) c) (now scratch) from k ⌝ }
+    ensures { λ r. ⌜ GivesList (config .fields) (config .limits) 0 1088
+        (unionAll (config .fields) (limitsOf (config .limits))
+        (listsAt
+        (storeOf (now (nodes .entry)) (now (states .entry)) (now (members .entry)) (now (transitions .entry)) c)
+        from k) []) (autOf (now (nodes .entry)) (now (states .entry)) (now (members .entry)) c) c r
+        (autOf (now (nodes .exit)) (now (states .exit)) (now (members .exit))) (now (scratch .entry))
+        (now (scratch .exit)) ⌝ }
 {
     join_all(
         nodes,
@@ -213,8 +241,15 @@ pub fn intersect_all(
     from: usize,
     k: usize,
 ) -> Listed
-    requires { ⌜ PreMany (config .fields) (config .limits) (storeOf (now nodes) (now states) (now members) (now transitions) c) (now scratch) from k ⌝ }
-    ensures { λ r. ⌜ GivesList (config .fields) (config .limits) 0 1088 (intersectFirst (config .fields) (limitsOf (config .limits)) (listsAt (storeOf (now (nodes .entry)) (now (states .entry)) (now (members .entry)) (now (transitions .entry)) c) from k)) (autOf (now (nodes .entry)) (now (states .entry)) (now (members .entry)) c) c r (autOf (now (nodes .exit)) (now (states .exit)) (now (members .exit))) (now (scratch .entry)) (now (scratch .exit)) ⌝ }
+    requires { ⌜ PreMany (config .fields) (config .limits)
+        (storeOf (now nodes) (now states) (now members) (now transitions) c) (now scratch) from k ⌝ }
+    ensures { λ r. ⌜ GivesList (config .fields) (config .limits) 0 1088
+        (intersectFirst (config .fields) (limitsOf (config .limits))
+        (listsAt
+        (storeOf (now (nodes .entry)) (now (states .entry)) (now (members .entry)) (now (transitions .entry)) c)
+        from k)) (autOf (now (nodes .entry)) (now (states .entry)) (now (members .entry)) c) c r
+        (autOf (now (nodes .exit)) (now (states .exit)) (now (members .exit))) (now (scratch .entry))
+        (now (scratch .exit)) ⌝ }
 {
     let y = members[from];
     let place = find_list(states, y);

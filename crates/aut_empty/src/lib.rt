@@ -38,8 +38,12 @@ fn search(
     budget: u64,
     first: usize,
 ) -> Ended
-    requires { ⌜ PreSeek (config .fields) (config .limits) (now sp) (now nodes) (now states) (now members) (now transitions) (now pending) (now scratch) c first ⌝ }
-    ensures { λ r. ⌜ PostSeek (config .fields) (config .limits) c budget first r (now (sp .entry)) (now (nodes .entry)) (now (states .entry)) (now (members .entry)) (now (transitions .entry)) (now (pending .entry)) (now (scratch .entry)) (now (sp .exit)) (now (nodes .exit)) (now (states .exit)) (now (members .exit)) (now (transitions .exit)) (now (pending .exit)) (now (scratch .exit)) ⌝ }
+    requires { ⌜ PreSeek (config .fields) (config .limits) (now sp) (now nodes) (now states) (now members)
+        (now transitions) (now pending) (now scratch) c first ⌝ }
+    ensures { λ r. ⌜ PostSeek (config .fields) (config .limits) c budget first r (now (sp .entry))
+        (now (nodes .entry)) (now (states .entry)) (now (members .entry)) (now (transitions .entry))
+        (now (pending .entry)) (now (scratch .entry)) (now (sp .exit)) (now (nodes .exit)) (now (states .exit))
+        (now (members .exit)) (now (transitions .exit)) (now (pending .exit)) (now (scratch .exit)) ⌝ }
 {
     let mut d = c;
     let mut n = first;
@@ -90,8 +94,14 @@ pub fn is_empty(
     budget: u64,
     x: u32,
 ) -> Searched
-    requires { ⌜ PreQuery (config .fields) (config .limits) (tablesOf (now sp) (now nodes) (now states) (now members) (now transitions) c) (now scratch) (now pending) x ⌝ }
-    ensures { λ r. ⌜ PostSearch (config .fields) (config .limits) budget x (tablesOf (now (sp .entry)) (now (nodes .entry)) (now (states .entry)) (now (members .entry)) (now (transitions .entry)) c) c r (tablesOf (now (sp .exit)) (now (nodes .exit)) (now (states .exit)) (now (members .exit)) (now (transitions .exit))) (now (scratch .entry)) (now (scratch .exit)) (now (pending .entry)) (now (pending .exit)) ⌝ }
+    requires { ⌜ PreQuery (config .fields) (config .limits)
+        (tablesOf (now sp) (now nodes) (now states) (now members) (now transitions) c) (now scratch) (now pending) x ⌝ }
+    ensures { λ r. ⌜ PostSearch (config .fields) (config .limits) budget x
+        (tablesOf (now (sp .entry)) (now (nodes .entry)) (now (states .entry)) (now (members .entry))
+        (now (transitions .entry)) c) c r
+        (tablesOf (now (sp .exit)) (now (nodes .exit)) (now (states .exit)) (now (members .exit))
+        (now (transitions .exit))) (now (scratch .entry)) (now (scratch .exit)) (now (pending .entry))
+        (now (pending .exit)) ⌝ }
 {
     let one = sp::one_at_depth(config.fields);
     if !aut_empty_words::put(pending, 0, x, one) {

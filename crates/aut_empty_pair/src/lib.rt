@@ -27,8 +27,12 @@ pub fn expand(
     x: u32,
     fresh: SP,
 ) -> Turned
-    requires { ⌜ PreExpand (config .fields) (config .limits) (now sp) (now nodes) (now states) (now members) (now transitions) (now pending) (now scratch) c n x (fresh .0) ⌝ }
-    ensures { λ r. ⌜ PostExpand (config .fields) (config .limits) c n x (fresh .0) r (now (sp .entry)) (now (nodes .entry)) (now (states .entry)) (now (members .entry)) (now (transitions .entry)) (now (pending .entry)) (now (scratch .entry)) (now (sp .exit)) (now (nodes .exit)) (now (states .exit)) (now (members .exit)) (now (transitions .exit)) (now (pending .exit)) (now (scratch .exit)) ⌝ }
+    requires { ⌜ PreExpand (config .fields) (config .limits) (now sp) (now nodes) (now states) (now members)
+        (now transitions) (now pending) (now scratch) c n x (fresh .0) ⌝ }
+    ensures { λ r. ⌜ PostExpand (config .fields) (config .limits) c n x (fresh .0) r (now (sp .entry))
+        (now (nodes .entry)) (now (states .entry)) (now (members .entry)) (now (transitions .entry))
+        (now (pending .entry)) (now (scratch .entry)) (now (sp .exit)) (now (nodes .exit)) (now (states .exit))
+        (now (members .exit)) (now (transitions .exit)) (now (pending .exit)) (now (scratch .exit)) ⌝ }
 {
     let fields = config.fields;
     let seen = aut_empty_words::seen_at(states, fields, x);

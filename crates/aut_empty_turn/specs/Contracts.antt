@@ -1,4 +1,4 @@
--- 01, `is_empty` (a pair is taken, and what was seen before goes off): what a turn in code asks and promises.
+-- 01, `is_empty` (a pair is taken, and only what was not seen before goes on): what a turn in code asks and promises.
 use mathlib.Core.List.{List}
 use Prim.Native.Nat.{ℕ, _-_, _/_, _<_}
 use lib.ListN.{length}

@@ -18,8 +18,12 @@ pub fn turn(
     config: Config,
     n: usize,
 ) -> Turned
-    requires { ⌜ PreTurn (config .fields) (config .limits) (now sp) (now nodes) (now states) (now members) (now transitions) (now pending) (now scratch) c n ⌝ }
-    ensures { λ r. ⌜ PostTurn (config .fields) (config .limits) c n r (now (sp .entry)) (now (nodes .entry)) (now (states .entry)) (now (members .entry)) (now (transitions .entry)) (now (pending .entry)) (now (scratch .entry)) (now (sp .exit)) (now (nodes .exit)) (now (states .exit)) (now (members .exit)) (now (transitions .exit)) (now (pending .exit)) (now (scratch .exit)) ⌝ }
+    requires { ⌜ PreTurn (config .fields) (config .limits) (now sp) (now nodes) (now states) (now members)
+        (now transitions) (now pending) (now scratch) c n ⌝ }
+    ensures { λ r. ⌜ PostTurn (config .fields) (config .limits) c n r (now (sp .entry)) (now (nodes .entry))
+        (now (states .entry)) (now (members .entry)) (now (transitions .entry)) (now (pending .entry))
+        (now (scratch .entry)) (now (sp .exit)) (now (nodes .exit)) (now (states .exit)) (now (members .exit))
+        (now (transitions .exit)) (now (pending .exit)) (now (scratch .exit)) ⌝ }
 {
     let fields = config.fields;
     let k = n - 1;

@@ -25,7 +25,8 @@ fn follow(
     label: SPP,
 ) -> Walked
     requires { ⌜ PreFollow fields (now sp) (now nodes) (now pending) (now scratch) c n (fresh .0) (label .0) ⌝ }
-    ensures { λ r. ⌜ Follows fields c n (fresh .0) target (label .0) r (now (sp .entry)) (now (nodes .entry)) (now (pending .entry)) (now (scratch .entry)) (now (sp .exit)) (now (pending .exit)) (now (scratch .exit)) ⌝ }
+    ensures { λ r. ⌜ Follows fields c n (fresh .0) target (label .0) r (now (sp .entry)) (now (nodes .entry))
+        (now (pending .entry)) (now (scratch .entry)) (now (sp .exit)) (now (pending .exit)) (now (scratch .exit)) ⌝ }
 {
     let sp::Made::Node(next, k) = aut_sets::push(sp, nodes, scratch, c, fields, fresh, label) else {
         return Walked::Refused(aut_states::refusal::SP);
@@ -54,8 +55,11 @@ fn walk(
     x: u32,
     fresh: SP,
 ) -> Walked
-    requires { ⌜ PreWalk fields (now sp) (now nodes) (now states) (now transitions) (now pending) (now scratch) c n x (fresh .0) ⌝ }
-    ensures { λ r. ⌜ Walks fields c n x (fresh .0) r (now (sp .entry)) (now (nodes .entry)) (now (states .entry)) (now (transitions .entry)) (now (pending .entry)) (now (scratch .entry)) (now (sp .exit)) (now (pending .exit)) (now (scratch .exit)) ⌝ }
+    requires { ⌜ PreWalk fields (now sp) (now nodes) (now states) (now transitions) (now pending) (now scratch) c n x
+        (fresh .0) ⌝ }
+    ensures { λ r. ⌜ Walks fields c n x (fresh .0) r (now (sp .entry)) (now (nodes .entry)) (now (states .entry))
+        (now (transitions .entry)) (now (pending .entry)) (now (scratch .entry)) (now (sp .exit))
+        (now (pending .exit)) (now (scratch .exit)) ⌝ }
 {
     let i = x as usize;
     let start = states[aut_states::STATE * i + aut_states::word::START] as usize;
@@ -108,8 +112,12 @@ pub fn spread(
     x: u32,
     fresh: SP,
 ) -> Walked
-    requires { ⌜ PreSpread (config .fields) (config .limits) (now sp) (now nodes) (now states) (now members) (now transitions) (now pending) (now scratch) c n x (fresh .0) ⌝ }
-    ensures { λ r. ⌜ PostSpread (config .fields) (config .limits) c n x (fresh .0) r (now (sp .entry)) (now (nodes .entry)) (now (states .entry)) (now (members .entry)) (now (transitions .entry)) (now (pending .entry)) (now (scratch .entry)) (now (sp .exit)) (now (nodes .exit)) (now (states .exit)) (now (members .exit)) (now (transitions .exit)) (now (pending .exit)) (now (scratch .exit)) ⌝ }
+    requires { ⌜ PreSpread (config .fields) (config .limits) (now sp) (now nodes) (now states) (now members)
+        (now transitions) (now pending) (now scratch) c n x (fresh .0) ⌝ }
+    ensures { λ r. ⌜ PostSpread (config .fields) (config .limits) c n x (fresh .0) r (now (sp .entry))
+        (now (nodes .entry)) (now (states .entry)) (now (members .entry)) (now (transitions .entry))
+        (now (pending .entry)) (now (scratch .entry)) (now (sp .exit)) (now (nodes .exit)) (now (states .exit))
+        (now (members .exit)) (now (transitions .exit)) (now (pending .exit)) (now (scratch .exit)) ⌝ }
 {
     let worked = aut_delta::delta(nodes, states, members, transitions, scratch, c, config, x);
     match worked {

@@ -72,7 +72,10 @@ fn combine_each(
     k: usize,
 ) -> Made
     requires { ⌜ EachReady fields (table (now nodes) count) (now states) (now members) (now scratch) (h .0) from k ⌝ }
-    ensures { λ r. ⌜ Relates fields (each (λ y g. M.apply fields (opOf op) fields g (valueOf (now (states .entry)) y)) (words (now (members .entry)) from k) (h .0)) (table (now (nodes .entry)) count) r (now (nodes .exit)) (now (scratch .entry)) (now (scratch .exit)) ⌝ }
+    ensures { λ r. ⌜ Relates fields
+        (each (λ y g. M.apply fields (opOf op) fields g (valueOf (now (states .entry)) y))
+        (words (now (members .entry)) from k) (h .0)) (table (now (nodes .entry)) count) r (now (nodes .exit))
+        (now (scratch .entry)) (now (scratch .exit)) ⌝ }
 {
     let mut g = h;
     let mut n = count;
@@ -103,7 +106,9 @@ fn combine_many(
     k: usize,
 ) -> Made
     requires { ⌜ ManyReady fields (table (now nodes) count) (now states) (now members) (now scratch) from k ⌝ }
-    ensures { λ r. ⌜ Relates fields (manyBy fields kind (valueOf (now (states .entry))) (words (now (members .entry)) from k)) (table (now (nodes .entry)) count) r (now (nodes .exit)) (now (scratch .entry)) (now (scratch .exit)) ⌝ }
+    ensures { λ r. ⌜ Relates fields
+        (manyBy fields kind (valueOf (now (states .entry))) (words (now (members .entry)) from k))
+        (table (now (nodes .entry)) count) r (now (nodes .exit)) (now (scratch .entry)) (now (scratch .exit)) ⌝ }
 {
     if kind == aut_states::kind::UNION {
         let zero = spp::zero_at_depth(fields);
@@ -147,7 +152,9 @@ fn combine_both(
     y: u32,
 ) -> Made
     requires { ⌜ ValuesReady fields (table (now nodes) count) (now states) (now scratch) (x ∷ y ∷ []) ⌝ }
-    ensures { λ r. ⌜ Relates fields (bothBy fields kind (valueOf (now (states .entry)) x) (valueOf (now (states .entry)) y)) (table (now (nodes .entry)) count) r (now (nodes .exit)) (now (scratch .entry)) (now (scratch .exit)) ⌝ }
+    ensures { λ r. ⌜ Relates fields
+        (bothBy fields kind (valueOf (now (states .entry)) x) (valueOf (now (states .entry)) y))
+        (table (now (nodes .entry)) count) r (now (nodes .exit)) (now (scratch .entry)) (now (scratch .exit)) ⌝ }
 {
     let a = value(states, x);
     let b = value(states, y);
@@ -170,7 +177,8 @@ fn combine_first(
     x: u32,
 ) -> Made
     requires { ⌜ ValuesReady fields (table (now nodes) count) (now states) (now scratch) (x ∷ []) ⌝ }
-    ensures { λ r. ⌜ Relates fields (firstBy fields kind (valueOf (now (states .entry)) x)) (table (now (nodes .entry)) count) r (now (nodes .exit)) (now (scratch .entry)) (now (scratch .exit)) ⌝ }
+    ensures { λ r. ⌜ Relates fields (firstBy fields kind (valueOf (now (states .entry)) x))
+        (table (now (nodes .entry)) count) r (now (nodes .exit)) (now (scratch .entry)) (now (scratch .exit)) ⌝ }
 {
     let a = value(states, x);
     if kind == aut_states::kind::COMPLEMENT {
@@ -200,7 +208,8 @@ fn combine(
     x: u32,
 ) -> Made
     requires { ⌜ CombineReady fields (table (now nodes) count) (now states) (now members) (now scratch) x ⌝ }
-    ensures { λ r. ⌜ Relates fields (combineOn fields (now (states .entry)) (now (members .entry)) x) (table (now (nodes .entry)) count) r (now (nodes .exit)) (now (scratch .entry)) (now (scratch .exit)) ⌝ }
+    ensures { λ r. ⌜ Relates fields (combineOn fields (now (states .entry)) (now (members .entry)) x)
+        (table (now (nodes .entry)) count) r (now (nodes .exit)) (now (scratch .entry)) (now (scratch .exit)) ⌝ }
 {
     let i = x as usize;
     let kind = states[12 * i];
@@ -237,7 +246,8 @@ fn finish(
     x: u32,
 ) -> Made
     requires { ⌜ CombineReady fields (table (now nodes) count) (now states) (now members) (now scratch) x ⌝ }
-    ensures { λ r. ⌜ Finishes fields x (table (now (nodes .entry)) count) (now (states .entry)) (now (members .entry)) r (now (nodes .exit)) (now (states .exit)) (now (scratch .entry)) (now (scratch .exit)) ⌝ }
+    ensures { λ r. ⌜ Finishes fields x (table (now (nodes .entry)) count) (now (states .entry)) (now (members .entry))
+        r (now (nodes .exit)) (now (states .exit)) (now (scratch .entry)) (now (scratch .exit)) ⌝ }
 {
     let Made::Node(h, n) = combine(nodes, states, members, scratch, count, fields, x) else {
         return Made::Full;
@@ -261,7 +271,8 @@ pub fn epsilon(
     x: u32,
 ) -> Made
     requires { ⌜ Asks fields (autOf (now nodes) (now states) (now members) c) (now scratch) x ⌝ }
-    ensures { λ r. ⌜ Works fields x r c (now (nodes .entry)) (now (states .entry)) (now (members .entry)) (now (scratch .entry)) (now (nodes .exit)) (now (states .exit)) (now (scratch .exit)) ⌝ }
+    ensures { λ r. ⌜ Works fields x r c (now (nodes .entry)) (now (states .entry)) (now (members .entry))
+        (now (scratch .entry)) (now (nodes .exit)) (now (states .exit)) (now (scratch .exit)) ⌝ }
 {
     let kept = look(states, x);
     if let Kept::Handle(h) = kept {

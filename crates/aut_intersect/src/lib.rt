@@ -32,8 +32,12 @@ fn base(
     k: usize,
     i: usize,
 ) -> State
-    requires { ⌜ BaseReady (config .fields) (config .limits) (autOf (now nodes) (now states) (now members) c) (now scratch) k i ⌝ }
-    ensures { λ r. ⌜ Does (config .fields) 192 384 (C.base (config .fields) (limitsOf (config .limits)) (words (now (scratch .entry)) 64 k) i (autOf (now (nodes .entry)) (now (states .entry)) (now (members .entry)) c)) r c (now (nodes .exit)) (now (states .exit)) (now (members .exit)) (now (scratch .entry)) (now (scratch .exit)) ⌝ }
+    requires { ⌜ BaseReady (config .fields) (config .limits) (autOf (now nodes) (now states) (now members) c)
+        (now scratch) k i ⌝ }
+    ensures { λ r. ⌜ Does (config .fields) 192 384
+        (C.base (config .fields) (limitsOf (config .limits)) (words (now (scratch .entry)) 64 k) i
+        (autOf (now (nodes .entry)) (now (states .entry)) (now (members .entry)) c)) r c (now (nodes .exit))
+        (now (states .exit)) (now (members .exit)) (now (scratch .entry)) (now (scratch .exit)) ⌝ }
 {
     aut_scratch::product(
         states,
@@ -67,8 +71,13 @@ fn bases(
     k: usize,
     n: usize,
 ) -> Based
-    requires { ⌜ BasesReady (config .fields) (config .limits) (autOf (now nodes) (now states) (now members) c) (now scratch) k n ⌝ }
-    ensures { λ r. ⌜ Bases (config .fields) n (config .limits) (autOf (now (nodes .entry)) (now (states .entry)) (now (members .entry)) c) (C.bases (config .fields) (limitsOf (config .limits)) (words (now (scratch .entry)) 64 k) 0 n [] (autOf (now (nodes .entry)) (now (states .entry)) (now (members .entry)) c)) r c (now (nodes .exit)) (now (states .exit)) (now (members .exit)) (now (scratch .entry)) (now (scratch .exit)) ⌝ }
+    requires { ⌜ BasesReady (config .fields) (config .limits) (autOf (now nodes) (now states) (now members) c)
+        (now scratch) k n ⌝ }
+    ensures { λ r. ⌜ Bases (config .fields) n (config .limits)
+        (autOf (now (nodes .entry)) (now (states .entry)) (now (members .entry)) c)
+        (C.bases (config .fields) (limitsOf (config .limits)) (words (now (scratch .entry)) 64 k) 0 n []
+        (autOf (now (nodes .entry)) (now (states .entry)) (now (members .entry)) c)) r c (now (nodes .exit))
+        (now (states .exit)) (now (members .exit)) (now (scratch .entry)) (now (scratch .exit)) ⌝ }
 {
     let mut d = c;
     let mut i = 0;
@@ -98,8 +107,12 @@ fn distribute(
     config: Config,
     k: usize,
 ) -> State
-    requires { ⌜ Ready (config .fields) (config .limits) (autOf (now nodes) (now states) (now members) c) (now scratch) × ListAt (now scratch) (c .states) 64 k 128 ⌝ }
-    ensures { λ r. ⌜ Does (config .fields) 128 448 (C.intersectOpened (config .fields) (limitsOf (config .limits)) (C.within (words (now (scratch .entry)) 64 k)) (autOf (now (nodes .entry)) (now (states .entry)) (now (members .entry)) c)) r c (now (nodes .exit)) (now (states .exit)) (now (members .exit)) (now (scratch .entry)) (now (scratch .exit)) ⌝ }
+    requires { ⌜ Ready (config .fields) (config .limits) (autOf (now nodes) (now states) (now members) c)
+        (now scratch) × ListAt (now scratch) (c .states) 64 k 128 ⌝ }
+    ensures { λ r. ⌜ Does (config .fields) 128 448
+        (C.intersectOpened (config .fields) (limitsOf (config .limits)) (C.within (words (now (scratch .entry)) 64 k))
+        (autOf (now (nodes .entry)) (now (states .entry)) (now (members .entry)) c)) r c (now (nodes .exit))
+        (now (states .exit)) (now (members .exit)) (now (scratch .entry)) (now (scratch .exit)) ⌝ }
 {
     let Counted::Products(n) = aut_scratch::count_all(
         states,
@@ -137,8 +150,12 @@ pub fn mk_intersect_n(
     from: usize,
     k: usize,
 ) -> State
-    requires { ⌜ Ready (config .fields) (config .limits) (autOf (now nodes) (now states) (now members) c) (now scratch) × ListAt (now scratch) (c .states) from k 64 ⌝ }
-    ensures { λ r. ⌜ Does (config .fields) 64 512 (C.mk-intersect-n (config .fields) (limitsOf (config .limits)) (words (now (scratch .entry)) from k) (autOf (now (nodes .entry)) (now (states .entry)) (now (members .entry)) c)) r c (now (nodes .exit)) (now (states .exit)) (now (members .exit)) (now (scratch .entry)) (now (scratch .exit)) ⌝ }
+    requires { ⌜ Ready (config .fields) (config .limits) (autOf (now nodes) (now states) (now members) c)
+        (now scratch) × ListAt (now scratch) (c .states) from k 64 ⌝ }
+    ensures { λ r. ⌜ Does (config .fields) 64 512
+        (C.mk-intersect-n (config .fields) (limitsOf (config .limits)) (words (now (scratch .entry)) from k)
+        (autOf (now (nodes .entry)) (now (states .entry)) (now (members .entry)) c)) r c (now (nodes .exit))
+        (now (states .exit)) (now (members .exit)) (now (scratch .entry)) (now (scratch .exit)) ⌝ }
 {
     if k > config.limits.list {
         return State::Refused(6);
@@ -170,8 +187,12 @@ pub fn mk_intersect(
     x: u32,
     y: u32,
 ) -> State
-    requires { ⌜ Ready (config .fields) (config .limits) (autOf (now nodes) (now states) (now members) c) (now scratch) × PairAt (c .states) x y ⌝ }
-    ensures { λ r. ⌜ Does (config .fields) 0 576 (C.mk-intersect (config .fields) (limitsOf (config .limits)) x y (autOf (now (nodes .entry)) (now (states .entry)) (now (members .entry)) c)) r c (now (nodes .exit)) (now (states .exit)) (now (members .exit)) (now (scratch .entry)) (now (scratch .exit)) ⌝ }
+    requires { ⌜ Ready (config .fields) (config .limits) (autOf (now nodes) (now states) (now members) c)
+        (now scratch) × PairAt (c .states) x y ⌝ }
+    ensures { λ r. ⌜ Does (config .fields) 0 576
+        (C.mk-intersect (config .fields) (limitsOf (config .limits)) x y
+        (autOf (now (nodes .entry)) (now (states .entry)) (now (members .entry)) c)) r c (now (nodes .exit))
+        (now (states .exit)) (now (members .exit)) (now (scratch .entry)) (now (scratch .exit)) ⌝ }
 {
     if x == y {
         return State::Is(x, c);

@@ -43,7 +43,9 @@ fn meet_one(
     m: usize,
 ) -> Met
     requires { ⌜ UniteReady fields (table (now nodes) count) (now states) (now scratch) (h .0) x to m ⌝ }
-    ensures { λ r. ⌜ Meets fields (to + m) 1 (m + 1) (C.meetOne fields (now (states .entry)) x (met some (h .0) (words (now (scratch .entry)) to m)) (table (now (nodes .entry)) count)) r (now (nodes .exit)) (now (scratch .entry)) (now (scratch .exit)) to ⌝ }
+    ensures { λ r. ⌜ Meets fields (to + m) 1 (m + 1)
+        (C.meetOne fields (now (states .entry)) x (met some (h .0) (words (now (scratch .entry)) to m))
+        (table (now (nodes .entry)) count)) r (now (nodes .exit)) (now (scratch .entry)) (now (scratch .exit)) to ⌝ }
 {
     let i = x as usize;
     let kind = states[12 * i];
@@ -81,7 +83,10 @@ fn meet_each(
     to: usize,
 ) -> Met
     requires { ⌜ UnitesReady fields (table (now nodes) count) (now states) (now scratch) from k to ⌝ }
-    ensures { λ r. ⌜ Meets fields to k k (each (C.meetOne fields (now (states .entry))) (words (now (scratch .entry)) from k) (met false (topAt fields) []) (table (now (nodes .entry)) count)) r (now (nodes .exit)) (now (scratch .entry)) (now (scratch .exit)) to ⌝ }
+    ensures { λ r. ⌜ Meets fields to k k
+        (each (C.meetOne fields (now (states .entry))) (words (now (scratch .entry)) from k)
+        (met false (topAt fields) []) (table (now (nodes .entry)) count)) r (now (nodes .exit))
+        (now (scratch .entry)) (now (scratch .exit)) to ⌝ }
 {
     let mut some = false;
     let mut h = spp::top_at_depth(fields, fields);
@@ -124,7 +129,10 @@ fn add_last(
     k: usize,
 ) -> aut_union::Added
     requires { ⌜ AddReady (now states) (now scratch) count at k ⌝ }
-    ensures { λ r. ⌜ ((others : List ℕ) → Adds (C.addLast (met some (h .0) others) (words (now (scratch .entry)) at k) (table (now (states .entry)) count)) r (now (states .exit)) (now (scratch .entry)) (now (scratch .exit)) at k) ⌝ }
+    ensures { λ r. ⌜
+        ((others : List ℕ) → Adds
+        (C.addLast (met some (h .0) others) (words (now (scratch .entry)) at k) (table (now (states .entry)) count))
+        r (now (states .exit)) (now (scratch .entry)) (now (scratch .exit)) at k) ⌝ }
 {
     if some {
         let put = aut_states::mk_spp(states, count, h);
@@ -181,7 +189,11 @@ fn meet_list(
     k: usize,
 ) -> State
     requires { ⌜ ((N : ℕ) × FinishReady N limits (now states) (now members) (now scratch) c some (h .0) k) ⌝ }
-    ensures { λ r. ⌜ ((others : List ℕ) → Finishes (listOf (limitsOf limits) some (h .0) others (words (now (scratch .entry)) 448 k)) r c (now (states .entry)) (now (members .entry)) (now (scratch .entry)) (now (states .exit)) (now (members .exit)) (now (scratch .exit)) k) ⌝ }
+    ensures { λ r. ⌜
+        ((others : List ℕ) → Finishes
+        (listOf (limitsOf limits) some (h .0) others (words (now (scratch .entry)) 448 k)) r c (now (states .entry))
+        (now (members .entry)) (now (scratch .entry)) (now (states .exit)) (now (members .exit))
+        (now (scratch .exit)) k) ⌝ }
 {
     let added = add_last(states, scratch, c.states, some, h, aut_scratch::SORTED, k);
     match added {
@@ -213,8 +225,13 @@ fn meet_finish(
     h: SPP,
     k: usize,
 ) -> State
-    requires { ⌜ FinishReady (config .fields) (config .limits) (now states) (now members) (now scratch) c some (h .0) k ⌝ }
-    ensures { λ r. ⌜ ((others : List ℕ) → Finishes (C.meetFinish (config .fields) (limitsOf (config .limits)) (met some (h .0) others) (words (now (scratch .entry)) 448 k)) r c (now (states .entry)) (now (members .entry)) (now (scratch .entry)) (now (states .exit)) (now (members .exit)) (now (scratch .exit)) k) ⌝ }
+    requires { ⌜ FinishReady (config .fields) (config .limits) (now states) (now members) (now scratch) c some (h .0)
+        k ⌝ }
+    ensures { λ r. ⌜
+        ((others : List ℕ) → Finishes
+        (C.meetFinish (config .fields) (limitsOf (config .limits)) (met some (h .0) others)
+        (words (now (scratch .entry)) 448 k)) r c (now (states .entry)) (now (members .entry))
+        (now (scratch .entry)) (now (states .exit)) (now (members .exit)) (now (scratch .exit)) k) ⌝ }
 {
     if nothing(config.fields, some, h) {
         let zero = spp::zero_at_depth(config.fields);
@@ -237,8 +254,12 @@ fn meet(
     config: Config,
     k: usize,
 ) -> State
-    requires { ⌜ Ready (config .fields) (config .limits) (autOf (now nodes) (now states) (now members) c) (now scratch) × ListAt (now scratch) (c .states) 256 k 320 × (k ≤ 64) ⌝ }
-    ensures { λ r. ⌜ Does (config .fields) 320 256 (C.meet (config .fields) (limitsOf (config .limits)) (words (now (scratch .entry)) 256 k) (autOf (now (nodes .entry)) (now (states .entry)) (now (members .entry)) c)) r c (now (nodes .exit)) (now (states .exit)) (now (members .exit)) (now (scratch .entry)) (now (scratch .exit)) ⌝ }
+    requires { ⌜ Ready (config .fields) (config .limits) (autOf (now nodes) (now states) (now members) c)
+        (now scratch) × ListAt (now scratch) (c .states) 256 k 320 × (k ≤ 64) ⌝ }
+    ensures { λ r. ⌜ Does (config .fields) 320 256
+        (C.meet (config .fields) (limitsOf (config .limits)) (words (now (scratch .entry)) 256 k)
+        (autOf (now (nodes .entry)) (now (states .entry)) (now (members .entry)) c)) r c (now (nodes .exit))
+        (now (states .exit)) (now (members .exit)) (now (scratch .entry)) (now (scratch .exit)) ⌝ }
 {
     let Met::Rest(some, h, n, m) = meet_each(
         nodes,
@@ -268,8 +289,12 @@ pub fn mk_intersect_n_base(
     from: usize,
     k: usize,
 ) -> State
-    requires { ⌜ Ready (config .fields) (config .limits) (autOf (now nodes) (now states) (now members) c) (now scratch) × ListAt (now scratch) (c .states) from k 256 ⌝ }
-    ensures { λ r. ⌜ Does (config .fields) 256 320 (C.mk-intersect-n-base (config .fields) (limitsOf (config .limits)) (words (now (scratch .entry)) from k) (autOf (now (nodes .entry)) (now (states .entry)) (now (members .entry)) c)) r c (now (nodes .exit)) (now (states .exit)) (now (members .exit)) (now (scratch .entry)) (now (scratch .exit)) ⌝ }
+    requires { ⌜ Ready (config .fields) (config .limits) (autOf (now nodes) (now states) (now members) c)
+        (now scratch) × ListAt (now scratch) (c .states) from k 256 ⌝ }
+    ensures { λ r. ⌜ Does (config .fields) 256 320
+        (C.mk-intersect-n-base (config .fields) (limitsOf (config .limits)) (words (now (scratch .entry)) from k)
+        (autOf (now (nodes .entry)) (now (states .entry)) (now (members .entry)) c)) r c (now (nodes .exit))
+        (now (states .exit)) (now (members .exit)) (now (scratch .entry)) (now (scratch .exit)) ⌝ }
 {
     let Listed::List(m) = aut_scratch::open(
         states,

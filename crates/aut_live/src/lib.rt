@@ -26,8 +26,14 @@ pub fn live_sets(
     config: Config,
     x: u32,
 ) -> Walked
-    requires { ⌜ PreQuery (config .fields) (config .limits) (tablesOf (now sp) (now nodes) (now states) (now members) (now transitions) c) (now scratch) (now pending) x ⌝ }
-    ensures { λ r. ⌜ PostSets (config .fields) (config .limits) x (tablesOf (now (sp .entry)) (now (nodes .entry)) (now (states .entry)) (now (members .entry)) (now (transitions .entry)) c) c r (tablesOf (now (sp .exit)) (now (nodes .exit)) (now (states .exit)) (now (members .exit)) (now (transitions .exit))) (now (scratch .entry)) (now (scratch .exit)) (now (pending .entry)) (now (pending .exit)) ⌝ }
+    requires { ⌜ PreQuery (config .fields) (config .limits)
+        (tablesOf (now sp) (now nodes) (now states) (now members) (now transitions) c) (now scratch) (now pending) x ⌝ }
+    ensures { λ r. ⌜ PostSets (config .fields) (config .limits) x
+        (tablesOf (now (sp .entry)) (now (nodes .entry)) (now (states .entry)) (now (members .entry))
+        (now (transitions .entry)) c) c r
+        (tablesOf (now (sp .exit)) (now (nodes .exit)) (now (states .exit)) (now (members .exit))
+        (now (transitions .exit))) (now (scratch .entry)) (now (scratch .exit)) (now (pending .entry))
+        (now (pending .exit)) ⌝ }
 {
     let Room::At(_) = aut_live_words::reach(states, pending, config.fields, 0, x) else {
         return Walked::Refused(aut_states::refusal::PENDING);
@@ -71,8 +77,14 @@ pub fn live_packets(
     config: Config,
     x: u32,
 ) -> Lived
-    requires { ⌜ PreQuery (config .fields) (config .limits) (tablesOf (now sp) (now nodes) (now states) (now members) (now transitions) c) (now scratch) (now pending) x ⌝ }
-    ensures { λ r. ⌜ PostLive (config .fields) (config .limits) x (tablesOf (now (sp .entry)) (now (nodes .entry)) (now (states .entry)) (now (members .entry)) (now (transitions .entry)) c) c r (tablesOf (now (sp .exit)) (now (nodes .exit)) (now (states .exit)) (now (members .exit)) (now (transitions .exit))) (now (scratch .entry)) (now (scratch .exit)) (now (pending .entry)) (now (pending .exit)) ⌝ }
+    requires { ⌜ PreQuery (config .fields) (config .limits)
+        (tablesOf (now sp) (now nodes) (now states) (now members) (now transitions) c) (now scratch) (now pending) x ⌝ }
+    ensures { λ r. ⌜ PostLive (config .fields) (config .limits) x
+        (tablesOf (now (sp .entry)) (now (nodes .entry)) (now (states .entry)) (now (members .entry))
+        (now (transitions .entry)) c) c r
+        (tablesOf (now (sp .exit)) (now (nodes .exit)) (now (states .exit)) (now (members .exit))
+        (now (transitions .exit))) (now (scratch .entry)) (now (scratch .exit)) (now (pending .entry))
+        (now (pending .exit)) ⌝ }
 {
     let at = aut_states::STATE * (x as usize);
     let kept = states[at + aut_states::word::LIVE];

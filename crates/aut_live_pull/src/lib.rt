@@ -21,8 +21,11 @@ fn pull_from(
     s: u32,
     m: usize,
 ) -> Walked
-    requires { ⌜ PrePull (config .fields) (config .limits) (now sp) (now nodes) (now states) (now transitions) (now scratch) (now pending) c t s m ⌝ }
-    ensures { λ r. ⌜ PostPull (config .fields) (config .limits) (now (sp .entry)) (now (nodes .entry)) (now (states .entry)) (now (transitions .entry)) (now (scratch .entry)) (now (pending .entry)) c t s m r (now (sp .exit)) (now (states .exit)) (now (scratch .exit)) (now (pending .exit)) ⌝ }
+    requires { ⌜ PrePull (config .fields) (config .limits) (now sp) (now nodes) (now states) (now transitions)
+        (now scratch) (now pending) c t s m ⌝ }
+    ensures { λ r. ⌜ PostPull (config .fields) (config .limits) (now (sp .entry)) (now (nodes .entry))
+        (now (states .entry)) (now (transitions .entry)) (now (scratch .entry)) (now (pending .entry)) c t s m r
+        (now (sp .exit)) (now (states .exit)) (now (scratch .exit)) (now (pending .exit)) ⌝ }
 {
     let label = aut_live_words::label_to(states, transitions, t, s);
     match label {
@@ -76,8 +79,11 @@ fn pull_all(
     n: usize,
     m: usize,
 ) -> Walked
-    requires { ⌜ PrePullAll (config .fields) (config .limits) (now sp) (now nodes) (now states) (now transitions) (now scratch) (now pending) c t n m ⌝ }
-    ensures { λ r. ⌜ PostPullAll (config .fields) (config .limits) (now (sp .entry)) (now (nodes .entry)) (now (states .entry)) (now (transitions .entry)) (now (scratch .entry)) (now (pending .entry)) c t n m r (now (sp .exit)) (now (states .exit)) (now (scratch .exit)) (now (pending .exit)) ⌝ }
+    requires { ⌜ PrePullAll (config .fields) (config .limits) (now sp) (now nodes) (now states) (now transitions)
+        (now scratch) (now pending) c t n m ⌝ }
+    ensures { λ r. ⌜ PostPullAll (config .fields) (config .limits) (now (sp .entry)) (now (nodes .entry))
+        (now (states .entry)) (now (transitions .entry)) (now (scratch .entry)) (now (pending .entry)) c t n m r
+        (now (sp .exit)) (now (states .exit)) (now (scratch .exit)) (now (pending .exit)) ⌝ }
 {
     let mut d = c;
     let mut m = m;
@@ -123,8 +129,11 @@ pub fn settle(
     config: Config,
     n: usize,
 ) -> Walked
-    requires { ⌜ PreSettle (config .fields) (config .limits) (now sp) (now nodes) (now states) (now transitions) (now scratch) (now pending) c n ⌝ }
-    ensures { λ r. ⌜ PostSettle (config .fields) (config .limits) (now (sp .entry)) (now (nodes .entry)) (now (states .entry)) (now (transitions .entry)) (now (scratch .entry)) (now (pending .entry)) c n r (now (sp .exit)) (now (states .exit)) (now (scratch .exit)) (now (pending .exit)) ⌝ }
+    requires { ⌜ PreSettle (config .fields) (config .limits) (now sp) (now nodes) (now states) (now transitions)
+        (now scratch) (now pending) c n ⌝ }
+    ensures { λ r. ⌜ PostSettle (config .fields) (config .limits) (now (sp .entry)) (now (nodes .entry))
+        (now (states .entry)) (now (transitions .entry)) (now (scratch .entry)) (now (pending .entry)) c n r
+        (now (sp .exit)) (now (states .exit)) (now (scratch .exit)) (now (pending .exit)) ⌝ }
 {
     let mut d = c;
     let mut m = n;

@@ -22,8 +22,15 @@ fn visit(
     head: usize,
     n: usize,
 ) -> Walked
-    requires { ⌜ PreVisit (config .fields) (config .limits) (tablesOf (now sp) (now nodes) (now states) (now members) (now transitions) c) (now scratch) (now pending) head n ⌝ }
-    ensures { λ r. ⌜ PostVisit (config .fields) (config .limits) head n (tablesOf (now (sp .entry)) (now (nodes .entry)) (now (states .entry)) (now (members .entry)) (now (transitions .entry)) c) c r (tablesOf (now (sp .exit)) (now (nodes .exit)) (now (states .exit)) (now (members .exit)) (now (transitions .exit))) (now (scratch .entry)) (now (scratch .exit)) (now (pending .entry)) (now (pending .exit)) ⌝ }
+    requires { ⌜ PreVisit (config .fields) (config .limits)
+        (tablesOf (now sp) (now nodes) (now states) (now members) (now transitions) c) (now scratch) (now pending)
+        head n ⌝ }
+    ensures { λ r. ⌜ PostVisit (config .fields) (config .limits) head n
+        (tablesOf (now (sp .entry)) (now (nodes .entry)) (now (states .entry)) (now (members .entry))
+        (now (transitions .entry)) c) c r
+        (tablesOf (now (sp .exit)) (now (nodes .exit)) (now (states .exit)) (now (members .exit))
+        (now (transitions .exit))) (now (scratch .entry)) (now (scratch .exit)) (now (pending .entry))
+        (now (pending .exit)) ⌝ }
 {
     let x = pending[2 * head + 1];
     let Made::Node(e, n1) = aut_epsilon::epsilon(
@@ -75,8 +82,14 @@ pub fn explore(
     c: Counts,
     config: Config,
 ) -> Walked
-    requires { ⌜ PreExplore (config .fields) (config .limits) (tablesOf (now sp) (now nodes) (now states) (now members) (now transitions) c) (now scratch) (now pending) ⌝ }
-    ensures { λ r. ⌜ PostExplore (config .fields) (config .limits) (tablesOf (now (sp .entry)) (now (nodes .entry)) (now (states .entry)) (now (members .entry)) (now (transitions .entry)) c) c r (tablesOf (now (sp .exit)) (now (nodes .exit)) (now (states .exit)) (now (members .exit)) (now (transitions .exit))) (now (scratch .entry)) (now (scratch .exit)) (now (pending .entry)) (now (pending .exit)) ⌝ }
+    requires { ⌜ PreExplore (config .fields) (config .limits)
+        (tablesOf (now sp) (now nodes) (now states) (now members) (now transitions) c) (now scratch) (now pending) ⌝ }
+    ensures { λ r. ⌜ PostExplore (config .fields) (config .limits)
+        (tablesOf (now (sp .entry)) (now (nodes .entry)) (now (states .entry)) (now (members .entry))
+        (now (transitions .entry)) c) c r
+        (tablesOf (now (sp .exit)) (now (nodes .exit)) (now (states .exit)) (now (members .exit))
+        (now (transitions .exit))) (now (scratch .entry)) (now (scratch .exit)) (now (pending .entry))
+        (now (pending .exit)) ⌝ }
 {
     let mut d = c;
     let mut n = 1;

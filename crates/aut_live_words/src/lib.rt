@@ -31,7 +31,8 @@ pub enum Label {
 // y goes behind the n states, unless it is there
 pub fn reach(states: &mut [u32], pending: &mut [u32], fields: u32, n: usize, y: u32) -> Room
     requires { ⌜ PreReach fields (now states) (now pending) n y ⌝ }
-    ensures { λ r. ⌜ Reaches fields (M.capacity (length (now (pending .entry)) / 2)) n y (now (states .entry)) (now (pending .entry)) r (now (states .exit)) (now (pending .exit)) ⌝ }
+    ensures { λ r. ⌜ Reaches fields (M.capacity (length (now (pending .entry)) / 2)) n y (now (states .entry))
+        (now (pending .entry)) r (now (states .exit)) (now (pending .exit)) ⌝ }
 {
     let i = aut_states::STATE * (y as usize) + aut_states::word::WORK;
     if states[i] > 0 {
@@ -57,7 +58,8 @@ pub fn enqueue(
     x: u32,
 ) -> Room
     requires { ⌜ PreEnqueue fields (now states) (now transitions) (now pending) n x ⌝ }
-    ensures { λ r. ⌜ PostEnqueue fields n x r (now (states .entry)) (now (transitions .entry)) (now (pending .entry)) (now (states .exit)) (now (pending .exit)) ⌝ }
+    ensures { λ r. ⌜ PostEnqueue fields n x r (now (states .entry)) (now (transitions .entry)) (now (pending .entry))
+        (now (states .exit)) (now (pending .exit)) ⌝ }
 {
     let j = x as usize;
     let start = states[aut_states::STATE * j + aut_states::word::START] as usize;
@@ -93,7 +95,8 @@ pub fn label_to(states: &[u32], transitions: &[u32], t: u32, s: u32) -> Label
 // where the set of s grew, s is looked at again
 pub fn enlarge(states: &mut [u32], pending: &mut [u32], m: usize, s: u32, combined: SP) -> Room
     requires { ⌜ PreEnlarge (now states) (now pending) m s (combined .0) ⌝ }
-    ensures { λ r. ⌜ Enlarges (M.capacity (length (now (pending .entry)) / 2)) m s (combined .0) (now (states .entry)) (now (pending .entry)) r (now (states .exit)) (now (pending .exit)) ⌝ }
+    ensures { λ r. ⌜ Enlarges (M.capacity (length (now (pending .entry)) / 2)) m s (combined .0) (now (states .entry))
+        (now (pending .entry)) r (now (states .exit)) (now (pending .exit)) ⌝ }
 {
     let i = aut_states::STATE * (s as usize) + aut_states::word::WORK;
     if combined.0 == states[i] - 1 {
@@ -124,7 +127,8 @@ pub fn keep(states: &mut [u32], pending: &[u32], n: usize)
 // words WORK and the n entries are zero again
 pub fn clear(states: &mut [u32], pending: &mut [u32], n: usize)
     requires { ⌜ PreKeep (now states) (now pending) n ⌝ }
-    ensures { λ _. ⌜ PostClear n (now (states .entry)) (now (pending .entry)) (now (states .exit)) (now (pending .exit)) ⌝ }
+    ensures { λ _. ⌜ PostClear n (now (states .entry)) (now (pending .entry)) (now (states .exit))
+        (now (pending .exit)) ⌝ }
 {
     let mut i = 0;
     while i < n {

@@ -28,7 +28,8 @@ fn viable(
     label: SPP,
 ) -> Made
     requires { ⌜ PreViable fields (now sp) (now nodes) (now states) (now scratch) c target (label .0) ⌝ }
-    ensures { λ r. ⌜ PostViable fields (now (sp .entry)) (now (nodes .entry)) (now (states .entry)) (now (scratch .entry)) c target (label .0) r (now (nodes .exit)) (now (scratch .exit)) ⌝ }
+    ensures { λ r. ⌜ PostViable fields (now (sp .entry)) (now (nodes .entry)) (now (states .entry))
+        (now (scratch .entry)) c target (label .0) r (now (nodes .exit)) (now (scratch .exit)) ⌝ }
 {
     let i = target as usize;
     let live = SP(states[aut_states::STATE * i + aut_states::word::LIVE] - 1);
@@ -64,8 +65,11 @@ fn prune(
     config: Config,
     x: u32,
 ) -> Pruned
-    requires { ⌜ PrePrune (config .fields) (config .limits) (now sp) (now nodes) (now states) (now transitions) (now scratch) c x ⌝ }
-    ensures { λ r. ⌜ PostPrune (config .fields) (config .limits) (now (sp .entry)) (now (nodes .entry)) (now (states .entry)) (now (transitions .entry)) (now (scratch .entry)) c x r (now (nodes .exit)) (now (scratch .exit)) ⌝ }
+    requires { ⌜ PrePrune (config .fields) (config .limits) (now sp) (now nodes) (now states) (now transitions)
+        (now scratch) c x ⌝ }
+    ensures { λ r. ⌜ PostPrune (config .fields) (config .limits) (now (sp .entry)) (now (nodes .entry))
+        (now (states .entry)) (now (transitions .entry)) (now (scratch .entry)) c x r (now (nodes .exit))
+        (now (scratch .exit)) ⌝ }
 {
     let j = x as usize;
     let start = states[aut_states::STATE * j + aut_states::word::START] as usize;
@@ -107,8 +111,14 @@ pub fn delta_pruned(
     config: Config,
     x: u32,
 ) -> Pruned
-    requires { ⌜ PreQuery (config .fields) (config .limits) (tablesOf (now sp) (now nodes) (now states) (now members) (now transitions) c) (now scratch) (now pending) x ⌝ }
-    ensures { λ r. ⌜ PostPruned (config .fields) (config .limits) x (tablesOf (now (sp .entry)) (now (nodes .entry)) (now (states .entry)) (now (members .entry)) (now (transitions .entry)) c) c r (tablesOf (now (sp .exit)) (now (nodes .exit)) (now (states .exit)) (now (members .exit)) (now (transitions .exit))) (now (scratch .entry)) (now (scratch .exit)) (now (pending .entry)) (now (pending .exit)) ⌝ }
+    requires { ⌜ PreQuery (config .fields) (config .limits)
+        (tablesOf (now sp) (now nodes) (now states) (now members) (now transitions) c) (now scratch) (now pending) x ⌝ }
+    ensures { λ r. ⌜ PostPruned (config .fields) (config .limits) x
+        (tablesOf (now (sp .entry)) (now (nodes .entry)) (now (states .entry)) (now (members .entry))
+        (now (transitions .entry)) c) c r
+        (tablesOf (now (sp .exit)) (now (nodes .exit)) (now (states .exit)) (now (members .exit))
+        (now (transitions .exit))) (now (scratch .entry)) (now (scratch .exit)) (now (pending .entry))
+        (now (pending .exit)) ⌝ }
 {
     let lived = aut_live::live_packets(
         sp,

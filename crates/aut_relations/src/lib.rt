@@ -25,7 +25,8 @@ pub fn apply(
     b: SPP,
 ) -> Made
     requires { ⌜ RelateReady fields (table (now nodes) count) (now scratch) (a .0) (b .0) ⌝ }
-    ensures { λ r. ⌜ Relates fields (M.apply fields (opOf op) fields (a .0) (b .0)) (table (now (nodes .entry)) count) r (now (nodes .exit)) (now (scratch .entry)) (now (scratch .exit)) ⌝ }
+    ensures { λ r. ⌜ Relates fields (M.apply fields (opOf op) fields (a .0) (b .0)) (table (now (nodes .entry)) count)
+        r (now (nodes .exit)) (now (scratch .entry)) (now (scratch .exit)) ⌝ }
 {
     let at = aut_scratch::LISTS;
     spp::apply(nodes, &mut scratch[at..], count, fields, fields, op, a, b)
@@ -68,7 +69,10 @@ pub fn spp_of(
     y: u32,
 ) -> State
     requires { ⌜ SppReady fields (now nodes) (now states) (now scratch) c x y ⌝ }
-    ensures { λ r. ⌜ DoesSpp fields (M.apply fields (opOf op) fields (op1 (now (states .entry)) x) (op1 (now (states .entry)) y)) r c (now (nodes .entry)) (now (states .entry)) (now (scratch .entry)) (now (nodes .exit)) (now (states .exit)) (now (scratch .exit)) ⌝ }
+    ensures { λ r. ⌜ DoesSpp fields
+        (M.apply fields (opOf op) fields (op1 (now (states .entry)) x) (op1 (now (states .entry)) y)) r c
+        (now (nodes .entry)) (now (states .entry)) (now (scratch .entry)) (now (nodes .exit)) (now (states .exit))
+        (now (scratch .exit)) ⌝ }
 {
     let i = x as usize;
     let j = y as usize;

@@ -88,7 +88,9 @@ pub fn mk_xor(
     y: u32,
 ) -> State
     requires { ⌜ Asks (config .fields) (config .limits) (now nodes) (now states) (now scratch) c (x ∷ y ∷ []) ⌝ }
-    ensures { λ r. ⌜ Makes (config .fields) (C.mk-xor (config .fields) (limitsOf (config .limits)) x y) r c (now (nodes .entry)) (now (states .entry)) (now (scratch .entry)) (now (nodes .exit)) (now (states .exit)) (now (scratch .exit)) ⌝ }
+    ensures { λ r. ⌜ Makes (config .fields) (C.mk-xor (config .fields) (limitsOf (config .limits)) x y) r c
+        (now (nodes .entry)) (now (states .entry)) (now (scratch .entry)) (now (nodes .exit)) (now (states .exit))
+        (now (scratch .exit)) ⌝ }
 {
     if x == y {
         return spp_zero(states, c, config.fields);
@@ -112,7 +114,9 @@ pub fn mk_difference(
     y: u32,
 ) -> State
     requires { ⌜ Asks (config .fields) (config .limits) (now nodes) (now states) (now scratch) c (x ∷ y ∷ []) ⌝ }
-    ensures { λ r. ⌜ Makes (config .fields) (C.mk-difference (config .fields) (limitsOf (config .limits)) x y) r c (now (nodes .entry)) (now (states .entry)) (now (scratch .entry)) (now (nodes .exit)) (now (states .exit)) (now (scratch .exit)) ⌝ }
+    ensures { λ r. ⌜ Makes (config .fields) (C.mk-difference (config .fields) (limitsOf (config .limits)) x y) r c
+        (now (nodes .entry)) (now (states .entry)) (now (scratch .entry)) (now (nodes .exit)) (now (states .exit))
+        (now (scratch .exit)) ⌝ }
 {
     if x == y {
         return spp_zero(states, c, config.fields);
@@ -144,7 +148,8 @@ pub fn relate(
     b: SPP,
 ) -> Made
     requires { ⌜ RelateReady fields (table (now nodes) count) (now scratch) (a .0) (b .0) ⌝ }
-    ensures { λ r. ⌜ Relates fields (taskOf fields task (a .0) (b .0)) (table (now (nodes .entry)) count) r (now (nodes .exit)) (now (scratch .entry)) (now (scratch .exit)) ⌝ }
+    ensures { λ r. ⌜ Relates fields (taskOf fields task (a .0) (b .0)) (table (now (nodes .entry)) count) r
+        (now (nodes .exit)) (now (scratch .entry)) (now (scratch .exit)) ⌝ }
 {
     let at = aut_scratch::LISTS;
     match task {
@@ -173,7 +178,9 @@ fn spp_by(
     y: u32,
 ) -> State
     requires { ⌜ SppReady fields (now nodes) (now states) (now scratch) c x y ⌝ }
-    ensures { λ r. ⌜ DoesSpp fields (taskOf fields task (op1 (now (states .entry)) x) (op1 (now (states .entry)) y)) r c (now (nodes .entry)) (now (states .entry)) (now (scratch .entry)) (now (nodes .exit)) (now (states .exit)) (now (scratch .exit)) ⌝ }
+    ensures { λ r. ⌜ DoesSpp fields (taskOf fields task (op1 (now (states .entry)) x) (op1 (now (states .entry)) y)) r
+        c (now (nodes .entry)) (now (states .entry)) (now (scratch .entry)) (now (nodes .exit)) (now (states .exit))
+        (now (scratch .exit)) ⌝ }
 {
     let i = x as usize;
     let j = y as usize;
@@ -195,7 +202,9 @@ pub fn mk_star(
     x: u32,
 ) -> State
     requires { ⌜ Asks (config .fields) (config .limits) (now nodes) (now states) (now scratch) c (x ∷ []) ⌝ }
-    ensures { λ r. ⌜ Makes (config .fields) (C.mk-star (config .fields) (limitsOf (config .limits)) x) r c (now (nodes .entry)) (now (states .entry)) (now (scratch .entry)) (now (nodes .exit)) (now (states .exit)) (now (scratch .exit)) ⌝ }
+    ensures { λ r. ⌜ Makes (config .fields) (C.mk-star (config .fields) (limitsOf (config .limits)) x) r c
+        (now (nodes .entry)) (now (states .entry)) (now (scratch .entry)) (now (nodes .exit)) (now (states .exit))
+        (now (scratch .exit)) ⌝ }
 {
     let i = x as usize;
     let kind = states[12 * i];
@@ -272,8 +281,11 @@ fn joined(
     x: u32,
     y: u32,
 ) -> State
-    requires { ⌜ Asks (config .fields) (config .limits) (now nodes) (now states) (now scratch) c (x ∷ y ∷ []) × Because (now states) x y way ⌝ }
-    ensures { λ r. ⌜ Makes (config .fields) (knownOf (config .fields) (limitsOf (config .limits)) way x y) r c (now (nodes .entry)) (now (states .entry)) (now (scratch .entry)) (now (nodes .exit)) (now (states .exit)) (now (scratch .exit)) ⌝ }
+    requires { ⌜ Asks (config .fields) (config .limits) (now nodes) (now states) (now scratch) c (x ∷ y ∷ []) ×
+        Because (now states) x y way ⌝ }
+    ensures { λ r. ⌜ Makes (config .fields) (knownOf (config .fields) (limitsOf (config .limits)) way x y) r c
+        (now (nodes .entry)) (now (states .entry)) (now (scratch .entry)) (now (nodes .exit)) (now (states .exit))
+        (now (scratch .exit)) ⌝ }
 {
     match way {
         Known::Relations => spp_by(
@@ -358,7 +370,8 @@ pub fn mk_sequence(
     y: u32,
 ) -> State
     requires { ⌜ Asks (config .fields) (config .limits) (now nodes) (now states) (now scratch) c (x ∷ y ∷ []) ⌝ }
-    ensures { λ r. ⌜ Sequences (config .fields) (limitsOf (config .limits)) x y r c (now (nodes .entry)) (now (states .entry)) (now (scratch .entry)) (now (nodes .exit)) (now (states .exit)) (now (scratch .exit)) ⌝ }
+    ensures { λ r. ⌜ Sequences (config .fields) (limitsOf (config .limits)) x y r c (now (nodes .entry))
+        (now (states .entry)) (now (scratch .entry)) (now (nodes .exit)) (now (states .exit)) (now (scratch .exit)) ⌝ }
 {
     let way = plan(states, config.fields, x, y);
     if let Way::Step(k) = way {

@@ -19,7 +19,8 @@ pub fn difference(
     b: SP,
 ) -> sp::Made
     requires { ⌜ PreSets fields (table (now sp) (c .sp)) (now scratch) (a .0) (b .0) ⌝ }
-    ensures { λ r. ⌜ PostSets (Sp.difference fields (a .0) (b .0)) (table (now (sp .entry)) (c .sp)) r (now (sp .exit)) (now (scratch .entry)) (now (scratch .exit)) ⌝ }
+    ensures { λ r. ⌜ PostSets (Sp.difference fields (a .0) (b .0)) (table (now (sp .entry)) (c .sp)) r
+        (now (sp .exit)) (now (scratch .entry)) (now (scratch .exit)) ⌝ }
 {
     let at = aut_scratch::LISTS;
     let n = c.sp;
@@ -28,7 +29,8 @@ pub fn difference(
 
 pub fn union(sp: &mut [u32], scratch: &mut [u32], c: Counts, fields: u32, a: SP, b: SP) -> sp::Made
     requires { ⌜ PreSets fields (table (now sp) (c .sp)) (now scratch) (a .0) (b .0) ⌝ }
-    ensures { λ r. ⌜ PostSets (Sp.union fields (a .0) (b .0)) (table (now (sp .entry)) (c .sp)) r (now (sp .exit)) (now (scratch .entry)) (now (scratch .exit)) ⌝ }
+    ensures { λ r. ⌜ PostSets (Sp.union fields (a .0) (b .0)) (table (now (sp .entry)) (c .sp)) r (now (sp .exit))
+        (now (scratch .entry)) (now (scratch .exit)) ⌝ }
 {
     let at = aut_scratch::LISTS;
     let n = c.sp;
@@ -45,8 +47,11 @@ pub fn push(
     s: SP,
     r: SPP,
 ) -> sp::Made
-    requires { ⌜ PreLead fields (stores (table (now sp) (c .sp)) (table (now nodes) (c .spp))) (now scratch) (s .0) (r .0) ⌝ }
-    ensures { λ k. ⌜ PostImage fields (Images.push fields fields (s .0) (r .0)) (stores (table (now (sp .entry)) (c .sp)) (table (now (nodes .entry)) (c .spp))) k (now (sp .exit)) (now (scratch .entry)) (now (scratch .exit)) ⌝ }
+    requires { ⌜ PreLead fields (stores (table (now sp) (c .sp)) (table (now nodes) (c .spp))) (now scratch) (s .0)
+        (r .0) ⌝ }
+    ensures { λ k. ⌜ PostImage fields (Images.push fields fields (s .0) (r .0))
+        (stores (table (now (sp .entry)) (c .sp)) (table (now (nodes .entry)) (c .spp))) k (now (sp .exit))
+        (now (scratch .entry)) (now (scratch .exit)) ⌝ }
 {
     let at = aut_scratch::LISTS;
     let n = c.sp;
@@ -64,8 +69,11 @@ pub fn pull(
     r: SPP,
     s: SP,
 ) -> sp::Made
-    requires { ⌜ PreLead fields (stores (table (now sp) (c .sp)) (table (now nodes) (c .spp))) (now scratch) (s .0) (r .0) ⌝ }
-    ensures { λ k. ⌜ PostImage fields (Images.pull fields fields (r .0) (s .0)) (stores (table (now (sp .entry)) (c .sp)) (table (now (nodes .entry)) (c .spp))) k (now (sp .exit)) (now (scratch .entry)) (now (scratch .exit)) ⌝ }
+    requires { ⌜ PreLead fields (stores (table (now sp) (c .sp)) (table (now nodes) (c .spp))) (now scratch) (s .0)
+        (r .0) ⌝ }
+    ensures { λ k. ⌜ PostImage fields (Images.pull fields fields (r .0) (s .0))
+        (stores (table (now (sp .entry)) (c .sp)) (table (now (nodes .entry)) (c .spp))) k (now (sp .exit))
+        (now (scratch .entry)) (now (scratch .exit)) ⌝ }
 {
     let at = aut_scratch::LISTS;
     let n = c.sp;
@@ -83,7 +91,9 @@ pub fn bwd(
     r: SPP,
 ) -> sp::Made
     requires { ⌜ PreImage fields (stores (table (now sp) (c .sp)) (table (now nodes) (c .spp))) (now scratch) (r .0) ⌝ }
-    ensures { λ k. ⌜ PostImage fields (Images.bwd fields (r .0)) (stores (table (now (sp .entry)) (c .sp)) (table (now (nodes .entry)) (c .spp))) k (now (sp .exit)) (now (scratch .entry)) (now (scratch .exit)) ⌝ }
+    ensures { λ k. ⌜ PostImage fields (Images.bwd fields (r .0))
+        (stores (table (now (sp .entry)) (c .sp)) (table (now (nodes .entry)) (c .spp))) k (now (sp .exit))
+        (now (scratch .entry)) (now (scratch .exit)) ⌝ }
 {
     let at = aut_scratch::LISTS;
     let n = c.sp;
@@ -101,8 +111,10 @@ pub fn has_image(
     s: SP,
     r: SPP,
 ) -> bool
-    requires { ⌜ PreLead fields (stores (table (now sp) (c .sp)) (table (now nodes) (c .spp))) (now scratch) (s .0) (r .0) ⌝ }
-    ensures { λ b. ⌜ PostHas fields (stores (table (now (sp .entry)) (c .sp)) (table (now (nodes .entry)) (c .spp))) (s .0) (r .0) b (now (scratch .entry)) (now (scratch .exit)) ⌝ }
+    requires { ⌜ PreLead fields (stores (table (now sp) (c .sp)) (table (now nodes) (c .spp))) (now scratch) (s .0)
+        (r .0) ⌝ }
+    ensures { λ b. ⌜ PostHas fields (stores (table (now (sp .entry)) (c .sp)) (table (now (nodes .entry)) (c .spp)))
+        (s .0) (r .0) b (now (scratch .entry)) (now (scratch .exit)) ⌝ }
 {
     let at = aut_scratch::LISTS;
     let n = c.sp;
@@ -120,7 +132,9 @@ pub fn ifwd(
     s: SP,
 ) -> spp::Made
     requires { ⌜ PreLift fields (stores (table (now sp) (c .sp)) (table (now nodes) (c .spp))) (now scratch) (s .0) ⌝ }
-    ensures { λ k. ⌜ PostLift fields (Images.ifwd fields (s .0)) (stores (table (now (sp .entry)) (c .sp)) (table (now (nodes .entry)) (c .spp))) k (now (nodes .exit)) (now (scratch .entry)) (now (scratch .exit)) ⌝ }
+    ensures { λ k. ⌜ PostLift fields (Images.ifwd fields (s .0))
+        (stores (table (now (sp .entry)) (c .sp)) (table (now (nodes .entry)) (c .spp))) k (now (nodes .exit))
+        (now (scratch .entry)) (now (scratch .exit)) ⌝ }
 {
     let at = aut_scratch::LISTS;
     let n = c.sp;
@@ -131,7 +145,8 @@ pub fn ifwd(
 // the number of packets in a set
 pub fn set_size(sp: &[u32], scratch: &mut [u32], c: Counts, fields: u32, s: SP) -> u64
     requires { ⌜ PreSet fields (table (now sp) (c .sp)) (now scratch) (s .0) ⌝ }
-    ensures { λ k. ⌜ PostSize fields (table (now (sp .entry)) (c .sp)) (s .0) k (now (scratch .entry)) (now (scratch .exit)) ⌝ }
+    ensures { λ k. ⌜ PostSize fields (table (now (sp .entry)) (c .sp)) (s .0) k (now (scratch .entry))
+        (now (scratch .exit)) ⌝ }
 {
     let at = aut_scratch::LISTS;
     let n = c.sp;
@@ -141,7 +156,8 @@ pub fn set_size(sp: &[u32], scratch: &mut [u32], c: Counts, fields: u32, s: SP) 
 // the number of packet pairs in a relation
 pub fn pair_count(nodes: &[u32], scratch: &mut [u32], c: Counts, fields: u32, r: SPP) -> u64
     requires { ⌜ PreCount fields (table (now nodes) (c .spp)) (now scratch) (r .0) ⌝ }
-    ensures { λ k. ⌜ PostCount fields (table (now (nodes .entry)) (c .spp)) (r .0) k (now (scratch .entry)) (now (scratch .exit)) ⌝ }
+    ensures { λ k. ⌜ PostCount fields (table (now (nodes .entry)) (c .spp)) (r .0) k (now (scratch .entry))
+        (now (scratch .exit)) ⌝ }
 {
     let at = aut_scratch::LISTS;
     let n = c.spp;

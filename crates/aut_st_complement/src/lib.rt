@@ -30,7 +30,10 @@ fn cover_all(
     source: Source,
 ) -> Made
     requires { ⌜ CoverReady fields (table (now nodes) count) (now transitions) (now scratch) source ⌝ }
-    ensures { λ r. ⌜ Post (nodesLayer fields) 0 0 (Handle fields) (coverNodes fields (sourceOf source (now (transitions .entry)) (now (scratch .entry))) (zeroAt fields) (table (now (nodes .entry)) count)) (table (now (nodes .entry)) count) count (madeOf r) (table (now (nodes .exit))) (now (scratch .entry)) (now (scratch .exit)) ⌝ }
+    ensures { λ r. ⌜ Post (nodesLayer fields) 0 0 (Handle fields)
+        (coverNodes fields (sourceOf source (now (transitions .entry)) (now (scratch .entry))) (zeroAt fields)
+        (table (now (nodes .entry)) count)) (table (now (nodes .entry)) count) count (madeOf r)
+        (table (now (nodes .exit))) (now (scratch .entry)) (now (scratch .exit)) ⌝ }
 {
     let mut sum = spp::zero_at_depth(fields);
     let mut n = count;
@@ -65,7 +68,10 @@ fn rest_of(
     source: Source,
 ) -> Made
     requires { ⌜ CoverReady fields (table (now nodes) count) (now transitions) (now scratch) source ⌝ }
-    ensures { λ r. ⌜ Post (nodesLayer fields) 0 0 (Handle fields) (uncovered fields (sourceOf source (now (transitions .entry)) (now (scratch .entry))) (table (now (nodes .entry)) count)) (table (now (nodes .entry)) count) count (madeOf r) (table (now (nodes .exit))) (now (scratch .entry)) (now (scratch .exit)) ⌝ }
+    ensures { λ r. ⌜ Post (nodesLayer fields) 0 0 (Handle fields)
+        (uncovered fields (sourceOf source (now (transitions .entry)) (now (scratch .entry)))
+        (table (now (nodes .entry)) count)) (table (now (nodes .entry)) count) count (madeOf r)
+        (table (now (nodes .exit))) (now (scratch .entry)) (now (scratch .exit)) ⌝ }
 {
     let Made::Node(h, n) = cover_all(nodes, transitions, scratch, count, fields, source) else {
         return Made::Full;
@@ -83,8 +89,14 @@ pub fn st_complement(
     config: Config,
     source: Source,
 ) -> Listed
-    requires { ⌜ OneReady (config .fields) (config .limits) (autOf (now nodes) (now states) (now members) c) (now transitions) (now scratch) source ⌝ }
-    ensures { λ r. ⌜ GivesList (config .fields) (config .limits) 0 832 (St.st-complement (ops (config .fields) (limitsOf (config .limits))) (sourceOf source (now (transitions .entry)) (now (scratch .entry)))) (autOf (now (nodes .entry)) (now (states .entry)) (now (members .entry)) c) c r (autOf (now (nodes .exit)) (now (states .exit)) (now (members .exit))) (now (scratch .entry)) (now (scratch .exit)) ⌝ }
+    requires { ⌜ OneReady (config .fields) (config .limits) (autOf (now nodes) (now states) (now members) c)
+        (now transitions) (now scratch) source ⌝ }
+    ensures { λ r. ⌜ GivesList (config .fields) (config .limits) 0 832
+        (St.st-complement (ops (config .fields) (limitsOf (config .limits)))
+        (sourceOf source (now (transitions .entry)) (now (scratch .entry))))
+        (autOf (now (nodes .entry)) (now (states .entry)) (now (members .entry)) c) c r
+        (autOf (now (nodes .exit)) (now (states .exit)) (now (members .exit))) (now (scratch .entry))
+        (now (scratch .exit)) ⌝ }
 {
     let listed = aut_st_each::insert_each(
         nodes,

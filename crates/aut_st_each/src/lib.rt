@@ -80,8 +80,12 @@ fn meet_of(
     l: SPP,
     t: Transition,
 ) -> Edged
-    requires { ⌜ MakeReady (config .fields) (config .limits) (autOf (now nodes) (now states) (now members) c) (now scratch) (M.meet (edge s (l .0))) (edgeOf t) ⌝ }
-    ensures { λ r. ⌜ DoesEdge (config .fields) (config .limits) 0 576 (M.made (config .fields) (limitsOf (config .limits)) (M.meet (edge s (l .0))) (edgeOf t)) (autOf (now (nodes .entry)) (now (states .entry)) (now (members .entry)) c) r c (now (nodes .exit)) (now (states .exit)) (now (members .exit)) (now (scratch .entry)) (now (scratch .exit)) ⌝ }
+    requires { ⌜ MakeReady (config .fields) (config .limits) (autOf (now nodes) (now states) (now members) c)
+        (now scratch) (M.meet (edge s (l .0))) (edgeOf t) ⌝ }
+    ensures { λ r. ⌜ DoesEdge (config .fields) (config .limits) 0 576
+        (M.made (config .fields) (limitsOf (config .limits)) (M.meet (edge s (l .0))) (edgeOf t))
+        (autOf (now (nodes .entry)) (now (states .entry)) (now (members .entry)) c) r c (now (nodes .exit))
+        (now (states .exit)) (now (members .exit)) (now (scratch .entry)) (now (scratch .exit)) ⌝ }
 {
     let state = aut_intersect::mk_intersect(
         nodes,
@@ -121,8 +125,12 @@ fn make_edge(
     each: Each,
     t: Transition,
 ) -> Edged
-    requires { ⌜ MakeReady (config .fields) (config .limits) (autOf (now nodes) (now states) (now members) c) (now scratch) (eachOf each) (edgeOf t) ⌝ }
-    ensures { λ r. ⌜ DoesEdge (config .fields) (config .limits) 0 576 (M.made (config .fields) (limitsOf (config .limits)) (eachOf each) (edgeOf t)) (autOf (now (nodes .entry)) (now (states .entry)) (now (members .entry)) c) r c (now (nodes .exit)) (now (states .exit)) (now (members .exit)) (now (scratch .entry)) (now (scratch .exit)) ⌝ }
+    requires { ⌜ MakeReady (config .fields) (config .limits) (autOf (now nodes) (now states) (now members) c)
+        (now scratch) (eachOf each) (edgeOf t) ⌝ }
+    ensures { λ r. ⌜ DoesEdge (config .fields) (config .limits) 0 576
+        (M.made (config .fields) (limitsOf (config .limits)) (eachOf each) (edgeOf t))
+        (autOf (now (nodes .entry)) (now (states .entry)) (now (members .entry)) c) r c (now (nodes .exit))
+        (now (states .exit)) (now (members .exit)) (now (scratch .entry)) (now (scratch .exit)) ⌝ }
 {
     match each {
         Each::Same => Edged::Edge(c, t),
@@ -180,8 +188,14 @@ fn insert_made(
     t: Transition,
     m: usize,
 ) -> Listed
-    requires { ⌜ ListReady (config .fields) (config .limits) (autOf (now nodes) (now states) (now members) c) (now scratch) m × MakeReady (config .fields) (config .limits) (autOf (now nodes) (now states) (now members) c) (now scratch) (eachOf each) (edgeOf t) ⌝ }
-    ensures { λ r. ⌜ DoesList (config .fields) (config .limits) 0 832 (M.insertMade (config .fields) (limitsOf (config .limits)) (eachOf each) (edgeOf t) (edges (now (scratch .entry)) RESULT m)) (autOf (now (nodes .entry)) (now (states .entry)) (now (members .entry)) c) r c (now (nodes .exit)) (now (states .exit)) (now (members .exit)) (now (scratch .entry)) (now (scratch .exit)) ⌝ }
+    requires { ⌜ ListReady (config .fields) (config .limits) (autOf (now nodes) (now states) (now members) c)
+        (now scratch) m × MakeReady (config .fields) (config .limits) (autOf (now nodes) (now states) (now members) c)
+        (now scratch) (eachOf each) (edgeOf t) ⌝ }
+    ensures { λ r. ⌜ DoesList (config .fields) (config .limits) 0 832
+        (M.insertMade (config .fields) (limitsOf (config .limits)) (eachOf each) (edgeOf t)
+        (edges (now (scratch .entry)) RESULT m))
+        (autOf (now (nodes .entry)) (now (states .entry)) (now (members .entry)) c) r c (now (nodes .exit))
+        (now (states .exit)) (now (members .exit)) (now (scratch .entry)) (now (scratch .exit)) ⌝ }
 {
     let edged = make_edge(nodes, states, members, scratch, c, config, each, t);
     match edged {
@@ -213,8 +227,14 @@ pub fn insert_each(
     source: Source,
     m: usize,
 ) -> Listed
-    requires { ⌜ EachReady (config .fields) (config .limits) (autOf (now nodes) (now states) (now members) c) (now transitions) (now scratch) (eachOf each) source m ⌝ }
-    ensures { λ r. ⌜ DoesList (config .fields) (config .limits) 0 832 (St.insertEach (ops (config .fields) (limitsOf (config .limits))) (M.made (config .fields) (limitsOf (config .limits)) (eachOf each)) (sourceOf source (now (transitions .entry)) (now (scratch .entry))) (edges (now (scratch .entry)) RESULT m)) (autOf (now (nodes .entry)) (now (states .entry)) (now (members .entry)) c) r c (now (nodes .exit)) (now (states .exit)) (now (members .exit)) (now (scratch .entry)) (now (scratch .exit)) ⌝ }
+    requires { ⌜ EachReady (config .fields) (config .limits) (autOf (now nodes) (now states) (now members) c)
+        (now transitions) (now scratch) (eachOf each) source m ⌝ }
+    ensures { λ r. ⌜ DoesList (config .fields) (config .limits) 0 832
+        (St.insertEach (ops (config .fields) (limitsOf (config .limits)))
+        (M.made (config .fields) (limitsOf (config .limits)) (eachOf each))
+        (sourceOf source (now (transitions .entry)) (now (scratch .entry))) (edges (now (scratch .entry)) RESULT m))
+        (autOf (now (nodes .entry)) (now (states .entry)) (now (members .entry)) c) r c (now (nodes .exit))
+        (now (states .exit)) (now (members .exit)) (now (scratch .entry)) (now (scratch .exit)) ⌝ }
 {
     let mut d = c;
     let mut n = m;
@@ -249,8 +269,15 @@ pub fn insert_pairs(
     second: Source,
     m: usize,
 ) -> Listed
-    requires { ⌜ PairsReady (config .fields) (config .limits) (autOf (now nodes) (now states) (now members) c) (now transitions) (now scratch) first second m ⌝ }
-    ensures { λ r. ⌜ DoesList (config .fields) (config .limits) 0 832 (St.insertPairs (ops (config .fields) (limitsOf (config .limits))) (St.meetOf (ops (config .fields) (limitsOf (config .limits)))) (sourceOf first (now (transitions .entry)) (now (scratch .entry))) (sourceOf second (now (transitions .entry)) (now (scratch .entry))) (edges (now (scratch .entry)) RESULT m)) (autOf (now (nodes .entry)) (now (states .entry)) (now (members .entry)) c) r c (now (nodes .exit)) (now (states .exit)) (now (members .exit)) (now (scratch .entry)) (now (scratch .exit)) ⌝ }
+    requires { ⌜ PairsReady (config .fields) (config .limits) (autOf (now nodes) (now states) (now members) c)
+        (now transitions) (now scratch) first second m ⌝ }
+    ensures { λ r. ⌜ DoesList (config .fields) (config .limits) 0 832
+        (St.insertPairs (ops (config .fields) (limitsOf (config .limits)))
+        (St.meetOf (ops (config .fields) (limitsOf (config .limits))))
+        (sourceOf first (now (transitions .entry)) (now (scratch .entry)))
+        (sourceOf second (now (transitions .entry)) (now (scratch .entry))) (edges (now (scratch .entry)) RESULT m))
+        (autOf (now (nodes .entry)) (now (states .entry)) (now (members .entry)) c) r c (now (nodes .exit))
+        (now (states .exit)) (now (members .exit)) (now (scratch .entry)) (now (scratch .exit)) ⌝ }
 {
     let mut d = c;
     let mut n = m;

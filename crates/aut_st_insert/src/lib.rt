@@ -57,7 +57,11 @@ fn place_in(
     m: usize,
 ) -> Listed
     requires { ⌜ PlaceInReady (config .fields) (config .limits) (now nodes) (now scratch) c m (edge s (l .0)) ⌝ }
-    ensures { λ r. ⌜ ((st : List ℕ) → MakesList (config .fields) 576 128 (M.placeIn (config .fields) (limitsOf (config .limits)) s (l .0) (edges (now (scratch .entry)) Seen.RESULT m)) r c (now (nodes .entry)) st (now (scratch .entry)) (now (nodes .exit)) st (now (scratch .exit))) ⌝ }
+    ensures { λ r. ⌜
+        ((st : List ℕ) → MakesList (config .fields) 576 128
+        (M.placeIn (config .fields) (limitsOf (config .limits)) s (l .0)
+        (edges (now (scratch .entry)) Seen.RESULT m)) r c (now (nodes .entry)) st (now (scratch .entry))
+        (now (nodes .exit)) st (now (scratch .exit))) ⌝ }
 {
     let i = aut_st_edges::seek_target(scratch, s, RESULT, m);
     if i < m {
@@ -96,8 +100,12 @@ fn st_insert_helper(
     l: SPP,
     m: usize,
 ) -> Listed
-    requires { ⌜ PlaceReady (config .fields) (config .limits) (now nodes) (now states) (now scratch) c m (edge s (l .0)) ⌝ }
-    ensures { λ r. ⌜ MakesList (config .fields) 576 128 (St.place (ops (config .fields) (limitsOf (config .limits))) s (l .0) (edges (now (scratch .entry)) Seen.RESULT m)) r c (now (nodes .entry)) (now (states .entry)) (now (scratch .entry)) (now (nodes .exit)) (now (states .exit)) (now (scratch .exit)) ⌝ }
+    requires { ⌜ PlaceReady (config .fields) (config .limits) (now nodes) (now states) (now scratch) c m
+        (edge s (l .0)) ⌝ }
+    ensures { λ r. ⌜ MakesList (config .fields) 576 128
+        (St.place (ops (config .fields) (limitsOf (config .limits))) s (l .0)
+        (edges (now (scratch .entry)) Seen.RESULT m)) r c (now (nodes .entry)) (now (states .entry))
+        (now (scratch .entry)) (now (nodes .exit)) (now (states .exit)) (now (scratch .exit)) ⌝ }
 {
     let zero = spp::zero_at_depth(config.fields);
     if l.0 == zero.0 {
@@ -130,8 +138,13 @@ fn meet_in(
     label2: SPP,
     m: usize,
 ) -> Met
-    requires { ⌜ MeetReady (config .fields) (config .limits) (autOf (now nodes) (now states) (now members) c) (now scratch) m (edge s (l .0)) (edge target2 (label2 .0)) ⌝ }
-    ensures { λ r. ⌜ DoesPart (config .fields) 192 512 (M.meetIn (config .fields) (limitsOf (config .limits)) s (l .0) (edge target2 (label2 .0)) (edges (now (scratch .entry)) Seen.RESULT m)) (autOf (now (nodes .entry)) (now (states .entry)) (now (members .entry)) c) r c (now (nodes .exit)) (now (states .exit)) (now (members .exit)) (now (scratch .entry)) (now (scratch .exit)) ⌝ }
+    requires { ⌜ MeetReady (config .fields) (config .limits) (autOf (now nodes) (now states) (now members) c)
+        (now scratch) m (edge s (l .0)) (edge target2 (label2 .0)) ⌝ }
+    ensures { λ r. ⌜ DoesPart (config .fields) 192 512
+        (M.meetIn (config .fields) (limitsOf (config .limits)) s (l .0) (edge target2 (label2 .0))
+        (edges (now (scratch .entry)) Seen.RESULT m))
+        (autOf (now (nodes .entry)) (now (states .entry)) (now (members .entry)) c) r c (now (nodes .exit))
+        (now (states .exit)) (now (members .exit)) (now (scratch .entry)) (now (scratch .exit)) ⌝ }
 {
     let Made::Node(meet, n) = aut_relations::apply(
         nodes,
@@ -171,8 +184,12 @@ fn rest_in(
     label2: SPP,
     m: usize,
 ) -> Met
-    requires { ⌜ RestReady (config .fields) (config .limits) (now nodes) (now states) (now scratch) c m (total .0) (meet .0) (edge target2 (label2 .0)) ⌝ }
-    ensures { λ r. ⌜ MakesPart (config .fields) 576 128 (M.restIn (config .fields) (limitsOf (config .limits)) (total .0) (meet .0) (edge target2 (label2 .0)) (edges (now (scratch .entry)) Seen.RESULT m)) r c (now (nodes .entry)) (now (states .entry)) (now (scratch .entry)) (now (nodes .exit)) (now (states .exit)) (now (scratch .exit)) ⌝ }
+    requires { ⌜ RestReady (config .fields) (config .limits) (now nodes) (now states) (now scratch) c m (total .0)
+        (meet .0) (edge target2 (label2 .0)) ⌝ }
+    ensures { λ r. ⌜ MakesPart (config .fields) 576 128
+        (M.restIn (config .fields) (limitsOf (config .limits)) (total .0) (meet .0) (edge target2 (label2 .0))
+        (edges (now (scratch .entry)) Seen.RESULT m)) r c (now (nodes .entry)) (now (states .entry))
+        (now (scratch .entry)) (now (nodes .exit)) (now (states .exit)) (now (scratch .exit)) ⌝ }
 {
     let Made::Node(sum, n1) = aut_relations::apply(
         nodes,
@@ -219,8 +236,14 @@ fn split_one(
     label2: SPP,
     m: usize,
 ) -> Met
-    requires { ⌜ MeetReady (config .fields) (config .limits) (autOf (now nodes) (now states) (now members) c) (now scratch) m (edge s (l .0)) (edge target2 (label2 .0)) × Label (config .fields) (autOf (now nodes) (now states) (now members) c) (total .0) ⌝ }
-    ensures { λ r. ⌜ DoesPart (config .fields) 192 512 (M.splitOne (config .fields) (limitsOf (config .limits)) s (l .0) (edge target2 (label2 .0)) (part (total .0) (edges (now (scratch .entry)) Seen.RESULT m))) (autOf (now (nodes .entry)) (now (states .entry)) (now (members .entry)) c) r c (now (nodes .exit)) (now (states .exit)) (now (members .exit)) (now (scratch .entry)) (now (scratch .exit)) ⌝ }
+    requires { ⌜ MeetReady (config .fields) (config .limits) (autOf (now nodes) (now states) (now members) c)
+        (now scratch) m (edge s (l .0)) (edge target2 (label2 .0)) × Label (config .fields)
+        (autOf (now nodes) (now states) (now members) c) (total .0) ⌝ }
+    ensures { λ r. ⌜ DoesPart (config .fields) 192 512
+        (M.splitOne (config .fields) (limitsOf (config .limits)) s (l .0) (edge target2 (label2 .0))
+        (part (total .0) (edges (now (scratch .entry)) Seen.RESULT m)))
+        (autOf (now (nodes .entry)) (now (states .entry)) (now (members .entry)) c) r c (now (nodes .exit))
+        (now (states .exit)) (now (members .exit)) (now (scratch .entry)) (now (scratch .exit)) ⌝ }
 {
     let met = meet_in(
         nodes,
@@ -264,8 +287,13 @@ fn walk(
     l: SPP,
     m: usize,
 ) -> Met
-    requires { ⌜ WalkReady (config .fields) (config .limits) (autOf (now nodes) (now states) (now members) c) (now scratch) m (edge s (l .0)) ⌝ }
-    ensures { λ r. ⌜ DoesPart (config .fields) 192 512 (M.walk (config .fields) (limitsOf (config .limits)) s (l .0) (edges (now (scratch .entry)) Seen.TAKEN m) (part (zeroAt (config .fields)) [])) (autOf (now (nodes .entry)) (now (states .entry)) (now (members .entry)) c) r c (now (nodes .exit)) (now (states .exit)) (now (members .exit)) (now (scratch .entry)) (now (scratch .exit)) ⌝ }
+    requires { ⌜ WalkReady (config .fields) (config .limits) (autOf (now nodes) (now states) (now members) c)
+        (now scratch) m (edge s (l .0)) ⌝ }
+    ensures { λ r. ⌜ DoesPart (config .fields) 192 512
+        (M.walk (config .fields) (limitsOf (config .limits)) s (l .0) (edges (now (scratch .entry)) Seen.TAKEN m)
+        (part (zeroAt (config .fields)) []))
+        (autOf (now (nodes .entry)) (now (states .entry)) (now (members .entry)) c) r c (now (nodes .exit))
+        (now (states .exit)) (now (members .exit)) (now (scratch .entry)) (now (scratch .exit)) ⌝ }
 {
     let mut total = spp::zero_at_depth(config.fields);
     let mut d = c;
@@ -316,8 +344,13 @@ pub fn st_insert(
     l: SPP,
     m: usize,
 ) -> Listed
-    requires { ⌜ ListReady (config .fields) (config .limits) (autOf (now nodes) (now states) (now members) c) (now scratch) m × EdgeAt (config .fields) (autOf (now nodes) (now states) (now members) c) (edge s (l .0)) ⌝ }
-    ensures { λ r. ⌜ DoesList (config .fields) (config .limits) 0 832 (St.insert (ops (config .fields) (limitsOf (config .limits))) s (l .0) (edges (now (scratch .entry)) Seen.RESULT m)) (autOf (now (nodes .entry)) (now (states .entry)) (now (members .entry)) c) r c (now (nodes .exit)) (now (states .exit)) (now (members .exit)) (now (scratch .entry)) (now (scratch .exit)) ⌝ }
+    requires { ⌜ ListReady (config .fields) (config .limits) (autOf (now nodes) (now states) (now members) c)
+        (now scratch) m × EdgeAt (config .fields) (autOf (now nodes) (now states) (now members) c) (edge s (l .0)) ⌝ }
+    ensures { λ r. ⌜ DoesList (config .fields) (config .limits) 0 832
+        (St.insert (ops (config .fields) (limitsOf (config .limits))) s (l .0)
+        (edges (now (scratch .entry)) Seen.RESULT m))
+        (autOf (now (nodes .entry)) (now (states .entry)) (now (members .entry)) c) r c (now (nodes .exit))
+        (now (states .exit)) (now (members .exit)) (now (scratch .entry)) (now (scratch .exit)) ⌝ }
 {
     aut_st_edges::copy(scratch, RESULT, m, TAKEN);
     let met = walk(nodes, states, members, scratch, c, config, s, l, m);

@@ -35,8 +35,13 @@ fn subtract_one(
     sum: SPP,
     m: usize,
 ) -> Summed
-    requires { ⌜ OneReady (config .fields) (config .limits) (autOf (now nodes) (now states) (now members) c) (now scratch) (edgeOf t) (edgeOf u) (sum .0) m ⌝ }
-    ensures { λ r. ⌜ DoesSum (config .fields) (config .limits) 0 832 (M.subtractOne (config .fields) (limitsOf (config .limits)) (edgeOf t) (edgeOf u) (sumOf (config .fields) (config .limits) (now (scratch .entry)) (sum .0) m)) (autOf (now (nodes .entry)) (now (states .entry)) (now (members .entry)) c) r c (now (nodes .exit)) (now (states .exit)) (now (members .exit)) (now (scratch .entry)) (now (scratch .exit)) ⌝ }
+    requires { ⌜ OneReady (config .fields) (config .limits) (autOf (now nodes) (now states) (now members) c)
+        (now scratch) (edgeOf t) (edgeOf u) (sum .0) m ⌝ }
+    ensures { λ r. ⌜ DoesSum (config .fields) (config .limits) 0 832
+        (M.subtractOne (config .fields) (limitsOf (config .limits)) (edgeOf t) (edgeOf u)
+        (sumOf (config .fields) (config .limits) (now (scratch .entry)) (sum .0) m))
+        (autOf (now (nodes .entry)) (now (states .entry)) (now (members .entry)) c) r c (now (nodes .exit))
+        (now (states .exit)) (now (members .exit)) (now (scratch .entry)) (now (scratch .exit)) ⌝ }
 {
     let state = aut_sequence::mk_difference(nodes, states, scratch, c, config, t.target, u.target);
     match state {
@@ -97,8 +102,14 @@ fn subtract_row(
     sum: SPP,
     m: usize,
 ) -> Summed
-    requires { ⌜ RowReady (config .fields) (config .limits) (autOf (now nodes) (now states) (now members) c) (now transitions) (now scratch) (edgeOf t) second (sum .0) m ⌝ }
-    ensures { λ r. ⌜ DoesSum (config .fields) (config .limits) 0 832 (St.subtractRow (ops (config .fields) (limitsOf (config .limits))) (edgeOf t) (sourceOf second (now (transitions .entry)) (now (scratch .entry))) (sumOf (config .fields) (config .limits) (now (scratch .entry)) (sum .0) m)) (autOf (now (nodes .entry)) (now (states .entry)) (now (members .entry)) c) r c (now (nodes .exit)) (now (states .exit)) (now (members .exit)) (now (scratch .entry)) (now (scratch .exit)) ⌝ }
+    requires { ⌜ RowReady (config .fields) (config .limits) (autOf (now nodes) (now states) (now members) c)
+        (now transitions) (now scratch) (edgeOf t) second (sum .0) m ⌝ }
+    ensures { λ r. ⌜ DoesSum (config .fields) (config .limits) 0 832
+        (St.subtractRow (ops (config .fields) (limitsOf (config .limits))) (edgeOf t)
+        (sourceOf second (now (transitions .entry)) (now (scratch .entry)))
+        (sumOf (config .fields) (config .limits) (now (scratch .entry)) (sum .0) m))
+        (autOf (now (nodes .entry)) (now (states .entry)) (now (members .entry)) c) r c (now (nodes .exit))
+        (now (states .exit)) (now (members .exit)) (now (scratch .entry)) (now (scratch .exit)) ⌝ }
 {
     let mut d = c;
     let mut h = sum;
@@ -135,8 +146,15 @@ pub fn subtract_rows(
     sum: SPP,
     m: usize,
 ) -> Summed
-    requires { ⌜ RowsReady (config .fields) (config .limits) (autOf (now nodes) (now states) (now members) c) (now transitions) (now scratch) first second (sum .0) m ⌝ }
-    ensures { λ r. ⌜ DoesSum (config .fields) (config .limits) 0 832 (St.subtractRows (ops (config .fields) (limitsOf (config .limits))) (sourceOf first (now (transitions .entry)) (now (scratch .entry))) (sourceOf second (now (transitions .entry)) (now (scratch .entry))) (sumOf (config .fields) (config .limits) (now (scratch .entry)) (sum .0) m)) (autOf (now (nodes .entry)) (now (states .entry)) (now (members .entry)) c) r c (now (nodes .exit)) (now (states .exit)) (now (members .exit)) (now (scratch .entry)) (now (scratch .exit)) ⌝ }
+    requires { ⌜ RowsReady (config .fields) (config .limits) (autOf (now nodes) (now states) (now members) c)
+        (now transitions) (now scratch) first second (sum .0) m ⌝ }
+    ensures { λ r. ⌜ DoesSum (config .fields) (config .limits) 0 832
+        (St.subtractRows (ops (config .fields) (limitsOf (config .limits)))
+        (sourceOf first (now (transitions .entry)) (now (scratch .entry)))
+        (sourceOf second (now (transitions .entry)) (now (scratch .entry)))
+        (sumOf (config .fields) (config .limits) (now (scratch .entry)) (sum .0) m))
+        (autOf (now (nodes .entry)) (now (states .entry)) (now (members .entry)) c) r c (now (nodes .exit))
+        (now (states .exit)) (now (members .exit)) (now (scratch .entry)) (now (scratch .exit)) ⌝ }
 {
     let mut d = c;
     let mut h = sum;

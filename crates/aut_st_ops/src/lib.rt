@@ -24,8 +24,14 @@ pub fn st_union(
     first: Source,
     second: Source,
 ) -> Listed
-    requires { ⌜ TwoReady (config .fields) (config .limits) (autOf (now nodes) (now states) (now members) c) (now transitions) (now scratch) first second ⌝ }
-    ensures { λ r. ⌜ DoesList (config .fields) (config .limits) 0 832 (St.st-union (ops (config .fields) (limitsOf (config .limits))) (sourceOf first (now (transitions .entry)) (now (scratch .entry))) (sourceOf second (now (transitions .entry)) (now (scratch .entry)))) (autOf (now (nodes .entry)) (now (states .entry)) (now (members .entry)) c) r c (now (nodes .exit)) (now (states .exit)) (now (members .exit)) (now (scratch .entry)) (now (scratch .exit)) ⌝ }
+    requires { ⌜ TwoReady (config .fields) (config .limits) (autOf (now nodes) (now states) (now members) c)
+        (now transitions) (now scratch) first second ⌝ }
+    ensures { λ r. ⌜ DoesList (config .fields) (config .limits) 0 832
+        (St.st-union (ops (config .fields) (limitsOf (config .limits)))
+        (sourceOf first (now (transitions .entry)) (now (scratch .entry)))
+        (sourceOf second (now (transitions .entry)) (now (scratch .entry))))
+        (autOf (now (nodes .entry)) (now (states .entry)) (now (members .entry)) c) r c (now (nodes .exit))
+        (now (states .exit)) (now (members .exit)) (now (scratch .entry)) (now (scratch .exit)) ⌝ }
 {
     let listed = aut_st_each::insert_each(
         nodes,
@@ -67,8 +73,14 @@ pub fn st_intersect(
     first: Source,
     second: Source,
 ) -> Listed
-    requires { ⌜ TwoReady (config .fields) (config .limits) (autOf (now nodes) (now states) (now members) c) (now transitions) (now scratch) first second ⌝ }
-    ensures { λ r. ⌜ DoesList (config .fields) (config .limits) 0 832 (St.st-intersect (ops (config .fields) (limitsOf (config .limits))) (sourceOf first (now (transitions .entry)) (now (scratch .entry))) (sourceOf second (now (transitions .entry)) (now (scratch .entry)))) (autOf (now (nodes .entry)) (now (states .entry)) (now (members .entry)) c) r c (now (nodes .exit)) (now (states .exit)) (now (members .exit)) (now (scratch .entry)) (now (scratch .exit)) ⌝ }
+    requires { ⌜ TwoReady (config .fields) (config .limits) (autOf (now nodes) (now states) (now members) c)
+        (now transitions) (now scratch) first second ⌝ }
+    ensures { λ r. ⌜ DoesList (config .fields) (config .limits) 0 832
+        (St.st-intersect (ops (config .fields) (limitsOf (config .limits)))
+        (sourceOf first (now (transitions .entry)) (now (scratch .entry)))
+        (sourceOf second (now (transitions .entry)) (now (scratch .entry))))
+        (autOf (now (nodes .entry)) (now (states .entry)) (now (members .entry)) c) r c (now (nodes .exit))
+        (now (states .exit)) (now (members .exit)) (now (scratch .entry)) (now (scratch .exit)) ⌝ }
 {
     aut_st_each::insert_pairs(
         nodes,
@@ -95,8 +107,14 @@ pub fn st_difference(
     first: Source,
     second: Source,
 ) -> Listed
-    requires { ⌜ TwoReady (config .fields) (config .limits) (autOf (now nodes) (now states) (now members) c) (now transitions) (now scratch) first second ⌝ }
-    ensures { λ r. ⌜ DoesList (config .fields) (config .limits) 0 832 (St.st-difference (ops (config .fields) (limitsOf (config .limits))) (sourceOf first (now (transitions .entry)) (now (scratch .entry))) (sourceOf second (now (transitions .entry)) (now (scratch .entry)))) (autOf (now (nodes .entry)) (now (states .entry)) (now (members .entry)) c) r c (now (nodes .exit)) (now (states .exit)) (now (members .exit)) (now (scratch .entry)) (now (scratch .exit)) ⌝ }
+    requires { ⌜ TwoReady (config .fields) (config .limits) (autOf (now nodes) (now states) (now members) c)
+        (now transitions) (now scratch) first second ⌝ }
+    ensures { λ r. ⌜ DoesList (config .fields) (config .limits) 0 832
+        (St.st-difference (ops (config .fields) (limitsOf (config .limits)))
+        (sourceOf first (now (transitions .entry)) (now (scratch .entry)))
+        (sourceOf second (now (transitions .entry)) (now (scratch .entry))))
+        (autOf (now (nodes .entry)) (now (states .entry)) (now (members .entry)) c) r c (now (nodes .exit))
+        (now (states .exit)) (now (members .exit)) (now (scratch .entry)) (now (scratch .exit)) ⌝ }
 {
     let zero = spp::zero_at_depth(config.fields);
     let summed = aut_st_minus::subtract_rows(

@@ -25,8 +25,14 @@ pub fn st_xor(
     second: usize,
     j: usize,
 ) -> Listed
-    requires { ⌜ StoredReady (config .fields) (config .limits) (autOf (now nodes) (now states) (now members) c) (now transitions) (now scratch) first k second j ⌝ }
-    ensures { λ r. ⌜ GivesList (config .fields) (config .limits) 0 1088 (St.st-xor (ops (config .fields) (limitsOf (config .limits))) (edges (now (transitions .entry)) first k) (edges (now (transitions .entry)) second j)) (autOf (now (nodes .entry)) (now (states .entry)) (now (members .entry)) c) c r (autOf (now (nodes .exit)) (now (states .exit)) (now (members .exit))) (now (scratch .entry)) (now (scratch .exit)) ⌝ }
+    requires { ⌜ StoredReady (config .fields) (config .limits) (autOf (now nodes) (now states) (now members) c)
+        (now transitions) (now scratch) first k second j ⌝ }
+    ensures { λ r. ⌜ GivesList (config .fields) (config .limits) 0 1088
+        (St.st-xor (ops (config .fields) (limitsOf (config .limits))) (edges (now (transitions .entry)) first k)
+        (edges (now (transitions .entry)) second j))
+        (autOf (now (nodes .entry)) (now (states .entry)) (now (members .entry)) c) c r
+        (autOf (now (nodes .exit)) (now (states .exit)) (now (members .exit))) (now (scratch .entry))
+        (now (scratch .exit)) ⌝ }
 {
     let one = aut_st_ops::st_difference(
         nodes,

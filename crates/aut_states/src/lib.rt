@@ -134,7 +134,8 @@ pub fn intern0(states: &mut [u32], count: usize, kind: u32, x: u32) -> Put
 
 pub fn intern1(states: &mut [u32], count: usize, limits: Limits, kind: u32, x: u32) -> Put
     requires { ⌜ Ready1 (now states) count kind x ⌝ }
-    ensures { λ r. ⌜ M.intern1 (limitsOf limits) kind x (table (now (states .entry)) count) ≡ seenPut r (now (states .exit)) ⌝ }
+    ensures { λ r. ⌜ M.intern1 (limitsOf limits) kind x (table (now (states .entry)) count) ≡ seenPut r
+        (now (states .exit)) ⌝ }
 {
     let from = above(0, x);
     let i = find2(states, from, count, kind, x, 0);
@@ -159,7 +160,8 @@ fn higher(a: u32, b: u32) -> u32
 
 pub fn intern2(states: &mut [u32], count: usize, limits: Limits, kind: u32, x: u32, y: u32) -> Put
     requires { ⌜ Ready2 (now states) count kind x y ⌝ }
-    ensures { λ r. ⌜ M.intern2 (limitsOf limits) kind x y (table (now (states .entry)) count) ≡ seenPut r (now (states .exit)) ⌝ }
+    ensures { λ r. ⌜ M.intern2 (limitsOf limits) kind x y (table (now (states .entry)) count) ≡ seenPut r
+        (now (states .exit)) ⌝ }
 {
     let from = above(above(0, x), y);
     let i = find2(states, from, count, kind, x, y);
@@ -197,8 +199,10 @@ fn is_at_list(
     base: usize,
     k: usize,
 ) -> bool
-    requires { ⌜ ListIn (now states) (now members) i kind × (12 * i + 11 < length (now states)) × (base + k ≤ length (now scratch)) ⌝ }
-    ensures { λ r. ⌜ M.sameL (now (states .entry)) (now (members .entry)) kind (words (now (scratch .entry)) base k) i ≡ r ⌝ }
+    requires { ⌜ ListIn (now states) (now members) i kind × (12 * i + 11 < length (now states)) ×
+        (base + k ≤ length (now scratch)) ⌝ }
+    ensures { λ r. ⌜ M.sameL (now (states .entry)) (now (members .entry)) kind (words (now (scratch .entry)) base k) i
+        ≡ r ⌝ }
 {
     if states[12 * i] != kind {
         return false;
@@ -221,8 +225,11 @@ fn find_list(
     base: usize,
     k: usize,
 ) -> usize
-    requires { ⌜ Fits (now states) count × ((i : ℕ) → i < count → ListIn (now states) (now members) i kind) × (base + k ≤ length (now scratch)) × From (M.sameL (now states) (now members) kind (words (now scratch) base k)) from count ⌝ }
-    ensures { λ r. ⌜ r ≡ M.seek (M.sameL (now (states .entry)) (now (members .entry)) kind (words (now (scratch .entry)) base k)) 0 count ⌝ }
+    requires { ⌜ Fits (now states) count × ((i : ℕ) → i < count → ListIn (now states) (now members) i kind) ×
+        (base + k ≤ length (now scratch)) × From
+        (M.sameL (now states) (now members) kind (words (now scratch) base k)) from count ⌝ }
+    ensures { λ r. ⌜ r ≡ M.seek
+        (M.sameL (now (states .entry)) (now (members .entry)) kind (words (now (scratch .entry)) base k)) 0 count ⌝ }
 {
     let mut i = from;
     while i < count {
@@ -286,7 +293,10 @@ fn push_list(
     nest: u32,
 ) -> State
     requires { ⌜ AddReady (now states) (now members) (now scratch) c base k ⌝ }
-    ensures { λ r. ⌜ Interned (M.putL kind (words (now (scratch .entry)) base k) nest (exprs (table (now (states .entry)) (c .states)) (table (now (members .entry)) (c .members)))) r c (now (states .exit)) (now (members .exit)) ⌝ }
+    ensures { λ r. ⌜ Interned
+        (M.putL kind (words (now (scratch .entry)) base k) nest
+        (exprs (table (now (states .entry)) (c .states)) (table (now (members .entry)) (c .members)))) r c
+        (now (states .exit)) (now (members .exit)) ⌝ }
 {
     let m = c.members;
     if m + k > members.len() {
@@ -321,7 +331,10 @@ pub fn intern_list(
     k: usize,
 ) -> State
     requires { ⌜ ListReady (now states) (now members) (now scratch) c kind base k ⌝ }
-    ensures { λ r. ⌜ Interned (M.internL (limitsOf limits) kind (words (now (scratch .entry)) base k) (exprs (table (now (states .entry)) (c .states)) (table (now (members .entry)) (c .members)))) r c (now (states .exit)) (now (members .exit)) ⌝ }
+    ensures { λ r. ⌜ Interned
+        (M.internL (limitsOf limits) kind (words (now (scratch .entry)) base k)
+        (exprs (table (now (states .entry)) (c .states)) (table (now (members .entry)) (c .members)))) r c
+        (now (states .exit)) (now (members .exit)) ⌝ }
 {
     let from = above_list(scratch, base, k);
     let i = find_list(states, members, scratch, from, c.states, kind, base, k);
@@ -358,14 +371,16 @@ pub fn mk_top(states: &mut [u32], count: usize) -> Put
 
 pub fn mk_until(states: &mut [u32], count: usize, limits: Limits, x: u32, y: u32) -> Put
     requires { ⌜ Ready2 (now states) count UNTIL x y ⌝ }
-    ensures { λ r. ⌜ C.mk-until (limitsOf limits) x y (table (now (states .entry)) count) ≡ seenPut r (now (states .exit)) ⌝ }
+    ensures { λ r. ⌜ C.mk-until (limitsOf limits) x y (table (now (states .entry)) count) ≡ seenPut r
+        (now (states .exit)) ⌝ }
 {
     intern2(states, count, limits, kind::UNTIL, x, y)
 }
 
 pub fn mk_complement(states: &mut [u32], count: usize, config: Config, x: u32) -> Put
     requires { ⌜ Ready1 (now states) count COMPLEMENT x × (config .fields ≤ 31) ⌝ }
-    ensures { λ r. ⌜ C.mk-complement (config .fields) (limitsOf (config .limits)) x (table (now (states .entry)) count) ≡ seenPut r (now (states .exit)) ⌝ }
+    ensures { λ r. ⌜ C.mk-complement (config .fields) (limitsOf (config .limits)) x
+        (table (now (states .entry)) count) ≡ seenPut r (now (states .exit)) ⌝ }
 {
     let i = x as usize;
     let kind = states[12 * i];

@@ -45,7 +45,9 @@ fn unite_one(
     m: usize,
 ) -> Gathered
     requires { ⌜ UniteReady fields (table (now nodes) count) (now states) (now scratch) (h .0) x to m ⌝ }
-    ensures { λ r. ⌜ Unites fields (to + m) 1 (m + 1) (C.uniteOne fields (now (states .entry)) x (parts (h .0) (words (now (scratch .entry)) to m)) (table (now (nodes .entry)) count)) r (now (nodes .exit)) (now (scratch .entry)) (now (scratch .exit)) to ⌝ }
+    ensures { λ r. ⌜ Unites fields (to + m) 1 (m + 1)
+        (C.uniteOne fields (now (states .entry)) x (parts (h .0) (words (now (scratch .entry)) to m))
+        (table (now (nodes .entry)) count)) r (now (nodes .exit)) (now (scratch .entry)) (now (scratch .exit)) to ⌝ }
 {
     let i = x as usize;
     if states[12 * i] == aut_states::kind::SPP {
@@ -72,7 +74,10 @@ fn unite_each(
     to: usize,
 ) -> Gathered
     requires { ⌜ UnitesReady fields (table (now nodes) count) (now states) (now scratch) from k to ⌝ }
-    ensures { λ r. ⌜ Unites fields to k k (each (C.uniteOne fields (now (states .entry))) (words (now (scratch .entry)) from k) (parts (zeroAt fields) []) (table (now (nodes .entry)) count)) r (now (nodes .exit)) (now (scratch .entry)) (now (scratch .exit)) to ⌝ }
+    ensures { λ r. ⌜ Unites fields to k k
+        (each (C.uniteOne fields (now (states .entry))) (words (now (scratch .entry)) from k)
+        (parts (zeroAt fields) []) (table (now (nodes .entry)) count)) r (now (nodes .exit)) (now (scratch .entry))
+        (now (scratch .exit)) to ⌝ }
 {
     let mut h = spp::zero_at_depth(fields);
     let mut n = count;
@@ -103,7 +108,9 @@ fn add_relation(
     k: usize,
 ) -> Added
     requires { ⌜ AddReady fields (now states) (now scratch) count at k ⌝ }
-    ensures { λ r. ⌜ Adds (C.addRelation fields (parts (h .0) (words (now (scratch .entry)) at k)) (table (now (states .entry)) count)) r (now (states .exit)) (now (scratch .entry)) (now (scratch .exit)) at k ⌝ }
+    ensures { λ r. ⌜ Adds
+        (C.addRelation fields (parts (h .0) (words (now (scratch .entry)) at k)) (table (now (states .entry)) count))
+        r (now (states .exit)) (now (scratch .entry)) (now (scratch .exit)) at k ⌝ }
 {
     let zero = spp::zero_at_depth(fields);
     if h.0 == zero.0 {
@@ -130,7 +137,10 @@ fn finish(
     k: usize,
 ) -> State
     requires { ⌜ ListReady (now states) (now members) (now scratch) c UNION at k × (config .fields ≤ 31) ⌝ }
-    ensures { λ r. ⌜ Interned (C.finish (config .fields) (limitsOf (config .limits)) (words (now (scratch .entry)) at k) (exprs (table (now (states .entry)) (c .states)) (table (now (members .entry)) (c .members)))) r c (now (states .exit)) (now (members .exit)) ⌝ }
+    ensures { λ r. ⌜ Interned
+        (C.finish (config .fields) (limitsOf (config .limits)) (words (now (scratch .entry)) at k)
+        (exprs (table (now (states .entry)) (c .states)) (table (now (members .entry)) (c .members)))) r c
+        (now (states .exit)) (now (members .exit)) ⌝ }
 {
     if k == 1 {
         return State::Is(scratch[at], c);
@@ -162,8 +172,12 @@ fn unite(
     config: Config,
     k: usize,
 ) -> State
-    requires { ⌜ Ready (config .fields) (config .limits) (autOf (now nodes) (now states) (now members) c) (now scratch) × ListAt (now scratch) (c .states) 256 k 320 × (k ≤ 64) ⌝ }
-    ensures { λ r. ⌜ Does (config .fields) 320 256 (C.unite (config .fields) (limitsOf (config .limits)) (words (now (scratch .entry)) 256 k) (autOf (now (nodes .entry)) (now (states .entry)) (now (members .entry)) c)) r c (now (nodes .exit)) (now (states .exit)) (now (members .exit)) (now (scratch .entry)) (now (scratch .exit)) ⌝ }
+    requires { ⌜ Ready (config .fields) (config .limits) (autOf (now nodes) (now states) (now members) c)
+        (now scratch) × ListAt (now scratch) (c .states) 256 k 320 × (k ≤ 64) ⌝ }
+    ensures { λ r. ⌜ Does (config .fields) 320 256
+        (C.unite (config .fields) (limitsOf (config .limits)) (words (now (scratch .entry)) 256 k)
+        (autOf (now (nodes .entry)) (now (states .entry)) (now (members .entry)) c)) r c (now (nodes .exit))
+        (now (states .exit)) (now (members .exit)) (now (scratch .entry)) (now (scratch .exit)) ⌝ }
 {
     let Gathered::Rest(h, n, m) = unite_each(
         nodes,
@@ -211,8 +225,12 @@ pub fn mk_union_n(
     from: usize,
     k: usize,
 ) -> State
-    requires { ⌜ Ready (config .fields) (config .limits) (autOf (now nodes) (now states) (now members) c) (now scratch) × ListAt (now scratch) (c .states) from k 256 ⌝ }
-    ensures { λ r. ⌜ Does (config .fields) 256 320 (C.mk-union-n (config .fields) (limitsOf (config .limits)) (words (now (scratch .entry)) from k) (autOf (now (nodes .entry)) (now (states .entry)) (now (members .entry)) c)) r c (now (nodes .exit)) (now (states .exit)) (now (members .exit)) (now (scratch .entry)) (now (scratch .exit)) ⌝ }
+    requires { ⌜ Ready (config .fields) (config .limits) (autOf (now nodes) (now states) (now members) c)
+        (now scratch) × ListAt (now scratch) (c .states) from k 256 ⌝ }
+    ensures { λ r. ⌜ Does (config .fields) 256 320
+        (C.mk-union-n (config .fields) (limitsOf (config .limits)) (words (now (scratch .entry)) from k)
+        (autOf (now (nodes .entry)) (now (states .entry)) (now (members .entry)) c)) r c (now (nodes .exit))
+        (now (states .exit)) (now (members .exit)) (now (scratch .entry)) (now (scratch .exit)) ⌝ }
 {
     if k > config.limits.list {
         return State::Refused(6);
@@ -249,8 +267,12 @@ pub fn mk_union(
     x: u32,
     y: u32,
 ) -> State
-    requires { ⌜ Ready (config .fields) (config .limits) (autOf (now nodes) (now states) (now members) c) (now scratch) × PairAt (c .states) x y ⌝ }
-    ensures { λ r. ⌜ Does (config .fields) 192 384 (C.mk-union (config .fields) (limitsOf (config .limits)) x y (autOf (now (nodes .entry)) (now (states .entry)) (now (members .entry)) c)) r c (now (nodes .exit)) (now (states .exit)) (now (members .exit)) (now (scratch .entry)) (now (scratch .exit)) ⌝ }
+    requires { ⌜ Ready (config .fields) (config .limits) (autOf (now nodes) (now states) (now members) c)
+        (now scratch) × PairAt (c .states) x y ⌝ }
+    ensures { λ r. ⌜ Does (config .fields) 192 384
+        (C.mk-union (config .fields) (limitsOf (config .limits)) x y
+        (autOf (now (nodes .entry)) (now (states .entry)) (now (members .entry)) c)) r c (now (nodes .exit))
+        (now (states .exit)) (now (members .exit)) (now (scratch .entry)) (now (scratch .exit)) ⌝ }
 {
     if x == y {
         return State::Is(x, c);

@@ -40,7 +40,9 @@ pub fn clear_tables(
     members: &mut [u32],
     transitions: &mut [u32],
 )
-    ensures { λ _. ⌜ Its.TablesZeroed (now (sp .entry)) (now (nodes .entry)) (now (states .entry)) (now (members .entry)) (now (transitions .entry)) (now (sp .exit)) (now (nodes .exit)) (now (states .exit)) (now (members .exit)) (now (transitions .exit)) ⌝ }
+    ensures { λ _. ⌜ Its.TablesZeroed (now (sp .entry)) (now (nodes .entry)) (now (states .entry))
+        (now (members .entry)) (now (transitions .entry)) (now (sp .exit)) (now (nodes .exit)) (now (states .exit))
+        (now (members .exit)) (now (transitions .exit)) ⌝ }
 {
     clear(sp);
     clear(nodes);
@@ -50,7 +52,8 @@ pub fn clear_tables(
 }
 
 pub fn clear_work(pending: &mut [u32], scratch: &mut [u32])
-    ensures { λ _. ⌜ Its.WorkZeroed (now (pending .entry)) (now (scratch .entry)) (now (pending .exit)) (now (scratch .exit)) ⌝ }
+    ensures { λ _. ⌜ Its.WorkZeroed (now (pending .entry)) (now (scratch .entry)) (now (pending .exit))
+        (now (scratch .exit)) ⌝ }
 {
     clear(pending);
     clear(scratch);
@@ -79,7 +82,8 @@ pub fn setting_of(h: Header) -> Setting
 // the constants in zeroed tables, and the line `fields N`
 pub fn begin(sp: &mut [u32], nodes: &mut [u32], output: &mut [u8], h: Header) -> Begun
     requires { ⌜ Its.PreBegin (now sp) (now nodes) h ⌝ }
-    ensures { λ r. ⌜ Its.PostBegin h r (now (sp .entry)) (now (nodes .entry)) (now (output .entry)) (now (sp .exit)) (now (nodes .exit)) (now (output .exit)) ⌝ }
+    ensures { λ r. ⌜ Its.PostBegin h r (now (sp .entry)) (now (nodes .entry)) (now (output .entry)) (now (sp .exit))
+        (now (nodes .exit)) (now (output .exit)) ⌝ }
 {
     let sp::Made::Node(_, a) = sp::start(sp, h.fields) else {
         return Begun::Refused(20);

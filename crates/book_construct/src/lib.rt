@@ -107,7 +107,9 @@ fn make_bit(
     v: bool,
 ) -> State
     requires { ⌜ FieldAsked fields (now nodes) (c .spp) fields f × Fits (now states) (c .states) ⌝ }
-    ensures { λ r. ⌜ ((s : List ℕ) → DoesSpp fields (M.bitOf fields (bitOf word) f v) r c (now (nodes .entry)) (now (states .entry)) s (now (nodes .exit)) (now (states .exit)) s) ⌝ }
+    ensures { λ r. ⌜
+        ((s : List ℕ) → DoesSpp fields (M.bitOf fields (bitOf word) f v) r c (now (nodes .entry))
+        (now (states .entry)) s (now (nodes .exit)) (now (states .exit)) s) ⌝ }
 {
     let Made::Node(h, n) = field(nodes, c.spp, fields, word, f, v) else {
         return State::Refused(21);
@@ -126,7 +128,9 @@ fn make_single(
     x: u32,
 ) -> State
     requires { ⌜ Asks (config .fields) (config .limits) (now nodes) (now states) (now scratch) c (x ∷ []) ⌝ }
-    ensures { λ r. ⌜ Makes (config .fields) (M.singleOf (config .fields) (limitsOf (config .limits)) (singleOf word) x) r c (now (nodes .entry)) (now (states .entry)) (now (scratch .entry)) (now (nodes .exit)) (now (states .exit)) (now (scratch .exit)) ⌝ }
+    ensures { λ r. ⌜ Makes (config .fields)
+        (M.singleOf (config .fields) (limitsOf (config .limits)) (singleOf word) x) r c (now (nodes .entry))
+        (now (states .entry)) (now (scratch .entry)) (now (nodes .exit)) (now (states .exit)) (now (scratch .exit)) ⌝ }
 {
     match word {
         Single::Not => {
@@ -148,8 +152,12 @@ fn make_pair(
     x: u32,
     y: u32,
 ) -> State
-    requires { ⌜ Ready (config .fields) (config .limits) (autOf (now nodes) (now states) (now members) c) (now scratch) × PairAt (c .states) x y ⌝ }
-    ensures { λ r. ⌜ Does (config .fields) 0 LISTS (M.pairOf (config .fields) (limitsOf (config .limits)) (pairOf word) x y (autOf (now (nodes .entry)) (now (states .entry)) (now (members .entry)) c)) r c (now (nodes .exit)) (now (states .exit)) (now (members .exit)) (now (scratch .entry)) (now (scratch .exit)) ⌝ }
+    requires { ⌜ Ready (config .fields) (config .limits) (autOf (now nodes) (now states) (now members) c)
+        (now scratch) × PairAt (c .states) x y ⌝ }
+    ensures { λ r. ⌜ Does (config .fields) 0 LISTS
+        (M.pairOf (config .fields) (limitsOf (config .limits)) (pairOf word) x y
+        (autOf (now (nodes .entry)) (now (states .entry)) (now (members .entry)) c)) r c (now (nodes .exit))
+        (now (states .exit)) (now (members .exit)) (now (scratch .entry)) (now (scratch .exit)) ⌝ }
 {
     match word {
         Pair::Or => aut_union::mk_union(nodes, states, members, scratch, c, config, x, y),
@@ -174,8 +182,12 @@ fn make_listed(
     word: Listed,
     k: usize,
 ) -> State
-    requires { ⌜ Ready (config .fields) (config .limits) (autOf (now nodes) (now states) (now members) c) (now scratch) × ListAt (now scratch) (c .states) 0 k 64 ⌝ }
-    ensures { λ r. ⌜ Does (config .fields) 0 LISTS (M.listedOf (config .fields) (limitsOf (config .limits)) (listedOf word) (words (now (scratch .entry)) 0 k) (autOf (now (nodes .entry)) (now (states .entry)) (now (members .entry)) c)) r c (now (nodes .exit)) (now (states .exit)) (now (members .exit)) (now (scratch .entry)) (now (scratch .exit)) ⌝ }
+    requires { ⌜ Ready (config .fields) (config .limits) (autOf (now nodes) (now states) (now members) c)
+        (now scratch) × ListAt (now scratch) (c .states) 0 k 64 ⌝ }
+    ensures { λ r. ⌜ Does (config .fields) 0 LISTS
+        (M.listedOf (config .fields) (limitsOf (config .limits)) (listedOf word) (words (now (scratch .entry)) 0 k)
+        (autOf (now (nodes .entry)) (now (states .entry)) (now (members .entry)) c)) r c (now (nodes .exit))
+        (now (states .exit)) (now (members .exit)) (now (scratch .entry)) (now (scratch .exit)) ⌝ }
 {
     match word {
         Listed::Union => aut_union::mk_union_n(
@@ -211,8 +223,11 @@ pub fn make(
     config: Config,
     line: Line,
 ) -> State
-    requires { ⌜ Ready (config .fields) (config .limits) (autOf (now nodes) (now states) (now members) c) (now scratch) × LineReady (config .fields) (c .states) (now scratch) line ⌝ }
-    ensures { λ r. ⌜ LineMade (config .fields) (config .limits) (lineOf (now (scratch .entry)) line) r c (now (nodes .entry)) (now (states .entry)) (now (members .entry)) (now (scratch .entry)) (now (nodes .exit)) (now (states .exit)) (now (members .exit)) (now (scratch .exit)) ⌝ }
+    requires { ⌜ Ready (config .fields) (config .limits) (autOf (now nodes) (now states) (now members) c)
+        (now scratch) × LineReady (config .fields) (c .states) (now scratch) line ⌝ }
+    ensures { λ r. ⌜ LineMade (config .fields) (config .limits) (lineOf (now (scratch .entry)) line) r c
+        (now (nodes .entry)) (now (states .entry)) (now (members .entry)) (now (scratch .entry)) (now (nodes .exit))
+        (now (states .exit)) (now (members .exit)) (now (scratch .exit)) ⌝ }
 {
     match line {
         Line::Constant(word) => make_constant(states, c, config.fields, word),

@@ -198,7 +198,8 @@ fn make_line(
     line: Line,
 ) -> State
     requires { ⌜ PreMake config (autOf (now nodes) (now states) (now members) c) (now scratch) k line ⌝ }
-    ensures { λ r. ⌜ PostMake config k line r c (now (nodes .entry)) (now (states .entry)) (now (members .entry)) (now (scratch .entry)) (now (nodes .exit)) (now (states .exit)) (now (members .exit)) (now (scratch .exit)) ⌝ }
+    ensures { λ r. ⌜ PostMake config k line r c (now (nodes .entry)) (now (states .entry)) (now (members .entry))
+        (now (scratch .entry)) (now (nodes .exit)) (now (states .exit)) (now (members .exit)) (now (scratch .exit)) ⌝ }
 {
     let at = WORK;
     let made = book_construct::make(nodes, states, members, &mut scratch[at..], c, config, line);
@@ -228,8 +229,15 @@ fn ask_line(
     a: usize,
     x: u32,
 ) -> Asked
-    requires { ⌜ PreAskLine setting (memory (now sp) (now nodes) (now states) (now members) (now transitions) (now pending) (now scratch) (now output)) place x ⌝ }
-    ensures { λ r. ⌜ PostAskLine setting (memory (now (sp .entry)) (now (nodes .entry)) (now (states .entry)) (now (members .entry)) (now (transitions .entry)) (now (pending .entry)) (now (scratch .entry)) (now (output .entry))) place query a x r (memory (now (sp .exit)) (now (nodes .exit)) (now (states .exit)) (now (members .exit)) (now (transitions .exit)) (now (pending .exit)) (now (scratch .exit)) (now (output .exit))) ⌝ }
+    requires { ⌜ PreAskLine setting
+        (memory (now sp) (now nodes) (now states) (now members) (now transitions) (now pending) (now scratch)
+        (now output)) place x ⌝ }
+    ensures { λ r. ⌜ PostAskLine setting
+        (memory (now (sp .entry)) (now (nodes .entry)) (now (states .entry)) (now (members .entry))
+        (now (transitions .entry)) (now (pending .entry)) (now (scratch .entry)) (now (output .entry))) place query
+        a x r
+        (memory (now (sp .exit)) (now (nodes .exit)) (now (states .exit)) (now (members .exit))
+        (now (transitions .exit)) (now (pending .exit)) (now (scratch .exit)) (now (output .exit))) ⌝ }
 {
     let mut name = [0u8; 20];
     let n = book_writer::put_decimal(&mut name, 0, a as u64);
@@ -273,8 +281,14 @@ fn perform(
     place: Place,
     told: Told,
 ) -> Obeyed
-    requires { ⌜ Its.PrePerform setting (memory (now sp) (now nodes) (now states) (now members) (now transitions) (now pending) (now scratch) (now output)) place told ⌝ }
-    ensures { λ r. ⌜ Its.PostPerform setting (memory (now (sp .entry)) (now (nodes .entry)) (now (states .entry)) (now (members .entry)) (now (transitions .entry)) (now (pending .entry)) (now (scratch .entry)) (now (output .entry))) place told r (memory (now (sp .exit)) (now (nodes .exit)) (now (states .exit)) (now (members .exit)) (now (transitions .exit)) (now (pending .exit)) (now (scratch .exit)) (now (output .exit))) ⌝ }
+    requires { ⌜ Its.PrePerform setting
+        (memory (now sp) (now nodes) (now states) (now members) (now transitions) (now pending) (now scratch)
+        (now output)) place told ⌝ }
+    ensures { λ r. ⌜ Its.PostPerform setting
+        (memory (now (sp .entry)) (now (nodes .entry)) (now (states .entry)) (now (members .entry))
+        (now (transitions .entry)) (now (pending .entry)) (now (scratch .entry)) (now (output .entry))) place told r
+        (memory (now (sp .exit)) (now (nodes .exit)) (now (states .exit)) (now (members .exit))
+        (now (transitions .exit)) (now (pending .exit)) (now (scratch .exit)) (now (output .exit))) ⌝ }
 {
     match told {
         Told::Refuses(e) => Obeyed::Refused(e),
@@ -341,8 +355,14 @@ pub fn obey(
     place: Place,
     c: Cursor,
 ) -> Obeyed
-    requires { ⌜ Its.PreObey (now book) setting (memory (now sp) (now nodes) (now states) (now members) (now transitions) (now pending) (now scratch) (now output)) place c ⌝ }
-    ensures { λ r. ⌜ Its.PostObey (now (book .entry)) setting (memory (now (sp .entry)) (now (nodes .entry)) (now (states .entry)) (now (members .entry)) (now (transitions .entry)) (now (pending .entry)) (now (scratch .entry)) (now (output .entry))) place c r (memory (now (sp .exit)) (now (nodes .exit)) (now (states .exit)) (now (members .exit)) (now (transitions .exit)) (now (pending .exit)) (now (scratch .exit)) (now (output .exit))) ⌝ }
+    requires { ⌜ Its.PreObey (now book) setting
+        (memory (now sp) (now nodes) (now states) (now members) (now transitions) (now pending) (now scratch)
+        (now output)) place c ⌝ }
+    ensures { λ r. ⌜ Its.PostObey (now (book .entry)) setting
+        (memory (now (sp .entry)) (now (nodes .entry)) (now (states .entry)) (now (members .entry))
+        (now (transitions .entry)) (now (pending .entry)) (now (scratch .entry)) (now (output .entry))) place c r
+        (memory (now (sp .exit)) (now (nodes .exit)) (now (states .exit)) (now (members .exit))
+        (now (transitions .exit)) (now (pending .exit)) (now (scratch .exit)) (now (output .exit))) ⌝ }
 {
     let said = book_reader::instruction(book, c);
     let told = tell(book, scratch, place.lines, setting.config, said);

@@ -55,8 +55,14 @@ pub fn ask_empty(
     name: &[u8],
     x: u32,
 ) -> Asked
-    requires { ⌜ PreAsk setting (tablesOf (now sp) (now nodes) (now states) (now members) (now transitions) c) (now scratch) (now pending) (now output) at x ⌝ }
-    ensures { λ r. ⌜ PostAsk setting Reader.empty at (now (name .entry)) x (tablesOf (now (sp .entry)) (now (nodes .entry)) (now (states .entry)) (now (members .entry)) (now (transitions .entry)) c) r (tablesOf (now (sp .exit)) (now (nodes .exit)) (now (states .exit)) (now (members .exit)) (now (transitions .exit))) (now (scratch .exit)) (now (pending .entry)) (now (pending .exit)) (now (output .entry)) (now (output .exit)) ⌝ }
+    requires { ⌜ PreAsk setting (tablesOf (now sp) (now nodes) (now states) (now members) (now transitions) c)
+        (now scratch) (now pending) (now output) at x ⌝ }
+    ensures { λ r. ⌜ PostAsk setting Reader.empty at (now (name .entry)) x
+        (tablesOf (now (sp .entry)) (now (nodes .entry)) (now (states .entry)) (now (members .entry))
+        (now (transitions .entry)) c) r
+        (tablesOf (now (sp .exit)) (now (nodes .exit)) (now (states .exit)) (now (members .exit))
+        (now (transitions .exit))) (now (scratch .exit)) (now (pending .entry)) (now (pending .exit))
+        (now (output .entry)) (now (output .exit)) ⌝ }
 {
     let config = setting.config;
     let searched = aut_empty::is_empty(
@@ -99,8 +105,14 @@ pub fn ask_live(
     name: &[u8],
     x: u32,
 ) -> Asked
-    requires { ⌜ PreAsk setting (tablesOf (now sp) (now nodes) (now states) (now members) (now transitions) c) (now scratch) (now pending) (now output) at x ⌝ }
-    ensures { λ r. ⌜ PostAsk setting Reader.live at (now (name .entry)) x (tablesOf (now (sp .entry)) (now (nodes .entry)) (now (states .entry)) (now (members .entry)) (now (transitions .entry)) c) r (tablesOf (now (sp .exit)) (now (nodes .exit)) (now (states .exit)) (now (members .exit)) (now (transitions .exit))) (now (scratch .exit)) (now (pending .entry)) (now (pending .exit)) (now (output .entry)) (now (output .exit)) ⌝ }
+    requires { ⌜ PreAsk setting (tablesOf (now sp) (now nodes) (now states) (now members) (now transitions) c)
+        (now scratch) (now pending) (now output) at x ⌝ }
+    ensures { λ r. ⌜ PostAsk setting Reader.live at (now (name .entry)) x
+        (tablesOf (now (sp .entry)) (now (nodes .entry)) (now (states .entry)) (now (members .entry))
+        (now (transitions .entry)) c) r
+        (tablesOf (now (sp .exit)) (now (nodes .exit)) (now (states .exit)) (now (members .exit))
+        (now (transitions .exit))) (now (scratch .exit)) (now (pending .entry)) (now (pending .exit))
+        (now (output .entry)) (now (output .exit)) ⌝ }
 {
     let config = setting.config;
     let fields = config.fields;
@@ -132,7 +144,8 @@ pub fn ask_live(
 // the number of packet pairs in the label of transition i
 fn number_at(nodes: &[u32], scratch: &mut [u32], c: Counts, fields: u32, m: usize, i: usize) -> u64
     requires { ⌜ PrePairs fields (table (now nodes) (c .spp)) (now scratch) m × (i < m) ⌝ }
-    ensures { λ r. ⌜ PostNumber fields (table (now (nodes .entry)) (c .spp)) i r (now (scratch .entry)) (now (scratch .exit)) ⌝ }
+    ensures { λ r. ⌜ PostNumber fields (table (now (nodes .entry)) (c .spp)) i r (now (scratch .entry))
+        (now (scratch .exit)) ⌝ }
 {
     let label = SPP(scratch[2 * (aut_st_insert::RESULT + i) + 1]);
     aut_sets::pair_count(nodes, scratch, c, fields, label)
@@ -141,7 +154,8 @@ fn number_at(nodes: &[u32], scratch: &mut [u32], c: Counts, fields: u32, m: usiz
 // how long the lines of the m transitions are
 fn pairs_length(nodes: &[u32], scratch: &mut [u32], c: Counts, fields: u32, m: usize) -> usize
     requires { ⌜ PrePairs fields (table (now nodes) (c .spp)) (now scratch) m ⌝ }
-    ensures { λ r. ⌜ PostLength fields (table (now (nodes .entry)) (c .spp)) m r (now (scratch .entry)) (now (scratch .exit)) ⌝ }
+    ensures { λ r. ⌜ PostLength fields (table (now (nodes .entry)) (c .spp)) m r (now (scratch .entry))
+        (now (scratch .exit)) ⌝ }
 {
     let mut total = 0;
     let mut i = 0;
@@ -165,7 +179,8 @@ fn put_pairs(
     m: usize,
 ) -> usize
     requires { ⌜ PrePut fields (table (now nodes) (c .spp)) (now scratch) (now output) at m ⌝ }
-    ensures { λ r. ⌜ PostPairs fields (table (now (nodes .entry)) (c .spp)) at m r (now (scratch .entry)) (now (scratch .exit)) (now (output .entry)) (now (output .exit)) ⌝ }
+    ensures { λ r. ⌜ PostPairs fields (table (now (nodes .entry)) (c .spp)) at m r (now (scratch .entry))
+        (now (scratch .exit)) (now (output .entry)) (now (output .exit)) ⌝ }
 {
     let mut end = at;
     let mut i = 0;
@@ -193,7 +208,8 @@ fn pruned_answer(
     m: usize,
 ) -> Answered
     requires { ⌜ PrePairs fields (table (now nodes) (c .spp)) (now scratch) m × (at ≤ length (now output)) ⌝ }
-    ensures { λ r. ⌜ PostPruned fields (table (now (nodes .entry)) (c .spp)) at (now (name .entry)) m r (now (scratch .entry)) (now (scratch .exit)) (now (output .entry)) (now (output .exit)) ⌝ }
+    ensures { λ r. ⌜ PostPruned fields (table (now (nodes .entry)) (c .spp)) at (now (name .entry)) m r
+        (now (scratch .entry)) (now (scratch .exit)) (now (output .entry)) (now (output .exit)) ⌝ }
 {
     let n = book_writer::head_length(name, m) + pairs_length(nodes, scratch, c, fields, m);
     if output.len() - at < n {
@@ -221,8 +237,14 @@ pub fn ask_pruned(
     name: &[u8],
     x: u32,
 ) -> Asked
-    requires { ⌜ PreAsk setting (tablesOf (now sp) (now nodes) (now states) (now members) (now transitions) c) (now scratch) (now pending) (now output) at x ⌝ }
-    ensures { λ r. ⌜ PostAsk setting Reader.pruned at (now (name .entry)) x (tablesOf (now (sp .entry)) (now (nodes .entry)) (now (states .entry)) (now (members .entry)) (now (transitions .entry)) c) r (tablesOf (now (sp .exit)) (now (nodes .exit)) (now (states .exit)) (now (members .exit)) (now (transitions .exit))) (now (scratch .exit)) (now (pending .entry)) (now (pending .exit)) (now (output .entry)) (now (output .exit)) ⌝ }
+    requires { ⌜ PreAsk setting (tablesOf (now sp) (now nodes) (now states) (now members) (now transitions) c)
+        (now scratch) (now pending) (now output) at x ⌝ }
+    ensures { λ r. ⌜ PostAsk setting Reader.pruned at (now (name .entry)) x
+        (tablesOf (now (sp .entry)) (now (nodes .entry)) (now (states .entry)) (now (members .entry))
+        (now (transitions .entry)) c) r
+        (tablesOf (now (sp .exit)) (now (nodes .exit)) (now (states .exit)) (now (members .exit))
+        (now (transitions .exit))) (now (scratch .exit)) (now (pending .entry)) (now (pending .exit))
+        (now (output .entry)) (now (output .exit)) ⌝ }
 {
     let config = setting.config;
     let fields = config.fields;
@@ -267,8 +289,14 @@ pub fn ask(
     name: &[u8],
     x: u32,
 ) -> Asked
-    requires { ⌜ PreAsk setting (tablesOf (now sp) (now nodes) (now states) (now members) (now transitions) c) (now scratch) (now pending) (now output) at x ⌝ }
-    ensures { λ r. ⌜ PostAsk setting (queryOf query) at (now (name .entry)) x (tablesOf (now (sp .entry)) (now (nodes .entry)) (now (states .entry)) (now (members .entry)) (now (transitions .entry)) c) r (tablesOf (now (sp .exit)) (now (nodes .exit)) (now (states .exit)) (now (members .exit)) (now (transitions .exit))) (now (scratch .exit)) (now (pending .entry)) (now (pending .exit)) (now (output .entry)) (now (output .exit)) ⌝ }
+    requires { ⌜ PreAsk setting (tablesOf (now sp) (now nodes) (now states) (now members) (now transitions) c)
+        (now scratch) (now pending) (now output) at x ⌝ }
+    ensures { λ r. ⌜ PostAsk setting (queryOf query) at (now (name .entry)) x
+        (tablesOf (now (sp .entry)) (now (nodes .entry)) (now (states .entry)) (now (members .entry))
+        (now (transitions .entry)) c) r
+        (tablesOf (now (sp .exit)) (now (nodes .exit)) (now (states .exit)) (now (members .exit))
+        (now (transitions .exit))) (now (scratch .exit)) (now (pending .entry)) (now (pending .exit))
+        (now (output .entry)) (now (output .exit)) ⌝ }
 {
     match query {
         Query::Empty => ask_empty(

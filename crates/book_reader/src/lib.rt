@@ -394,7 +394,8 @@ fn query_named(book: &[u8], from: usize, to: usize) -> FoundQuery
 // a word that takes any number of numbers: the k at c
 fn with_list(book: &[u8], from: usize, to: usize, c: Cursor, k: usize) -> Said
     requires { ⌜ Part (now book) from to × (Within (now book) c × (counted (rest (now book) c) ≡ some k)) ⌝ }
-    ensures { λ r. ⌜ Says (now (book .entry)) (listing (slice from to (now (book .entry))) (Reader.numbers (rest (now (book .entry)) c))) r ⌝ }
+    ensures { λ r. ⌜ Says (now (book .entry))
+        (listing (slice from to (now (book .entry))) (Reader.numbers (rest (now (book .entry)) c))) r ⌝ }
 {
     match list_named(book, from, to) {
         FoundListed::Is(w) => Said::Listed(w, c, k),
@@ -405,7 +406,8 @@ fn with_list(book: &[u8], from: usize, to: usize, c: Cursor, k: usize) -> Said
 // a word and no number
 fn alone(book: &[u8], from: usize, to: usize, c: Cursor) -> Said
     requires { ⌜ Part (now book) from to × (Within (now book) c × (Reader.numbers (rest (now book) c) ≡ some [])) ⌝ }
-    ensures { λ r. ⌜ Says (now (book .entry)) (Reader.saying (slice from to (now (book .entry))) (Reader.numbers (rest (now (book .entry)) c))) r ⌝ }
+    ensures { λ r. ⌜ Says (now (book .entry))
+        (Reader.saying (slice from to (now (book .entry))) (Reader.numbers (rest (now (book .entry)) c))) r ⌝ }
 {
     match constant_named(book, from, to) {
         FoundConstant::Is(w) => Said::Constant(w),
@@ -415,8 +417,10 @@ fn alone(book: &[u8], from: usize, to: usize, c: Cursor) -> Said
 
 // a word and the number at c
 fn with_one(book: &[u8], from: usize, to: usize, c: Cursor, a: u64) -> Said
-    requires { ⌜ Part (now book) from to × (Within (now book) c × (Reader.numbers (rest (now book) c) ≡ some (a ∷ []))) ⌝ }
-    ensures { λ r. ⌜ Says (now (book .entry)) (Reader.saying (slice from to (now (book .entry))) (Reader.numbers (rest (now (book .entry)) c))) r ⌝ }
+    requires { ⌜ Part (now book) from to ×
+        (Within (now book) c × (Reader.numbers (rest (now book) c) ≡ some (a ∷ []))) ⌝ }
+    ensures { λ r. ⌜ Says (now (book .entry))
+        (Reader.saying (slice from to (now (book .entry))) (Reader.numbers (rest (now (book .entry)) c))) r ⌝ }
 {
     match single_named(book, from, to) {
         FoundSingle::Is(w) => Said::Single(w, a),
@@ -429,8 +433,10 @@ fn with_one(book: &[u8], from: usize, to: usize, c: Cursor, a: u64) -> Said
 
 // a word and the two numbers at c
 fn with_two(book: &[u8], from: usize, to: usize, c: Cursor, a: u64, b: u64) -> Said
-    requires { ⌜ Part (now book) from to × (Within (now book) c × (Reader.numbers (rest (now book) c) ≡ some (a ∷ b ∷ []))) ⌝ }
-    ensures { λ r. ⌜ Says (now (book .entry)) (Reader.saying (slice from to (now (book .entry))) (Reader.numbers (rest (now (book .entry)) c))) r ⌝ }
+    requires { ⌜ Part (now book) from to ×
+        (Within (now book) c × (Reader.numbers (rest (now book) c) ≡ some (a ∷ b ∷ []))) ⌝ }
+    ensures { λ r. ⌜ Says (now (book .entry))
+        (Reader.saying (slice from to (now (book .entry))) (Reader.numbers (rest (now (book .entry)) c))) r ⌝ }
 {
     match bit_named(book, from, to) {
         FoundBit::Is(w) => Said::Bit(w, a, b),

@@ -53,8 +53,14 @@ fn turn(
     place: Place,
     at: usize,
 ) -> Turned
-    requires { ⌜ Its.PreTurn (now book) setting (memory (now sp) (now nodes) (now states) (now members) (now transitions) (now pending) (now scratch) (now output)) place at ⌝ }
-    ensures { λ r. ⌜ Its.PostTurn (now (book .entry)) setting (memory (now (sp .entry)) (now (nodes .entry)) (now (states .entry)) (now (members .entry)) (now (transitions .entry)) (now (pending .entry)) (now (scratch .entry)) (now (output .entry))) place at r (memory (now (sp .exit)) (now (nodes .exit)) (now (states .exit)) (now (members .exit)) (now (transitions .exit)) (now (pending .exit)) (now (scratch .exit)) (now (output .exit))) ⌝ }
+    requires { ⌜ Its.PreTurn (now book) setting
+        (memory (now sp) (now nodes) (now states) (now members) (now transitions) (now pending) (now scratch)
+        (now output)) place at ⌝ }
+    ensures { λ r. ⌜ Its.PostTurn (now (book .entry)) setting
+        (memory (now (sp .entry)) (now (nodes .entry)) (now (states .entry)) (now (members .entry))
+        (now (transitions .entry)) (now (pending .entry)) (now (scratch .entry)) (now (output .entry))) place at r
+        (memory (now (sp .exit)) (now (nodes .exit)) (now (states .exit)) (now (members .exit))
+        (now (transitions .exit)) (now (pending .exit)) (now (scratch .exit)) (now (output .exit))) ⌝ }
 {
     let Cut::Line(c) = book_reader::line_at(book, at) else {
         return Turned::Refused(3);
@@ -96,8 +102,15 @@ pub fn go_on(
     first: usize,
     instructions: usize,
 ) -> Went
-    requires { ⌜ Its.PreGo (now book) setting (memory (now sp) (now nodes) (now states) (now members) (now transitions) (now pending) (now scratch) (now output)) start from first instructions ⌝ }
-    ensures { λ r. ⌜ Its.PostGo (now (book .entry)) setting (memory (now (sp .entry)) (now (nodes .entry)) (now (states .entry)) (now (members .entry)) (now (transitions .entry)) (now (pending .entry)) (now (scratch .entry)) (now (output .entry))) start from first instructions r (memory (now (sp .exit)) (now (nodes .exit)) (now (states .exit)) (now (members .exit)) (now (transitions .exit)) (now (pending .exit)) (now (scratch .exit)) (now (output .exit))) ⌝ }
+    requires { ⌜ Its.PreGo (now book) setting
+        (memory (now sp) (now nodes) (now states) (now members) (now transitions) (now pending) (now scratch)
+        (now output)) start from first instructions ⌝ }
+    ensures { λ r. ⌜ Its.PostGo (now (book .entry)) setting
+        (memory (now (sp .entry)) (now (nodes .entry)) (now (states .entry)) (now (members .entry))
+        (now (transitions .entry)) (now (pending .entry)) (now (scratch .entry)) (now (output .entry))) start from
+        first instructions r
+        (memory (now (sp .exit)) (now (nodes .exit)) (now (states .exit)) (now (members .exit))
+        (now (transitions .exit)) (now (pending .exit)) (now (scratch .exit)) (now (output .exit))) ⌝ }
 {
     let mut place = start;
     let mut at = from;
@@ -152,8 +165,14 @@ fn started(
     h: Header,
     from: usize,
 ) -> Went
-    requires { ⌜ Its.PreStarted (now book) (memory (now sp) (now nodes) (now states) (now members) (now transitions) (now pending) (now scratch) (now output)) h from ⌝ }
-    ensures { λ r. ⌜ Its.PostStarted (now (book .entry)) (memory (now (sp .entry)) (now (nodes .entry)) (now (states .entry)) (now (members .entry)) (now (transitions .entry)) (now (pending .entry)) (now (scratch .entry)) (now (output .entry))) h from r (memory (now (sp .exit)) (now (nodes .exit)) (now (states .exit)) (now (members .exit)) (now (transitions .exit)) (now (pending .exit)) (now (scratch .exit)) (now (output .exit))) ⌝ }
+    requires { ⌜ Its.PreStarted (now book)
+        (memory (now sp) (now nodes) (now states) (now members) (now transitions) (now pending) (now scratch)
+        (now output)) h from ⌝ }
+    ensures { λ r. ⌜ Its.PostStarted (now (book .entry))
+        (memory (now (sp .entry)) (now (nodes .entry)) (now (states .entry)) (now (members .entry))
+        (now (transitions .entry)) (now (pending .entry)) (now (scratch .entry)) (now (output .entry))) h from r
+        (memory (now (sp .exit)) (now (nodes .exit)) (now (states .exit)) (now (members .exit))
+        (now (transitions .exit)) (now (pending .exit)) (now (scratch .exit)) (now (output .exit))) ⌝ }
 {
     let begun = book_begin::begin(sp, nodes, output, h);
     match begun {
@@ -189,8 +208,14 @@ fn open(
     scratch: &mut [u32],
     output: &mut [u8],
 ) -> Went
-    requires { ⌜ Its.PreOpen (memory (now sp) (now nodes) (now states) (now members) (now transitions) (now pending) (now scratch) (now output)) ⌝ }
-    ensures { λ r. ⌜ Its.PostOpen (now (book .entry)) (memory (now (sp .entry)) (now (nodes .entry)) (now (states .entry)) (now (members .entry)) (now (transitions .entry)) (now (pending .entry)) (now (scratch .entry)) (now (output .entry))) r (memory (now (sp .exit)) (now (nodes .exit)) (now (states .exit)) (now (members .exit)) (now (transitions .exit)) (now (pending .exit)) (now (scratch .exit)) (now (output .exit))) ⌝ }
+    requires { ⌜ Its.PreOpen
+        (memory (now sp) (now nodes) (now states) (now members) (now transitions) (now pending) (now scratch)
+        (now output)) ⌝ }
+    ensures { λ r. ⌜ Its.PostOpen (now (book .entry))
+        (memory (now (sp .entry)) (now (nodes .entry)) (now (states .entry)) (now (members .entry))
+        (now (transitions .entry)) (now (pending .entry)) (now (scratch .entry)) (now (output .entry))) r
+        (memory (now (sp .exit)) (now (nodes .exit)) (now (states .exit)) (now (members .exit))
+        (now (transitions .exit)) (now (pending .exit)) (now (scratch .exit)) (now (output .exit))) ⌝ }
 {
     if scratch.len() < SCRATCH {
         return Went::Stopped(26, 0, 0);
@@ -233,7 +258,11 @@ fn finish(
     scratch: &mut [u32],
     went: Went,
 ) -> Ran
-    ensures { λ r. ⌜ Its.PostFinish went r (memory (now (sp .entry)) (now (nodes .entry)) (now (states .entry)) (now (members .entry)) (now (transitions .entry)) (now (pending .entry)) (now (scratch .entry)) []) (memory (now (sp .exit)) (now (nodes .exit)) (now (states .exit)) (now (members .exit)) (now (transitions .exit)) (now (pending .exit)) (now (scratch .exit)) []) ⌝ }
+    ensures { λ r. ⌜ Its.PostFinish went r
+        (memory (now (sp .entry)) (now (nodes .entry)) (now (states .entry)) (now (members .entry))
+        (now (transitions .entry)) (now (pending .entry)) (now (scratch .entry)) [])
+        (memory (now (sp .exit)) (now (nodes .exit)) (now (states .exit)) (now (members .exit))
+        (now (transitions .exit)) (now (pending .exit)) (now (scratch .exit)) []) ⌝ }
 {
     book_begin::clear_work(pending, scratch);
     match went {
@@ -257,7 +286,16 @@ pub fn run(
     scratch: &mut [u32],
     output: &mut [u8],
 ) -> Ran
-    ensures { λ r. ⌜ EntrySpec (lentOf (slices (now (sp .entry)) (now (spp .entry)) (now (states .entry)) (now (members .entry)) (now (transitions .entry)) (now (pending .entry)) (now (scratch .entry)) (now (output .entry)))) (now (book .entry)) (slices (now (sp .entry)) (now (spp .entry)) (now (states .entry)) (now (members .entry)) (now (transitions .entry)) (now (pending .entry)) (now (scratch .entry)) (now (output .entry))) (numberOf r) (textLineOf r) (lengthOf r) (slices (now (sp .exit)) (now (spp .exit)) (now (states .exit)) (now (members .exit)) (now (transitions .exit)) (now (pending .exit)) (now (scratch .exit)) (now (output .exit))) ⌝ }
+    ensures { λ r. ⌜ EntrySpec
+        (lentOf
+        (slices (now (sp .entry)) (now (spp .entry)) (now (states .entry)) (now (members .entry))
+        (now (transitions .entry)) (now (pending .entry)) (now (scratch .entry)) (now (output .entry))))
+        (now (book .entry))
+        (slices (now (sp .entry)) (now (spp .entry)) (now (states .entry)) (now (members .entry))
+        (now (transitions .entry)) (now (pending .entry)) (now (scratch .entry)) (now (output .entry))) (numberOf r)
+        (textLineOf r) (lengthOf r)
+        (slices (now (sp .exit)) (now (spp .exit)) (now (states .exit)) (now (members .exit))
+        (now (transitions .exit)) (now (pending .exit)) (now (scratch .exit)) (now (output .exit))) ⌝ }
 {
     book_begin::clear_tables(sp, spp, states, members, transitions);
     book_begin::clear_work(pending, scratch);

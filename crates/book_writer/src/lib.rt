@@ -91,7 +91,8 @@ fn put_last(out: &mut [u8], at: usize, n: u64) -> usize
 // a word and a number
 fn line_of_one(out: &mut [u8], at: usize, word: &[u8], a: u64) -> Answered
     requires { ⌜ at ≤ length (now out) ⌝ }
-    ensures { λ r. ⌜ Answers (Told.say (now (word .entry) ∷ decimal a ∷ [])) at r (now (out .entry)) (now (out .exit)) ⌝ }
+    ensures { λ r. ⌜ Answers (Told.say (now (word .entry) ∷ decimal a ∷ [])) at r (now (out .entry)) (now (out .exit))
+        ⌝ }
 {
     let n = word.len() + digits(a) + 2;
     if out.len() - at < n {
@@ -105,7 +106,8 @@ fn line_of_one(out: &mut [u8], at: usize, word: &[u8], a: u64) -> Answered
 // a word and two numbers
 pub fn line_of_two(out: &mut [u8], at: usize, word: &[u8], a: u64, b: u64) -> Answered
     requires { ⌜ at ≤ length (now out) ⌝ }
-    ensures { λ r. ⌜ Answers (Told.say (now (word .entry) ∷ decimal a ∷ decimal b ∷ [])) at r (now (out .entry)) (now (out .exit)) ⌝ }
+    ensures { λ r. ⌜ Answers (Told.say (now (word .entry) ∷ decimal a ∷ decimal b ∷ [])) at r (now (out .entry))
+        (now (out .exit)) ⌝ }
 {
     let n = word.len() + digits(a) + digits(b) + 3;
     if out.len() - at < n {
@@ -120,7 +122,8 @@ pub fn line_of_two(out: &mut [u8], at: usize, word: &[u8], a: u64, b: u64) -> An
 // a word, a name and a number
 fn line_of_name(out: &mut [u8], at: usize, word: &[u8], name: &[u8], a: u64) -> Answered
     requires { ⌜ (at ≤ length (now out)) × (length (now word) ≤ 6) ⌝ }
-    ensures { λ r. ⌜ Answers (Told.say (now (word .entry) ∷ now (name .entry) ∷ decimal a ∷ [])) at r (now (out .entry)) (now (out .exit)) ⌝ }
+    ensures { λ r. ⌜ Answers (Told.say (now (word .entry) ∷ now (name .entry) ∷ decimal a ∷ [])) at r
+        (now (out .entry)) (now (out .exit)) ⌝ }
 {
     let n = word.len() + name.len() + digits(a) + 3;
     if out.len() - at < n {
@@ -135,7 +138,8 @@ fn line_of_name(out: &mut [u8], at: usize, word: &[u8], name: &[u8], a: u64) -> 
 // a word, a name and two numbers
 fn line_of_three(out: &mut [u8], at: usize, word: &[u8], name: &[u8], a: u64, b: u64) -> Answered
     requires { ⌜ (at ≤ length (now out)) × (length (now word) ≤ 6) ⌝ }
-    ensures { λ r. ⌜ Answers (Told.say (now (word .entry) ∷ now (name .entry) ∷ decimal a ∷ decimal b ∷ [])) at r (now (out .entry)) (now (out .exit)) ⌝ }
+    ensures { λ r. ⌜ Answers (Told.say (now (word .entry) ∷ now (name .entry) ∷ decimal a ∷ decimal b ∷ [])) at r
+        (now (out .entry)) (now (out .exit)) ⌝ }
 {
     let n = word.len() + name.len() + digits(a) + digits(b) + 4;
     if out.len() - at < n {
@@ -158,7 +162,8 @@ fn line_with_word(
     a: u64,
 ) -> Answered
     requires { ⌜ (at ≤ length (now out)) × (length (now word) ≤ 6) × (length (now said) ≤ 5) ⌝ }
-    ensures { λ r. ⌜ Answers (Told.say (now (word .entry) ∷ now (name .entry) ∷ now (said .entry) ∷ decimal a ∷ [])) at r (now (out .entry)) (now (out .exit)) ⌝ }
+    ensures { λ r. ⌜ Answers (Told.say (now (word .entry) ∷ now (name .entry) ∷ now (said .entry) ∷ decimal a ∷ []))
+        at r (now (out .entry)) (now (out .exit)) ⌝ }
 {
     let n = word.len() + name.len() + said.len() + digits(a) + 4;
     if out.len() - at < n {
@@ -194,7 +199,8 @@ pub fn empty_answer(
     count: u64,
 ) -> Answered
     requires { ⌜ at ≤ length (now out) ⌝ }
-    ensures { λ r. ⌜ Answers (Told.emptyAnswer (now (name .entry)) (verdictOf verdict) count) at r (now (out .entry)) (now (out .exit)) ⌝ }
+    ensures { λ r. ⌜ Answers (Told.emptyAnswer (now (name .entry)) (verdictOf verdict) count) at r (now (out .entry))
+        (now (out .exit)) ⌝ }
 {
     match verdict {
         Verdict::Yes => line_with_word(out, at, b"empty", name, b"yes", count),
@@ -205,7 +211,8 @@ pub fn empty_answer(
 
 pub fn live_answer(out: &mut [u8], at: usize, name: &[u8], count: u64, fields: u32) -> Answered
     requires { ⌜ (at ≤ length (now out)) × (fields ≤ 31) × (count ≤ 2 ^ fields) ⌝ }
-    ensures { λ r. ⌜ Answers (Told.liveAnswer fields (now (name .entry)) count) at r (now (out .entry)) (now (out .exit)) ⌝ }
+    ensures { λ r. ⌜ Answers (Told.liveAnswer fields (now (name .entry)) count) at r (now (out .entry))
+        (now (out .exit)) ⌝ }
 {
     let part = share(count, 1u64 << fields);
     line_of_three(out, at, b"live", name, count, part)

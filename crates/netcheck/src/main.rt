@@ -61,7 +61,9 @@ fn answer(
     output: &mut [u8],
     closing: &mut [u8],
 ) -> Written
-    requires { ⌜ Lends netcheckLent (slices (now sp) (now spp) (now states) (now members) (now transitions) (now pending) (now scratch) (now output)) × (64 ≤ length (now closing)) ⌝ }
+    requires { ⌜ Lends netcheckLent
+        (slices (now sp) (now spp) (now states) (now members) (now transitions) (now pending) (now scratch)
+        (now output)) × (64 ≤ length (now closing)) ⌝ }
     ensures { λ r. ⌜ Prepared over (now (book .entry)) r (now (output .exit)) (now (closing .exit)) ⌝ }
 {
     if over {

@@ -297,7 +297,8 @@ pub fn apply(
     b: SPP,
 ) -> Made
     requires { ⌜ Asked fields depth (table (now nodes) count) (now cache) (a .0 ∷ b .0 ∷ []) ⌝ }
-    ensures { λ r. ⌜ Answer fields seen (M.apply fields (opOf op) depth (a .0) (b .0)) (table (now (nodes .entry)) count) (now (cache .entry)) r (now (nodes .exit)) (now (cache .exit)) ⌝ }
+    ensures { λ r. ⌜ Answer fields seen (M.apply fields (opOf op) depth (a .0) (b .0))
+        (table (now (nodes .entry)) count) (now (cache .entry)) r (now (nodes .exit)) (now (cache .exit)) ⌝ }
 {
     let quick = exit(fields, op, depth, a, b);
     match quick {
@@ -345,7 +346,8 @@ pub fn union(
     b: SPP,
 ) -> Made
     requires { ⌜ Asked fields depth (table (now nodes) count) (now cache) (a .0 ∷ b .0 ∷ []) ⌝ }
-    ensures { λ r. ⌜ Answer fields seen (M.apply fields M.union depth (a .0) (b .0)) (table (now (nodes .entry)) count) (now (cache .entry)) r (now (nodes .exit)) (now (cache .exit)) ⌝ }
+    ensures { λ r. ⌜ Answer fields seen (M.apply fields M.union depth (a .0) (b .0))
+        (table (now (nodes .entry)) count) (now (cache .entry)) r (now (nodes .exit)) (now (cache .exit)) ⌝ }
 {
     apply(nodes, cache, count, fields, depth, Op::Union, a, b)
 }
@@ -360,7 +362,8 @@ pub fn intersect(
     b: SPP,
 ) -> Made
     requires { ⌜ Asked fields depth (table (now nodes) count) (now cache) (a .0 ∷ b .0 ∷ []) ⌝ }
-    ensures { λ r. ⌜ Answer fields seen (M.apply fields M.intersect depth (a .0) (b .0)) (table (now (nodes .entry)) count) (now (cache .entry)) r (now (nodes .exit)) (now (cache .exit)) ⌝ }
+    ensures { λ r. ⌜ Answer fields seen (M.apply fields M.intersect depth (a .0) (b .0))
+        (table (now (nodes .entry)) count) (now (cache .entry)) r (now (nodes .exit)) (now (cache .exit)) ⌝ }
 {
     apply(nodes, cache, count, fields, depth, Op::Intersect, a, b)
 }
@@ -375,7 +378,8 @@ pub fn xor(
     b: SPP,
 ) -> Made
     requires { ⌜ Asked fields depth (table (now nodes) count) (now cache) (a .0 ∷ b .0 ∷ []) ⌝ }
-    ensures { λ r. ⌜ Answer fields seen (M.apply fields M.xor depth (a .0) (b .0)) (table (now (nodes .entry)) count) (now (cache .entry)) r (now (nodes .exit)) (now (cache .exit)) ⌝ }
+    ensures { λ r. ⌜ Answer fields seen (M.apply fields M.xor depth (a .0) (b .0)) (table (now (nodes .entry)) count)
+        (now (cache .entry)) r (now (nodes .exit)) (now (cache .exit)) ⌝ }
 {
     apply(nodes, cache, count, fields, depth, Op::Xor, a, b)
 }
@@ -390,7 +394,8 @@ pub fn difference(
     b: SPP,
 ) -> Made
     requires { ⌜ Asked fields depth (table (now nodes) count) (now cache) (a .0 ∷ b .0 ∷ []) ⌝ }
-    ensures { λ r. ⌜ Answer fields seen (M.apply fields M.difference depth (a .0) (b .0)) (table (now (nodes .entry)) count) (now (cache .entry)) r (now (nodes .exit)) (now (cache .exit)) ⌝ }
+    ensures { λ r. ⌜ Answer fields seen (M.apply fields M.difference depth (a .0) (b .0))
+        (table (now (nodes .entry)) count) (now (cache .entry)) r (now (nodes .exit)) (now (cache .exit)) ⌝ }
 {
     apply(nodes, cache, count, fields, depth, Op::Difference, a, b)
 }
@@ -404,7 +409,8 @@ pub fn complement(
     a: SPP,
 ) -> Made
     requires { ⌜ Asked fields depth (table (now nodes) count) (now cache) (a .0 ∷ a .0 ∷ []) ⌝ }
-    ensures { λ r. ⌜ Answer fields seen (M.complement fields depth (a .0)) (table (now (nodes .entry)) count) (now (cache .entry)) r (now (nodes .exit)) (now (cache .exit)) ⌝ }
+    ensures { λ r. ⌜ Answer fields seen (M.complement fields depth (a .0)) (table (now (nodes .entry)) count)
+        (now (cache .entry)) r (now (nodes .exit)) (now (cache .exit)) ⌝ }
 {
     apply(nodes, cache, count, fields, depth, Op::Not, a, a)
 }
@@ -433,7 +439,9 @@ pub enum Started {
 // the constants of depth 1 to depth: x in all four places, or on the diagonal with zeros beside it
 fn column(nodes: &mut [u32], count: usize, diagonal: bool, base: SPP, depth: u32) -> Made
     requires { ⌜ ColumnAsked (now nodes) count diagonal (base .0) depth ⌝ }
-    ensures { λ r. ⌜ ((N : ℕ) → columns N diagonal (base .0) depth (table (now (nodes .entry)) count) ≡ seen r (now (nodes .exit))) ⌝ }
+    ensures { λ r. ⌜
+        ((N : ℕ) → columns N diagonal (base .0) depth (table (now (nodes .entry)) count) ≡ seen r (now (nodes .exit)))
+        ⌝ }
 {
     if depth == 0 {
         return Made::Node(base, count);
@@ -530,7 +538,8 @@ fn field(
     value: bool,
 ) -> Made
     requires { ⌜ FieldAsked fields (now nodes) count depth var ⌝ }
-    ensures { λ r. ⌜ M.field fields (entryOf assigned value) depth var (table (now (nodes .entry)) count) ≡ seen r (now (nodes .exit)) ⌝ }
+    ensures { λ r. ⌜ M.field fields (entryOf assigned value) depth var (table (now (nodes .entry)) count) ≡ seen r
+        (now (nodes .exit)) ⌝ }
 {
     let below = depth - 1;
     let zero = zero_at_depth(below);
@@ -555,14 +564,16 @@ fn field(
 
 pub fn test(nodes: &mut [u32], count: usize, fields: u32, var: u32, value: bool) -> Made
     requires { ⌜ FieldAsked fields (now nodes) count fields var ⌝ }
-    ensures { λ r. ⌜ M.field fields (M.testEntry value) fields var (table (now (nodes .entry)) count) ≡ seen r (now (nodes .exit)) ⌝ }
+    ensures { λ r. ⌜ M.field fields (M.testEntry value) fields var (table (now (nodes .entry)) count) ≡ seen r
+        (now (nodes .exit)) ⌝ }
 {
     field(nodes, count, fields, fields, var, false, value)
 }
 
 pub fn assign(nodes: &mut [u32], count: usize, fields: u32, var: u32, value: bool) -> Made
     requires { ⌜ FieldAsked fields (now nodes) count fields var ⌝ }
-    ensures { λ r. ⌜ M.field fields (M.assignEntry value) fields var (table (now (nodes .entry)) count) ≡ seen r (now (nodes .exit)) ⌝ }
+    ensures { λ r. ⌜ M.field fields (M.assignEntry value) fields var (table (now (nodes .entry)) count) ≡ seen r
+        (now (nodes .exit)) ⌝ }
 {
     field(nodes, count, fields, fields, var, true, value)
 }

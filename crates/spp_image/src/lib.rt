@@ -34,7 +34,8 @@ fn join(
     z: SP,
 ) -> Made
     requires { ⌜ JoinAsked (now nodes) (now cache) count depth (w .0) (x .0) (y .0) (z .0) ⌝ }
-    ensures { λ r. ⌜ sp_seen.Answer (join depth (w .0) (x .0) (y .0) (z .0)) (now (nodes .entry)) (now (cache .entry)) count r (now (nodes .exit)) (now (cache .exit)) ⌝ }
+    ensures { λ r. ⌜ sp_seen.Answer (join depth (w .0) (x .0) (y .0) (z .0)) (now (nodes .entry)) (now (cache .entry))
+        count r (now (nodes .exit)) (now (cache .exit)) ⌝ }
 {
     let Made::Node(x0, n1) = sp::union(nodes, cache, count, depth, w, x) else {
         return Made::Full;
@@ -87,7 +88,9 @@ fn project(
     r: SPP,
 ) -> Made
     requires { ⌜ Asked fields depth (stores (table (now nodes) count) (table (now spp) n)) (now cache) (r .0) ⌝ }
-    ensures { λ k. ⌜ Answer fields (project way depth (r .0)) (stores (table (now (nodes .entry)) count) (table (now (spp .entry)) n)) (now (cache .entry)) k (now (nodes .exit)) (now (cache .exit)) ⌝ }
+    ensures { λ k. ⌜ Answer fields (project way depth (r .0))
+        (stores (table (now (nodes .entry)) count) (table (now (spp .entry)) n)) (now (cache .entry)) k
+        (now (nodes .exit)) (now (cache .exit)) ⌝ }
 {
     if depth == 0 {
         return Made::Node(SP(r.0), count);
@@ -145,7 +148,9 @@ pub fn fwd(
     r: SPP,
 ) -> Made
     requires { ⌜ Asked fields depth (stores (table (now nodes) count) (table (now spp) n)) (now cache) (r .0) ⌝ }
-    ensures { λ k. ⌜ Answer fields (fwd depth (r .0)) (stores (table (now (nodes .entry)) count) (table (now (spp .entry)) n)) (now (cache .entry)) k (now (nodes .exit)) (now (cache .exit)) ⌝ }
+    ensures { λ k. ⌜ Answer fields (fwd depth (r .0))
+        (stores (table (now (nodes .entry)) count) (table (now (spp .entry)) n)) (now (cache .entry)) k
+        (now (nodes .exit)) (now (cache .exit)) ⌝ }
 {
     project(spp, nodes, cache, n, count, fields, depth, Way::Forward, r)
 }
@@ -162,7 +167,9 @@ pub fn bwd(
     r: SPP,
 ) -> Made
     requires { ⌜ Asked fields depth (stores (table (now nodes) count) (table (now spp) n)) (now cache) (r .0) ⌝ }
-    ensures { λ k. ⌜ Answer fields (bwd depth (r .0)) (stores (table (now (nodes .entry)) count) (table (now (spp .entry)) n)) (now (cache .entry)) k (now (nodes .exit)) (now (cache .exit)) ⌝ }
+    ensures { λ k. ⌜ Answer fields (bwd depth (r .0))
+        (stores (table (now (nodes .entry)) count) (table (now (spp .entry)) n)) (now (cache .entry)) k
+        (now (nodes .exit)) (now (cache .exit)) ⌝ }
 {
     project(spp, nodes, cache, n, count, fields, depth, Way::Backward, r)
 }
@@ -233,8 +240,11 @@ fn lead(
     s: SP,
     r: SPP,
 ) -> Made
-    requires { ⌜ LeadAsked fields depth (stores (table (now nodes) count) (table (now spp) n)) (now cache) (s .0) (r .0) ⌝ }
-    ensures { λ k. ⌜ Answer fields (lead way fields depth (s .0) (r .0)) (stores (table (now (nodes .entry)) count) (table (now (spp .entry)) n)) (now (cache .entry)) k (now (nodes .exit)) (now (cache .exit)) ⌝ }
+    requires { ⌜ LeadAsked fields depth (stores (table (now nodes) count) (table (now spp) n)) (now cache) (s .0)
+        (r .0) ⌝ }
+    ensures { λ k. ⌜ Answer fields (lead way fields depth (s .0) (r .0))
+        (stores (table (now (nodes .entry)) count) (table (now (spp .entry)) n)) (now (cache .entry)) k
+        (now (nodes .exit)) (now (cache .exit)) ⌝ }
 {
     let led = led_exit(fields, depth, s, r);
     match led {
@@ -338,8 +348,11 @@ pub fn push(
     s: SP,
     r: SPP,
 ) -> Made
-    requires { ⌜ LeadAsked fields depth (stores (table (now nodes) count) (table (now spp) n)) (now cache) (s .0) (r .0) ⌝ }
-    ensures { λ k. ⌜ Answer fields (push fields depth (s .0) (r .0)) (stores (table (now (nodes .entry)) count) (table (now (spp .entry)) n)) (now (cache .entry)) k (now (nodes .exit)) (now (cache .exit)) ⌝ }
+    requires { ⌜ LeadAsked fields depth (stores (table (now nodes) count) (table (now spp) n)) (now cache) (s .0)
+        (r .0) ⌝ }
+    ensures { λ k. ⌜ Answer fields (push fields depth (s .0) (r .0))
+        (stores (table (now (nodes .entry)) count) (table (now (spp .entry)) n)) (now (cache .entry)) k
+        (now (nodes .exit)) (now (cache .exit)) ⌝ }
 {
     lead(
         spp,
@@ -367,8 +380,11 @@ pub fn pull(
     r: SPP,
     s: SP,
 ) -> Made
-    requires { ⌜ LeadAsked fields depth (stores (table (now nodes) count) (table (now spp) n)) (now cache) (s .0) (r .0) ⌝ }
-    ensures { λ k. ⌜ Answer fields (pull fields depth (r .0) (s .0)) (stores (table (now (nodes .entry)) count) (table (now (spp .entry)) n)) (now (cache .entry)) k (now (nodes .exit)) (now (cache .exit)) ⌝ }
+    requires { ⌜ LeadAsked fields depth (stores (table (now nodes) count) (table (now spp) n)) (now cache) (s .0)
+        (r .0) ⌝ }
+    ensures { λ k. ⌜ Answer fields (pull fields depth (r .0) (s .0))
+        (stores (table (now (nodes .entry)) count) (table (now (spp .entry)) n)) (now (cache .entry)) k
+        (now (nodes .exit)) (now (cache .exit)) ⌝ }
 {
     lead(
         spp,

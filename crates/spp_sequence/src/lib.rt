@@ -62,8 +62,10 @@ fn row(
     p1: SPP,
     q: SPPnode,
 ) -> Products
-    requires { ⌜ Asked fields depth (table (now nodes) count) (now cache) (p0 .0 ∷ p1 .0 ∷ q .x00 .0 ∷ q .x01 .0 ∷ q .x10 .0 ∷ q .x11 .0 ∷ []) ⌝ }
-    ensures { λ r. ⌜ Answer fields seenRow (row (M.sequence fields depth) (p0 .0) (p1 .0) (quadOf q)) (table (now (nodes .entry)) count) (now (cache .entry)) r (now (nodes .exit)) (now (cache .exit)) ⌝ }
+    requires { ⌜ Asked fields depth (table (now nodes) count) (now cache)
+        (p0 .0 ∷ p1 .0 ∷ q .x00 .0 ∷ q .x01 .0 ∷ q .x10 .0 ∷ q .x11 .0 ∷ []) ⌝ }
+    ensures { λ r. ⌜ Answer fields seenRow (row (M.sequence fields depth) (p0 .0) (p1 .0) (quadOf q))
+        (table (now (nodes .entry)) count) (now (cache .entry)) r (now (nodes .exit)) (now (cache .exit)) ⌝ }
 {
     let Made::Node(a, n1) = sequence(nodes, cache, count, fields, depth, p0, q.x00) else {
         return Products::NoFour;
@@ -98,8 +100,10 @@ fn sums(
     r: SPPnode,
     s: SPPnode,
 ) -> Made
-    requires { ⌜ NodeAsked fields depth (table (now nodes) count) (now cache) (r .x00 .0 ∷ r .x01 .0 ∷ r .x10 .0 ∷ r .x11 .0 ∷ s .x00 .0 ∷ s .x01 .0 ∷ s .x10 .0 ∷ s .x11 .0 ∷ []) ⌝ }
-    ensures { λ z. ⌜ Answer fields seen (sums (M.apply fields M.union depth) (quadOf r) (quadOf s)) (table (now (nodes .entry)) count) (now (cache .entry)) z (now (nodes .exit)) (now (cache .exit)) ⌝ }
+    requires { ⌜ NodeAsked fields depth (table (now nodes) count) (now cache)
+        (r .x00 .0 ∷ r .x01 .0 ∷ r .x10 .0 ∷ r .x11 .0 ∷ s .x00 .0 ∷ s .x01 .0 ∷ s .x10 .0 ∷ s .x11 .0 ∷ []) ⌝ }
+    ensures { λ z. ⌜ Answer fields seen (sums (M.apply fields M.union depth) (quadOf r) (quadOf s))
+        (table (now (nodes .entry)) count) (now (cache .entry)) z (now (nodes .exit)) (now (cache .exit)) ⌝ }
 {
     let Made::Node(x00, n1) = spp::union(nodes, cache, count, fields, depth, r.x00, r.x01) else {
         return Made::Full;
@@ -126,7 +130,8 @@ pub fn sequence(
     b: SPP,
 ) -> Made
     requires { ⌜ Asked fields depth (table (now nodes) count) (now cache) (a .0 ∷ b .0 ∷ []) ⌝ }
-    ensures { λ r. ⌜ Answer fields seen (M.sequence fields depth (a .0) (b .0)) (table (now (nodes .entry)) count) (now (cache .entry)) r (now (nodes .exit)) (now (cache .exit)) ⌝ }
+    ensures { λ r. ⌜ Answer fields seen (M.sequence fields depth (a .0) (b .0)) (table (now (nodes .entry)) count)
+        (now (cache .entry)) r (now (nodes .exit)) (now (cache .exit)) ⌝ }
 {
     let early = seq_exit(fields, depth, a, b);
     if let Early::Done(h) = early {
@@ -180,8 +185,11 @@ fn through(
     x: SPPnode,
     e: SPP,
 ) -> Two
-    requires { ⌜ Asked fields depth (table (now nodes) count) (now cache) (x .x00 .0 ∷ x .x01 .0 ∷ x .x10 .0 ∷ e .0 ∷ []) ⌝ }
-    ensures { λ r. ⌜ Answer fields seenTwo (through (M.sequence fields depth) (M.apply fields M.union depth) (quadOf x) (e .0)) (table (now (nodes .entry)) count) (now (cache .entry)) r (now (nodes .exit)) (now (cache .exit)) ⌝ }
+    requires { ⌜ Asked fields depth (table (now nodes) count) (now cache)
+        (x .x00 .0 ∷ x .x01 .0 ∷ x .x10 .0 ∷ e .0 ∷ []) ⌝ }
+    ensures { λ r. ⌜ Answer fields seenTwo
+        (through (M.sequence fields depth) (M.apply fields M.union depth) (quadOf x) (e .0))
+        (table (now (nodes .entry)) count) (now (cache .entry)) r (now (nodes .exit)) (now (cache .exit)) ⌝ }
 {
     let Made::Node(be, n1) = sequence(nodes, cache, count, fields, depth, x.x01, e) else {
         return Two::NoTwo;
@@ -208,7 +216,9 @@ fn around(
     x00: SPP,
 ) -> Made
     requires { ⌜ NodeAsked fields depth (table (now nodes) count) (now cache) (c .0 ∷ e .0 ∷ be .0 ∷ x00 .0 ∷ []) ⌝ }
-    ensures { λ r. ⌜ Answer fields seen (around (M.sequence fields depth) (M.apply fields M.union depth) (c .0) (e .0) (be .0) (x00 .0)) (table (now (nodes .entry)) count) (now (cache .entry)) r (now (nodes .exit)) (now (cache .exit)) ⌝ }
+    ensures { λ r. ⌜ Answer fields seen
+        (around (M.sequence fields depth) (M.apply fields M.union depth) (c .0) (e .0) (be .0) (x00 .0))
+        (table (now (nodes .entry)) count) (now (cache .entry)) r (now (nodes .exit)) (now (cache .exit)) ⌝ }
 {
     let Made::Node(x01, n1) = sequence(nodes, cache, count, fields, depth, x00, be) else {
         return Made::Full;
@@ -237,7 +247,8 @@ pub fn star(
     x: SPP,
 ) -> Made
     requires { ⌜ Asked fields depth (table (now nodes) count) (now cache) (x .0 ∷ []) ⌝ }
-    ensures { λ r. ⌜ Answer fields seen (M.star fields depth (x .0)) (table (now (nodes .entry)) count) (now (cache .entry)) r (now (nodes .exit)) (now (cache .exit)) ⌝ }
+    ensures { λ r. ⌜ Answer fields seen (M.star fields depth (x .0)) (table (now (nodes .entry)) count)
+        (now (cache .entry)) r (now (nodes .exit)) (now (cache .exit)) ⌝ }
 {
     let early = star_exit(fields, depth, x);
     if let Early::Done(h) = early {
