@@ -32,7 +32,7 @@ counts n s l = (l, sym (length-take-le n s l))
 -- ---- the closing line
 
 -- 64 bytes hold it
-module _ (number line : ℕ) {r : Answered} {s s′ : List ℕ} (A : Answers (refusedLine number line) 0 r s s′) where
+module _ (number line : ℕ) {r : Answered} (s s′ : List ℕ) (A : Answers (refusedLine number line) 0 r s s′) where
   pub line-fits : 64 ≤ length s → r ≡ answered.Full → ⊥
   line-fits l f =
       let (a, b) = subst (λ (x : Answered). Answers (refusedLine number line) 0 x s s′) f A in

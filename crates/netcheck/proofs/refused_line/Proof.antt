@@ -20,14 +20,14 @@ same-length c = search needs
 
 returns : tie.Need-returns
 returns c =
-    let g = c .before .before .before .before .before .before .before .before .args in absurd (line-fits (g .number) (g .line) (c .before .before .before .before .line-of-two .ensures) (c .before .before .before .before .before .before .before .before .pre) (c .enum-told .given .1))
+    let g = c .before .before .before .before .before .before .before .before .args in absurd (line-fits (g .number) (g .line) (g .out .now) (c .before .before .before .before .line-of-two .last .0) (c .before .before .before .before .line-of-two .ensures) (c .before .before .before .before .before .before .before .before .pre) (c .enum-told .given .1))
 
 same-length-2 : tie.Need-same-length-2
 same-length-2 c = search needs
 
 returns-2 : tie.Need-returns-2
 returns-2 c =
-    let g = c .before .before .before .before .before .before .before .before .before .args in line-put (g .number) (g .line) (c .before .before .before .before .before .line-of-two .ensures) (c .before .end .given .1)
+    let g = c .before .before .before .before .before .before .before .before .before .args in line-put (g .number) (g .line) (g .out .now) (c .before .before .before .before .before .line-of-two .last .0) (c .before .before .before .before .before .line-of-two .ensures) (c .before .end .given .1)
 
 pub refused-line-spec : {M : Type 1} → statement M
 refused-line-spec =
