@@ -36,7 +36,7 @@ pub fn expand(
 {
     let fields = config.fields;
     let seen = aut_empty_words::seen_at(states, fields, x);
-    let sp::Made::Node(both, k) = aut_sets::union(sp, scratch, c, fields, seen, fresh) else {
+    let sp::Made::Node(both, k) = aut_sets::set_union(sp, scratch, c, fields, seen, fresh) else {
         return Turned::Refused(aut_states::refusal::SP);
     };
     let c1 = Counts { sp: k, ..c };
@@ -52,7 +52,7 @@ pub fn expand(
         return Turned::Refused(aut_states::refusal::SPP);
     };
     let c2 = Counts { spp: k1, ..c1 };
-    if aut_sets::has_image(sp, nodes, scratch, c2, fields, fresh, ends) {
+    if aut_sets::set_has_image(sp, nodes, scratch, c2, fields, fresh, ends) {
         return Turned::Found(c2);
     }
     let walked = aut_empty_walk::spread(

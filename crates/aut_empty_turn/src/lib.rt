@@ -32,7 +32,7 @@ pub fn turn(
     pending[2 * k] = 0;
     pending[2 * k + 1] = 0;
     let seen = aut_empty_words::seen_at(states, fields, x);
-    let sp::Made::Node(fresh, m) = aut_sets::difference(sp, scratch, c, fields, packets, seen)
+    let sp::Made::Node(fresh, m) = aut_sets::set_difference(sp, scratch, c, fields, packets, seen)
     else {
         return Turned::Refused(aut_states::refusal::SP);
     };

@@ -28,7 +28,8 @@ fn follow(
     ensures { λ r. ⌜ Follows fields c n (fresh .0) target (label .0) r (now (sp .entry)) (now (nodes .entry))
         (now (pending .entry)) (now (scratch .entry)) (now (sp .exit)) (now (pending .exit)) (now (scratch .exit)) ⌝ }
 {
-    let sp::Made::Node(next, k) = aut_sets::push(sp, nodes, scratch, c, fields, fresh, label) else {
+    let sp::Made::Node(next, k) = aut_sets::set_push(sp, nodes, scratch, c, fields, fresh, label)
+    else {
         return Walked::Refused(aut_states::refusal::SP);
     };
     let d = Counts { sp: k, ..c };

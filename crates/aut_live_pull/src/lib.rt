@@ -33,7 +33,7 @@ fn pull_from(
         Label::By(l) => {
             let i = aut_states::STATE * (t as usize) + aut_states::word::WORK;
             let ahead = SP(states[i] - 1);
-            let sp::Made::Node(accepted, n1) = aut_sets::pull(
+            let sp::Made::Node(accepted, n1) = aut_sets::set_pull(
                 sp,
                 nodes,
                 scratch,
@@ -47,7 +47,7 @@ fn pull_from(
             let c1 = Counts { sp: n1, ..c };
             let j = aut_states::STATE * (s as usize) + aut_states::word::WORK;
             let here = SP(states[j] - 1);
-            let sp::Made::Node(combined, n2) = aut_sets::union(
+            let sp::Made::Node(combined, n2) = aut_sets::set_union(
                 sp,
                 scratch,
                 c1,

@@ -45,7 +45,7 @@ fn visit(
         return Walked::Refused(aut_states::refusal::SPP);
     };
     let c1 = Counts { spp: n1, ..c };
-    let sp::Made::Node(h, n2) = aut_sets::bwd(sp, nodes, scratch, c1, config.fields, e) else {
+    let sp::Made::Node(h, n2) = aut_sets::set_bwd(sp, nodes, scratch, c1, config.fields, e) else {
         return Walked::Refused(aut_states::refusal::SP);
     };
     let i = aut_states::STATE * (x as usize) + aut_states::word::WORK;

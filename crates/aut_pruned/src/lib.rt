@@ -33,7 +33,7 @@ fn viable(
 {
     let i = target as usize;
     let live = SP(states[aut_states::STATE * i + aut_states::word::LIVE] - 1);
-    let Made::Node(allowed, n) = aut_sets::ifwd(sp, nodes, scratch, c, fields, live) else {
+    let Made::Node(allowed, n) = aut_sets::set_ifwd(sp, nodes, scratch, c, fields, live) else {
         return Made::Full;
     };
     aut_relations::apply(nodes, scratch, n, fields, Op::Intersect, label, allowed)

@@ -10,7 +10,7 @@ ghost use Rattle.spp_steps.specs.ImageModel as Images;
 ghost use Rattle.spp_steps.specs.ImageModel.{stores};
 ghost use Rattle.aut_sets.specs.Contracts.{PreSets, PostSets, PreSet, PreImage, PreLead, PostImage, PostHas, PreLift, PostLift, PostSize, PreCount, PostCount};
 
-pub fn difference(
+pub fn set_difference(
     sp: &mut [u32],
     scratch: &mut [u32],
     c: Counts,
@@ -27,7 +27,14 @@ pub fn difference(
     sp::difference(sp, &mut scratch[at..], n, fields, a, b)
 }
 
-pub fn union(sp: &mut [u32], scratch: &mut [u32], c: Counts, fields: u32, a: SP, b: SP) -> sp::Made
+pub fn set_union(
+    sp: &mut [u32],
+    scratch: &mut [u32],
+    c: Counts,
+    fields: u32,
+    a: SP,
+    b: SP,
+) -> sp::Made
     requires { ⌜ PreSets fields (table (now sp) (c .sp)) (now scratch) (a .0) (b .0) ⌝ }
     ensures { λ r. ⌜ PostSets (Sp.union fields (a .0) (b .0)) (table (now (sp .entry)) (c .sp)) r (now (sp .exit))
         (now (scratch .entry)) (now (scratch .exit)) ⌝ }
@@ -38,7 +45,7 @@ pub fn union(sp: &mut [u32], scratch: &mut [u32], c: Counts, fields: u32, a: SP,
 }
 
 // the packets that a relation leads to from a packet of the set
-pub fn push(
+pub fn set_push(
     sp: &mut [u32],
     nodes: &[u32],
     scratch: &mut [u32],
@@ -60,7 +67,7 @@ pub fn push(
 }
 
 // the packets that a relation leads to a packet of the set
-pub fn pull(
+pub fn set_pull(
     sp: &mut [u32],
     nodes: &[u32],
     scratch: &mut [u32],
@@ -82,7 +89,7 @@ pub fn pull(
 }
 
 // the packets that a relation leads on
-pub fn bwd(
+pub fn set_bwd(
     sp: &mut [u32],
     nodes: &[u32],
     scratch: &mut [u32],
@@ -102,7 +109,7 @@ pub fn bwd(
 }
 
 // whether some packet of the set is related to some packet
-pub fn has_image(
+pub fn set_has_image(
     sp: &[u32],
     nodes: &[u32],
     scratch: &mut [u32],
@@ -123,7 +130,7 @@ pub fn has_image(
 }
 
 // the pairs whose second packet is in the set
-pub fn ifwd(
+pub fn set_ifwd(
     sp: &[u32],
     nodes: &mut [u32],
     scratch: &mut [u32],

@@ -104,7 +104,7 @@ pub fn nest_of(states: &[u32], x: u32) -> u32
 }
 
 // a state at the end of the table
-fn push(states: &mut [u32], count: usize, kind: u32, x: u32, y: u32, nest: u32) -> Put
+fn put_state(states: &mut [u32], count: usize, kind: u32, x: u32, y: u32, nest: u32) -> Put
     requires { ⌜ Fits (now states) count ⌝ }
     ensures { λ r. ⌜ M.put kind x y nest (table (now (states .entry)) count) ≡ seenPut r (now (states .exit)) ⌝ }
 {
@@ -129,7 +129,7 @@ pub fn intern0(states: &mut [u32], count: usize, kind: u32, x: u32) -> Put
     if i < count {
         return Put::At(i as u32, count);
     }
-    push(states, count, kind, x, 0, 0)
+    put_state(states, count, kind, x, 0, 0)
 }
 
 pub fn intern1(states: &mut [u32], count: usize, limits: Limits, kind: u32, x: u32) -> Put
@@ -146,7 +146,7 @@ pub fn intern1(states: &mut [u32], count: usize, limits: Limits, kind: u32, x: u
     if e >= limits.nesting {
         return Put::Refused(8);
     }
-    push(states, count, kind, x, 0, e + 1)
+    put_state(states, count, kind, x, 0, e + 1)
 }
 
 fn higher(a: u32, b: u32) -> u32
@@ -172,7 +172,7 @@ pub fn intern2(states: &mut [u32], count: usize, limits: Limits, kind: u32, x: u
     if e >= limits.nesting {
         return Put::Refused(8);
     }
-    push(states, count, kind, x, y, e + 1)
+    put_state(states, count, kind, x, y, e + 1)
 }
 
 // whether the members from a are the list
@@ -306,7 +306,7 @@ fn push_list(
         return State::Refused(23);
     }
     copy(members, m, scratch, base, k);
-    let put = push(states, c.states, kind, m as u32, k as u32, nest);
+    let put = put_state(states, c.states, kind, m as u32, k as u32, nest);
     match put {
         Put::Refused(e) => State::Refused(e),
         Put::At(i, n) => State::Is(

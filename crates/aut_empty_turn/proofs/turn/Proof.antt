@@ -9,7 +9,7 @@ use Rattle.aut_empty_turn.proofs.turn.Reads as reads
 use Rattle.aut_empty_turn.proofs.turn.Lts as lts
 use Rattle.aut_empty_pair.proofs.expand.Reads as expand-reads
 use Rattle.aut_empty_words.proofs.seen_at.Reads as seen-at-reads
-use Rattle.aut_sets.proofs.difference.Reads as difference-reads
+use Rattle.aut_sets.proofs.set_difference.Reads as difference-reads
 use Rattle.sp.proofs.is_zero.Reads as is-zero-reads
 
 -- src/lib.rt:25:13
@@ -79,8 +79,8 @@ seen-at-requires c κs =
     turns.turn-seen-asks (c .before .before .before .before .before .before .before .before .before .before .pre)
 
 -- src/lib.rt:31:36
-difference-requires : tie.Need-difference-requires
-difference-requires c κs =
+set-difference-requires : tie.Need-set-difference-requires
+set-difference-requires c κs =
     turns.difference-asks (c .before .before .before .before .before .before .before .before .before .before .before .before .before .pre) (c .before .before .seen-at .ensures)
 
 -- src/lib.rt:31:24
@@ -110,7 +110,7 @@ same-length-4 c = search needs
 -- src/lib.rt:33:9
 returns : tie.Need-returns
 returns c =
-    turns.turn-full (c .before .before .before .before .before .before .before .before .before .before .before .before .before .before .before .before .before .before .before .before .pre) (c .before .before .before .before .before .before .before .before .before .seen-at .ensures) (c .before .before .before .before .before .before .difference .ensures) (c .enum-told .given .1)
+    turns.turn-full (c .before .before .before .before .before .before .before .before .before .before .before .before .before .before .before .before .before .before .before .before .pre) (c .before .before .before .before .before .before .before .before .before .seen-at .ensures) (c .before .before .before .before .before .before .set-difference .ensures) (c .enum-told .given .1)
 
 -- src/lib.rt:36:8
 is-zero-requires : tie.Need-is-zero-requires
@@ -135,12 +135,12 @@ same-length-8 c = search needs
 -- src/lib.rt:37:9
 returns-2 : tie.Need-returns-2
 returns-2 c =
-    turns.turn-zero (c .before .before .before .before .before .before .before .before .before .before .before .before .before .before .before .before .before .before .before .before .before .before .before .pre) (c .before .before .before .before .before .before .before .before .before .before .before .before .seen-at .ensures) (c .before .before .before .before .before .before .before .before .before .difference .ensures) (c .before .before .before .fresh .given .1) (c .before .before .before .before .before .before .before .before .before .difference .kept .1 .0) (sym (c .if1 .taken) ∙ c .before .is-zero .ensures)
+    turns.turn-zero (c .before .before .before .before .before .before .before .before .before .before .before .before .before .before .before .before .before .before .before .before .before .before .before .pre) (c .before .before .before .before .before .before .before .before .before .before .before .before .seen-at .ensures) (c .before .before .before .before .before .before .before .before .before .set-difference .ensures) (c .before .before .before .fresh .given .1) (c .before .before .before .before .before .before .before .before .before .set-difference .kept .1 .0) (sym (c .if1 .taken) ∙ c .before .is-zero .ensures)
 
 -- src/lib.rt:39:5
 expand-requires : tie.Need-expand-requires
 expand-requires c κs =
-    turns.expand-asks (c .before .before .before .before .before .before .before .before .before .before .before .before .before .before .before .before .before .before .before .before .before .before .before .before .before .before .before .before .before .before .pre) (c .before .before .before .before .before .before .before .before .before .before .before .before .before .before .before .before .before .before .before .seen-at .ensures) (c .before .before .before .before .before .before .before .before .before .before .before .before .before .before .before .before .difference .ensures) (c .before .before .before .before .before .before .before .before .before .before .fresh .given .1) (c .before .before .before .before .before .before .before .before .before .before .before .before .before .before .before .before .difference .kept .1 .0)
+    turns.expand-asks (c .before .before .before .before .before .before .before .before .before .before .before .before .before .before .before .before .before .before .before .before .before .before .before .before .before .before .before .before .before .before .pre) (c .before .before .before .before .before .before .before .before .before .before .before .before .before .before .before .before .before .before .before .seen-at .ensures) (c .before .before .before .before .before .before .before .before .before .before .before .before .before .before .before .before .set-difference .ensures) (c .before .before .before .before .before .before .before .before .before .before .fresh .given .1) (c .before .before .before .before .before .before .before .before .before .before .before .before .before .before .before .before .set-difference .kept .1 .0)
 
 -- src/lib.rt:9:1
 same-length-9 : tie.Need-same-length-9
@@ -174,7 +174,7 @@ same-length-15 c = search needs
 -- src/lib.rt:9:1
 returns-3 : tie.Need-returns-3
 returns-3 c =
-    turns.turn-expand (c .before .before .before .before .before .before .before .before .before .before .before .before .before .before .before .before .before .before .before .before .before .before .before .before .before .before .before .before .before .before .before .before .before .before .before .before .before .before .before .before .before .before .before .before .before .pre) (c .before .before .before .before .before .before .before .before .before .before .before .before .before .before .before .before .before .before .before .before .before .before .before .before .before .before .before .before .before .before .before .before .before .before .seen-at .ensures) (c .before .before .before .before .before .before .before .before .before .before .before .before .before .before .before .before .before .before .before .before .before .before .before .before .before .before .before .before .before .before .before .difference .ensures) (c .before .before .before .before .before .before .before .before .before .before .before .before .before .before .before .before .before .before .before .before .before .before .before .before .before .fresh .given .1) (c .before .before .before .before .before .before .before .before .before .before .before .before .before .before .before .before .before .before .before .before .before .before .before .before .before .before .before .before .before .before .before .difference .kept .1 .0) (sym (c .before .before .before .before .before .before .before .before .before .before .before .before .before .before .before .before .before .before .before .before .before .before .if1 .left) ∙ c .before .before .before .before .before .before .before .before .before .before .before .before .before .before .before .before .before .before .before .before .before .before .before .is-zero .ensures) (c .before .before .before .before .before .before .before .before .before .before .before .before .before .before .expand .ensures)
+    turns.turn-expand (c .before .before .before .before .before .before .before .before .before .before .before .before .before .before .before .before .before .before .before .before .before .before .before .before .before .before .before .before .before .before .before .before .before .before .before .before .before .before .before .before .before .before .before .before .before .pre) (c .before .before .before .before .before .before .before .before .before .before .before .before .before .before .before .before .before .before .before .before .before .before .before .before .before .before .before .before .before .before .before .before .before .before .seen-at .ensures) (c .before .before .before .before .before .before .before .before .before .before .before .before .before .before .before .before .before .before .before .before .before .before .before .before .before .before .before .before .before .before .before .set-difference .ensures) (c .before .before .before .before .before .before .before .before .before .before .before .before .before .before .before .before .before .before .before .before .before .before .before .before .before .fresh .given .1) (c .before .before .before .before .before .before .before .before .before .before .before .before .before .before .before .before .before .before .before .before .before .before .before .before .before .before .before .before .before .before .before .set-difference .kept .1 .0) (sym (c .before .before .before .before .before .before .before .before .before .before .before .before .before .before .before .before .before .before .before .before .before .before .if1 .left) ∙ c .before .before .before .before .before .before .before .before .before .before .before .before .before .before .before .before .before .before .before .before .before .before .before .is-zero .ensures) (c .before .before .before .before .before .before .before .before .before .before .before .before .before .before .expand .ensures)
 
 pub turn-spec : {M : Type 1} → statement M
 turn-spec =
@@ -196,7 +196,7 @@ turn-spec =
     mul-pending-4
     slice-write-pending-2
     seen-at-requires
-    difference-requires
+    set-difference-requires
     enum-known-fresh
     enum-told
     same-length

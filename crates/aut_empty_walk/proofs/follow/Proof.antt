@@ -6,12 +6,12 @@ use Rattle.aut_empty_walk.proofs.follow.Tie as tie
 use Rattle.aut_empty_walk.proofs.follow.Reads as reads
 use Rattle.aut_empty_walk.proofs.follow.Lts as lts
 use Rattle.aut_empty_words.proofs.put.Reads as put-reads
-use Rattle.aut_sets.proofs.push.Reads as push-reads
+use Rattle.aut_sets.proofs.set_push.Reads as push-reads
 use Rattle.sp.proofs.is_zero.Reads as is-zero-reads
 
 -- src/lib.rt:30:35
-push-requires : tie.Need-push-requires
-push-requires c κs = search needs
+set-push-requires : tie.Need-set-push-requires
+set-push-requires c κs = search needs
 
 -- src/lib.rt:30:24
 enum-known-next : tie.Need-enum-known-next
@@ -32,7 +32,7 @@ same-length-2 c = search needs
 -- src/lib.rt:31:9
 returns : tie.Need-returns
 returns c =
-    walks.follow-full (c .before .before .before .before .before .before .before .before .before .before .before .before .before .pre) (c .before .before .before .before .before .before .before .before .before .before .before .before .before .args .target) (c .before .before .before .before .before .before .push .ensures) (c .enum-told .given .1)
+    walks.follow-full (c .before .before .before .before .before .before .before .before .before .before .before .before .before .pre) (c .before .before .before .before .before .before .before .before .before .before .before .before .before .args .target) (c .before .before .before .before .before .before .set-push .ensures) (c .enum-told .given .1)
 
 -- src/lib.rt:34:8
 is-zero-requires : tie.Need-is-zero-requires
@@ -49,7 +49,7 @@ same-length-4 c = search needs
 -- src/lib.rt:35:9
 returns-2 : tie.Need-returns-2
 returns-2 c =
-    walks.follow-zero (c .before .before .before .before .before .before .before .before .before .before .before .before .before .before .before .before .pre) (c .before .before .before .before .before .before .before .before .before .before .before .before .before .before .before .before .args .target) (c .before .before .before .before .before .before .before .before .before .push .ensures) (c .before .before .before .next .given .1) (c .before .before .before .before .before .before .before .before .before .push .kept .1 .1 .0) (sym (c .if1 .taken) ∙ c .before .is-zero .ensures)
+    walks.follow-zero (c .before .before .before .before .before .before .before .before .before .before .before .before .before .before .before .before .pre) (c .before .before .before .before .before .before .before .before .before .before .before .before .before .before .before .before .args .target) (c .before .before .before .before .before .before .before .before .before .set-push .ensures) (c .before .before .before .next .given .1) (c .before .before .before .before .before .before .before .before .before .set-push .kept .1 .1 .0) (sym (c .if1 .taken) ∙ c .before .is-zero .ensures)
 
 -- src/lib.rt:37:8
 put-requires : tie.Need-put-requires
@@ -74,7 +74,7 @@ same-length-7 c = search needs
 -- src/lib.rt:38:9
 returns-3 : tie.Need-returns-3
 returns-3 c =
-    walks.follow-put (c .before .before .before .before .before .before .before .before .before .before .before .before .before .before .before .before .before .before .before .before .before .pre) (c .before .before .before .before .before .before .before .before .before .before .before .before .before .before .before .before .before .before .before .before .before .args .target) (c .before .before .before .before .before .before .before .before .before .before .before .before .before .before .push .ensures) (c .before .before .before .before .before .before .before .before .next .given .1) (c .before .before .before .before .before .before .before .before .before .before .before .before .before .before .push .kept .1 .1 .0) (sym (c .before .before .before .before .before .if1 .left) ∙ c .before .before .before .before .before .before .is-zero .ensures) (c .before .before .before .put .last .0) (c .before .before .before .put .result) (c .before .before .before .put .ensures) (c .if2 .taken)
+    walks.follow-put (c .before .before .before .before .before .before .before .before .before .before .before .before .before .before .before .before .before .before .before .before .before .pre) (c .before .before .before .before .before .before .before .before .before .before .before .before .before .before .before .before .before .before .before .before .before .args .target) (c .before .before .before .before .before .before .before .before .before .before .before .before .before .before .set-push .ensures) (c .before .before .before .before .before .before .before .before .next .given .1) (c .before .before .before .before .before .before .before .before .before .before .before .before .before .before .set-push .kept .1 .1 .0) (sym (c .before .before .before .before .before .if1 .left) ∙ c .before .before .before .before .before .before .is-zero .ensures) (c .before .before .before .put .last .0) (c .before .before .before .put .result) (c .before .before .before .put .ensures) (c .if2 .taken)
 
 -- src/lib.rt:15:1
 same-length-8 : tie.Need-same-length-8
@@ -91,13 +91,13 @@ same-length-10 c = search needs
 -- src/lib.rt:15:1
 returns-4 : tie.Need-returns-4
 returns-4 c =
-    walks.follow-no-entry (c .before .before .before .before .before .before .before .before .before .before .before .before .before .before .before .before .before .before .before .before .before .pre) (c .before .before .before .before .before .before .before .before .before .before .before .before .before .before .before .before .before .before .before .before .before .args .target) (c .before .before .before .before .before .before .before .before .before .before .before .before .before .before .push .ensures) (c .before .before .before .before .before .before .before .before .next .given .1) (c .before .before .before .before .before .before .before .before .before .before .before .before .before .before .push .kept .1 .1 .0) (sym (c .before .before .before .before .before .if1 .left) ∙ c .before .before .before .before .before .before .is-zero .ensures) (c .before .before .before .put .last .0) (c .before .before .before .put .result) (c .before .before .before .put .ensures) (c .if2 .left)
+    walks.follow-no-entry (c .before .before .before .before .before .before .before .before .before .before .before .before .before .before .before .before .before .before .before .before .before .pre) (c .before .before .before .before .before .before .before .before .before .before .before .before .before .before .before .before .before .before .before .before .before .args .target) (c .before .before .before .before .before .before .before .before .before .before .before .before .before .before .set-push .ensures) (c .before .before .before .before .before .before .before .before .next .given .1) (c .before .before .before .before .before .before .before .before .before .before .before .before .before .before .set-push .kept .1 .1 .0) (sym (c .before .before .before .before .before .if1 .left) ∙ c .before .before .before .before .before .before .is-zero .ensures) (c .before .before .before .put .last .0) (c .before .before .before .put .result) (c .before .before .before .put .ensures) (c .if2 .left)
 
 pub follow-spec : {M : Type 1} → statement M
 follow-spec =
     tie.close
     (tie.spec
-    push-requires
+    set-push-requires
     enum-known-next
     enum-told
     same-length

@@ -10,8 +10,8 @@ use Rattle.aut_live_pull.proofs.pull_from.Reads as reads
 use Rattle.aut_live_pull.proofs.pull_from.Lts as lts
 use Rattle.aut_live_words.proofs.enlarge.Reads as enlarge-reads
 use Rattle.aut_live_words.proofs.label_to.Reads as label-to-reads
-use Rattle.aut_sets.proofs.pull.Reads as pull-reads
-use Rattle.aut_sets.proofs.union.Reads as union-reads
+use Rattle.aut_sets.proofs.set_pull.Reads as pull-reads
+use Rattle.aut_sets.proofs.set_union.Reads as union-reads
 
 -- src/lib.rt:27:9
 label-to-requires : tie.Need-label-to-requires
@@ -50,9 +50,9 @@ sub-t31 c =
     c .before .before .before .before .before .before .before .before .before .before .before .before .pre .source .target
 
 -- src/lib.rt:33:48
-pull-requires : tie.Need-pull-requires
+set-pull-requires : tie.Need-set-pull-requires
 unfolding workOf
-pull-requires c κs =
+set-pull-requires c κs =
     let g = c .before .before .before .before .before .before .before .before .before .before .before .before .before .before .args in settling.pull-asks (g .sp .now) (g .nodes .now) (g .states .now) (c .before .before .before .before .before .before .before .before .before .before .before .before .before .before .pre .members) (g .transitions .now) (g .c) (c .before .before .before .before .before .before .before .before .before .before .before .before .before .before .pre .source) (c .before .before .before .before .before .before .label-to .ensures ∙ ap labelOf (c .before .before .before .before .label .given .1))
 
 -- src/lib.rt:33:32
@@ -79,7 +79,7 @@ same-length-3 c = search needs
 returns : tie.Need-returns
 unfolding workOf
 returns c =
-    let g = c .before .before .before .before .before .before .before .before .before .before .before .before .before .before .before .before .before .before .before .before .before .args in λ mem n S. settling.pull-stuck (g .sp .now) (g .nodes .now) (g .states .now) mem (g .transitions .now) (g .c) S (c .before .before .before .before .before .before .before .before .before .before .before .before .before .label-to .ensures ∙ ap labelOf (c .before .before .before .before .before .before .before .before .before .before .before .label .given .1)) (c .before .before .before .before .before .before .pull .ensures) (c .enum-told2 .given .1)
+    let g = c .before .before .before .before .before .before .before .before .before .before .before .before .before .before .before .before .before .before .before .before .before .args in λ mem n S. settling.pull-stuck (g .sp .now) (g .nodes .now) (g .states .now) mem (g .transitions .now) (g .c) S (c .before .before .before .before .before .before .before .before .before .before .before .before .before .label-to .ensures ∙ ap labelOf (c .before .before .before .before .before .before .before .before .before .before .before .label .given .1)) (c .before .before .before .before .before .before .set-pull .ensures) (c .enum-told2 .given .1)
 
 -- src/lib.rt:45:21
 mul-j : tie.Need-mul-j
@@ -105,10 +105,10 @@ sub-t30 c =
     c .before .before .before .before .before .before .before .before .before .before .before .before .before .before .before .before .before .before .before .before .before .before .before .pre .source .source
 
 -- src/lib.rt:47:48
-union-requires : tie.Need-union-requires
+set-union-requires : tie.Need-set-union-requires
 unfolding workOf
-union-requires c κs =
-    let g = c .before .before .before .before .before .before .before .before .before .before .before .before .before .before .before .before .before .before .before .before .before .before .before .before .before .args in settling.union-asks (g .sp .now) (g .nodes .now) (g .states .now) (c .before .before .before .before .before .before .before .before .before .before .before .before .before .before .before .before .before .before .before .before .before .before .before .before .before .pre .members) (g .transitions .now) (g .c) (c .before .before .before .before .before .before .before .before .before .before .before .before .before .before .before .before .before .before .before .before .before .before .before .before .before .pre .source) (c .before .before .before .before .before .before .before .before .before .before .before .before .before .before .before .before .before .label-to .ensures ∙ ap labelOf (c .before .before .before .before .before .before .before .before .before .before .before .before .before .before .before .label .given .1)) (c .before .before .before .before .before .before .before .before .before .before .pull .ensures) (c .before .before .before .before .before .before .before .before .before .before .pull .kept .1 .1 .0) (c .before .before .before .before .accepted .given .1)
+set-union-requires c κs =
+    let g = c .before .before .before .before .before .before .before .before .before .before .before .before .before .before .before .before .before .before .before .before .before .before .before .before .before .args in settling.union-asks (g .sp .now) (g .nodes .now) (g .states .now) (c .before .before .before .before .before .before .before .before .before .before .before .before .before .before .before .before .before .before .before .before .before .before .before .before .before .pre .members) (g .transitions .now) (g .c) (c .before .before .before .before .before .before .before .before .before .before .before .before .before .before .before .before .before .before .before .before .before .before .before .before .before .pre .source) (c .before .before .before .before .before .before .before .before .before .before .before .before .before .before .before .before .before .label-to .ensures ∙ ap labelOf (c .before .before .before .before .before .before .before .before .before .before .before .before .before .before .before .label .given .1)) (c .before .before .before .before .before .before .before .before .before .before .set-pull .ensures) (c .before .before .before .before .before .before .before .before .before .before .set-pull .kept .1 .1 .0) (c .before .before .before .before .accepted .given .1)
 
 -- src/lib.rt:47:32
 enum-known-combined : tie.Need-enum-known-combined
@@ -134,13 +134,13 @@ same-length-6 c = search needs
 returns-2 : tie.Need-returns-2
 unfolding workOf
 returns-2 c =
-    let g = c .before .before .before .before .before .before .before .before .before .before .before .before .before .before .before .before .before .before .before .before .before .before .before .before .before .before .before .before .before .before .before .before .args in λ mem n S. settling.union-stuck (g .sp .now) (g .nodes .now) (g .states .now) mem (g .transitions .now) (g .c) S (c .before .before .before .before .before .before .before .before .before .before .before .before .before .before .before .before .before .before .before .before .before .before .before .before .label-to .ensures ∙ ap labelOf (c .before .before .before .before .before .before .before .before .before .before .before .before .before .before .before .before .before .before .before .before .before .before .label .given .1)) (c .before .before .before .before .before .before .before .before .before .before .before .before .before .before .before .before .before .pull .ensures) (c .before .before .before .before .before .before .before .before .before .before .before .before .before .before .before .before .before .pull .kept .1 .1 .0) (c .before .before .before .before .before .before .before .before .before .before .before .accepted .given .1) (c .before .before .before .before .before .before .union .ensures) (c .enum-told3 .given .1)
+    let g = c .before .before .before .before .before .before .before .before .before .before .before .before .before .before .before .before .before .before .before .before .before .before .before .before .before .before .before .before .before .before .before .before .args in λ mem n S. settling.union-stuck (g .sp .now) (g .nodes .now) (g .states .now) mem (g .transitions .now) (g .c) S (c .before .before .before .before .before .before .before .before .before .before .before .before .before .before .before .before .before .before .before .before .before .before .before .before .label-to .ensures ∙ ap labelOf (c .before .before .before .before .before .before .before .before .before .before .before .before .before .before .before .before .before .before .before .before .before .before .label .given .1)) (c .before .before .before .before .before .before .before .before .before .before .before .before .before .before .before .before .before .set-pull .ensures) (c .before .before .before .before .before .before .before .before .before .before .before .before .before .before .before .before .before .set-pull .kept .1 .1 .0) (c .before .before .before .before .before .before .before .before .before .before .before .accepted .given .1) (c .before .before .before .before .before .before .set-union .ensures) (c .enum-told3 .given .1)
 
 -- src/lib.rt:57:32
 enlarge-requires : tie.Need-enlarge-requires
 unfolding workOf
 enlarge-requires c κs =
-    let g = c .before .before .before .before .before .before .before .before .before .before .before .before .before .before .before .before .before .before .before .before .before .before .before .before .before .before .before .before .before .before .before .before .before .before .before .args in settling.enlarge-asks (g .sp .now) (g .nodes .now) (g .states .now) (c .before .before .before .before .before .before .before .before .before .before .before .before .before .before .before .before .before .before .before .before .before .before .before .before .before .before .before .before .before .before .before .before .before .before .before .pre .members) (g .transitions .now) (g .c) (c .before .before .before .before .before .before .before .before .before .before .before .before .before .before .before .before .before .before .before .before .before .before .before .before .before .before .before .before .before .before .before .before .before .before .before .pre .source) (c .before .before .before .before .before .before .before .before .before .before .before .before .before .before .before .before .before .before .before .before .before .before .before .before .before .before .before .label-to .ensures ∙ ap labelOf (c .before .before .before .before .before .before .before .before .before .before .before .before .before .before .before .before .before .before .before .before .before .before .before .before .before .label .given .1)) (c .before .before .before .before .before .before .before .before .before .before .before .before .before .before .before .before .before .before .before .before .pull .ensures) (c .before .before .before .before .before .before .before .before .before .before .before .before .before .before .before .before .before .before .before .before .pull .kept .1 .1 .0) (c .before .before .before .before .before .before .before .before .before .before .before .before .before .before .accepted .given .1) (c .before .before .before .before .before .before .before .before .before .union .ensures) (c .before .before .before .before .before .before .before .before .before .union .kept .1 .0) (c .before .before .before .combined .given .1)
+    let g = c .before .before .before .before .before .before .before .before .before .before .before .before .before .before .before .before .before .before .before .before .before .before .before .before .before .before .before .before .before .before .before .before .before .before .before .args in settling.enlarge-asks (g .sp .now) (g .nodes .now) (g .states .now) (c .before .before .before .before .before .before .before .before .before .before .before .before .before .before .before .before .before .before .before .before .before .before .before .before .before .before .before .before .before .before .before .before .before .before .before .pre .members) (g .transitions .now) (g .c) (c .before .before .before .before .before .before .before .before .before .before .before .before .before .before .before .before .before .before .before .before .before .before .before .before .before .before .before .before .before .before .before .before .before .before .before .pre .source) (c .before .before .before .before .before .before .before .before .before .before .before .before .before .before .before .before .before .before .before .before .before .before .before .before .before .before .before .label-to .ensures ∙ ap labelOf (c .before .before .before .before .before .before .before .before .before .before .before .before .before .before .before .before .before .before .before .before .before .before .before .before .before .label .given .1)) (c .before .before .before .before .before .before .before .before .before .before .before .before .before .before .before .before .before .before .before .before .set-pull .ensures) (c .before .before .before .before .before .before .before .before .before .before .before .before .before .before .before .before .before .before .before .before .set-pull .kept .1 .1 .0) (c .before .before .before .before .before .before .before .before .before .before .before .before .before .before .accepted .given .1) (c .before .before .before .before .before .before .before .before .before .set-union .ensures) (c .before .before .before .before .before .before .before .before .before .set-union .kept .1 .0) (c .before .before .before .combined .given .1)
 
 -- src/lib.rt:57:26
 enum-known-m1 : tie.Need-enum-known-m1
@@ -170,7 +170,7 @@ same-length-10 c = search needs
 returns-3 : tie.Need-returns-3
 unfolding workOf
 returns-3 c =
-    let g = c .before .before .before .before .before .before .before .before .before .before .before .before .before .before .before .before .before .before .before .before .before .before .before .before .before .before .before .before .before .before .before .before .before .before .before .before .before .before .before .before .before .before .args in λ mem n S. settling.enlarge-stuck (g .sp .now) (g .nodes .now) (g .states .now) mem (g .transitions .now) (g .c) S (c .before .before .before .before .before .before .before .before .before .before .before .before .before .before .before .before .before .before .before .before .before .before .before .before .before .before .before .before .before .before .before .before .before .before .label-to .ensures ∙ ap labelOf (c .before .before .before .before .before .before .before .before .before .before .before .before .before .before .before .before .before .before .before .before .before .before .before .before .before .before .before .before .before .before .before .before .label .given .1)) (c .before .before .before .before .before .before .before .before .before .before .before .before .before .before .before .before .before .before .before .before .before .before .before .before .before .before .before .pull .ensures) (c .before .before .before .before .before .before .before .before .before .before .before .before .before .before .before .before .before .before .before .before .before .before .before .before .before .before .before .pull .kept .1 .1 .0) (c .before .before .before .before .before .before .before .before .before .before .before .before .before .before .before .before .before .before .before .before .before .accepted .given .1) (c .before .before .before .before .before .before .before .before .before .before .before .before .before .before .before .before .union .ensures) (c .before .before .before .before .before .before .before .before .before .before .before .before .before .before .before .before .union .kept .1 .0) (c .before .before .before .before .before .before .before .before .before .before .combined .given .1) (c .before .before .before .before .before .before .enlarge .ensures) (c .enum-told4 .given .1)
+    let g = c .before .before .before .before .before .before .before .before .before .before .before .before .before .before .before .before .before .before .before .before .before .before .before .before .before .before .before .before .before .before .before .before .before .before .before .before .before .before .before .before .before .before .args in λ mem n S. settling.enlarge-stuck (g .sp .now) (g .nodes .now) (g .states .now) mem (g .transitions .now) (g .c) S (c .before .before .before .before .before .before .before .before .before .before .before .before .before .before .before .before .before .before .before .before .before .before .before .before .before .before .before .before .before .before .before .before .before .before .label-to .ensures ∙ ap labelOf (c .before .before .before .before .before .before .before .before .before .before .before .before .before .before .before .before .before .before .before .before .before .before .before .before .before .before .before .before .before .before .before .before .label .given .1)) (c .before .before .before .before .before .before .before .before .before .before .before .before .before .before .before .before .before .before .before .before .before .before .before .before .before .before .before .set-pull .ensures) (c .before .before .before .before .before .before .before .before .before .before .before .before .before .before .before .before .before .before .before .before .before .before .before .before .before .before .before .set-pull .kept .1 .1 .0) (c .before .before .before .before .before .before .before .before .before .before .before .before .before .before .before .before .before .before .before .before .before .accepted .given .1) (c .before .before .before .before .before .before .before .before .before .before .before .before .before .before .before .before .set-union .ensures) (c .before .before .before .before .before .before .before .before .before .before .before .before .before .before .before .before .set-union .kept .1 .0) (c .before .before .before .before .before .before .before .before .before .before .combined .given .1) (c .before .before .before .before .before .before .enlarge .ensures) (c .enum-told4 .given .1)
 
 -- src/lib.rt:11:1
 same-length-11 : tie.Need-same-length-11
@@ -201,7 +201,7 @@ same-length-15 c = search needs
 returns-5 : tie.Need-returns-5
 unfolding workOf
 returns-5 c =
-    let g = c .before .before .before .before .before .before .before .before .before .before .before .before .before .before .before .before .before .before .before .before .before .before .before .before .before .before .before .before .before .before .before .before .before .before .before .before .before .before .before .before .before .before .before .args in λ mem n S. settling.enlarged (g .sp .now) (g .nodes .now) (g .states .now) mem (g .transitions .now) (g .c) S (c .before .before .before .before .before .before .before .before .before .before .before .before .before .before .before .before .before .before .before .before .before .before .before .before .before .before .before .before .before .before .before .before .before .before .before .label-to .ensures ∙ ap labelOf (c .before .before .before .before .before .before .before .before .before .before .before .before .before .before .before .before .before .before .before .before .before .before .before .before .before .before .before .before .before .before .before .before .before .label .given .1)) (c .before .before .before .before .before .before .before .before .before .before .before .before .before .before .before .before .before .before .before .before .before .before .before .before .before .before .before .before .pull .ensures) (c .before .before .before .before .before .before .before .before .before .before .before .before .before .before .before .before .before .before .before .before .before .before .before .before .before .before .before .before .pull .kept .1 .1 .0) (c .before .before .before .before .before .before .before .before .before .before .before .before .before .before .before .before .before .before .before .before .before .before .accepted .given .1) (c .before .before .before .before .before .before .before .before .before .before .before .before .before .before .before .before .before .union .ensures) (c .before .before .before .before .before .before .before .before .before .before .before .before .before .before .before .before .before .union .kept .1 .0) (c .before .before .before .before .before .before .before .before .before .before .before .combined .given .1) (c .before .before .before .before .before .before .before .enlarge .ensures) (c .before .m1 .given .1)
+    let g = c .before .before .before .before .before .before .before .before .before .before .before .before .before .before .before .before .before .before .before .before .before .before .before .before .before .before .before .before .before .before .before .before .before .before .before .before .before .before .before .before .before .before .before .args in λ mem n S. settling.enlarged (g .sp .now) (g .nodes .now) (g .states .now) mem (g .transitions .now) (g .c) S (c .before .before .before .before .before .before .before .before .before .before .before .before .before .before .before .before .before .before .before .before .before .before .before .before .before .before .before .before .before .before .before .before .before .before .before .label-to .ensures ∙ ap labelOf (c .before .before .before .before .before .before .before .before .before .before .before .before .before .before .before .before .before .before .before .before .before .before .before .before .before .before .before .before .before .before .before .before .before .label .given .1)) (c .before .before .before .before .before .before .before .before .before .before .before .before .before .before .before .before .before .before .before .before .before .before .before .before .before .before .before .before .set-pull .ensures) (c .before .before .before .before .before .before .before .before .before .before .before .before .before .before .before .before .before .before .before .before .before .before .before .before .before .before .before .before .set-pull .kept .1 .1 .0) (c .before .before .before .before .before .before .before .before .before .before .before .before .before .before .before .before .before .before .before .before .before .before .accepted .given .1) (c .before .before .before .before .before .before .before .before .before .before .before .before .before .before .before .before .before .set-union .ensures) (c .before .before .before .before .before .before .before .before .before .before .before .before .before .before .before .before .before .set-union .kept .1 .0) (c .before .before .before .before .before .before .before .before .before .before .before .combined .given .1) (c .before .before .before .before .before .before .before .enlarge .ensures) (c .before .m1 .given .1)
 
 pub pull-from-spec : {M : Type 1} → statement M
 pull-from-spec =
@@ -215,7 +215,7 @@ pull-from-spec =
     mul-t27
     slice-read-t30
     sub-t31
-    pull-requires
+    set-pull-requires
     enum-known-accepted
     enum-told-2
     same-length
@@ -227,7 +227,7 @@ pull-from-spec =
     mul-t28
     slice-read-t31
     sub-t30
-    union-requires
+    set-union-requires
     enum-known-combined
     enum-told-3
     same-length-4

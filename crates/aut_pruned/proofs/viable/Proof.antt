@@ -6,7 +6,7 @@ use Rattle.aut_pruned.proofs.viable.Tie as tie
 use Rattle.aut_pruned.proofs.viable.Reads as reads
 use Rattle.aut_pruned.proofs.viable.Lts as lts
 use Rattle.aut_relations.proofs.apply.Reads as apply-reads
-use Rattle.aut_sets.proofs.ifwd.Reads as ifwd-reads
+use Rattle.aut_sets.proofs.set_ifwd.Reads as ifwd-reads
 
 -- src/lib.rt:34:26
 mul-t13 : tie.Need-mul-t13
@@ -30,8 +30,8 @@ sub-t18 c =
     turns.viable-marked (c .before .before .before .before .before .pre)
 
 -- src/lib.rt:35:34
-ifwd-requires : tie.Need-ifwd-requires
-ifwd-requires c κs =
+set-ifwd-requires : tie.Need-set-ifwd-requires
+set-ifwd-requires c κs =
     turns.viable-lift (c .before .before .before .before .before .before .before .pre)
 
 -- src/lib.rt:35:20
@@ -53,12 +53,12 @@ same-length-2 c = search needs
 -- src/lib.rt:36:9
 returns : tie.Need-returns
 returns c =
-    turns.viable-stuck (c .before .before .before .before .before .before .before .before .before .before .before .before .before .before .pre) (c .before .before .before .before .before .before .ifwd .ensures) (c .enum-told .given .1)
+    turns.viable-stuck (c .before .before .before .before .before .before .before .before .before .before .before .before .before .before .pre) (c .before .before .before .before .before .before .set-ifwd .ensures) (c .enum-told .given .1)
 
 -- src/lib.rt:38:5
 apply-requires : tie.Need-apply-requires
 apply-requires c κs =
-    turns.viable-relate (c .before .before .before .before .before .before .before .before .before .before .before .before .before .before .before .before .before .pre) (c .before .before .before .before .before .before .before .before .before .ifwd .ensures) (c .before .before .before .allowed .given .1) (c .before .before .before .before .before .before .before .before .before .ifwd .kept .1 .1 .0)
+    turns.viable-relate (c .before .before .before .before .before .before .before .before .before .before .before .before .before .before .before .before .before .pre) (c .before .before .before .before .before .before .before .before .before .set-ifwd .ensures) (c .before .before .before .allowed .given .1) (c .before .before .before .before .before .before .before .before .before .set-ifwd .kept .1 .1 .0)
 
 -- src/lib.rt:20:1
 same-length-3 : tie.Need-same-length-3
@@ -71,7 +71,7 @@ same-length-4 c = search needs
 -- src/lib.rt:20:1
 returns-2 : tie.Need-returns-2
 returns-2 c =
-    turns.viable-done (c .before .before .before .before .before .before .before .before .before .before .before .before .before .before .before .before .before .before .before .before .before .before .pre) (c .before .before .before .before .before .before .before .before .before .before .before .before .before .before .ifwd .ensures) (c .before .before .before .before .before .before .before .before .allowed .given .1) (c .before .before .before .before .before .before .before .before .before .before .before .before .before .before .ifwd .kept .1 .1 .0) _ (c .before .before .before .before .apply .ensures) (c .before .before .before .before .apply .kept .1 .0)
+    turns.viable-done (c .before .before .before .before .before .before .before .before .before .before .before .before .before .before .before .before .before .before .before .before .before .before .pre) (c .before .before .before .before .before .before .before .before .before .before .before .before .before .before .set-ifwd .ensures) (c .before .before .before .before .before .before .before .before .allowed .given .1) (c .before .before .before .before .before .before .before .before .before .before .before .before .before .before .set-ifwd .kept .1 .1 .0) _ (c .before .before .before .before .apply .ensures) (c .before .before .before .before .apply .kept .1 .0)
 
 pub viable-spec : {M : Type 1} → statement M
 viable-spec =
@@ -82,7 +82,7 @@ viable-spec =
     mul-t15
     shared-slice-read-t17
     sub-t18
-    ifwd-requires
+    set-ifwd-requires
     enum-known-allowed
     enum-told
     same-length

@@ -7,7 +7,7 @@ use Rattle.aut_states.proofs.push_list.Tie as tie
 use Rattle.aut_states.proofs.push_list.Reads as reads
 use Rattle.aut_states.proofs.push_list.Lts as lts
 use Rattle.aut_states.proofs.copy.Reads as copy-reads
-use Rattle.aut_states.proofs.push.Reads as push-reads
+use Rattle.aut_states.proofs.put_state.Reads as push-reads
 
 -- src/lib.rt:239:8
 add-if1 : tie.Need-add-if1
@@ -32,16 +32,16 @@ copy-requires : tie.Need-copy-requires
 copy-requires c κs = search needs
 
 -- src/lib.rt:246:44
-cast-push : tie.Need-cast-push
-cast-push c = search needs
+cast-put-state : tie.Need-cast-put-state
+cast-put-state c = search needs
 
 -- src/lib.rt:246:54
-cast-push-2 : tie.Need-cast-push-2
-cast-push-2 c = search needs
+cast-put-state-2 : tie.Need-cast-put-state-2
+cast-put-state-2 c = search needs
 
 -- src/lib.rt:246:9
-push-requires : tie.Need-push-requires
-push-requires c κs = search needs
+put-state-requires : tie.Need-put-state-requires
+put-state-requires c κs = search needs
 
 -- src/lib.rt:248:22
 enum-known-put : tie.Need-enum-known-put
@@ -66,7 +66,7 @@ same-length-2 c = search needs
 -- src/lib.rt:234:1
 returns-3 : tie.Need-returns-3
 returns-3 c =
-    let g = c .before .before .before .before .before .before .before .before .before .before .before .before .before .before .before .before .args in record { is = intern.added (g .states .now) (g .members .now) (g .scratch .now) (g .c .states) (g .c .members) (g .kind) (g .base) (g .k) (g .nest) (c .before .before .before .before .before .before .before .before .before .before .before .before .if1 .left) (c .before .before .before .before .before .before .before .before .before .before .before .if2 .left) _ (c .before .before .before .before .before .before .before .before .before .copy .ensures) _ (c .before .before .before .before .before .push .ensures ∙ ap (λ r. seenPut r (c .before .before .before .before .before .push .last .0)) (c .before .put .given .1)); beside = tt }
+    let g = c .before .before .before .before .before .before .before .before .before .before .before .before .before .before .before .before .args in record { is = intern.added (g .states .now) (g .members .now) (g .scratch .now) (g .c .states) (g .c .members) (g .kind) (g .base) (g .k) (g .nest) (c .before .before .before .before .before .before .before .before .before .before .before .before .if1 .left) (c .before .before .before .before .before .before .before .before .before .before .before .if2 .left) _ (c .before .before .before .before .before .before .before .before .before .copy .ensures) _ (c .before .before .before .before .before .put-state .ensures ∙ ap (λ r. seenPut r (c .before .before .before .before .before .put-state .last .0)) (c .before .put .given .1)); beside = tt }
 
 -- src/lib.rt:234:1
 same-length-3 : tie.Need-same-length-3
@@ -79,7 +79,7 @@ same-length-4 c = search needs
 -- src/lib.rt:234:1
 returns-4 : tie.Need-returns-4
 returns-4 c =
-    let g = c .before .before .before .before .before .before .before .before .before .before .before .before .before .before .before .before .args in record { is = intern.added (g .states .now) (g .members .now) (g .scratch .now) (g .c .states) (g .c .members) (g .kind) (g .base) (g .k) (g .nest) (c .before .before .before .before .before .before .before .before .before .before .before .before .if1 .left) (c .before .before .before .before .before .before .before .before .before .before .before .if2 .left) _ (c .before .before .before .before .before .before .before .before .before .copy .ensures) _ (c .before .before .before .before .before .push .ensures ∙ ap (λ r. seenPut r (c .before .before .before .before .before .push .last .0)) (c .before .put2 .given .1)); beside = (refl, refl, refl) }
+    let g = c .before .before .before .before .before .before .before .before .before .before .before .before .before .before .before .before .args in record { is = intern.added (g .states .now) (g .members .now) (g .scratch .now) (g .c .states) (g .c .members) (g .kind) (g .base) (g .k) (g .nest) (c .before .before .before .before .before .before .before .before .before .before .before .before .if1 .left) (c .before .before .before .before .before .before .before .before .before .before .before .if2 .left) _ (c .before .before .before .before .before .before .before .before .before .copy .ensures) _ (c .before .before .before .before .before .put-state .ensures ∙ ap (λ r. seenPut r (c .before .before .before .before .before .put-state .last .0)) (c .before .put2 .given .1)); beside = (refl, refl, refl) }
 
 pub push-list-spec : {M : Type 1} → statement M
 push-list-spec =
@@ -90,9 +90,9 @@ push-list-spec =
     add-if2
     returns-2
     copy-requires
-    cast-push
-    cast-push-2
-    push-requires
+    cast-put-state
+    cast-put-state-2
+    put-state-requires
     enum-known-put
     enum-known-put-2
     add-t25

@@ -2,10 +2,10 @@ use native.Mathlib.Omega.{arith}
 use Rattle.common.specs.Runs.{table}
 use Rattle.aut_sets.proofs.Back as back
 use borrow.Author.Needs.{needs}
-use Rattle.aut_sets.proofs.push.Statement.{statement}
-use Rattle.aut_sets.proofs.push.Tie as tie
-use Rattle.aut_sets.proofs.push.Reads as reads
-use Rattle.aut_sets.proofs.push.Lts as lts
+use Rattle.aut_sets.proofs.set_push.Statement.{statement}
+use Rattle.aut_sets.proofs.set_push.Tie as tie
+use Rattle.aut_sets.proofs.set_push.Reads as reads
+use Rattle.aut_sets.proofs.set_push.Lts as lts
 use Rattle.spp_image.proofs.push.Reads as push-reads
 
 -- src/lib.rt:61:30
@@ -44,8 +44,8 @@ returns c =
     let g = c .before .before .before .before .before .before .before .before .before .before .args in let p = c .before .before .before .before .before .before .before .before .before .before .pre in let v = c .before .before .before .before .push in
     record { gives = v .ensures .gives; left = back.image-back (g .fields) (v .result) (v .last .1 .0) (table (g .nodes .now) (g .c .spp)) (g .scratch .now) (v .last .1 .1 .0) (p .image .room) (v .ensures .notes) }
 
-pub push-spec : {M : Type 1} → statement M
-push-spec =
+pub set-push-spec : {M : Type 1} → statement M
+set-push-spec =
     tie.close
     (tie.spec
     mul-push

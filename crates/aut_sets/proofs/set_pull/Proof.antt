@@ -2,10 +2,10 @@ use native.Mathlib.Omega.{arith}
 use Rattle.common.specs.Runs.{table}
 use Rattle.aut_sets.proofs.Back as back
 use borrow.Author.Needs.{needs}
-use Rattle.aut_sets.proofs.pull.Statement.{statement}
-use Rattle.aut_sets.proofs.pull.Tie as tie
-use Rattle.aut_sets.proofs.pull.Reads as reads
-use Rattle.aut_sets.proofs.pull.Lts as lts
+use Rattle.aut_sets.proofs.set_pull.Statement.{statement}
+use Rattle.aut_sets.proofs.set_pull.Tie as tie
+use Rattle.aut_sets.proofs.set_pull.Reads as reads
+use Rattle.aut_sets.proofs.set_pull.Lts as lts
 use Rattle.spp_image.proofs.pull.Reads as pull-reads
 
 -- src/lib.rt:80:30
@@ -44,8 +44,8 @@ returns c =
     let g = c .before .before .before .before .before .before .before .before .before .before .args in let p = c .before .before .before .before .before .before .before .before .before .before .pre in let v = c .before .before .before .before .pull in
     record { gives = v .ensures .gives; left = back.image-back (g .fields) (v .result) (v .last .1 .0) (table (g .nodes .now) (g .c .spp)) (g .scratch .now) (v .last .1 .1 .0) (p .image .room) (v .ensures .notes) }
 
-pub pull-spec : {M : Type 1} → statement M
-pull-spec =
+pub set-pull-spec : {M : Type 1} → statement M
+set-pull-spec =
     tie.close
     (tie.spec
     mul-pull

@@ -3,10 +3,10 @@ use Rattle.common.specs.Runs.{table}
 use Rattle.sp_steps.proofs.Laws.{wf-down}
 use Rattle.aut_sets.proofs.Back as back
 use borrow.Author.Needs.{needs}
-use Rattle.aut_sets.proofs.difference.Statement.{statement}
-use Rattle.aut_sets.proofs.difference.Tie as tie
-use Rattle.aut_sets.proofs.difference.Reads as reads
-use Rattle.aut_sets.proofs.difference.Lts as lts
+use Rattle.aut_sets.proofs.set_difference.Statement.{statement}
+use Rattle.aut_sets.proofs.set_difference.Tie as tie
+use Rattle.aut_sets.proofs.set_difference.Reads as reads
+use Rattle.aut_sets.proofs.set_difference.Lts as lts
 use Rattle.sp.proofs.difference.Reads as difference-reads
 
 -- src/lib.rt:26:24
@@ -45,8 +45,8 @@ returns c =
     let g = c .before .before .before .before .before .before .before .before .before .args in let p = c .before .before .before .before .before .before .before .before .before .pre in let v = c .before .before .before .before .difference in
     record { gives = v .ensures .gives; left = back.set-back (v .result) (v .last .0) (g .scratch .now) (v .last .1 .0) (p .first .room) (v .ensures .notes) }
 
-pub difference-spec : {M : Type 1} → statement M
-difference-spec =
+pub set-difference-spec : {M : Type 1} → statement M
+set-difference-spec =
     tie.close
     (tie.spec
     mul-difference

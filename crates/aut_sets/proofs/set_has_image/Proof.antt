@@ -2,10 +2,10 @@ use native.Mathlib.Omega.{arith}
 use Rattle.common.specs.Runs.{table}
 use Rattle.aut_sets.proofs.Back as back
 use borrow.Author.Needs.{needs}
-use Rattle.aut_sets.proofs.has_image.Statement.{statement}
-use Rattle.aut_sets.proofs.has_image.Tie as tie
-use Rattle.aut_sets.proofs.has_image.Reads as reads
-use Rattle.aut_sets.proofs.has_image.Lts as lts
+use Rattle.aut_sets.proofs.set_has_image.Statement.{statement}
+use Rattle.aut_sets.proofs.set_has_image.Tie as tie
+use Rattle.aut_sets.proofs.set_has_image.Reads as reads
+use Rattle.aut_sets.proofs.set_has_image.Lts as lts
 use Rattle.spp_query.proofs.has_image.Reads as has-image-reads
 
 -- src/lib.rt:117:36
@@ -40,8 +40,8 @@ returns c =
     let g = c .before .before .before .before .before .before .before .args in let p = c .before .before .before .before .before .before .before .pre in let v = c .before .before .has-image in
     record { is = v .ensures .is; left = back.notes-back (g .scratch .now) (v .last .1 .1 .0) (p .image .room) (v .ensures .notes) }
 
-pub has-image-spec : {M : Type 1} → statement M
-has-image-spec =
+pub set-has-image-spec : {M : Type 1} → statement M
+set-has-image-spec =
     tie.close
     (tie.spec
     mul-has-image

@@ -2,10 +2,10 @@ use native.Mathlib.Omega.{arith}
 use Rattle.common.specs.Runs.{table}
 use Rattle.aut_sets.proofs.Back as back
 use borrow.Author.Needs.{needs}
-use Rattle.aut_sets.proofs.ifwd.Statement.{statement}
-use Rattle.aut_sets.proofs.ifwd.Tie as tie
-use Rattle.aut_sets.proofs.ifwd.Reads as reads
-use Rattle.aut_sets.proofs.ifwd.Lts as lts
+use Rattle.aut_sets.proofs.set_ifwd.Statement.{statement}
+use Rattle.aut_sets.proofs.set_ifwd.Tie as tie
+use Rattle.aut_sets.proofs.set_ifwd.Reads as reads
+use Rattle.aut_sets.proofs.set_ifwd.Lts as lts
 use Rattle.spp_query.proofs.ifwd.Reads as ifwd-reads
 
 -- src/lib.rt:135:31
@@ -44,8 +44,8 @@ returns c =
     let g = c .before .before .before .before .before .before .before .before .before .before .args in let p = c .before .before .before .before .before .before .before .before .before .before .pre in let v = c .before .before .before .before .ifwd in
     record { gives = v .ensures .gives; left = back.lift-back (g .fields) (v .result) (v .last .0) (table (g .sp .now) (g .c .sp)) (g .scratch .now) (v .last .1 .1 .0) (p .room) (v .ensures .notes) }
 
-pub ifwd-spec : {M : Type 1} → statement M
-ifwd-spec =
+pub set-ifwd-spec : {M : Type 1} → statement M
+set-ifwd-spec =
     tie.close
     (tie.spec
     mul-ifwd

@@ -3,10 +3,10 @@ use Rattle.common.specs.Runs.{table}
 use Rattle.sp_steps.proofs.Laws.{wf-down}
 use Rattle.aut_sets.proofs.Back as back
 use borrow.Author.Needs.{needs}
-use Rattle.aut_sets.proofs.union.Statement.{statement}
-use Rattle.aut_sets.proofs.union.Tie as tie
-use Rattle.aut_sets.proofs.union.Reads as reads
-use Rattle.aut_sets.proofs.union.Lts as lts
+use Rattle.aut_sets.proofs.set_union.Statement.{statement}
+use Rattle.aut_sets.proofs.set_union.Tie as tie
+use Rattle.aut_sets.proofs.set_union.Reads as reads
+use Rattle.aut_sets.proofs.set_union.Lts as lts
 use Rattle.sp.proofs.union.Reads as union-reads
 
 -- src/lib.rt:42:19
@@ -45,8 +45,8 @@ returns c =
     let g = c .before .before .before .before .before .before .before .before .before .args in let p = c .before .before .before .before .before .before .before .before .before .pre in let v = c .before .before .before .before .union in
     record { gives = v .ensures .gives; left = back.set-back (v .result) (v .last .0) (g .scratch .now) (v .last .1 .0) (p .first .room) (v .ensures .notes) }
 
-pub union-spec : {M : Type 1} → statement M
-union-spec =
+pub set-union-spec : {M : Type 1} → statement M
+set-union-spec =
     tie.close
     (tie.spec
     mul-union

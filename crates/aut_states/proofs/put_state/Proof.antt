@@ -3,10 +3,10 @@ use lib.ListN.{length-set}
 use Rattle.aut_steps.specs.Tables.{put4}
 use native.Mathlib.Omega.{arith}
 use borrow.Author.Needs.{needs}
-use Rattle.aut_states.proofs.push.Statement.{statement}
-use Rattle.aut_states.proofs.push.Tie as tie
-use Rattle.aut_states.proofs.push.Reads as reads
-use Rattle.aut_states.proofs.push.Lts as lts
+use Rattle.aut_states.proofs.put_state.Statement.{statement}
+use Rattle.aut_states.proofs.put_state.Tie as tie
+use Rattle.aut_states.proofs.put_state.Reads as reads
+use Rattle.aut_states.proofs.put_state.Lts as lts
 
 mul-states : tie.Need-mul-states
 mul-states c = search needs
@@ -78,8 +78,8 @@ returns-3 : tie.Need-returns-3
 returns-3 c =
     let g = c .before .args in tests.put-full (g .states .now) (g .count) (g .kind) (g .x) (g .y) (g .nest) (c .if1 .left)
 
-pub push-spec : {M : Type 1} → statement M
-push-spec =
+pub put-state-spec : {M : Type 1} → statement M
+put-state-spec =
     tie.close
     (tie.spec
     mul-states

@@ -2,10 +2,10 @@ use native.Mathlib.Omega.{arith}
 use Rattle.common.specs.Runs.{table}
 use Rattle.aut_sets.proofs.Back as back
 use borrow.Author.Needs.{needs}
-use Rattle.aut_sets.proofs.bwd.Statement.{statement}
-use Rattle.aut_sets.proofs.bwd.Tie as tie
-use Rattle.aut_sets.proofs.bwd.Reads as reads
-use Rattle.aut_sets.proofs.bwd.Lts as lts
+use Rattle.aut_sets.proofs.set_bwd.Statement.{statement}
+use Rattle.aut_sets.proofs.set_bwd.Tie as tie
+use Rattle.aut_sets.proofs.set_bwd.Reads as reads
+use Rattle.aut_sets.proofs.set_bwd.Lts as lts
 use Rattle.spp_image.proofs.bwd.Reads as bwd-reads
 
 -- src/lib.rt:98:29
@@ -44,8 +44,8 @@ returns c =
     let g = c .before .before .before .before .before .before .before .before .before .before .args in let p = c .before .before .before .before .before .before .before .before .before .before .pre in let v = c .before .before .before .before .bwd in
     record { gives = v .ensures .gives; left = back.image-back (g .fields) (v .result) (v .last .1 .0) (table (g .nodes .now) (g .c .spp)) (g .scratch .now) (v .last .1 .1 .0) (p .room) (v .ensures .notes) }
 
-pub bwd-spec : {M : Type 1} → statement M
-bwd-spec =
+pub set-bwd-spec : {M : Type 1} → statement M
+set-bwd-spec =
     tie.close
     (tie.spec
     mul-bwd
