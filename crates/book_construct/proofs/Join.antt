@@ -27,14 +27,15 @@ use Rattle.aut_relations.proofs.Join.{same-left}
 use Rattle.aut_relations.proofs.Order.{fits, ready-complement, ready-until, ready-after}
 use Rattle.aut_sequence.specs.Contracts.{Enters, Makes, Asks}
 use Rattle.aut_union.specs.Contracts.{ListAt, PairAt}
-use Rattle.book_construct.specs.declared.Constant.{Constant}
-use Rattle.book_construct.specs.declared.Bit.{Bit}
-use Rattle.book_construct.specs.declared.Single.{Single}
-use Rattle.book_construct.specs.declared.Pair.{Pair}
-use Rattle.book_construct.specs.declared.Listed.{Listed}
+use Rattle.book_words.specs.declared.Constant.{Constant}
+use Rattle.book_words.specs.declared.Bit.{Bit}
+use Rattle.book_words.specs.declared.Single.{Single}
+use Rattle.book_words.specs.declared.Pair.{Pair}
+use Rattle.book_words.specs.declared.Listed.{Listed}
 use Rattle.book_construct.specs.declared.Line.{Line}
 use Rattle.book_construct.specs.declared.Line.the-variants as line
-use Rattle.book_construct.specs.Contracts.{constantOf, singleOf, pairOf, listedOf, lineOf, LineReady, ReadyBy, Made}
+use Rattle.book_words.specs.Contracts.{constantOf, singleOf, pairOf, listedOf}
+use Rattle.book_construct.specs.Contracts.{lineOf, LineReady, ReadyBy, Made}
 
 -- ---- what is asked
 

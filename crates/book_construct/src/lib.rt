@@ -2,6 +2,11 @@
 use aut_states::Config;
 use aut_states::Counts;
 use aut_states::State;
+use book_words::Bit;
+use book_words::Constant;
+use book_words::Listed;
+use book_words::Pair;
+use book_words::Single;
 use spp::Made;
 use spp::SPP;
 ghost use mathlib.Core.Path.{_≡_};
@@ -17,39 +22,8 @@ ghost use Rattle.aut_relations.specs.Behind.{LISTS};
 ghost use Rattle.aut_relations.specs.Contracts.{autOf, Ready, Does, DoesSpp};
 ghost use Rattle.aut_sequence.specs.Contracts.{Enters, Makes, Asks};
 ghost use Rattle.aut_union.specs.Contracts.{ListAt, PairAt};
-ghost use Rattle.book_construct.specs.Contracts.{constantOf, bitOf, singleOf, pairOf, listedOf, lineOf, LineReady, Made as LineMade};
-
-pub enum Constant {
-    Zero,
-    One,
-    All,
-    Dup,
-    Top,
-}
-
-pub enum Bit {
-    Test,
-    Set,
-}
-
-pub enum Single {
-    Not,
-    Star,
-}
-
-pub enum Pair {
-    Or,
-    And,
-    Xor,
-    Minus,
-    Seq,
-    Until,
-}
-
-pub enum Listed {
-    Union,
-    Inter,
-}
+ghost use Rattle.book_words.specs.Contracts.{constantOf, bitOf, singleOf, pairOf, listedOf};
+ghost use Rattle.book_construct.specs.Contracts.{lineOf, LineReady, Made as LineMade};
 
 // operands are states; the members of a list, at most 64, are the first words of scratch
 pub enum Line {

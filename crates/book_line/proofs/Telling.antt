@@ -22,13 +22,13 @@ use Rattle.book_steps.specs.Reader.{given, resolve, makes, asks, refuses, numbe
 use Rattle.book_steps.specs.Run.{place, execute, step, after-making}
 use Rattle.aut_states.specs.Contracts.{limitsOf}
 use Rattle.aut_states.specs.declared.Config.{Config}
-use Rattle.book_construct.specs.Contracts.{constantOf, bitOf, singleOf, pairOf, listedOf}
-use Rattle.book_construct.specs.declared.Constant.{Constant}
-use Rattle.book_construct.specs.declared.Bit.{Bit}
-use Rattle.book_construct.specs.declared.Single.{Single}
-use Rattle.book_construct.specs.declared.Pair.{Pair}
-use Rattle.book_construct.specs.declared.Listed.{Listed}
-use Rattle.book_construct.specs.declared.Listed.the-variants as listed
+use Rattle.book_words.specs.Contracts.{constantOf, bitOf, singleOf, pairOf, listedOf}
+use Rattle.book_words.specs.declared.Constant.{Constant}
+use Rattle.book_words.specs.declared.Bit.{Bit}
+use Rattle.book_words.specs.declared.Single.{Single}
+use Rattle.book_words.specs.declared.Pair.{Pair}
+use Rattle.book_words.specs.declared.Listed.{Listed}
+use Rattle.book_words.specs.declared.Listed.the-variants as listed
 use Rattle.book_construct.specs.declared.Line.the-variants as line
 use Rattle.book_reader.specs.Contracts.{rest, queryOf, saidOf, SaidListed}
 use Rattle.book_reader.specs.declared.Cursor.{Cursor}

@@ -23,10 +23,11 @@ use Rattle.aut_states.specs.declared.State.{State}
 use Rattle.aut_states.specs.declared.State.the-variants as state
 use Rattle.aut_relations.specs.Contracts.{Ready}
 use Rattle.book_construct.specs.Contracts as Line
-use Rattle.book_construct.specs.Contracts.{bitOf, pairOf, listedOf, LineReady, Made}
-use Rattle.book_construct.specs.declared.Bit.{Bit}
-use Rattle.book_construct.specs.declared.Pair.{Pair}
-use Rattle.book_construct.specs.declared.Listed.{Listed}
+use Rattle.book_words.specs.Contracts.{bitOf, pairOf, listedOf}
+use Rattle.book_construct.specs.Contracts.{LineReady, Made}
+use Rattle.book_words.specs.declared.Bit.{Bit}
+use Rattle.book_words.specs.declared.Pair.{Pair}
+use Rattle.book_words.specs.declared.Listed.{Listed}
 use Rattle.book_construct.specs.declared.Line as line
 use Rattle.book_reader.specs.Contracts.{rest, Within, behind, bad, taken, counted, queryOf, saidOf, SaidListed}
 use Rattle.book_reader.specs.declared.Cursor.{Cursor}

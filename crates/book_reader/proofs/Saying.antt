@@ -23,11 +23,11 @@ use Rattle.book_reader.specs.declared.Passed.{Passed}
 use Rattle.book_reader.specs.declared.Passed.the-variants as passed-by
 use Rattle.book_reader.specs.declared.Count.{Count}
 use Rattle.book_reader.specs.declared.Count.the-variants as count
-use Rattle.book_construct.specs.declared.Constant.{Constant}
-use Rattle.book_construct.specs.declared.Bit.{Bit}
-use Rattle.book_construct.specs.declared.Single.{Single}
-use Rattle.book_construct.specs.declared.Pair.{Pair}
-use Rattle.book_construct.specs.declared.Listed.{Listed}
+use Rattle.book_words.specs.declared.Constant.{Constant}
+use Rattle.book_words.specs.declared.Bit.{Bit}
+use Rattle.book_words.specs.declared.Single.{Single}
+use Rattle.book_words.specs.declared.Pair.{Pair}
+use Rattle.book_words.specs.declared.Listed.{Listed}
 use Rattle.book_reader.specs.declared.Query.{Query}
 use Rattle.book_reader.specs.declared.FoundConstant.{FoundConstant}
 use Rattle.book_reader.specs.declared.FoundConstant.the-variants as found-constant

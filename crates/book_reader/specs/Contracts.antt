@@ -9,7 +9,7 @@ use lib.ListN.{length, drop}
 use Rattle.bytes.specs.Bytes.{slice}
 use Rattle.common.specs.Outcome.{if_then_else_}
 use Rattle.book_construct_steps.specs.Lines as Lines
-use Rattle.book_construct.specs.Contracts.{constantOf, bitOf, singleOf, pairOf, listedOf}
+use Rattle.book_words.specs.Contracts.{constantOf, bitOf, singleOf, pairOf, listedOf}
 use Rattle.book_steps.specs.Text as Text
 use Rattle.book_steps.specs.Text.{words, same, digits, reading, number}
 use Rattle.book_steps.specs.Reader as Reader

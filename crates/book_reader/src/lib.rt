@@ -1,10 +1,10 @@
 // The text of a book: its lines, their words and numbers, and what the lines say. Nothing is copied: a place is a value that each
 // reading step takes and hands back.
-use book_construct::Bit;
-use book_construct::Constant;
-use book_construct::Listed;
-use book_construct::Pair;
-use book_construct::Single;
+use book_words::Bit;
+use book_words::Constant;
+use book_words::Listed;
+use book_words::Pair;
+use book_words::Single;
 ghost use mathlib.Core.Path.{_≡_};
 ghost use mathlib.Core.Bool.{true};
 ghost use mathlib.Core.List.{[], _∷_};

@@ -2,8 +2,8 @@ use mathlib.Core.Path.{_∙_, ap}
 use Rattle.common.specs.Runs.{table}
 use Rattle.spp_steps.specs.Model as Spp
 use Rattle.book_construct_steps.specs.Lines as M
-use Rattle.book_construct.specs.declared.Bit.{Bit}
-use Rattle.book_construct.specs.Contracts.{bitOf}
+use Rattle.book_words.specs.declared.Bit.{Bit}
+use Rattle.book_words.specs.Contracts.{bitOf}
 use borrow.Author.Needs.{needs}
 use Rattle.book_construct.proofs.field.Statement.{statement}
 use Rattle.book_construct.proofs.field.Tie as tie

@@ -5,7 +5,7 @@ use Rattle.spp.specs.declared.Made.{Made}
 use Rattle.aut_relations.proofs.Behind.{left-refl}
 use Rattle.aut_relations.proofs.Join as rel
 use Rattle.book_construct_steps.specs.Lines as M
-use Rattle.book_construct.specs.Contracts.{bitOf}
+use Rattle.book_words.specs.Contracts.{bitOf}
 use borrow.Author.Needs.{needs}
 use Rattle.book_construct.proofs.make_bit.Statement.{statement}
 use Rattle.book_construct.proofs.make_bit.Tie as tie
