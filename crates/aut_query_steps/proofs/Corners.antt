@@ -1,4 +1,4 @@
--- What holds of the definitions of specs/Corners.
+-- The row of specs/Corners holds. So do those of 01's example book with its budgets, and of the refusals 20 and 24 of a search.
 use mathlib.Core.Path.{_≡_, refl}
 use mathlib.Core.Bool.{true}
 use mathlib.Core.List.{List, [], _∷_}
@@ -7,6 +7,7 @@ use native.Mathlib.Omega.{arith}
 use lib.ListN.{getD, replicate}
 use Rattle.common.specs.Outcome.{refused, given, Step, _>>=_}
 use Rattle.common.specs.Runs.{table}
+use Rattle.common.specs.Rows.{Row, from, Hold}
 use Rattle.netkat.specs.Search.{no, spent}
 use Rattle.netkat_steps.specs.Handles as Handles
 use Rattle.netkat_steps.specs.ListSteps as ListSteps
@@ -26,68 +27,35 @@ use Rattle.aut_delta_steps.specs.Examples.{state}
 use Rattle.aut_query_steps.specs.Tables.{Tables, onBase, WfTables}
 use Rattle.aut_query_steps.proofs.Tables.{begun-ordered}
 use Rattle.aut_query_steps.specs.Search.{is-empty}
-use Rattle.aut_query_steps.specs.Corners.{holding, room, Row, rows}
-
-abbrev pub Hold : List Row → Type 0
-Hold [] = Unit
-Hold (r ∷ rs) = (r .run (r .from) ≡ r .comes) × Hold rs
+use Rattle.aut_query_steps.specs.Corners.{holding, room, rows}
 
 -- the constructors of 01's example book: the test of field 0 for 1, Dup, and the one after the other
 abbrev book : Step Tables ℕ
 book = onBase (onAut (spp-of (test 1 1 0 true))) >>= λ x0. onBase (onAut (onStates mk-dup)) >>= λ x1. onBase (onAut (mk-sequence 1 limits01 x0 x1))
 
+-- the tables once its state has been looked at
+abbrev searched : Tables
+searched = holding 4 6 4 4 (0 ∷ 1 ∷ []) (0 ∷ 0 ∷ 0 ∷ 1 ∷ [])
+    (state SPP 5 0 0 0 0 1 (state DUP 0 0 0 3 0 2 (state SEQUENCE 0 1 1 3 1 2 (state SPP 3 0 0 0 0 0 (state SPP 2 0 0 0 0 0 [])))))
+    [] (3 ∷ 3 ∷ 3 ∷ 5 ∷ [])
+
 abbrev pub examples : List Row
 examples =
     -- `empty 2` of the book
-    record {
-      from = room 4;
-      run = (book >>= is-empty 1 limits01 4 10);
-      comes = given (holding 4 6 4 4 (0 ∷ 1 ∷ []) (0 ∷ 0 ∷ 0 ∷ 1 ∷ [])
-          (state SPP 5 0 0 0 0 1 (state DUP 0 0 0 3 0 2 (state SEQUENCE 0 1 1 3 1 2 (state SPP 3 0 0 0 0 0 (state SPP 2 0 0 0 0 0 [])))))
-          [] (3 ∷ 3 ∷ 3 ∷ 5 ∷ [])) (no, 2);
-    }
+    from (room 4) (book >>= is-empty 1 limits01 4 10) (given searched (no, 2))
     -- budget 2
-    ∷ record {
-      from = room 4;
-      run = (book >>= is-empty 1 limits01 4 2);
-      comes = given (holding 4 6 4 4 (0 ∷ 1 ∷ []) (0 ∷ 0 ∷ 0 ∷ 1 ∷ [])
-          (state SPP 5 0 0 0 0 1 (state DUP 0 0 0 3 0 2 (state SEQUENCE 0 1 1 3 1 2 (state SPP 3 0 0 0 0 0 (state SPP 2 0 0 0 0 0 [])))))
-          [] (3 ∷ 3 ∷ 3 ∷ 5 ∷ [])) (no, 2);
-    }
+    ∷ from (room 4) (book >>= is-empty 1 limits01 4 2) (given searched (no, 2))
     -- budget 1: what its steps made remains
-    ∷ record {
-      from = room 4;
-      run = (book >>= is-empty 1 limits01 4 1);
-      comes = given (holding 4 6 4 4 (0 ∷ 1 ∷ []) (0 ∷ 0 ∷ 0 ∷ 1 ∷ [])
-          (state SPP 5 0 0 0 0 1 (state DUP 0 0 0 3 0 2 (state SEQUENCE 0 1 1 3 1 2 (state SPP 3 0 0 0 0 0 (state SPP 2 0 0 0 0 0 [])))))
-          [] (3 ∷ 3 ∷ 3 ∷ 5 ∷ [])) (spent, 1);
-    }
+    ∷ from (room 4) (book >>= is-empty 1 limits01 4 1) (given searched (spent, 1))
     -- budget 0: nothing is worked out
-    ∷ record {
-      from = room 4;
-      run = (book >>= is-empty 1 limits01 4 0);
-      comes = given (holding 4 6 4 4 [] (0 ∷ 0 ∷ 0 ∷ 1 ∷ []) (state SPP 5 0 0 0 0 0 (state DUP 0 0 0 0 0 0 (state SEQUENCE 0 1 1 0 0 0 []))) [] []) (spent, 0);
-    }
+    ∷ from (room 4) (book >>= is-empty 1 limits01 4 0)
+    (given (holding 4 6 4 4 [] (0 ∷ 0 ∷ 0 ∷ 1 ∷ []) (state SPP 5 0 0 0 0 0 (state DUP 0 0 0 0 0 0 (state SEQUENCE 0 1 1 0 0 0 []))) [] []) (spent, 0))
     -- no pending entry: the first pair is pending before the budget is looked at
-    ∷ record {
-      from = room 4;
-      run = (book >>= is-empty 1 limits01 0 0);
-      comes = refused 24;
-    }
+    ∷ from (room 4) (book >>= is-empty 1 limits01 0 0) (refused 24)
     -- one entry is enough: the first pair is taken before the second is pending
-    ∷ record {
-      from = room 4;
-      run = (book >>= is-empty 1 limits01 1 10);
-      comes = given (holding 4 6 4 4 (0 ∷ 1 ∷ []) (0 ∷ 0 ∷ 0 ∷ 1 ∷ [])
-          (state SPP 5 0 0 0 0 1 (state DUP 0 0 0 3 0 2 (state SEQUENCE 0 1 1 3 1 2 (state SPP 3 0 0 0 0 0 (state SPP 2 0 0 0 0 0 [])))))
-          [] (3 ∷ 3 ∷ 3 ∷ 5 ∷ [])) (no, 2);
-    }
+    ∷ from (room 4) (book >>= is-empty 1 limits01 1 10) (given searched (no, 2))
     -- no packet node more: the set that the label leads to has none
-    ∷ record {
-      from = room 1;
-      run = (book >>= is-empty 1 limits01 4 10);
-      comes = refused 20;
-    }
+    ∷ from (room 1) (book >>= is-empty 1 limits01 4 10) (refused 20)
     ∷ []
 
 -- every row holds

@@ -1,11 +1,12 @@
 -- 01, "Corners", aut.rs: SPP top is not Top: SPP top and Dup meet in a state whose search says empty after 1 pair. The row marked [C], on tables that are begun, with every word of them
--- afterwards, and that every row holds. Then 01's example book with its budgets, and the refusals 20 and 24 of a search.
+-- afterwards.
 use mathlib.Core.List.{List, [], _∷_}
 use Prim.Native.Nat.{ℕ, _+_, _*_, _/_}
 use lib.ListN.{length}
-use Rattle.common.specs.Outcome.{Outcome, given, Step, _>>=_}
+use Rattle.common.specs.Outcome.{given, _>>=_}
 use Rattle.common.specs.Runs.{table}
-use Rattle.netkat.specs.Search.{Verdict, yes}
+use Rattle.common.specs.Rows.{Row, from}
+use Rattle.netkat.specs.Search.{yes}
 use Rattle.aut_steps.specs.Tables.{limits01, onStates, SPP, INTERSECT, DUP}
 use Rattle.aut_steps.specs.Constructors.{mk-spp, mk-dup, mk-intersect}
 use Rattle.aut_steps.specs.Corners.{filled}
@@ -25,19 +26,11 @@ holding p s m r sets nodes states members transitions =
 abbrev pub room : ℕ → Tables
 room p = holding p 6 4 4 [] [] [] [] []
 
-pub record Row : Type 0 where
-  pub from : Tables
-  pub run : Step Tables (Verdict × ℕ)
-  pub comes : Outcome Tables (Verdict × ℕ)
-
 abbrev pub rows : List Row
 rows =
     -- SPP top and Dup meet in a state whose search says empty after 1 pair
-    record {
-      from = room 4;
-      run = (onBase (onAut (onStates (mk-spp 4))) >>= λ x0. onBase (onAut (onStates mk-dup)) >>= λ x1. onBase (onAut (mk-intersect 1 limits01 x0 x1)) >>= λ x2. is-empty 1 limits01 4 10 x2);
-      comes = given (holding 4 6 4 4 [] []
-          (state SPP 4 0 0 0 1 1 (state DUP 0 0 0 3 0 2 (state INTERSECT 0 2 1 3 1 1 (state SPP 3 0 0 0 0 0 (state SPP 2 0 0 0 0 0 [])))))
-          (1 ∷ 0 ∷ []) (3 ∷ 3 ∷ [])) (yes, 1);
-    }
+    from (room 4) (onBase (onAut (onStates (mk-spp 4))) >>= λ x0. onBase (onAut (onStates mk-dup)) >>= λ x1. onBase (onAut (mk-intersect 1 limits01 x0 x1)) >>= λ x2. is-empty 1 limits01 4 10 x2)
+    (given (holding 4 6 4 4 [] []
+    (state SPP 4 0 0 0 1 1 (state DUP 0 0 0 3 0 2 (state INTERSECT 0 2 1 3 1 1 (state SPP 3 0 0 0 0 0 (state SPP 2 0 0 0 0 0 [])))))
+    (1 ∷ 0 ∷ []) (3 ∷ 3 ∷ [])) (yes, 1))
     ∷ []

@@ -1,10 +1,10 @@
--- 01, "Corners", aut.rs: the rows marked [C] that concern constructors, as one table, and the statement that every row of it holds.
--- Then other runs: each of the constructors' steps and each limit in the order in which 01 and the Rust meet them.
+-- 01, "Corners", aut.rs: the rows marked [C] that concern constructors. What a run of them comes to: a refusal, or all words of all tables and the answer.
 use mathlib.Core.List.{List, [], _∷_, _++_}
 use Prim.Native.Nat.{ℕ, _-_, _*_, _/_}
 use lib.ListN.{length, replicate}
-use Rattle.common.specs.Outcome.{Outcome, given, Step, _>>=_}
+use Rattle.common.specs.Outcome.{Outcome, given, _>>=_}
 use Rattle.common.specs.Runs.{table}
+use Rattle.common.specs.Rows.{Row, from}
 use Rattle.aut_steps.specs.Tables.{limits01, Aut, aut, onStates, SPP, INTERSECT, DIFFERENCE, COMPLEMENT, DUP, TOP}
 use Rattle.aut_steps.specs.Constructors.{mk-spp, mk-dup, mk-top, mk-union-n, mk-intersect-n, mk-intersect, mk-difference, mk-complement}
 
@@ -29,60 +29,30 @@ room s m = tables s m [] [] []
 abbrev pub made : ℕ → ℕ → List ℕ → List ℕ → List ℕ → ℕ → Outcome Aut ℕ
 made s m nodes states members answer = given (tables s m nodes states members) answer
 
--- what a run of constructors comes to: a refusal, or all words of all tables and the answer
-pub record Row : Type 0 where
-  pub from : Aut
-  pub run : Step Aut ℕ
-  pub comes : Outcome Aut ℕ
-
 abbrev pub rows : List Row
 rows =
     -- mk_intersect of Top and Dup makes the one-member Intersect([Dup])
-    record {
-      from = room 4 4;
-      run = (onStates mk-top >>= λ x0. onStates mk-dup >>= λ x1. mk-intersect 1 limits01 x0 x1);
-      comes = made 4 4 [] (state TOP 0 0 0 (state DUP 0 0 0 (state INTERSECT 0 1 1 []))) (1 ∷ []) 2;
-    }
+    from (room 4 4) (onStates mk-top >>= λ x0. onStates mk-dup >>= λ x1. mk-intersect 1 limits01 x0 x1)
+    (made 4 4 [] (state TOP 0 0 0 (state DUP 0 0 0 (state INTERSECT 0 1 1 []))) (1 ∷ []) 2)
     -- mk_intersect(Dup, Dup) is Dup
-    ∷ record {
-      from = room 4 4;
-      run = (onStates mk-dup >>= λ x0. mk-intersect 1 limits01 x0 x0);
-      comes = made 4 4 [] (state DUP 0 0 0 []) [] 0;
-    }
+    ∷ from (room 4 4) (onStates mk-dup >>= λ x0. mk-intersect 1 limits01 x0 x0)
+    (made 4 4 [] (state DUP 0 0 0 []) [] 0)
     -- mk_intersect_n([Dup, Dup]) is Intersect([Dup])
-    ∷ record {
-      from = room 4 4;
-      run = (onStates mk-dup >>= λ x0. mk-intersect-n 1 limits01 (x0 ∷ x0 ∷ []));
-      comes = made 4 4 [] (state DUP 0 0 0 (state INTERSECT 0 1 1 [])) (0 ∷ []) 1;
-    }
+    ∷ from (room 4 4) (onStates mk-dup >>= λ x0. mk-intersect-n 1 limits01 (x0 ∷ x0 ∷ []))
+    (made 4 4 [] (state DUP 0 0 0 (state INTERSECT 0 1 1 [])) (0 ∷ []) 1)
     -- mk_intersect_n([]) is Top
-    ∷ record {
-      from = room 4 4;
-      run = (mk-intersect-n 1 limits01 []);
-      comes = made 4 4 [] (state TOP 0 0 0 []) [] 0;
-    }
+    ∷ from (room 4 4) (mk-intersect-n 1 limits01 [])
+    (made 4 4 [] (state TOP 0 0 0 []) [] 0)
     -- mk_union_n([]) is the zero state
-    ∷ record {
-      from = room 4 4;
-      run = (mk-union-n 1 limits01 []);
-      comes = made 4 4 [] (state SPP 2 0 0 []) [] 0;
-    }
+    ∷ from (room 4 4) (mk-union-n 1 limits01 [])
+    (made 4 4 [] (state SPP 2 0 0 []) [] 0)
     -- Complement of zero is Complement(zero), not Top
-    ∷ record {
-      from = room 4 4;
-      run = (onStates (mk-spp 2) >>= λ x0. onStates (mk-complement 1 limits01 x0));
-      comes = made 4 4 [] (state SPP 2 0 0 (state COMPLEMENT 0 0 1 [])) [] 1;
-    }
+    ∷ from (room 4 4) (onStates (mk-spp 2) >>= λ x0. onStates (mk-complement 1 limits01 x0))
+    (made 4 4 [] (state SPP 2 0 0 (state COMPLEMENT 0 0 1 [])) [] 1)
     -- Complement of Top is zero
-    ∷ record {
-      from = room 4 4;
-      run = (onStates mk-top >>= λ x0. onStates (mk-complement 1 limits01 x0));
-      comes = made 4 4 [] (state TOP 0 0 0 (state SPP 2 0 0 [])) [] 1;
-    }
+    ∷ from (room 4 4) (onStates mk-top >>= λ x0. onStates (mk-complement 1 limits01 x0))
+    (made 4 4 [] (state TOP 0 0 0 (state SPP 2 0 0 [])) [] 1)
     -- Difference(zero, Dup) is interned, not simplified
-    ∷ record {
-      from = room 4 4;
-      run = (onStates (mk-spp 2) >>= λ x0. onStates mk-dup >>= λ x1. mk-difference 1 limits01 x0 x1);
-      comes = made 4 4 [] (state SPP 2 0 0 (state DUP 0 0 0 (state DIFFERENCE 0 1 1 []))) [] 2;
-    }
+    ∷ from (room 4 4) (onStates (mk-spp 2) >>= λ x0. onStates mk-dup >>= λ x1. mk-difference 1 limits01 x0 x1)
+    (made 4 4 [] (state SPP 2 0 0 (state DUP 0 0 0 (state DIFFERENCE 0 1 1 []))) [] 2)
     ∷ []

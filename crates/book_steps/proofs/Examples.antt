@@ -4,46 +4,37 @@ use mathlib.Core.List.{List, [], _∷_}
 use mathlib.Core.Option.{Option, none, some}
 use Prim.Native.Nat.{ℕ}
 use Prim.Native.String.{String}
+use Rattle.common.specs.Rows.{Row, row, Hold}
 use Rattle.book_construct_steps.specs.Lines as Lines
 use Rattle.book_construct_steps.specs.Lines.{test, seq, union}
-use Rattle.book_steps.specs.Text.{bytes, line, words, same, digits, reading, number, decimalBy, decimal}
+use Rattle.book_steps.specs.Text.{bytes, words, same, digits, reading, number, decimalBy, decimal}
 use Rattle.book_steps.specs.Reader.{header, Instruction, bit, pair, listed, query, empty, find, numbers, exact, parse, makes, refuses, giving, resolve}
 
-abbrev read : String → Option Instruction
-read t = parse (words (bytes t))
-
-pub record Row : Type 0 where
-  pub text : String
-  pub says : Option Instruction
-
-abbrev row : String → Option Instruction → Row
-row t r = record { text = t; says = r }
+-- a line, and what it says
+abbrev reads : String → Option Instruction → Row
+reads t says = row (parse (words (bytes t))) says
 
 abbrev pub rows : List Row
 rows =
-    row "test 0 1" (some (bit test 0 1))
-    ∷ row "seq 0 1" (some (pair seq 0 1))
-    ∷ row "empty 2" (some (query empty 2))
-    ∷ row "union" (some (listed union []))
-    ∷ row "union " none
-    ∷ row "union 3 3 0" (some (listed union (3 ∷ 3 ∷ 0 ∷ [])))
-    ∷ row "" none
-    ∷ row "dup 0" none
-    ∷ row "not" none
-    ∷ row "or 0  1" none
-    ∷ row " top" none
-    ∷ row "not 00" none
-    ∷ row "not 01" none
-    ∷ row "not +1" none
-    ∷ row "test 18446744073709551616 0" none
-    ∷ row "test 18446744073709551615 0" (some (bit test 18446744073709551615 0))
+    reads "test 0 1" (some (bit test 0 1))
+    ∷ reads "seq 0 1" (some (pair seq 0 1))
+    ∷ reads "empty 2" (some (query empty 2))
+    ∷ reads "union" (some (listed union []))
+    ∷ reads "union " none
+    ∷ reads "union 3 3 0" (some (listed union (3 ∷ 3 ∷ 0 ∷ [])))
+    ∷ reads "" none
+    ∷ reads "dup 0" none
+    ∷ reads "not" none
+    ∷ reads "or 0  1" none
+    ∷ reads " top" none
+    ∷ reads "not 00" none
+    ∷ reads "not 01" none
+    ∷ reads "not +1" none
+    ∷ reads "test 18446744073709551616 0" none
+    ∷ reads "test 18446744073709551615 0" (some (bit test 18446744073709551615 0))
     ∷ []
 
-abbrev AllRead : List Row → Type 0
-AllRead [] = Unit
-AllRead (r ∷ rs) = (read (r .text) ≡ r .says) × AllRead rs
-
-pub all-read : AllRead rows
+pub all-read : Hold rows
 unfolding words same digits reading number find numbers exact parse
 all-read = (refl, (refl, (refl, (refl, (refl, (refl, (refl, (refl, (refl, (refl, (refl, (refl, (refl, (refl, (refl, (refl, tt))))))))))))))))
 

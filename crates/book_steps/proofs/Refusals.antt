@@ -8,10 +8,10 @@ use Rattle.netkat_steps.specs.ListSteps as ListSteps
 use Rattle.sp_steps.specs.Model as Sp
 use Rattle.spp_steps.specs.Model as Spp
 use Rattle.spp_steps.specs.ImageModel as Images
-use Rattle.aut_delta_steps.specs.Examples as Delta
 use Rattle.sp_steps.specs.Word.{flip}
 use Rattle.spp_steps.specs.Model.{test}
 use Rattle.common.specs.Outcome.{Outcome, refused, given}
+use Rattle.common.specs.Rows.{Row, row, Hold}
 use Rattle.aut_steps.specs.Tables.{Limits, kindOf, op1, op2, nest, words, roomS, roomM, put4}
 use Rattle.aut_steps.specs.Intern.{intern0, intern1, intern2, internL, putL, put, seek, same2, sameAt, sameL, store as storeMembers, nestL}
 use Rattle.aut_steps.specs.Lists.{least, rise}
@@ -28,7 +28,8 @@ use Rattle.book_steps.specs.Text.{bytes}
 use Rattle.book_steps.specs.Reader as Reader
 use Rattle.book_steps.specs.Answers as Answers
 use Rattle.book_steps.specs.Claim.{netcheckOutput}
-use Rattle.book_steps.specs.Run.{Lent, Setting, RunState, Result, refusal, finish as finishRun, run, begin, outcome}
+use Rattle.book_steps.specs.Run.{Lent, RunState, Result, refusal, finish as finishRun, run, begin, outcome}
+use Rattle.book_steps.proofs.RunExamples.{book}
 
 -- lent: words of packet nodes, relation nodes, states, members, transitions; enough of all else
 abbrev lent : ℕ → ℕ → ℕ → ℕ → ℕ → Lent
@@ -37,58 +38,43 @@ lent sp spp states members transitions = record { sp = sp; spp = spp; states = s
 abbrev enough : Lent
 enough = lent 32 64 96 16 32
 
-pub record Row : Type 0 where
-  pub lengths : Lent
-  pub book : String
-  pub number : ℕ
-  pub line : ℕ
-  pub output : String
-
-abbrev row : Lent → String → ℕ → ℕ → String → Row
-row l b n k o = record { lengths = l; book = b; number = n; line = k; output = o }
-
 abbrev pub rows : List Row
 rows =
     -- 6: a list of 65, though its first member is Top; of 64 it is Top
-    row enough "fields 0 budget 0\ntop\nunion 0 0 0 0 0 0 0 0 0 0 0 0 0 0 0 0 0 0 0 0 0 0 0 0 0 0 0 0 0 0 0 0 0 0 0 0 0 0 0 0 0 0 0 0 0 0 0 0 0 0 0 0 0 0 0 0 0 0 0 0 0 0 0 0 0\n" 6 3 "fields 0\n"
-    ∷ row enough "fields 0 budget 0\ntop\nunion 0 0 0 0 0 0 0 0 0 0 0 0 0 0 0 0 0 0 0 0 0 0 0 0 0 0 0 0 0 0 0 0 0 0 0 0 0 0 0 0 0 0 0 0 0 0 0 0 0 0 0 0 0 0 0 0 0 0 0 0 0 0 0 0\nlive 1\n" 0 0 "fields 0\nlive 1 1 1000\n"
+    book enough "fields 0 budget 0\ntop\nunion 0 0 0 0 0 0 0 0 0 0 0 0 0 0 0 0 0 0 0 0 0 0 0 0 0 0 0 0 0 0 0 0 0 0 0 0 0 0 0 0 0 0 0 0 0 0 0 0 0 0 0 0 0 0 0 0 0 0 0 0 0 0 0 0 0\n" 6 3 "fields 0\n"
+    ∷ book enough "fields 0 budget 0\ntop\nunion 0 0 0 0 0 0 0 0 0 0 0 0 0 0 0 0 0 0 0 0 0 0 0 0 0 0 0 0 0 0 0 0 0 0 0 0 0 0 0 0 0 0 0 0 0 0 0 0 0 0 0 0 0 0 0 0 0 0 0 0 0 0 0 0\nlive 1\n" 0 0 "fields 0\nlive 1 1 1000\n"
     -- 20, 21: the constants; a packet set that a query makes; a relation
-    ∷ row (lent 1 64 96 16 32) "fields 1 budget 0\n" 20 1 ""
-    ∷ row (lent 2 11 96 16 32) "fields 1 budget 0\n" 21 1 ""
-    ∷ row (lent 2 64 96 16 32) "fields 1 budget 9\ntest 0 1\nlive 0\n" 20 3 "fields 1\n"
-    ∷ row (lent 32 12 96 16 32) "fields 1 budget 0\ntest 0 1\n" 21 2 "fields 1\n"
+    ∷ book (lent 1 64 96 16 32) "fields 1 budget 0\n" 20 1 ""
+    ∷ book (lent 2 11 96 16 32) "fields 1 budget 0\n" 21 1 ""
+    ∷ book (lent 2 64 96 16 32) "fields 1 budget 9\ntest 0 1\nlive 0\n" 20 3 "fields 1\n"
+    ∷ book (lent 32 12 96 16 32) "fields 1 budget 0\ntest 0 1\n" 21 2 "fields 1\n"
     -- 22: one state; 23 before it
-    ∷ row (lent 32 64 23 16 32) "fields 0 budget 0\ndup\nstar 0\n" 22 3 "fields 0\n"
-    ∷ row (lent 32 64 24 1 32) "fields 0 budget 0\ndup\nstar 0\nor 0 1\n" 23 4 "fields 0\n"
+    ∷ book (lent 32 64 23 16 32) "fields 0 budget 0\ndup\nstar 0\n" 22 3 "fields 0\n"
+    ∷ book (lent 32 64 24 1 32) "fields 0 budget 0\ndup\nstar 0\nor 0 1\n" 23 4 "fields 0\n"
     -- 25: a list without room
-    ∷ row (lent 32 64 96 16 1) "fields 0 budget 0\ndup\nlive 0\n" 25 3 "fields 0\n"
+    ∷ book (lent 32 64 96 16 1) "fields 0 budget 0\ndup\nlive 0\n" 25 3 "fields 0\n"
     ∷ []
 
-abbrev Comes : Row → Type 0
-Comes r =
-    let o : Result = outcome (r .lengths) (bytes (r .book)) in
-    (o .number ≡ r .number) × (o .line ≡ r .line) × (o .output ≡ bytes (r .output))
-
-abbrev pub AllCome : List Row → Type 0
-AllCome [] = Unit
-AllCome (r ∷ rs) = Comes r × AllCome rs
-
-pub all-come : AllCome rows
+pub all-come : Hold rows
 unfolding outcome run begin Text.cut Text.words Text.same Text.digits Text.reading Text.number Text.decimalBy Text.decimal Reader.header Reader.find Reader.numbers Reader.exact Reader.parse Reader.giving Reader.resolve Answers.say Answers.share Answers.pairLines Sp.size Spp.size Spp.assign is-empty Handles.search Handles.run Handles.turn Handles.expand Handles.walk flip Sp.kid Sp.child Sp.same Sp.seek Sp.room Sp.put Sp.intern Sp.mk Sp.exit Sp.join Sp.both Sp.apply Sp.union Sp.complement Sp.difference Sp.isZero Sp.isUniversal Images.fwdNode Images.fwd Images.ledExit Images.pushNode Images.push Images.hasExit Images.hasImage mk-spp mk-dup mk-top mk-union mk-union-n mk-intersect-n mk-intersect mk-intersect-n-base mk-complement mk-sequence sequence-by sequence-with mk-star mk-until unite meet openUnion openAll opened extend each countAll countOne product base bases finish addRelation uniteOne meetOne meetFinish addLast intern0 intern1 intern2 internL putL put seek same2 sameAt sameL storeMembers nestL roomS roomM put4 kindOf op1 op2 nest words least rise test Spp.field Spp.apply Spp.exit Spp.each Spp.complement Spp.sequence Spp.seqExit Spp.product Spp.star Spp.starExit Spp.blocks Spp.mk Spp.seek Spp.same Spp.kids Spp.kid Spp.room Spp.put Spp.zeroAt Spp.oneAt Spp.topAt ListSteps.unite ListSteps.enter ListSteps.enterIn ListSteps.place ListSteps.st-singleton ListSteps.split ListSteps.insert ListSteps.insertEach ListSteps.insertPairs ListSteps.st-union ListSteps.st-intersect ListSteps.coverAll ListSteps.st-complement ListSteps.st-postcompose ListSteps.st-precompose ListSteps.st-intersect-expr epsilonOf setWord keepEpsilon eachOf uniteAll meetAll epsilon-by-kind epsilon-with epsilon-by epsilon startOf countOf edges flat roomT append listAt keepList unionAll intersectAll sequenceList starList untilList dupList topList delta-by-kind delta-with delta-by delta Sp.constants Spp.constants Spp.zeros Spp.ones Spp.tops enqueue labelTo enlarge keepIn explore pullBack pullFrom pullAll settle live-anew live-sets live-packets liveOf viable prune delta-pruned Images.bwdNode Images.bwd Images.ifwdNode Images.ifwd Images.pullNode Images.pull mk-difference mk-xor ListSteps.subtractRow ListSteps.subtractRows ListSteps.st-difference ListSteps.st-xor
-all-come = ((refl, refl, refl), ((refl, refl, refl), ((refl, refl, refl), ((refl, refl, refl), ((refl, refl, refl), ((refl, refl, refl), ((refl, refl, refl), ((refl, refl, refl), ((refl, refl, refl), tt)))))))))
+all-come = (refl, (refl, (refl, (refl, (refl, (refl, (refl, (refl, (refl, tt)))))))))
 
 -- ---- with small limits, from the begun place
 
-pub record Limited : Type 0 where
-  pub limits : Limits
-  pub text : String
-  pub number : ℕ
-  pub line : ℕ
+abbrev large : Lent
+large = lent 32 128 192 32 32
 
-abbrev limited : ℕ → ℕ → ℕ → ℕ → String → ℕ → ℕ → Limited
-limited nesting list products transitions t n k = record { limits = record { nesting = nesting; list = list; products = products; transitions = transitions }; text = t; number = n; line = k }
+abbrev from : Limits → List ℕ → Outcome RunState ℕ → Result
+from L text (refused e) = refusal large e 1 []
+from L text (given p x) = finishRun large (run (record { fields = 1; budget = 9; limits = L; entries = 8; room = 100 }) 2048 text 2 p)
 
-abbrev pub limits : List Limited
+-- lines with these limits: the number and the text line that they come to
+abbrev limited : ℕ → ℕ → ℕ → ℕ → String → ℕ → ℕ → Row
+limited nesting list products transitions text number line =
+    let o : Result = from (record { nesting = nesting; list = list; products = products; transitions = transitions }) (bytes text) (begin large (record { fields = 1; budget = 9 })) in
+    row {A = ℕ × ℕ} (o .number, o .line) (number, line)
+
+abbrev pub limits : List Row
 limits =
     -- 8 above 2, and 2 is made
     limited 2 64 32 64 "dup\nstar 0\nnot 1\nlive 2\n" 0 0
@@ -103,25 +89,9 @@ limits =
     ∷ limited 256 64 32 2 "test 0 0\ntest 0 1\ndup\nseq 0 2\nseq 2 2\nseq 1 4\nor 3 5\npruned 6\n" 0 0
     ∷ []
 
-abbrev large : Lent
-large = lent 32 128 192 32 32
-
-abbrev from : Limits → List ℕ → Outcome RunState ℕ → Result
-from L text (refused e) = refusal large e 1 []
-from L text (given p x) = finishRun large (run (record { fields = 1; budget = 9; limits = L; entries = 8; room = 100 }) 2048 text 2 p)
-
-abbrev Runs : Limited → Type 0
-Runs r =
-    let o : Result = from (r .limits) (bytes (r .text)) (begin large (record { fields = 1; budget = 9 })) in
-    (o .number ≡ r .number) × (o .line ≡ r .line)
-
-abbrev pub AllRun : List Limited → Type 0
-AllRun [] = Unit
-AllRun (r ∷ rs) = Runs r × AllRun rs
-
-pub all-run : AllRun limits
+pub all-run : Hold limits
 unfolding outcome run begin Text.cut Text.words Text.same Text.digits Text.reading Text.number Text.decimalBy Text.decimal Reader.header Reader.find Reader.numbers Reader.exact Reader.parse Reader.giving Reader.resolve Answers.say Answers.share Answers.pairLines Sp.size Spp.size Spp.assign is-empty Handles.search Handles.run Handles.turn Handles.expand Handles.walk flip Sp.kid Sp.child Sp.same Sp.seek Sp.room Sp.put Sp.intern Sp.mk Sp.exit Sp.join Sp.both Sp.apply Sp.union Sp.complement Sp.difference Sp.isZero Sp.isUniversal Images.fwdNode Images.fwd Images.ledExit Images.pushNode Images.push Images.hasExit Images.hasImage mk-spp mk-dup mk-top mk-union mk-union-n mk-intersect-n mk-intersect mk-intersect-n-base mk-complement mk-sequence sequence-by sequence-with mk-star mk-until unite meet openUnion openAll opened extend each countAll countOne product base bases finish addRelation uniteOne meetOne meetFinish addLast intern0 intern1 intern2 internL putL put seek same2 sameAt sameL storeMembers nestL roomS roomM put4 kindOf op1 op2 nest words least rise test Spp.field Spp.apply Spp.exit Spp.each Spp.complement Spp.sequence Spp.seqExit Spp.product Spp.star Spp.starExit Spp.blocks Spp.mk Spp.seek Spp.same Spp.kids Spp.kid Spp.room Spp.put Spp.zeroAt Spp.oneAt Spp.topAt ListSteps.unite ListSteps.enter ListSteps.enterIn ListSteps.place ListSteps.st-singleton ListSteps.split ListSteps.insert ListSteps.insertEach ListSteps.insertPairs ListSteps.st-union ListSteps.st-intersect ListSteps.coverAll ListSteps.st-complement ListSteps.st-postcompose ListSteps.st-precompose ListSteps.st-intersect-expr epsilonOf setWord keepEpsilon eachOf uniteAll meetAll epsilon-by-kind epsilon-with epsilon-by epsilon startOf countOf edges flat roomT append listAt keepList unionAll intersectAll sequenceList starList untilList dupList topList delta-by-kind delta-with delta-by delta Sp.constants Spp.constants Spp.zeros Spp.ones Spp.tops enqueue labelTo enlarge keepIn explore pullBack pullFrom pullAll settle live-anew live-sets live-packets liveOf viable prune delta-pruned Images.bwdNode Images.bwd Images.ifwdNode Images.ifwd Images.pullNode Images.pull mk-difference mk-xor ListSteps.subtractRow ListSteps.subtractRows ListSteps.st-difference ListSteps.st-xor
-all-run = ((refl, refl), ((refl, refl), ((refl, refl), ((refl, refl), ((refl, refl), ((refl, refl), ((refl, refl), tt)))))))
+all-run = (refl, (refl, (refl, (refl, (refl, (refl, (refl, tt)))))))
 
 -- ---- what `netcheck` writes: 01's book, and refusals
 

@@ -1,14 +1,14 @@
 -- Books run, computed: 01's with its budgets, and one for each refusal that a small book can meet: number, text line, output.
-use mathlib.Core.Path.{_≡_, refl}
+use mathlib.Core.Path.{refl}
 use mathlib.Core.List.{List, [], _∷_}
 use Prim.Native.Nat.{ℕ}
 use Prim.Native.String.{String}
+use Rattle.common.specs.Rows.{Row, row, Hold}
 use Rattle.netkat_steps.specs.Handles as Handles
 use Rattle.netkat_steps.specs.ListSteps as ListSteps
 use Rattle.sp_steps.specs.Model as Sp
 use Rattle.spp_steps.specs.Model as Spp
 use Rattle.spp_steps.specs.ImageModel as Images
-use Rattle.aut_delta_steps.specs.Examples as Delta
 use Rattle.sp_steps.specs.Word.{flip}
 use Rattle.spp_steps.specs.Model.{test}
 use Rattle.aut_steps.specs.Tables.{kindOf, op1, op2, nest, words, roomS, roomM, put4}
@@ -35,56 +35,43 @@ lent output states pending scratch = record { sp = 32; spp = 64; states = states
 abbrev enough : Lent
 enough = lent 100 96 16 6144
 
-pub record Row : Type 0 where
-  pub lengths : Lent
-  pub book : String
-  pub number : ℕ
-  pub line : ℕ
-  pub output : String
-
-abbrev row : Lent → String → ℕ → ℕ → String → Row
-row l b n k o = record { lengths = l; book = b; number = n; line = k; output = o }
+-- a book: the number, the text line and the output that it comes to with what is lent
+abbrev pub book : Lent → String → ℕ → ℕ → String → Row
+book l text number line output =
+    let o : Result = outcome l (bytes text) in
+    row {A = ℕ × ℕ × List ℕ} (o .number, o .line, o .output) (number, line, bytes output)
 
 abbrev pub rows : List Row
 rows =
     -- 01's book, and with budgets 2, 1, 0
-    row enough "fields 1 budget 10\ntest 0 1\ndup\nseq 0 1\nempty 2\nlive 2\npruned 2\n" 0 0 "fields 1\nempty 2 no 2\nlive 2 1 500\npruned 2 1\npair 3 1\n"
-    ∷ row enough "fields 1 budget 2\ntest 0 1\ndup\nseq 0 1\nempty 2\n" 0 0 "fields 1\nempty 2 no 2\n"
-    ∷ row enough "fields 1 budget 1\ntest 0 1\ndup\nseq 0 1\nempty 2\n" 0 0 "fields 1\nempty 2 spent 1\n"
-    ∷ row enough "fields 1 budget 0\ntest 0 1\ndup\nseq 0 1\nempty 2\n" 0 0 "fields 1\nempty 2 spent 0\n"
+    book enough "fields 1 budget 10\ntest 0 1\ndup\nseq 0 1\nempty 2\nlive 2\npruned 2\n" 0 0 "fields 1\nempty 2 no 2\nlive 2 1 500\npruned 2 1\npair 3 1\n"
+    ∷ book enough "fields 1 budget 2\ntest 0 1\ndup\nseq 0 1\nempty 2\n" 0 0 "fields 1\nempty 2 no 2\n"
+    ∷ book enough "fields 1 budget 1\ntest 0 1\ndup\nseq 0 1\nempty 2\n" 0 0 "fields 1\nempty 2 spent 1\n"
+    ∷ book enough "fields 1 budget 0\ntest 0 1\ndup\nseq 0 1\nempty 2\n" 0 0 "fields 1\nempty 2 spent 0\n"
     -- live before the search, and the search twice: the budget is for each search
-    ∷ row enough "fields 1 budget 2\ntest 0 1\ndup\nseq 0 1\nlive 2\nempty 2\nempty 2\n" 0 0 "fields 1\nlive 2 1 500\nempty 2 no 2\nempty 2 no 2\n"
+    ∷ book enough "fields 1 budget 2\ntest 0 1\ndup\nseq 0 1\nlive 2\nempty 2\nempty 2\n" 0 0 "fields 1\nlive 2 1 500\nempty 2 no 2\nempty 2 no 2\n"
     -- SPP top is not Top
-    ∷ row enough "fields 1 budget 9\nall\ndup\nand 0 1\nempty 2\n" 0 0 "fields 1\nempty 2 yes 1\n"
+    ∷ book enough "fields 1 budget 9\nall\ndup\nand 0 1\nempty 2\n" 0 0 "fields 1\nempty 2 yes 1\n"
     -- 1, 2
-    ∷ row enough "" 1 1 ""
-    ∷ row enough "fields 1 budget 10" 1 1 ""
-    ∷ row enough "fields 32 budget 0\n" 2 1 ""
+    ∷ book enough "" 1 1 ""
+    ∷ book enough "fields 1 budget 10" 1 1 ""
+    ∷ book enough "fields 32 budget 0\n" 2 1 ""
     -- 3: not of its form; no byte 10; the answers before stand
-    ∷ row enough "fields 0 budget 0\nzero\nlive 0\nnot  0\n" 3 4 "fields 0\nlive 0 0 0\n"
-    ∷ row enough "fields 0 budget 0\nzero" 3 2 "fields 0\n"
+    ∷ book enough "fields 0 budget 0\nzero\nlive 0\nnot  0\n" 3 4 "fields 0\nlive 0 0 0\n"
+    ∷ book enough "fields 0 budget 0\nzero" 3 2 "fields 0\n"
     -- 4: a later line, a query; 5
-    ∷ row enough "fields 0 budget 0\ndup\nnot 1\n" 4 3 "fields 0\n"
-    ∷ row enough "fields 0 budget 9\ndup\nempty 0\nnot 1\n" 4 4 "fields 0\nempty 0 no 2\n"
-    ∷ row enough "fields 1 budget 0\ntest 1 0\n" 5 2 "fields 1\n"
+    ∷ book enough "fields 0 budget 0\ndup\nnot 1\n" 4 3 "fields 0\n"
+    ∷ book enough "fields 0 budget 9\ndup\nempty 0\nnot 1\n" 4 4 "fields 0\nempty 0 no 2\n"
+    ∷ book enough "fields 1 budget 0\ntest 1 0\n" 5 2 "fields 1\n"
     -- 22, 24, 26, 27
-    ∷ row (lent 100 12 16 6144) "fields 0 budget 0\ndup\ntop\n" 22 3 "fields 0\n"
-    ∷ row (lent 100 96 0 6144) "fields 0 budget 0\ndup\nempty 0\n" 24 3 "fields 0\n"
-    ∷ row (lent 100 96 16 6143) "fields 0 budget 0\n" 26 0 ""
-    ∷ row (lent 8 96 16 6144) "fields 0 budget 0\n" 27 1 ""
-    ∷ row (lent 28 96 16 6144) "fields 0 budget 0\ndup\npruned 0\n" 27 3 "fields 0\n"
-    ∷ row (lent 29 96 16 6144) "fields 0 budget 0\ndup\npruned 0\n" 0 0 "fields 0\npruned 0 1\npair 1 1\n"
+    ∷ book (lent 100 12 16 6144) "fields 0 budget 0\ndup\ntop\n" 22 3 "fields 0\n"
+    ∷ book (lent 100 96 0 6144) "fields 0 budget 0\ndup\nempty 0\n" 24 3 "fields 0\n"
+    ∷ book (lent 100 96 16 6143) "fields 0 budget 0\n" 26 0 ""
+    ∷ book (lent 8 96 16 6144) "fields 0 budget 0\n" 27 1 ""
+    ∷ book (lent 28 96 16 6144) "fields 0 budget 0\ndup\npruned 0\n" 27 3 "fields 0\n"
+    ∷ book (lent 29 96 16 6144) "fields 0 budget 0\ndup\npruned 0\n" 0 0 "fields 0\npruned 0 1\npair 1 1\n"
     ∷ []
 
-abbrev Comes : Row → Type 0
-Comes r =
-    let o : Result = outcome (r .lengths) (bytes (r .book)) in
-    (o .number ≡ r .number) × (o .line ≡ r .line) × (o .output ≡ bytes (r .output))
-
-abbrev pub AllCome : List Row → Type 0
-AllCome [] = Unit
-AllCome (r ∷ rs) = Comes r × AllCome rs
-
-pub all-come : AllCome rows
+pub all-come : Hold rows
 unfolding outcome run begin Text.cut Text.words Text.same Text.digits Text.reading Text.number Text.decimalBy Text.decimal Reader.header Reader.find Reader.numbers Reader.exact Reader.parse Reader.giving Reader.resolve Answers.say Answers.share Answers.pairLines Sp.size Spp.size Spp.assign is-empty Handles.search Handles.run Handles.turn Handles.expand Handles.walk flip Sp.kid Sp.child Sp.same Sp.seek Sp.room Sp.put Sp.intern Sp.mk Sp.exit Sp.join Sp.both Sp.apply Sp.union Sp.complement Sp.difference Sp.isZero Sp.isUniversal Images.fwdNode Images.fwd Images.ledExit Images.pushNode Images.push Images.hasExit Images.hasImage mk-spp mk-dup mk-top mk-union mk-union-n mk-intersect-n mk-intersect mk-intersect-n-base mk-complement mk-sequence sequence-by sequence-with mk-star mk-until unite meet openUnion openAll opened extend each countAll countOne product base bases finish addRelation uniteOne meetOne meetFinish addLast intern0 intern1 intern2 internL putL put seek same2 sameAt sameL storeMembers nestL roomS roomM put4 kindOf op1 op2 nest words least rise test Spp.field Spp.apply Spp.exit Spp.each Spp.complement Spp.sequence Spp.seqExit Spp.product Spp.star Spp.starExit Spp.blocks Spp.mk Spp.seek Spp.same Spp.kids Spp.kid Spp.room Spp.put Spp.zeroAt Spp.oneAt Spp.topAt ListSteps.unite ListSteps.enter ListSteps.enterIn ListSteps.place ListSteps.st-singleton ListSteps.split ListSteps.insert ListSteps.insertEach ListSteps.insertPairs ListSteps.st-union ListSteps.st-intersect ListSteps.coverAll ListSteps.st-complement ListSteps.st-postcompose ListSteps.st-precompose ListSteps.st-intersect-expr epsilonOf setWord keepEpsilon eachOf uniteAll meetAll epsilon-by-kind epsilon-with epsilon-by epsilon startOf countOf edges flat roomT append listAt keepList unionAll intersectAll sequenceList starList untilList dupList topList delta-by-kind delta-with delta-by delta Sp.constants Spp.constants Spp.zeros Spp.ones Spp.tops enqueue labelTo enlarge keepIn explore pullBack pullFrom pullAll settle live-anew live-sets live-packets liveOf viable prune delta-pruned Images.bwdNode Images.bwd Images.ifwdNode Images.ifwd Images.pullNode Images.pull mk-difference mk-xor ListSteps.subtractRow ListSteps.subtractRows ListSteps.st-difference ListSteps.st-xor
-all-come = ((refl, refl, refl), ((refl, refl, refl), ((refl, refl, refl), ((refl, refl, refl), ((refl, refl, refl), ((refl, refl, refl), ((refl, refl, refl), ((refl, refl, refl), ((refl, refl, refl), ((refl, refl, refl), ((refl, refl, refl), ((refl, refl, refl), ((refl, refl, refl), ((refl, refl, refl), ((refl, refl, refl), ((refl, refl, refl), ((refl, refl, refl), ((refl, refl, refl), ((refl, refl, refl), ((refl, refl, refl), tt))))))))))))))))))))
+all-come = (refl, (refl, (refl, (refl, (refl, (refl, (refl, (refl, (refl, (refl, (refl, (refl, (refl, (refl, (refl, (refl, (refl, (refl, (refl, (refl, tt))))))))))))))))))))
