@@ -1,3 +1,3 @@
--- delta in code: what is asked and what is promised, of itself and of its parts.
-pub mod Contracts
-pub mod Readings
+-- delta in code. Read in this order.
+pub mod Contracts  -- what delta asks and promises
+pub mod Readings  -- what the answers of its parts say in the words of its step

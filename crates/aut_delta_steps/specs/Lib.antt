@@ -1,16 +1,14 @@
--- aut.rs's `epsilon` and `delta`. Read in this order: the two steps in the Rust's order (Epsilon, Delta) and runs of them that are
--- computed (Examples, Order); what the operations mean (Labels, Fits); what is worked out, and that it stays true (Noted, Worked, Stored), how many transitions the stored lists have (Sizes); the law of epsilon (EpsilonLaws), and that a run may read its way down from the tables (EpsilonReads, EpsilonDown); what the lists
--- mean (DeltaLists) and why they are refused (ListGoes); the law of delta (DeltaRuns, DeltaLaws), and the same of its way down (DeltaReads, DeltaDown); both as the plain search's automaton (PlainSearch), and a whole book (Books).
-pub mod Epsilon
-pub mod Delta
-pub mod Examples
-pub mod Fits
-pub mod Noted
-pub mod Wf
-pub mod EpsilonSpec
-pub mod EpsilonReads
-pub mod EpsilonDown
-pub mod Extends
-pub mod DeltaReads
-pub mod DeltaDown
-pub mod PlainSearch
+-- aut.rs's `epsilon` and `delta`: the two steps, and what is stated of them. Read in this order.
+pub mod Epsilon  -- epsilon, in the Rust's order of steps
+pub mod Delta  -- delta, in the Rust's order of steps
+pub mod Examples  -- 01's rows on delta
+pub mod Fits  -- what labels and states mean in the tables
+pub mod Noted  -- what a run of epsilon leaves
+pub mod Wf  -- what is kept in words 4 to 6 and in the transitions is true
+pub mod EpsilonSpec  -- what epsilon comes to
+pub mod EpsilonReads  -- epsilon that reads its operands' values from the tables
+pub mod EpsilonDown  -- the way down to what is not worked out
+pub mod Extends  -- what a run of delta leaves
+pub mod DeltaReads  -- delta that reads its operands' lists from the tables
+pub mod DeltaDown  -- the way down to what is not stored
+pub mod PlainSearch  -- both as the automaton of the plain search

@@ -1,3 +1,3 @@
--- The search in code: what is asked and what is promised.
-pub mod Contracts
-pub mod Parts
+-- The search in code. Read in this order.
+pub mod Contracts  -- what the search asks and promises
+pub mod Parts  -- .. before words and entries are cleared

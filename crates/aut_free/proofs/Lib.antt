@@ -1,12 +1,11 @@
--- That constructors, operations on transition lists, epsilon and delta have alike runs on tables that are alike: Runs (how to follow a step), Words (what is read and written), then the steps in their order;
--- Clearing (`clear` by its words); Free: what follows for tables with words 7 to 11 changed.
-pub mod Alike
-pub mod Clear
-pub mod Runs
-pub mod Words
-pub mod Interning
-pub mod Constructors
-pub mod Lists
-pub mod Deltas
-pub mod Clearing
-pub mod Free
+-- That the steps have alike runs on tables that differ in words 7 to 11 only. Read in this order.
+pub mod Alike  -- alike tables, alike runs
+pub mod Clear  -- what a change of words 7 to 11 is
+pub mod Runs  -- how to follow a step on two stores
+pub mod Words  -- what is read and written of alike tables
+pub mod Interning  -- interning
+pub mod Constructors  -- the constructors, and a book's line
+pub mod Lists  -- the operations on transition lists
+pub mod Deltas  -- epsilon and delta
+pub mod Clearing  -- `clear` by its words
+pub mod Free  -- what the queries' code cites

@@ -1,9 +1,8 @@
--- aut.rs's queries. Read in this order: the tables and when they are in order (Tables); the search (Search, Corners); `live_packets` and `delta_pruned` (Live, Pruned, LiveExamples); how a query's
--- steps are followed (Steps); the law of the search (SearchLaws) and its refusals (SearchEnds); of live_packets the walk, the work list and the whole (ExploreLaws, SettleLaws, LiveLaws); of delta_pruned (PrunedLaws).
-pub mod Tables
-pub mod Search
-pub mod Corners
-pub mod Live
-pub mod Pruned
-pub mod Pending
-pub mod Explored
+-- aut.rs's queries: the search, live_packets and delta_pruned as steps, and what is stated of them. Read in this order.
+pub mod Tables  -- all tables of a query, and when they are in order
+pub mod Search  -- the search
+pub mod Corners  -- 01's row on the search
+pub mod Live  -- live_packets
+pub mod Pruned  -- delta_pruned
+pub mod Pending  -- pending entries in order
+pub mod Explored  -- a state that the walk of live_packets has visited

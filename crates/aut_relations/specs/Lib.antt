@@ -1,3 +1,3 @@
--- Relations of states: what is left of scratch, with lists below word 1152 and a cache of results behind; and what the steps on all tables leave.
-pub mod Behind
-pub mod Contracts
+-- Relations of states in code. Read in this order.
+pub mod Behind  -- scratch: lists below word 1152, the cache behind
+pub mod Contracts  -- what an answer says, what is asked and what is left

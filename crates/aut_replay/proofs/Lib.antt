@@ -1,12 +1,12 @@
--- That the steps replay: Runs (how to follow two runs), Interning and Opening (what constructors find and read), then the steps in their order; Replay has the laws of constructors and list operations, Epsilon and Delta theirs.
-pub mod Runs
-pub mod Interning
-pub mod Opening
-pub mod Constructors
-pub mod Lists
-pub mod Values
-pub mod Epsilon
-pub mod Together
-pub mod Delta
-pub mod Replay
-pub mod Limits
+-- That the steps replay. Read in this order.
+pub mod Runs  -- how to follow two runs
+pub mod Interning  -- interning again finds the state
+pub mod Opening  -- lists opened again are the same
+pub mod Constructors  -- the constructors replay
+pub mod Lists  -- the operations on transition lists replay
+pub mod Values  -- what epsilon puts together
+pub mod Epsilon  -- epsilon
+pub mod Together  -- what delta puts together
+pub mod Delta  -- delta
+pub mod Replay  -- the laws of specs/Replay
+pub mod Limits  -- the law of specs/Limits

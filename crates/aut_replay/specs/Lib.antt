@@ -1,3 +1,3 @@
--- The replay law: a step on states and lists, done again on any later tables in order, gives the same and makes nothing. And what larger limits change. The proofs are in proofs/.
-pub mod Replay
-pub mod Limits
+-- Steps done again. Read in this order.
+pub mod Replay  -- done again on later tables in order, a step gives the same and makes nothing
+pub mod Limits  -- larger limits only refuse less

@@ -1,3 +1,3 @@
--- st_complement: what is asked, and the union of the labels as a step on relation nodes alone.
-pub mod Cover
-pub mod Contracts
+-- st_complement in code. Read in this order.
+pub mod Cover  -- the union of the labels, as a step on relation nodes alone
+pub mod Contracts  -- what is asked

@@ -1,7 +1,7 @@
--- The laws of st_steps, each beside the definitions of the same name in specs/.
-pub mod Edges
-pub mod ListSpec
-pub mod EachSteps
-pub mod Places
-pub mod InsertSteps
-pub mod MinusSteps
+-- The laws of the operations on transition lists. Read in this order.
+pub mod Edges  -- lists as words
+pub mod ListSpec  -- what each operation leaves, and why it is refused
+pub mod EachSteps  -- what is made of a transition is in order
+pub mod Places  -- lists by places, and a write to one record
+pub mod InsertSteps  -- the parts of st_insert are st_insert
+pub mod MinusSteps  -- st_difference's loop, a transition at a time

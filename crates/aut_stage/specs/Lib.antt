@@ -1,3 +1,3 @@
--- A run of calls on lent tables, a call at a time: the rule for any layer, the layer of the constructors' tables, and that of the relation nodes alone.
-pub mod Stage
-pub mod OnNodes
+-- A run of calls on lent tables, a call at a time. Read in this order.
+pub mod Stage  -- the rule, for any layer of tables
+pub mod OnNodes  -- the relation nodes as a layer of their own

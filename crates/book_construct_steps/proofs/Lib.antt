@@ -1,2 +1,2 @@
--- The laws of line_steps, each beside the definitions of the same name in specs/.
-pub mod LineLaws
+-- The law of constructor lines.
+pub mod LineLaws  -- the state that a line makes holds the strings of its rule

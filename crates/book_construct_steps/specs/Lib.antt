@@ -1,2 +1,2 @@
--- A constructor line of a book: what it means, the step that makes its state, and the law that joins the two.
-pub mod Lines
+-- A constructor line of a book.
+pub mod Lines  -- what it means, a rule, and the step that makes its state

@@ -1,2 +1,2 @@
--- The laws of corners, each beside the definitions of the same name in specs/.
-pub mod Corners
+-- That 01's corner rows hold.
+pub mod Corners  -- every row of the table

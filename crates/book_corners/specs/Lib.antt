@@ -1,2 +1,2 @@
 -- 01's corner rows marked [C].
-pub mod Corners
+pub mod Corners  -- one table of them

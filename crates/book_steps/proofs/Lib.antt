@@ -1,19 +1,18 @@
--- That what specs/ states is so, and computed books. In this order: numbers are read as they are written (TextLaws), lines by states and by rules (Meaning), what a constructor line can be refused with (Numbers), when
--- each number is returned (Conditions, Reading), what answers say (Answers) and print (Printed), a line (Lines), a run (Runs), a book and the public entry (Claim), the program (Netcheck).
-pub mod AnswersLaws
-pub mod MeaningLaws
-pub mod TextLaws
-pub mod Meaning
-pub mod Numbers
-pub mod Conditions
-pub mod Reading
-pub mod Answers
-pub mod Header
-pub mod Printed
-pub mod Lines
-pub mod Runs
-pub mod Claim
-pub mod Netcheck
-pub mod Examples
-pub mod RunExamples
-pub mod Refusals
+-- That what specs/ states is so, and computed books. Read in this order.
+pub mod TextLaws  -- numbers are read as they are written
+pub mod AnswersLaws  -- the share is the nearest thousandth
+pub mod MeaningLaws  -- the rule that a line adds
+pub mod Meaning  -- lines by states and by rules go alike
+pub mod Numbers  -- what a constructor line can be refused with
+pub mod Conditions  -- when each number is returned, place by place
+pub mod Reading  -- 4 and 5
+pub mod Answers  -- what an answer says
+pub mod Header  -- a header's numbers are below 2^64
+pub mod Printed  -- what an answer's bytes tell
+pub mod Lines  -- a line
+pub mod Runs  -- a run
+pub mod Claim  -- a book, and the public entry
+pub mod Netcheck  -- the program
+pub mod Examples  -- lines read, computed
+pub mod RunExamples  -- books run, computed
+pub mod Refusals  -- books refused, computed; what `netcheck` writes

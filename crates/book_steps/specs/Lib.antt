@@ -1,13 +1,11 @@
--- A whole book. Read in this order: bytes, lines, words and numbers (Text); what lines say (Reader); answers as bytes
--- (Answers); the outcome of a book with what is lent, as a function of the two (Run); what its lines mean (Meaning).
--- Then what is claimed: when each number is returned (Conditions); what answers and tables mean (Demands); of the lines
--- of a run (RunSpec); of a book, of the public entry and of what `netcheck` writes (Claim). proofs/ proves it.
-pub mod Text
-pub mod Reader
-pub mod Answers
-pub mod Run
-pub mod Meaning
-pub mod Conditions
-pub mod Demands
-pub mod RunSpec
-pub mod Claim
+-- A whole book: its outcome, and what is claimed of it. Read in this order: first what the outcome is, then from Conditions on what is claimed; proofs/
+-- proves it.
+pub mod Text  -- bytes, lines, words and numbers
+pub mod Reader  -- what a line says; 4 and 5
+pub mod Answers  -- answers as bytes
+pub mod Run  -- the outcome of a book with what is lent
+pub mod Meaning  -- the rules that its lines mean
+pub mod Conditions  -- when each number is returned
+pub mod Demands  -- what answers and tables mean
+pub mod RunSpec  -- what is claimed of the lines of a run
+pub mod Claim  -- .. of a book, of the public entry, and of what `netcheck` writes

@@ -1,2 +1,2 @@
--- The laws of book_vectors, each beside the definitions of the same name in specs/.
-pub mod Vectors
+-- Books with their whole outcomes.
+pub mod Vectors  -- 64 books, computed

@@ -1,1 +1,1 @@
--- Books with their whole outcomes, computed from the definition.
+-- Nothing is stated here: proofs/ has books with their whole outcomes, computed from the definition.

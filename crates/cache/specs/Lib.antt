@@ -1,2 +1,2 @@
--- The cache: what its slots must satisfy, what a look and a note do, and how a run of calls goes with one.
-pub mod Cache
+-- The cache of results in scratch.
+pub mod Cache  -- slots, what they must satisfy, what a look and a note do

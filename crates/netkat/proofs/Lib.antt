@@ -1,2 +1,2 @@
--- The laws of netkat.
-pub mod Laws
+-- The proofs of what specs/ promises.
+pub mod Laws  -- in the order of the specs: hops, lists, the search, live sets, derivatives

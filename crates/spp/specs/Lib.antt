@@ -1,3 +1,3 @@
--- Relations in code: what an answer says in the words of the steps, what the operations ask and ensure, and when a cached result is right.
-pub mod Reuse
-pub mod Contracts
+-- Relations in code. Read in this order.
+pub mod Reuse  -- when a cached result is right
+pub mod Contracts  -- what an answer says, what the operations ask and ensure

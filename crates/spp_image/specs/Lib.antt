@@ -1,4 +1,4 @@
--- Images in code: what an answer says in the words of the steps, what the functions ask and ensure, and when a cached result is right.
-pub mod Ways
-pub mod Reuse
-pub mod Contracts
+-- Images in code. Read in this order.
+pub mod Ways  -- fwd and bwd, push and pull: one operation in two directions
+pub mod Reuse  -- when a cached result is right
+pub mod Contracts  -- what an answer says, what the functions ask and ensure

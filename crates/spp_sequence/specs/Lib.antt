@@ -1,3 +1,3 @@
--- Sequence and star in code: the parts of their steps, what an answer says in the words of the steps, what is asked and ensured.
-pub mod Parts
-pub mod Contracts
+-- Sequence and star in code. Read in this order.
+pub mod Parts  -- the steps in parts, as the code makes them
+pub mod Contracts  -- what an answer says, what is asked
