@@ -1,19 +1,17 @@
 -- One product, and a turn of the loop over the products.
-use mathlib.Core.Path.{_≡_, refl, sym, _∙_, ap, ap₂, subst}
+use mathlib.Core.Path.{_≡_, refl, sym, _∙_, ap, subst}
 use mathlib.Core.List.{List, [], _∷_, _++_}
-use Prim.Native.Nat.{ℕ, zero, suc, _+_, _*_, _-_, _≤_, _<_}
+use Prim.Native.Nat.{ℕ, suc, _+_, _-_, _≤_, _<_}
 use native.Mathlib.Omega.{arith}
-use lib.ListN.{length, getD, set, length-set}
-use Rattle.common.specs.Outcome.{Outcome, refused, given, Step, after}
-use Rattle.common.specs.Runs.{Table, table}
-use Rattle.spp_steps.proofs.Laws.{ext-refl}
-use Rattle.aut_steps.specs.Tables.{words, Limits, Aut}
+use lib.ListN.{length, set, length-set}
+use Rattle.common.specs.Outcome.{Outcome, given, after}
+use Rattle.common.specs.Runs.{table}
+use Rattle.aut_steps.specs.Tables.{words, Aut}
 use Rattle.aut_steps.specs.Ascending.{All}
 use Rattle.aut_steps.proofs.ListLaws.{all-append, all-map}
-use Rattle.aut_steps.proofs.Facts.{words-length}
 use Rattle.aut_steps.specs.Scratch.{Kept}
-use Rattle.aut_steps.proofs.Scratch.{kept-sets, words-append, words-below}
-use Rattle.aut_steps.specs.Wf.{states, ExtAut, WfAut}
+use Rattle.aut_steps.proofs.Scratch.{kept-wide, kept-sets, words-append}
+use Rattle.aut_steps.specs.Wf.{states, ExtAut}
 use Rattle.aut_steps.proofs.Wf.{grown-refl, grown-trans, states-grown, state-grown}
 use Rattle.aut_steps.specs.StepSpec.{Gone}
 use Rattle.aut_steps.proofs.StepSpec.{StepSpec, came}
@@ -29,12 +27,12 @@ use Rattle.aut_states.specs.declared.State.the-variants as state
 use Rattle.aut_states.specs.Contracts.{limitsOf}
 use Rattle.aut_scratch.specs.Contracts.{ProductReady, Products}
 use Rattle.aut_relations.specs.Behind.{LISTS, Modifies}
-use Rattle.aut_relations.proofs.Behind.{left-refl, left-wide, left-trans, left-kept, kept-left, words-before}
+use Rattle.aut_relations.proofs.Behind.{left-refl, left-wide, left-trans, words-before}
 use Rattle.aut_relations.specs.Contracts.{autOf, seenAut, Beside, ModifiesBy, Ready, Does}
 use Rattle.aut_relations.proofs.Order as order
 use Rattle.aut_relations.proofs.Order.{ready-after}
 use Rattle.aut_union.specs.Contracts.{ListAt}
-use Rattle.aut_intersect.specs.declared.Based.{Based}
+use Rattle.aut_union.proofs.Calls.{left-then, Written, written-ready, written-done}
 use Rattle.aut_intersect.specs.declared.Based.the-variants as based
 use Rattle.aut_intersect.specs.Contracts.{BaseReady, BasesReady, BasesGoes, Bases}
 
@@ -51,24 +49,21 @@ module _ (N : ℕ) (l : Bounds) (t st mem s : List ℕ) (c : Counts) (k i : ℕ)
     few : k ≤ 64
     few = omega (arith, B .list .apart)
 
+    written : Written (c .states) 192 k s s1
+    written = record {
+      kept = kept-wide (P .kept) (omega arith) (omega (arith, few));
+      len = len1;
+      few = few;
+      states = subst (All (λ x. x < c .states)) (P .is) (product-states (B .ready .good) (words s 64 k) (B .list .states) i (B .product));
+    }
+
     pub base-ready : Ready N l σ s1 × ListAt s1 (c .states) 192 k 256
-    base-ready = (
-      ready-after {a = 192} {n = k} (B .ready) (grown-refl σ) (B .ready .good) (left-kept (P .kept) len1 (omega (arith, few))) len1,
-      record { states = subst (All (λ x. x < c .states)) (P .is) (product-states (B .ready .good) (words s 64 k) (B .list .states) i (B .product)); apart = omega (arith, few) },
-    )
+    base-ready = written-ready t st mem c (B .ready) written (omega arith)
 
     pub made : (r : State) (t2 st2 mem2 s2 : List ℕ) → Does N 256 320 (mk-intersect-n-base N (limitsOf l) (words s1 192 k) σ) r c t2 st2 mem2 s1 s2
         → Does N 192 384 (C.base N (limitsOf l) (words s 64 k) i σ) r c t2 st2 mem2 s s2
     unfolding C.base
-    made r t2 st2 mem2 s2 D = record {
-      is = ap (λ (xs : List ℕ). mk-intersect-n-base N (limitsOf l) xs σ) (P .is) ∙ D .is;
-      beside = D .beside;
-      left = left-by r (D .left);
-    }
-      where
-        left-by : (r : State) → ModifiesBy N 256 320 r t2 s1 s2 → ModifiesBy N 192 384 r t2 s s2
-        left-by (state.Is j d) v = kept-left (P .kept) len1 (omega arith) (omega (arith, few)) (omega arith) (left-wide v (omega arith) (omega arith))
-        left-by (state.Refused e) v = tt
+    made r t2 st2 mem2 s2 D = written-done r t2 st2 mem2 s2 written (omega arith) (ap (λ (xs : List ℕ). mk-intersect-n-base N (limitsOf l) xs σ) (P .is)) D
 
 -- ---- bases
 
@@ -160,7 +155,7 @@ module _ (N : ℕ) (l : Bounds) (t₀ st₀ mem₀ s₀ : List ℕ) (c : Counts)
           len-2 = simp length-set
 
           left-2 : Modifies N 128 448 (table t1 (d1 .spp)) s s2
-          left-2 = left-trans (ext-refl (table t1 (d1 .spp))) (left-wide left-1 (omega arith) (omega arith)) (left-wide (left-kept kept-2 len-2 (omega (arith, B .few))) (omega arith) (omega (arith, B .few)))
+          left-2 = left-then (left-wide left-1 (omega arith) (omega arith)) kept-2 len-2 (omega arith) (omega (arith, B .few)) (omega arith)
 
           pub again : Turn N l t₀ st₀ mem₀ s₀ c k n t1 st1 mem1 s2 d1 (i + 1)
           again = record {

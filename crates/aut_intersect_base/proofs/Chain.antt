@@ -1,44 +1,39 @@
 -- The chain of calls of an intersection: what each call is asked, and what the whole comes to.
-use mathlib.Core.Path.{_≡_, refl, sym, _∙_, ap, ap₂, subst}
-use mathlib.Core.Bool.{Bool, true, false}
-use mathlib.Core.List.{List, [], _∷_, _++_}
-use Prim.Native.Nat.{ℕ, zero, suc, _+_, _*_, _-_, _≤_, _<_}
+use mathlib.Core.Path.{_≡_, refl, _∙_, ap, subst}
+use mathlib.Core.Bool.{Bool, false}
+use mathlib.Core.List.{List, []}
+use Prim.Native.Nat.{ℕ, _≤_, _<_}
 use native.Mathlib.Omega.{arith}
-use lib.ListN.{length, getD}
+use lib.ListN.{length}
 use Rattle.common.specs.Outcome.{Outcome, refused, given, Step, after}
 use Rattle.common.proofs.Follow.{given-of}
 use Rattle.common.specs.Runs.{Table, table, placed}
-use Rattle.spp_steps.proofs.Laws.{ext-refl, den-top}
+use Rattle.spp_steps.proofs.Laws.{den-top}
 use Rattle.spp.specs.declared.SPP as Spp
-use Rattle.aut_steps.specs.Tables.{INTERSECT, words, Aut, aut, putNodes}
+use Rattle.aut_steps.specs.Tables.{words, Aut, putNodes}
 use Rattle.aut_steps.specs.Relations as Rel
 use Rattle.aut_steps.specs.Ascending.{All}
 use Rattle.aut_steps.proofs.ListLaws.{all-map, all-sorted}
 use Rattle.aut_steps.specs.Lists.{sorted}
 use Rattle.aut_steps.specs.Wf.{WfAut}
-use Rattle.aut_steps.proofs.Wf.{grown-refl}
 use Rattle.aut_steps.proofs.StepSpec.{good-nodes}
 use Rattle.aut_steps.specs.Constructors as C
-use Rattle.aut_steps.specs.Constructors.{met, each, meetOne, meetFinish, Within, within, beyond, openAll, meetOpened}
+use Rattle.aut_steps.specs.Constructors.{met, each, meetOne, meetFinish, openAll, meetOpened}
 use Rattle.aut_states.specs.declared.Counts.{Counts}
 use Rattle.aut_states.specs.declared.Limits.{Limits as Bounds}
 use Rattle.aut_states.specs.declared.State.{State}
-use Rattle.aut_states.specs.declared.State.the-variants.{Is, Refused}
 use Rattle.aut_states.specs.Contracts.{limitsOf}
-use Rattle.aut_scratch.specs.Contracts.{OpenReady, Extends, listedOf, listedMost, SortReady, Sorts}
-use Rattle.aut_scratch.specs.declared.Listed.{Listed}
-use Rattle.aut_scratch.specs.declared.Listed.the-variants as listed
-use Rattle.aut_relations.specs.Behind.{LISTS, Modifies}
-use Rattle.aut_relations.proofs.Behind.{left-wide, left-trans, left-kept, kept-left}
-use Rattle.aut_relations.specs.Contracts.{autOf, seenAut, Beside, SameNodes, ModifiesBy, Ready, Does}
+use Rattle.aut_scratch.specs.Contracts.{SortReady, Sorts}
+use Rattle.aut_relations.specs.Behind.{Modifies}
+use Rattle.aut_relations.proofs.Behind.{left-wide}
+use Rattle.aut_relations.specs.Contracts.{autOf, Ready, Does}
 use Rattle.aut_relations.proofs.Join.{same-left, beside-more}
 use Rattle.aut_relations.proofs.Order as order
-use Rattle.aut_relations.proofs.Order.{backed-of, ready-after}
-use Rattle.aut_relations.proofs.Opens.{AllWithin, all-states}
 use Rattle.aut_relations.proofs.Each.{Grows, each-gives}
-use Rattle.aut_union.specs.Contracts.{UnitesReady, ListAt}
+use Rattle.aut_union.specs.Contracts.{ListAt}
+use Rattle.aut_union.proofs.Calls.{left-then}
 use Rattle.aut_intersect_base.specs.declared.Met.{Met}
-use Rattle.aut_intersect_base.specs.declared.Met.the-variants.{Rest, Full}
+use Rattle.aut_intersect_base.specs.declared.Met.the-variants.{Rest}
 use Rattle.aut_intersect_base.specs.Contracts.{seenMet, MetLeft, MetMost, Meets, FinishReady, Finishes}
 use Rattle.aut_intersect_base.proofs.Gather.{keeps, Held}
 
@@ -56,9 +51,6 @@ module _ (N : ℕ) (l : Bounds) (t st mem s : List ℕ) (c : Counts) (k : ℕ) (
 
   abbrev rest : C.Met → Step Aut ℕ
   rest p = meetFinish N (limitsOf l) p (sorted (p .others))
-
-  pub meets-ready : UnitesReady N (table t (c .spp)) st s 256 k 320
-  meets-ready = record { backed = backed-of R; at = all-map (words s 256 k) (λ x m. order.rel-at (R .good) m) (A .states); apart = A .apart; room = omega arith }
 
   after-1 : {o : Outcome Table C.Met} → first ≡ o → whole ≡ after (placed putNodes σ o) rest
   unfolding C.meet
@@ -112,10 +104,9 @@ module _ (N : ℕ) (l : Bounds) (t st mem s : List ℕ) (c : Counts) (k : ℕ) (
             is = after-1 is-1 ∙ ap (λ (ys : List ℕ). meetFinish N (limitsOf l) (met b (h .0) (words s1 320 m)) ys (autOf t1 st mem d)) (S .is) ∙ f .is t1;
             beside = beside-more r4 c d (f .beside) refl refl;
             left = same-left N 320 256 r4 d t1 s s4 (f .nodes)
-                (left-trans (ext-refl (table t1 n)) (left-wide left-1 (omega arith) (omega arith))
-                (left-trans (ext-refl (table t1 n))
-                (left-wide (left-kept (S .kept) len3 (omega (arith, few-1))) (omega arith) (omega (arith, few-1)))
-                (left-wide (left-kept (f .kept) len4 (omega (arith, few-1, S .few))) (omega arith) (omega (arith, few-1, S .few)))));
+                (left-then
+                (left-then (left-wide left-1 (omega arith) (omega arith)) (S .kept) len3 (omega arith) (omega (arith, few-1)) (omega arith))
+                (f .kept) len4 (omega arith) (omega (arith, few-1, S .few)) (omega arith));
           }
 
 -- ---- mk_intersect_n_base
@@ -127,41 +118,6 @@ module _ (N : ℕ) (l : Bounds) (t st mem s : List ℕ) (c : Counts) (from k : �
   abbrev all-b : Outcome Aut ℕ
   all-b = C.mk-intersect-n-base N (limitsOf l) (words s from k) σb
 
-  abbrev open-b : Within (List ℕ)
-  open-b = openAll (l .list) st mem (words s from k) []
-
-  pub open-ready : OpenReady st mem s (l .list) INTERSECT from k 256
-  open-ready = record { at = order.open-all-at (R .good) (words s from k) (A .states); limit = R .list; apart = A .apart; room = omega (arith, R .list, R .room) }
-
-  module _ (r1 : Listed) (s1 : List ℕ) (O : Extends open-b r1 s s1 256 (l .list)) (len1 : length s1 ≡ length s) where
-    after-open : all-b ≡ meetOpened N (limitsOf l) (listedOf r1 s1 256) σb
-    unfolding C.mk-intersect-n-base
-    after-open = ap (λ (o : Within (List ℕ)). meetOpened N (limitsOf l) o σb) (O .is)
-
-    pub too-long : r1 ≡ listed.Long → all-b ≡ refused 6
-    too-long e = after-open ∙ ap (λ (r : Listed). meetOpened N (limitsOf l) (listedOf r s1 256) σb) e
-
-    module _ (m : ℕ) (told : r1 ≡ listed.List m) where
-      few-m : m ≤ 64
-      few-m = omega (arith, R .list, subst (λ (r : Listed). listedMost r (l .list)) told (O .few))
-
-      pub meet-ready : Ready N l σb s1 × ListAt s1 (c .states) 256 m 320 × (m ≤ 64)
-      meet-ready = (
-        ready-after {a = 256} {n = l .list} R (grown-refl σb) (R .good) (left-kept (O .kept) len1 (omega (arith, R .list))) len1,
-        record {
-          states = subst (AllWithin (λ x. x < c .states)) (O .is ∙ ap (λ (r : Listed). listedOf r s1 256) told) (all-states (R .good) (l .list) (words s from k) [] (A .states) tt);
-          apart = omega (arith, few-m);
-        },
-        few-m,
-      )
-
-      pub met-all : (r2 : State) (t2 st2 mem2 s2 : List ℕ) → Does N 320 256 (C.meet N (limitsOf l) (words s1 256 m) σb) r2 c t2 st2 mem2 s1 s2 → Does N 256 320 all-b r2 c t2 st2 mem2 s s2
-      met-all r2 t2 st2 mem2 s2 D = record {
-        is = after-open ∙ ap (λ (r : Listed). meetOpened N (limitsOf l) (listedOf r s1 256) σb) told ∙ D .is;
-        beside = D .beside;
-        left = left-by r2 (D .left);
-      }
-        where
-          left-by : (r : State) → ModifiesBy N 320 256 r t2 s1 s2 → ModifiesBy N 256 320 r t2 s s2
-          left-by (Is i e) v = kept-left (O .kept) len1 (omega arith) (omega (arith, R .list)) (omega arith) (left-wide v (omega arith) (omega arith))
-          left-by (Refused e) v = tt
+  pub opens : all-b ≡ meetOpened N (limitsOf l) (openAll (l .list) st mem (words s from k) []) σb
+  unfolding C.mk-intersect-n-base
+  opens = refl

@@ -2,7 +2,7 @@
 use mathlib.Core.Path.{_≡_, refl, sym, _∙_, ap, ap₂, subst}
 use mathlib.Core.Bool.{Bool, true, false, _&&_}
 use mathlib.Core.List.{List, [], _∷_, _++_}
-use Prim.Native.Nat.{ℕ, zero, suc, _+_, _*_, _-_, _≤_, _<_}
+use Prim.Native.Nat.{ℕ, _+_, _*_, _≤_, _<_}
 use native.Mathlib.Omega.{arith}
 use lib.Dec.{eqb}
 use lib.ListN.{length, getD, set, length-set}
@@ -13,13 +13,12 @@ use Rattle.common.specs.Runs.{Table, table, placed}
 use Rattle.spp_steps.specs.Wf.{Wf, ValidAt}
 use Rattle.spp_steps.proofs.Laws.{ext-refl, at-ext, den-mem}
 use Rattle.spp.specs.declared.SPP as Spp
-use Rattle.aut_steps.specs.Tables.{SPP, TOP, INTERSECT, kindOf, op1, words, Limits, Aut, aut, exprs, Exprs, putStates, putExprs, onStates, onExprs}
+use Rattle.aut_steps.specs.Tables.{SPP, TOP, INTERSECT, kindOf, op1, words, Limits, Aut, exprs, putStates, putExprs, onStates, onExprs}
 use Rattle.aut_steps.specs.Relations as Rel
 use Rattle.aut_steps.proofs.RelationLaws.{intersect-made}
 use Rattle.aut_steps.specs.Ascending.{All}
 use Rattle.aut_steps.proofs.ListLaws.{all-append}
 use Rattle.aut_steps.proofs.Facts.{words-length}
-use Rattle.aut_steps.specs.Scratch.{Kept}
 use Rattle.aut_steps.proofs.Scratch.{kept-refl, kept-sets, words-append}
 use Rattle.aut_steps.specs.Intern.{internL}
 use Rattle.aut_steps.specs.Wf.{states, WfAut}
@@ -28,21 +27,21 @@ use Rattle.aut_steps.specs.StepSpec.{Gone}
 use Rattle.aut_steps.proofs.StepSpec.{StepSpec, came, goes-return, placed-map}
 use Rattle.aut_steps.proofs.StateLaws.{mk-spp-goes}
 use Rattle.aut_steps.specs.Constructors as C
-use Rattle.aut_steps.specs.Constructors.{met, each, meetOne, addLast, meetFinish, mk-spp, mk-top}
+use Rattle.aut_steps.specs.Constructors.{met, meetOne, addLast, meetFinish, mk-spp, mk-top}
 use Rattle.aut_states.specs.declared.Counts.{Counts}
 use Rattle.aut_states.specs.declared.Limits.{Limits as Bounds}
 use Rattle.aut_states.specs.declared.State.{State}
-use Rattle.aut_states.specs.declared.State.the-variants.{Is, Refused}
-use Rattle.aut_states.specs.Contracts as Put
-use Rattle.aut_states.specs.Contracts.{limitsOf, Interned, seenState, ListReady}
+use Rattle.aut_states.specs.declared.State.the-variants.{Refused}
+use Rattle.aut_states.specs.Contracts.{limitsOf, Interned, ListReady}
 use Rattle.aut_relations.specs.Behind.{LISTS, Modifies}
 use Rattle.aut_relations.proofs.Behind.{left-refl, left-any, left-kept, words-behind}
-use Rattle.aut_relations.specs.Contracts.{RelAt, autOf, seenAut, Beside, SameNodes}
+use Rattle.aut_relations.specs.Contracts.{RelAt, autOf}
 use Rattle.aut_relations.proofs.Order as order
 use Rattle.aut_relations.proofs.Each.{Grows, Keeps, makes-gives}
 use Rattle.aut_union.specs.declared.Added.{Added}
 use Rattle.aut_union.specs.declared.Added.the-variants as added
 use Rattle.aut_union.specs.Contracts.{seenAdded, AddedMost, Adds}
+use Rattle.aut_union.proofs.Calls.{interned-is, interned-beside, interned-nodes}
 use Rattle.aut_intersect_base.specs.declared.Met.{Met}
 use Rattle.aut_intersect_base.specs.declared.Met.the-variants.{Rest, Full}
 use Rattle.aut_intersect_base.specs.Contracts.{nothingOf, aloneOf, listOf, Meets, FinishReady, Finishes, AddReady}
@@ -201,23 +200,11 @@ module _ (N : ℕ) (l : Bounds) (st mem s : List ℕ) (c : Counts) (b : Bool) (h
         is = λ t.
             after-1 t others
             ∙ ap (λ (r : Added). after (placed putStates (σ t) (seenAdded r st1 s1 448)) (λ ys. onExprs (internL (limitsOf l) INTERSECT ys))) told
-            ∙ ap (placed putExprs (autOf t st1 mem d)) (I .is) ∙ lift t r2 (I .beside);
-        beside = counts r2 (I .beside);
-        nodes = same r2 (I .beside);
+            ∙ ap (placed putExprs (autOf t st1 mem d)) (I .is) ∙ interned-is t st1 mem st2 mem2 r2 d (I .beside);
+        beside = interned-beside r2 c d (I .beside) refl refl;
+        nodes = interned-nodes r2 c d (I .beside) refl;
         kept = D others .kept;
       }
-        where
-          lift : (t : List ℕ) (r : State) → Put.Beside r d → placed putExprs (autOf t st1 mem d) (seenState r st2 mem2) ≡ seenAut r t st2 mem2
-          lift t (Is i e) v = ap (λ (z : ℕ). given (aut (table t z) (table st2 (e .states)) (table mem2 (e .members))) i) (sym (v .1))
-          lift t (Refused e) v = refl
-
-          counts : (r : State) → Put.Beside r d → Beside r c
-          counts (Is i e) v = (v .0, v .2)
-          counts (Refused e) v = tt
-
-          same : (r : State) → Put.Beside r d → SameNodes r c
-          same (Is i e) v = v .1
-          same (Refused e) v = tt
 
 -- ---- meet_finish
 

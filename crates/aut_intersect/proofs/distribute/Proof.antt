@@ -1,5 +1,5 @@
 use mathlib.Core.Path.{_≡_, refl, _∙_, ap}
-use Rattle.aut_union.proofs.Chain.{not-done}
+use Rattle.aut_union.proofs.Calls.{not-done}
 use Rattle.aut_intersect.proofs.Chain as chain
 use borrow.Author.Needs.{needs}
 use Rattle.aut_intersect.proofs.distribute.Statement.{statement}

@@ -1,7 +1,8 @@
 use mathlib.Core.Path.{_≡_, refl, _∙_, ap}
 use Rattle.aut_intersect_base.specs.Contracts.{seenMet}
 use Rattle.aut_intersect_base.specs.declared.Met.{Met}
-use Rattle.aut_union.proofs.Chain.{not-done}
+use Rattle.aut_union.proofs.Calls.{not-done}
+use Rattle.aut_union.proofs.Chain.{unites-ready}
 use Rattle.aut_intersect_base.proofs.Chain as chain
 use borrow.Author.Needs.{needs}
 use Rattle.aut_intersect_base.proofs.meet.Statement.{statement}
@@ -15,7 +16,7 @@ use Rattle.aut_intersect_base.proofs.meet_finish.Reads as meet-finish-r
 -- src/lib.rt:160:36
 meet-each-requires : tie.Need-meet-each-requires
 meet-each-requires c κs =
-    let g = c .before .before .before .before .before .before .before .args in chain.meets-ready (g .config .fields) (g .config .limits) (g .nodes .now) (g .states .now) (g .members .now) (g .scratch .now) (g .c) (g .k) (c .before .before .before .before .before .before .before .pre .0) (c .before .before .before .before .before .before .before .pre .1) (c .before .before .before .before .before .before .before .pre .2)
+    let g = c .before .before .before .before .before .before .before .args in unites-ready (g .config .fields) (g .config .limits) (g .nodes .now) (g .states .now) (g .members .now) (g .scratch .now) (g .c) (g .k) (c .before .before .before .before .before .before .before .pre .0) (c .before .before .before .before .before .before .before .pre .1) (c .before .before .before .before .before .before .before .pre .2)
 
 -- src/lib.rt:160:19
 enum-known-some : tie.Need-enum-known-some

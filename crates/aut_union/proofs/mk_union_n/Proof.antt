@@ -1,6 +1,7 @@
 use mathlib.Core.Path.{_≡_, refl, _∙_, ap}
 use Rattle.common.specs.Runs.{table}
 use Rattle.aut_relations.proofs.Join as join
+use Rattle.aut_union.proofs.Calls as calls
 use Rattle.aut_union.proofs.Chain as chain
 use borrow.Author.Needs.{needs}
 use Rattle.aut_union.proofs.mk_union_n.Statement.{statement}
@@ -15,7 +16,7 @@ use Rattle.aut_union.proofs.unite.Reads as unite-reads
 -- src/lib.rt:134:9
 returns : tie.Need-returns
 returns c =
-    let g = c .before .before .before .before .before .before .args in chain.not-done 6 (chain.too-many (g .config .fields) (g .config .limits) (g .nodes .now) (g .states .now) (g .members .now) (g .scratch .now) (g .c) (g .from) (g .k) (c .before .before .before .before .before .before .pre .0) (c .before .before .before .before .before .before .pre .1) (c .if1 .taken))
+    let g = c .before .before .before .before .before .before .args in calls.not-done 6 (calls.too-many chain.of-list (g .config .fields) (g .config .limits) (g .nodes .now) (g .states .now) (g .members .now) (g .scratch .now) (g .c) (g .from) (g .k) (c .if1 .taken))
 
 -- src/lib.rt:137:26
 mul-t13 : tie.Need-mul-t13
@@ -28,7 +29,7 @@ slice-read-t15 c = search needs
 -- src/lib.rt:137:9
 returns-2 : tie.Need-returns-2
 returns-2 c =
-    let g = c .before .before .before .before .before .before .before .before .args in chain.itself (g .config .fields) 256 320 _ (g .nodes .now) (g .states .now) (g .members .now) (g .scratch .now) (g .c) _ (chain.single (g .config .fields) (g .config .limits) (g .nodes .now) (g .states .now) (g .members .now) (g .scratch .now) (g .c) (g .from) (g .k) (c .before .before .before .before .before .before .before .before .pre .0) (c .before .before .before .before .before .before .before .before .pre .1) (c .before .before .if1 .left) (c .before .if2 .taken))
+    let g = c .before .before .before .before .before .before .before .before .args in calls.itself (g .config .fields) 256 320 _ (g .nodes .now) (g .states .now) (g .members .now) (g .scratch .now) (g .c) _ (calls.single chain.of-list (g .config .fields) (g .config .limits) (g .nodes .now) (g .states .now) (g .members .now) (g .scratch .now) (g .c) (g .from) (g .k) (c .before .before .if1 .left) (c .before .if2 .taken))
 
 -- src/lib.rt:139:9
 open-union-requires : tie.Need-open-union-requires
@@ -75,7 +76,7 @@ same-length-3 c = search needs
 -- src/lib.rt:129:1
 returns-3 : tie.Need-returns-3
 returns-3 c =
-    let g = c .before .before .before .before .before .before .before .before .before .before .before .before .before .before .before .args in chain.not-done 6 (chain.too-long (g .config .fields) (g .config .limits) (g .nodes .now) (g .states .now) (g .members .now) (g .scratch .now) (g .c) (g .from) (g .k) (c .before .before .before .before .before .before .before .before .before .before .before .before .before .before .before .pre .0) (c .before .before .before .before .before .before .before .before .before .before .before .before .before .before .before .pre .1) (c .before .before .before .before .before .before .before .before .before .if1 .left) (c .before .before .before .before .before .before .before .before .if2 .left) (c .before .before .before .before .open-union .result) (c .before .before .before .before .open-union .last .1 .1 .0) (c .before .before .before .before .open-union .ensures) (c .before .before .before .before .open-union .kept .1 .1 .0) (c .enum-told .given .1))
+    let g = c .before .before .before .before .before .before .before .before .before .before .before .before .before .before .before .args in calls.not-done 6 (chain.too-long (g .config .fields) (g .config .limits) (g .nodes .now) (g .states .now) (g .members .now) (g .scratch .now) (g .c) (g .from) (g .k) (c .before .before .before .before .before .before .before .before .before .before .before .before .before .before .before .pre .0) (c .before .before .before .before .before .before .before .before .before .before .before .before .before .before .before .pre .1) (c .before .before .before .before .before .before .before .before .before .if1 .left) (c .before .before .before .before .before .before .before .before .if2 .left) (c .before .before .before .before .open-union .result) (c .before .before .before .before .open-union .last .1 .1 .0) (c .before .before .before .before .open-union .ensures) (c .before .before .before .before .open-union .kept .1 .1 .0) (c .enum-told .given .1))
 
 -- src/lib.rt:129:1
 same-length-4 : tie.Need-same-length-4

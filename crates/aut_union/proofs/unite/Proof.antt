@@ -1,6 +1,7 @@
 use mathlib.Core.Path.{_≡_, refl, _∙_, ap}
 use Rattle.aut_union.specs.Contracts.{seenParts}
 use Rattle.aut_union.specs.declared.Gathered.{Gathered}
+use Rattle.aut_union.proofs.Calls as calls
 use Rattle.aut_union.proofs.Chain as chain
 use borrow.Author.Needs.{needs}
 use Rattle.aut_union.proofs.unite.Statement.{statement}
@@ -40,7 +41,7 @@ same-length-3 c = search needs
 -- src/lib.rt:115:9
 returns : tie.Need-returns
 returns c =
-    let g = c .before .before .before .before .before .before .before .before .before .before .before .before .before .before .args in chain.not-done 21 (chain.full (g .config .fields) (g .config .limits) (g .nodes .now) (g .states .now) (g .members .now) (g .scratch .now) (g .c) (g .k) (c .before .before .before .before .before .before .before .before .before .before .before .before .before .before .pre .0) (c .before .before .before .before .before .before .before .before .before .before .before .before .before .before .pre .1) (c .before .before .before .before .before .before .before .before .before .before .before .before .before .before .pre .2) (c .before .before .before .before .before .before .unite-each .ensures .is ∙ ap (λ (r : Gathered). seenParts r (c .before .before .before .before .before .before .unite-each .last .0) (c .before .before .before .before .before .before .unite-each .last .1 .1 .0) 320) (c .enum-told .given .1)))
+    let g = c .before .before .before .before .before .before .before .before .before .before .before .before .before .before .args in calls.not-done 21 (chain.full (g .config .fields) (g .config .limits) (g .nodes .now) (g .states .now) (g .members .now) (g .scratch .now) (g .c) (g .k) (c .before .before .before .before .before .before .before .before .before .before .before .before .before .before .pre .0) (c .before .before .before .before .before .before .before .before .before .before .before .before .before .before .pre .1) (c .before .before .before .before .before .before .before .before .before .before .before .before .before .before .pre .2) (c .before .before .before .before .before .before .unite-each .ensures .is ∙ ap (λ (r : Gathered). seenParts r (c .before .before .before .before .before .before .unite-each .last .0) (c .before .before .before .before .before .before .unite-each .last .1 .1 .0) 320) (c .enum-told .given .1)))
 
 -- src/lib.rt:117:9
 add-relation-requires : tie.Need-add-relation-requires
@@ -80,7 +81,7 @@ same-length-6 c = search needs
 -- src/lib.rt:110:1
 returns-2 : tie.Need-returns-2
 returns-2 c =
-    let g = c .before .before .before .before .before .before .before .before .before .before .before .before .before .before .before .before .before .before .before .before .before .before .before .before .before .args in chain.not-done _ (chain.not-added (g .config .fields) (g .config .limits) (g .nodes .now) (g .states .now) (g .members .now) (g .scratch .now) (g .c) (g .k) (c .before .before .before .before .before .before .before .before .before .before .before .before .before .before .before .before .before .before .before .before .before .before .before .before .before .pre .0) (c .before .before .before .before .before .before .before .before .before .before .before .before .before .before .before .before .before .before .before .before .before .before .before .before .before .pre .1) (c .before .before .before .before .before .before .before .before .before .before .before .before .before .before .before .before .before .before .before .before .before .before .before .before .before .pre .2) (c .before .before .before .before .before .before .before .before .before .before .before .before .before .before .before .before .before .unite-each .result) (c .before .before .before .before .before .before .before .before .before .before .before .before .before .before .before .before .before .unite-each .last .0) (c .before .before .before .before .before .before .before .before .before .before .before .before .before .before .before .before .before .unite-each .last .1 .1 .0) (c .before .before .before .before .before .before .before .before .before .before .before .before .before .before .before .before .before .unite-each .ensures) (c .before .before .before .before .before .before .before .before .before .before .before .before .before .before .before .before .before .unite-each .kept .1 .1 .0) _ _ _ (c .before .before .before .before .before .before .before .before .before .before .before .h .given .1) (c .before .before .before .before .before .before .before .add-relation .result) (c .before .before .before .before .before .before .before .add-relation .last .0) (c .before .before .before .before .before .before .before .add-relation .last .1 .0) (c .before .before .before .before .before .before .before .add-relation .ensures) (c .before .before .before .before .before .before .before .add-relation .kept .1 .0) _ (c .before .added .given .1))
+    let g = c .before .before .before .before .before .before .before .before .before .before .before .before .before .before .before .before .before .before .before .before .before .before .before .before .before .args in calls.not-done _ (chain.not-added (g .config .fields) (g .config .limits) (g .nodes .now) (g .states .now) (g .members .now) (g .scratch .now) (g .c) (g .k) (c .before .before .before .before .before .before .before .before .before .before .before .before .before .before .before .before .before .before .before .before .before .before .before .before .before .pre .0) (c .before .before .before .before .before .before .before .before .before .before .before .before .before .before .before .before .before .before .before .before .before .before .before .before .before .pre .1) (c .before .before .before .before .before .before .before .before .before .before .before .before .before .before .before .before .before .before .before .before .before .before .before .before .before .pre .2) (c .before .before .before .before .before .before .before .before .before .before .before .before .before .before .before .before .before .unite-each .result) (c .before .before .before .before .before .before .before .before .before .before .before .before .before .before .before .before .before .unite-each .last .0) (c .before .before .before .before .before .before .before .before .before .before .before .before .before .before .before .before .before .unite-each .last .1 .1 .0) (c .before .before .before .before .before .before .before .before .before .before .before .before .before .before .before .before .before .unite-each .ensures) (c .before .before .before .before .before .before .before .before .before .before .before .before .before .before .before .before .before .unite-each .kept .1 .1 .0) _ _ _ (c .before .before .before .before .before .before .before .before .before .before .before .h .given .1) (c .before .before .before .before .before .before .before .add-relation .result) (c .before .before .before .before .before .before .before .add-relation .last .0) (c .before .before .before .before .before .before .before .add-relation .last .1 .0) (c .before .before .before .before .before .before .before .add-relation .ensures) (c .before .before .before .before .before .before .before .add-relation .kept .1 .0) _ (c .before .added .given .1))
 
 -- src/lib.rt:110:1
 same-length-7 : tie.Need-same-length-7
