@@ -1,4 +1,5 @@
 pub mod Join
+pub mod Readings
 pub mod Placing
 pub mod Halves
 pub mod Walking

@@ -4,8 +4,8 @@ use mathlib.Core.List.{List, []}
 use mathlib.Core.Logic.{inl}
 use Prim.Native.Nat.{ℕ, _+_, _*_, _-_, _≤_, _<_}
 use native.Mathlib.Omega.{arith}
-use lib.ListN.{length, getD}
-use Rattle.common.specs.Outcome.{Outcome, refused, given, Step, after}
+use lib.ListN.{length}
+use Rattle.common.specs.Outcome.{Outcome, Step, after}
 use Rattle.common.specs.Runs.{table}
 use Rattle.netkat_steps.specs.ListSteps as St
 use Rattle.netkat_steps.specs.ListSteps.{Edge, edge}
@@ -15,7 +15,6 @@ use Rattle.spp.specs.declared.Made.the-variants.{Node, Full}
 use Rattle.aut_steps.specs.Tables as T
 use Rattle.aut_steps.specs.Tables.{Aut, onNodes}
 use Rattle.aut_steps.specs.Relations as Rel
-use Rattle.aut_steps.specs.Wf.{ExtAut}
 use Rattle.aut_steps.proofs.Wf.{grown-refl, grown-trans}
 use Rattle.aut_steps.specs.StepSpec.{Gone}
 use Rattle.aut_steps.proofs.StepSpec.{StepSpec, came}
@@ -30,10 +29,13 @@ use Rattle.aut_st_steps.proofs.InsertSteps.{placeRest, PartAt, splitOne-goes, w
 use Rattle.aut_states.specs.Contracts.{limitsOf}
 use Rattle.aut_states.specs.declared.Counts.{Counts}
 use Rattle.aut_states.specs.declared.Limits.{Limits}
-use Rattle.aut_relations.specs.Behind.{LISTS, Modifies}
-use Rattle.aut_relations.proofs.Behind.{left-refl, left-any, left-wide, left-trans, left-kept, kept-left}
+use Rattle.aut_relations.specs.Behind.{Modifies}
+use Rattle.aut_relations.proofs.Behind.{left-any, left-wide, left-trans, left-kept, kept-left}
 use Rattle.aut_relations.specs.Contracts.{autOf, RelateReady, Relates}
 use Rattle.aut_relations.proofs.Order.{backed-of, ready-after}
+use Rattle.aut_stage.proofs.Stage.{Folds, Turned}
+use Rattle.aut_stage.proofs.Reading.{Entries, read-begin, read-at, read-stuck, read-again, read-end}
+use Rattle.aut_stage.proofs.OnAut.{autLayer}
 use Rattle.aut_st_edges.specs.Contracts.{Wrote, CopyReady}
 use Rattle.aut_st_insert.specs.declared.Listed.{Listed}
 use Rattle.aut_st_insert.specs.declared.Listed.the-variants as listed
@@ -41,6 +43,7 @@ use Rattle.aut_st_insert.specs.declared.Met.{Met}
 use Rattle.aut_st_insert.specs.declared.Met.the-variants as met
 use Rattle.aut_st_insert.specs.Contracts.{RESULT, TAKEN, ListReady, PlaceReady, MeetReady, WalkReady, seenList, ListBeside, ListLeft, DoesList, MakesList, seenPart, PartBeside, PartLeft, DoesPart}
 use Rattle.aut_st_insert.proofs.Join.{edges-behind, list-few, ready-few, list-none, list-later, withNodes, full-is, made-is, made-left, made-gone, does-list, beside-list}
+use Rattle.aut_st_insert.proofs.Readings.{part-given, part-refused, to-part}
 use Rattle.aut_st_insert.proofs.Halves.{placed-gone, placed-left}
 
 edges-none : (s : List ℕ) (a : ℕ) → edges s a 0 ≡ []
@@ -49,41 +52,39 @@ edges-none s a = refl
 
 -- ---- walk: i transitions are done, and k stand at RESULT
 
-pub record Walked (N : ℕ) (l : Limits) (x h : ℕ) (σ₀ : Aut) (c₀ : Counts) (s₀ : List ℕ) (m : ℕ) (σ : Aut) (d : Counts) (s : List ℕ) (total k i : ℕ) : Type 0 where
-  pub most : i ≤ m
-  pub len : length s ≡ length s₀
-  pub grown : ExtAut σ₀ σ
-  pub ready : ListReady N l σ s k
-  pub label : Label N σ total
-  pub left : Modifies N 192 512 (σ .nodes) s₀ s
-  pub beside : (d .sp ≡ c₀ .sp) × (d .transitions ≡ c₀ .transitions)
-  pub is : walk N (limitsOf l) x h (edges s₀ TAKEN m) (part (Rel.zeroAt N) []) σ₀ ≡ walk N (limitsOf l) x h (edges s₀ (TAKEN + i) (m - i)) (part total (edges s RESULT k)) σ
+abbrev pub Walked : ℕ → Limits → ℕ → ℕ → Aut → Counts → List ℕ → ℕ → Aut → Counts → List ℕ → ℕ → ℕ → ℕ → Type 0
+Walked N l x h σ₀ c₀ s₀ m σ d s total k i =
+    Turned (autLayer N l) 192 512 (walk N (limitsOf l) x h) (λ i. edges s₀ (TAKEN + i) (m - i)) m (PartAt N (limitsOf l)) (walk N (limitsOf l) x h (edges s₀ TAKEN m) (part (Rel.zeroAt N) []) σ₀) σ₀ σ c₀ d s₀ s (part total (edges s RESULT k)) i
 
 module _ (N : ℕ) (l : Limits) (x h : ℕ) (σ₀ : Aut) (c₀ : Counts) (s₀ : List ℕ) (m : ℕ) (R : WalkReady N l σ₀ s₀ m (edge x h)) where
   abbrev L : T.Limits
   L = limitsOf l
 
-  abbrev all : Outcome Aut Part
-  all = walk N L x h (edges s₀ TAKEN m) (part (Rel.zeroAt N) []) σ₀
+  abbrev all : Step Aut Part
+  all = walk N L x h (edges s₀ TAKEN m) (part (Rel.zeroAt N) [])
 
   pub taken-few : m ≤ 64
   taken-few = list-few s₀ TAKEN m (R .taken) (R .limit)
 
-  pub begin : (z : ℕ) → Rel.zeroAt N ≡ z → Walked N l x h σ₀ c₀ s₀ m σ₀ c₀ s₀ z 0 0
-  begin z e = subst (λ (z : ℕ). Walked N l x h σ₀ c₀ s₀ m σ₀ c₀ s₀ z 0 0) e (record {
-    most = omega arith;
-    len = refl;
-    grown = grown-refl σ₀;
-    ready = list-none (R .ready) (R .limit);
-    label = zero-label (R .ready .good);
-    left = left-refl 192 512 (σ₀ .nodes) s₀;
-    beside = (refl, refl);
-    is =
-        ap₂ (λ (b n : ℕ). walk N L x h (edges s₀ b n) (part (Rel.zeroAt N) []) σ₀) {x = TAKEN} {y = TAKEN + 0} {u = m} {v = m - 0} (omega arith) (omega arith)
-        ∙ ap (λ (es : List Edge). walk N L x h (edges s₀ (TAKEN + 0) (m - 0)) (part (Rel.zeroAt N) es) σ₀) (sym (edges-none s₀ RESULT));
-  })
+  folds : Folds (splitOne N L x h) (walk N L x h)
+  unfolding walk
+  folds = record { none = λ p σ. refl; some = λ u us p σ. refl }
 
-  module _ (t st mem s : List ℕ) (d : Counts) (total k i : ℕ) (v : Walked N l x h σ₀ c₀ s₀ m (autOf t st mem d) d s total k i) where
+  entries : Entries (autLayer N l) 192 512 (EdgeAt N) σ₀ s₀ m (λ i. edges s₀ (TAKEN + i) (m - i)) (λ s i. edgeAt s (TAKEN + i))
+  entries = record {
+    next = λ i lt. edges-on s₀ TAKEN m i lt;
+    none = λ i le. edges-done s₀ (TAKEN + i) m i le;
+    kept = λ τ s p i lt. ap₂ edge (p .above (2 * (TAKEN + i)) (omega arith) (omega (arith, taken-few, lt))) (p .above (2 * (TAKEN + i) + 1) (omega arith) (omega (arith, taken-few, lt)));
+    at = λ τ g i lt. edge-grown (g .grown) (edge-at s₀ TAKEN m i lt (R .taken .edges));
+  }
+
+  pub begin : (z : ℕ) → Rel.zeroAt N ≡ z → Walked N l x h σ₀ c₀ s₀ m σ₀ c₀ s₀ z 0 0
+  begin z e = subst (λ (z : ℕ). Walked N l x h σ₀ c₀ s₀ m σ₀ c₀ s₀ z 0 0) e (read-begin (autLayer N l) 192 512 folds entries (R .ready)
+      (ap₂ (λ (b n : ℕ). walk N L x h (edges s₀ b n) (part (Rel.zeroAt N) []) σ₀) {x = TAKEN} {y = TAKEN + 0} {u = m} {v = m - 0} (omega arith) (omega arith)
+      ∙ ap (λ (es : List Edge). walk N L x h (edges s₀ (TAKEN + 0) (m - 0)) (part (Rel.zeroAt N) es) σ₀) (sym (edges-none s₀ RESULT)))
+      (record { label = zero-label (R .ready .good); list = list-none {s = s₀} (R .ready) (R .limit) .list }))
+
+  module _ (t st mem s : List ℕ) (d : Counts) (g : SPP) (k i : ℕ) (v : Walked N l x h σ₀ c₀ s₀ m (autOf t st mem d) d s (g .0) k i) where
     abbrev σ : Aut
     σ = autOf t st mem d
 
@@ -92,59 +93,26 @@ module _ (N : ℕ) (l : Limits) (x h : ℕ) (σ₀ : Aut) (c₀ : Counts) (s₀ 
     u = edgeAt s (TAKEN + i)
 
     module _ (lt : i < m) where
-      word : (p : ℕ) → 704 ≤ p → p < LISTS → getD s p 0 ≡ getD s₀ p 0
-      word p a b = v .left .above p (omega arith) b
-
-      same : u ≡ edgeAt s₀ (TAKEN + i)
-      same = ap₂ edge (word (2 * (TAKEN + i)) (omega arith) (omega (arith, taken-few))) (word (2 * (TAKEN + i) + 1) (omega arith) (omega (arith, taken-few)))
-
-      pub split-ready : MeetReady N l σ s k (edge x h) u × Label N σ total
+      pub split-ready : MeetReady N l σ s k (edge x h) u × Label N σ (g .0)
       split-ready = (
         record {
-          ready = v .ready;
-          new = edge-grown (v .grown) (R .new);
-          edge = subst (EdgeAt N σ) (sym same) (edge-grown (v .grown) (edge-at s₀ TAKEN m i lt (R .taken .edges)));
+          ready = record { ready = v .stage .ready; list = v .holds .list; limit = R .limit };
+          new = edge-grown (v .stage .ext .grown) (R .new);
+          edge = read-at (autLayer N l) 192 512 folds entries v lt refl;
         },
-        v .label,
+        v .holds .label,
       )
 
-      module _ (r : Met) (t1 st1 mem1 s1 : List ℕ) (D : DoesPart N 192 512 (splitOne N L x h u (part total (edges s RESULT k))) σ r d t1 st1 mem1 s s1) (len1 : length s1 ≡ length s) where
-        next-is : all ≡ after (seenPart r t1 st1 mem1 s1) (walk N L x h (edges s₀ (TAKEN + (i + 1)) (m - (i + 1))))
-        unfolding walk
-        next-is =
-            v .is ∙ ap (λ (es : List Edge). walk N L x h es (part total (edges s RESULT k)) σ) (edges-on s₀ TAKEN m i lt)
-            ∙ ap (λ (o : Outcome Aut Part). after o (walk N L x h (edges s₀ (TAKEN + (i + 1)) (m - (i + 1)))))
-            (ap (λ (e : Edge). splitOne N L x h e (part total (edges s RESULT k)) σ) (sym same) ∙ D .is)
+      module _ (r : Met) (t1 st1 mem1 s1 : List ℕ) (D : DoesPart N 192 512 (splitOne N L x h u (part (g .0) (edges s RESULT k))) σ r d t1 st1 mem1 s s1) (len1 : length s1 ≡ length s) where
+        pub stuck : (e : ℕ) → r ≡ met.Refused e → DoesPart N 192 512 all σ₀ (met.Refused e) c₀ t1 st1 mem1 s₀ s1
+        stuck e q = to-part {l = l} all (met.Refused e) (read-stuck (autLayer N l) 192 512 folds entries v lt refl (part-refused D q))
 
-        pub stuck : (e : ℕ) → r ≡ met.Refused e → all ≡ refused e
-        stuck e q = next-is ∙ ap (λ (r : Met). after (seenPart r t1 st1 mem1 s1) (walk N L x h (edges s₀ (TAKEN + (i + 1)) (m - (i + 1))))) q
+        pub again : (c1 : Counts) (f : SPP) (k1 : ℕ) → r ≡ met.Next c1 f k1 → Walked N l x h σ₀ c₀ s₀ m (autOf t1 st1 mem1 c1) c1 s1 (f .0) k1 (i + 1)
+        again c1 f k1 q = read-again (autLayer N l) 192 512 folds entries v lt refl (part-given D q (v .stage .ready)
+            (splitOne-goes (v .stage .ready .good) (split-ready .0 .new .state) (relation-of (split-ready .0 .new)) (split-ready .0 .edge) (v .holds)) len1)
 
-        pub again : (c1 : Counts) (g : SPP) (k1 : ℕ) → r ≡ met.Next c1 g k1 → Walked N l x h σ₀ c₀ s₀ m (autOf t1 st1 mem1 c1) c1 s1 (g .0) k1 (i + 1)
-        again c1 g k1 q =
-            let w = came (subst (StepSpec N L (PartAt N L) σ) (D .is ∙ ap (λ (r : Met). seenPart r t1 st1 mem1 s1) q)
-            (splitOne-goes (v .ready .ready .good) (split-ready .0 .new .state) (relation-of (split-ready .0 .new)) (split-ready .0 .edge) (record { label = v .label; list = v .ready .list }))) in
-            let p : Modifies N 192 512 (table t1 (c1 .spp)) s s1 = subst (λ (r : Met). PartLeft N 192 512 r t1 s s1) q (D .left) in
-            let b : (c1 .sp ≡ d .sp) × (c1 .transitions ≡ d .transitions) = subst (λ (r : Met). PartBeside r d) q (D .beside) in
-            record {
-              most = omega arith;
-              len = len1 ∙ v .len;
-              grown = grown-trans (v .grown) (w .grown);
-              ready = record { ready = ready-after (v .ready .ready) (w .grown) (w .good) p len1; list = w .holds .list; limit = R .limit };
-              label = w .holds .label;
-              left = left-trans (w .grown .nodes) (v .left) p;
-              beside = (b .0 ∙ v .beside .0, b .1 ∙ v .beside .1);
-              is = next-is ∙ ap (λ (r : Met). after (seenPart r t1 st1 mem1 s1) (walk N L x h (edges s₀ (TAKEN + (i + 1)) (m - (i + 1))))) q;
-            }
-
-    pub end : m ≤ i → (g : SPP) → g .0 ≡ total → DoesPart N 192 512 (walk N L x h (edges s₀ TAKEN m) (part (Rel.zeroAt N) [])) σ₀ (met.Next d g k) c₀ t st mem s₀ s
-    unfolding walk
-    end le g e = record {
-      is =
-          v .is ∙ ap (λ (es : List Edge). walk N L x h es (part total (edges s RESULT k)) σ) (edges-done s₀ (TAKEN + i) m i le)
-          ∙ ap (λ (n : ℕ). given σ (part n (edges s RESULT k))) (sym e);
-      beside = v .beside;
-      left = v .left;
-    }
+    pub end : m ≤ i → DoesPart N 192 512 all σ₀ (met.Next d g k) c₀ t st mem s₀ s
+    end le = to-part {l = l} all (met.Next d g k) (read-end (autLayer N l) 192 512 folds entries (autOf t st mem) v le)
 
 -- ---- insert
 

@@ -24,24 +24,6 @@ use Rattle.aut_st_insert.specs.Contracts.{RESULT, seenList, DoesList}
 use Rattle.aut_st_stage.specs.Readings.{listOf}
 
 module _ {N : ℕ} {l : Limits} {a n : ℕ} {σ : Aut} {c : Counts} {t st mem s s′ : List ℕ} where
-  -- a list was given; the call was refused
-  pub list-given : {o : Step Aut (List Edge)} {r : Listed} {d : Counts} {m : ℕ} → DoesList N l a n o σ r c t st mem s s′ → r ≡ listed.List d m → Post (autLayer N l) a n (ListAt N (limitsOf l)) (o σ) σ c (gave d (edges s′ RESULT m)) (autOf t st mem) s s′
-  list-given {o} D q =
-      let D′ = subst (λ (r : Listed). DoesList N l a n o σ r c t st mem s s′) q D in
-      record {
-        is = D′ .is;
-        then = record {
-          ext = record { grown = D′ .next .gone .grown; memos = D′ .next .gone .memos };
-          beside = D′ .beside;
-          frame = D′ .left;
-          ready = D′ .next .ready .ready;
-          holds = D′ .next .gone .holds;
-        };
-      }
-
-  pub list-refused : {o : Step Aut (List Edge)} {r : Listed} {e : ℕ} → DoesList N l a n o σ r c t st mem s s′ → r ≡ listed.Refused e → o σ ≡ refused e
-  list-refused D q = D .is ∙ ap (λ (r : Listed). seenList r t st mem s′) q
-
   -- any answer
   pub of-list : {o : Step Aut (List Edge)} (r : Listed) → DoesList N l a n o σ r c t st mem s s′ → Post (autLayer N l) a n (ListAt N (limitsOf l)) (o σ) σ c (listOf r s′) (autOf t st mem) s s′
   of-list (listed.List d m) D = record {
@@ -55,6 +37,13 @@ module _ {N : ℕ} {l : Limits} {a n : ℕ} {σ : Aut} {c : Counts} {t st mem s 
     };
   }
   of-list (listed.Refused e) D = record { is = D .is; then = tt }
+
+  -- a list was given; the call was refused
+  pub list-given : {o : Step Aut (List Edge)} {r : Listed} {d : Counts} {m : ℕ} → DoesList N l a n o σ r c t st mem s s′ → r ≡ listed.List d m → Post (autLayer N l) a n (ListAt N (limitsOf l)) (o σ) σ c (gave d (edges s′ RESULT m)) (autOf t st mem) s s′
+  list-given {o} {d = d} {m = m} D q = of-list (listed.List d m) (subst (λ (r : Listed). DoesList N l a n o σ r c t st mem s s′) q D)
+
+  pub list-refused : {o : Step Aut (List Edge)} {r : Listed} {e : ℕ} → DoesList N l a n o σ r c t st mem s s′ → r ≡ listed.Refused e → o σ ≡ refused e
+  list-refused D q = D .is ∙ ap (λ (r : Listed). seenList r t st mem s′) q
 
   -- and back
   pub to-list : (o : Step Aut (List Edge)) (r : Listed) → l .transitions ≤ 64 → Post (autLayer N l) a n (ListAt N (limitsOf l)) (o σ) σ c (listOf r s′) (autOf t st mem) s s′ → DoesList N l a n o σ r c t st mem s s′

@@ -1,13 +1,19 @@
 use mathlib.Core.Path.{_≡_, refl, _∙_}
 use Prim.Native.Nat.{_-_}
 use native.Mathlib.Omega.{arith}
-use Rattle.aut_st_source.proofs.Sources.{length-few}
+use Rattle.aut_st_source.proofs.Sources.{length-few, walked-later}
 use borrow.Author.Needs.{needs}
 use lib.ListN.{length}
+use Rattle.aut_st_steps.specs.Edges.{edges}
+use Rattle.aut_st_steps.specs.ListSpec.{ListAt}
+use Rattle.aut_st_steps.specs.EachSteps as M
+use Rattle.aut_states.specs.Contracts.{limitsOf}
 use Rattle.aut_relations.specs.Contracts.{autOf}
-use Rattle.aut_st_source.specs.Contracts.{sourceOf}
-use Rattle.aut_st_each.proofs.Turns as turns
-use Rattle.aut_st_each.proofs.Turns.{Turned, pairsAll}
+use Rattle.aut_st_insert.specs.declared.Listed.the-variants as listed
+use Rattle.aut_st_insert.specs.Contracts.{RESULT}
+use Rattle.aut_st_stage.proofs.Loops.{Turning, listKind, turn-begin, turn-read, turn-edge, turn-stuck, turn-again, turn-end, turn-row}
+use Rattle.aut_st_source.specs.Contracts.{edgeOf, sourceOf}
+use Rattle.aut_st_each.proofs.Turns.{eachAll, pairsAll, pairs-folds}
 use Rattle.aut_st_each.proofs.insert_pairs.Statement.{statement}
 use Rattle.aut_st_each.proofs.insert_pairs.Tie as tie
 use Rattle.aut_st_each.proofs.insert_pairs.Reads as reads
@@ -17,8 +23,9 @@ use Rattle.aut_st_source.proofs.read.Reads as read-reads
 
 abbrev Inv-loop : tie.InvT-loop
 Inv-loop nodes₀ states₀ members₀ transitions scratch₀ config first second m d₀ n₀ i₀ nodes states members scratch d n i =
-    Turned (config .fields) (config .limits) (pairsAll (config .fields) (config .limits) (sourceOf second transitions scratch₀)) first transitions (autOf nodes₀ states₀ members₀ d₀) d₀ scratch₀ m (autOf nodes states members d) d scratch n i
-    × (length nodes ≡ length nodes₀) × (length states ≡ length states₀) × (length members ≡ length members₀)
+    Turning (config .fields) (config .limits) (ListAt (config .fields) (limitsOf (config .limits))) (pairsAll (config .fields) (config .limits) (sourceOf second transitions scratch₀)) transitions first (autOf nodes₀ states₀ members₀ d₀) d₀ scratch₀ (edges scratch₀ RESULT m)
+    (autOf nodes states members d) d scratch (edges scratch RESULT n) i
+    × (length nodes ≡ length nodes₀) × (length states ≡ length states₀) × (length members ≡ length members₀) × (length scratch ≡ length scratch₀)
 
 abbrev μ-loop : tie.MeasureT-loop
 μ-loop nodes₀ states₀ members₀ transitions scratch₀ config first second m d₀ n₀ i₀ nodes states members scratch d n i =
@@ -28,19 +35,23 @@ abbrev μ-loop : tie.MeasureT-loop
 loop-holds : tie.Need-loop-holds Inv-loop μ-loop
 loop-holds c =
     let g = c .before .before .before .before .before .args in
-    (turns.pairs-begin (g .config .fields) (g .config .limits) (g .first) (g .transitions .now) (g .second) (autOf (g .nodes .now) (g .states .now) (g .members .now) (g .c)) (g .c) (g .scratch .now) (g .m) (c .before .before .before .before .before .pre), refl, refl, refl)
+    (turn-begin (listKind (g .config .fields) (g .config .limits) (c .before .before .before .before .before .pre .list .limit)) (pairs-folds (g .config .fields) (g .config .limits) (sourceOf (g .second) (g .transitions .now) (g .scratch .now))) (c .before .before .before .before .before .pre .first) (c .before .before .before .before .before .pre .list .ready) (c .before .before .before .before .before .pre .list .list), refl, refl, refl, refl)
 
 -- src/lib.rt:241:13
 read-requires : tie.Need-read-requires Inv-loop μ-loop
 read-requires c κs =
     let g = c .before .before .before .before .before .before .before .before .before .args in let v = c .before .before .before .loop in
-    turns.pairs-read (g .config .fields) (g .config .limits) (g .first) (g .transitions .now) (g .second) (autOf (g .nodes .now) (g .states .now) (g .members .now) (g .c)) (g .c) (g .scratch .now) (g .m) (c .before .before .before .before .before .before .before .before .before .pre) (v .nodes) (v .states) (v .members) (v .scratch) (v .d) (v .n) (v .i) (v .inv .0) (c .before .if1 .taken)
+    turn-read (listKind (g .config .fields) (g .config .limits) (c .before .before .before .before .before .before .before .before .before .pre .list .limit)) (pairs-folds (g .config .fields) (g .config .limits) (sourceOf (g .second) (g .transitions .now) (g .scratch .now))) (c .before .before .before .before .before .before .before .before .before .pre .first) (v .inv .0) (c .before .if1 .taken)
 
 -- src/lib.rt:243:13
 insert-each-requires : tie.Need-insert-each-requires Inv-loop μ-loop
 insert-each-requires c κs =
     let g = c .before .before .before .before .before .before .before .before .before .before .before .before .before .before .before .args in let v = c .before .before .before .before .before .before .before .before .before .loop in
-    turns.pairs-ready (g .config .fields) (g .config .limits) (g .first) (g .transitions .now) (g .second) (autOf (g .nodes .now) (g .states .now) (g .members .now) (g .c)) (g .c) (g .scratch .now) (g .m) (c .before .before .before .before .before .before .before .before .before .before .before .before .before .before .before .pre) (v .nodes) (v .states) (v .members) (v .scratch) (v .d) (v .n) (v .i) (v .inv .0) (c .before .before .before .before .before .before .before .if1 .taken) (c .before .before .before .before .before .read .result) (c .before .before .before .before .before .read .ensures)
+    record {
+      list = record { ready = v .inv .0 .stage .ready; list = v .inv .0 .holds; limit = c .before .before .before .before .before .before .before .before .before .before .before .before .before .before .before .pre .list .limit };
+      operands = turn-edge (listKind (g .config .fields) (g .config .limits) (c .before .before .before .before .before .before .before .before .before .before .before .before .before .before .before .pre .list .limit)) (pairs-folds (g .config .fields) (g .config .limits) (sourceOf (g .second) (g .transitions .now) (g .scratch .now))) (c .before .before .before .before .before .before .before .before .before .before .before .before .before .before .before .pre .first) (v .inv .0) (c .before .before .before .before .before .before .before .if1 .taken) (c .before .before .before .before .before .read .ensures);
+      walked = walked-later (v .inv .0 .stage .frame) (g .transitions .now) (c .before .before .before .before .before .before .before .before .before .before .before .before .before .before .before .pre .second) (v .inv .0 .stage .ext .grown);
+    }
 
 -- src/lib.rt:258:29
 enum-known-listed : tie.Need-enum-known-listed Inv-loop μ-loop
@@ -65,14 +76,14 @@ same-length-3 c =
 -- src/lib.rt:259:17
 same-length-4 : tie.Need-same-length-4 Inv-loop μ-loop
 same-length-4 c =
-    c .before .before .before .before .before .before .before .before .before .before .before .insert-each .kept .1 .1 .1 .1 .0 ∙ c .before .before .before .before .before .before .before .before .before .before .before .before .before .before .before .before .before .before .before .before .before .loop .inv .0 .len
+    c .before .before .before .before .before .before .before .before .before .before .before .insert-each .kept .1 .1 .1 .1 .0 ∙ c .before .before .before .before .before .before .before .before .before .before .before .before .before .before .before .before .before .before .before .before .before .loop .inv .4
 
 -- src/lib.rt:259:17
 returns : tie.Need-returns Inv-loop μ-loop
 returns c =
     let g = c .before .before .before .before .before .before .before .before .before .before .before .before .before .before .before .before .before .before .before .before .before .before .before .before .before .before .before .args in let v = c .before .before .before .before .before .before .before .before .before .before .before .before .before .before .before .before .before .before .before .before .before .loop in
-    turns.pairs-stuck (g .config .fields) (g .config .limits) (g .first) (g .transitions .now) (g .second) (autOf (g .nodes .now) (g .states .now) (g .members .now) (g .c)) (g .c) (g .scratch .now) (g .m) (c .before .before .before .before .before .before .before .before .before .before .before .before .before .before .before .before .before .before .before .before .before .before .before .before .before .before .before .pre) (v .nodes) (v .states) (v .members) (v .scratch) (v .d) (v .n) (v .i) (v .inv .0) (c .before .before .before .before .before .before .before .before .before .before .before .before .before .before .before .before .before .before .before .if1 .taken) (c .before .before .before .before .before .before .before .before .before .before .before .before .before .before .before .before .before .read .result) (c .before .before .before .before .before .before .before .before .before .before .before .before .before .before .before .before .before .read .ensures)
-    (c .before .before .before .before .before .before .before .before .before .before .before .insert-each .result) (c .before .before .before .before .before .before .before .before .before .before .before .insert-each .last .0) (c .before .before .before .before .before .before .before .before .before .before .before .insert-each .last .1 .0) (c .before .before .before .before .before .before .before .before .before .before .before .insert-each .last .1 .1 .0) (c .before .before .before .before .before .before .before .before .before .before .before .insert-each .last .1 .1 .1 .1 .0) (c .before .before .before .before .before .before .before .before .before .before .before .insert-each .ensures) (c .before .before .before .before .before .before .before .before .before .before .before .insert-each .kept .1 .1 .1 .1 .0) _ (c .before .listed .given .1)
+    turn-stuck (listKind (g .config .fields) (g .config .limits) (c .before .before .before .before .before .before .before .before .before .before .before .before .before .before .before .before .before .before .before .before .before .before .before .before .before .before .before .pre .list .limit)) (pairs-folds (g .config .fields) (g .config .limits) (sourceOf (g .second) (g .transitions .now) (g .scratch .now))) (c .before .before .before .before .before .before .before .before .before .before .before .before .before .before .before .before .before .before .before .before .before .before .before .before .before .before .before .pre .first) (v .inv .0) (c .before .before .before .before .before .before .before .before .before .before .before .before .before .before .before .before .before .before .before .if1 .taken) (c .before .before .before .before .before .before .before .before .before .before .before .before .before .before .before .before .before .read .ensures)
+    (turn-row (listKind (g .config .fields) (g .config .limits) (c .before .before .before .before .before .before .before .before .before .before .before .before .before .before .before .before .before .before .before .before .before .before .before .before .before .before .before .pre .list .limit)) (λ us. eachAll (g .config .fields) (g .config .limits) (M.meet (edgeOf (c .before .before .before .before .before .before .before .before .before .before .before .before .before .before .before .before .before .read .result))) us (edges (v .scratch) RESULT (v .n))) (v .inv .0 .stage .frame) (c .before .before .before .before .before .before .before .before .before .before .before .before .before .before .before .before .before .before .before .before .before .before .before .before .before .before .before .pre .second) (c .before .before .before .before .before .before .before .before .before .before .before .insert-each .ensures)) (c .before .listed .given .1) refl
 
 -- src/lib.rt:261:26
 enum-known-listed-2 : tie.Need-enum-known-listed-2 Inv-loop μ-loop
@@ -93,11 +104,12 @@ loop-less c =
 loop-again : tie.Need-loop-again Inv-loop μ-loop
 loop-again c =
     let g = c .before .before .before .before .before .before .before .before .before .before .before .before .before .before .before .before .before .before .before .before .before .before .before .before .before .before .before .args in let v = c .before .before .before .before .before .before .before .before .before .before .before .before .before .before .before .before .before .before .before .before .before .loop in (
-      turns.pairs-again (g .config .fields) (g .config .limits) (g .first) (g .transitions .now) (g .second) (autOf (g .nodes .now) (g .states .now) (g .members .now) (g .c)) (g .c) (g .scratch .now) (g .m) (c .before .before .before .before .before .before .before .before .before .before .before .before .before .before .before .before .before .before .before .before .before .before .before .before .before .before .before .pre) (v .nodes) (v .states) (v .members) (v .scratch) (v .d) (v .n) (v .i) (v .inv .0) (c .before .before .before .before .before .before .before .before .before .before .before .before .before .before .before .before .before .before .before .if1 .taken) (c .before .before .before .before .before .before .before .before .before .before .before .before .before .before .before .before .before .read .result) (c .before .before .before .before .before .before .before .before .before .before .before .before .before .before .before .before .before .read .ensures)
-          (c .before .before .before .before .before .before .before .before .before .before .before .insert-each .result) (c .before .before .before .before .before .before .before .before .before .before .before .insert-each .last .0) (c .before .before .before .before .before .before .before .before .before .before .before .insert-each .last .1 .0) (c .before .before .before .before .before .before .before .before .before .before .before .insert-each .last .1 .1 .0) (c .before .before .before .before .before .before .before .before .before .before .before .insert-each .last .1 .1 .1 .1 .0) (c .before .before .before .before .before .before .before .before .before .before .before .insert-each .ensures) (c .before .before .before .before .before .before .before .before .before .before .before .insert-each .kept .1 .1 .1 .1 .0) _ _ (c .before .listed2 .given .1),
+      turn-again (listKind (g .config .fields) (g .config .limits) (c .before .before .before .before .before .before .before .before .before .before .before .before .before .before .before .before .before .before .before .before .before .before .before .before .before .before .before .pre .list .limit)) (pairs-folds (g .config .fields) (g .config .limits) (sourceOf (g .second) (g .transitions .now) (g .scratch .now))) (c .before .before .before .before .before .before .before .before .before .before .before .before .before .before .before .before .before .before .before .before .before .before .before .before .before .before .before .pre .first) (v .inv .0) (c .before .before .before .before .before .before .before .before .before .before .before .before .before .before .before .before .before .before .before .if1 .taken) (c .before .before .before .before .before .before .before .before .before .before .before .before .before .before .before .before .before .read .ensures)
+          (turn-row (listKind (g .config .fields) (g .config .limits) (c .before .before .before .before .before .before .before .before .before .before .before .before .before .before .before .before .before .before .before .before .before .before .before .before .before .before .before .pre .list .limit)) (λ us. eachAll (g .config .fields) (g .config .limits) (M.meet (edgeOf (c .before .before .before .before .before .before .before .before .before .before .before .before .before .before .before .before .before .read .result))) us (edges (v .scratch) RESULT (v .n))) (v .inv .0 .stage .frame) (c .before .before .before .before .before .before .before .before .before .before .before .before .before .before .before .before .before .before .before .before .before .before .before .before .before .before .before .pre .second) (c .before .before .before .before .before .before .before .before .before .before .before .insert-each .ensures)) (c .before .listed2 .given .1) refl,
       c .before .before .before .before .before .before .before .before .before .before .before .insert-each .kept .0 ∙ c .before .before .before .before .before .before .before .before .before .before .before .before .before .before .before .before .before .before .before .before .before .loop .inv .1,
       c .before .before .before .before .before .before .before .before .before .before .before .insert-each .kept .1 .0 ∙ c .before .before .before .before .before .before .before .before .before .before .before .before .before .before .before .before .before .before .before .before .before .loop .inv .2,
       c .before .before .before .before .before .before .before .before .before .before .before .insert-each .kept .1 .1 .0 ∙ c .before .before .before .before .before .before .before .before .before .before .before .before .before .before .before .before .before .before .before .before .before .loop .inv .3,
+      c .before .before .before .before .before .before .before .before .before .before .before .insert-each .kept .1 .1 .1 .1 .0 ∙ c .before .before .before .before .before .before .before .before .before .before .before .before .before .before .before .before .before .before .before .before .before .loop .inv .4,
     )
 
 -- src/lib.rt:219:1
@@ -118,13 +130,13 @@ same-length-7 c =
 -- src/lib.rt:219:1
 same-length-8 : tie.Need-same-length-8 Inv-loop μ-loop
 same-length-8 c =
-    c .before .before .loop .inv .0 .len
+    c .before .before .loop .inv .4
 
 -- src/lib.rt:219:1
 returns-2 : tie.Need-returns-2 Inv-loop μ-loop
 returns-2 c =
     let g = c .before .before .before .before .before .before .before .before .args in let v = c .before .before .loop in
-    turns.pairs-end (g .config .fields) (g .config .limits) (g .first) (g .transitions .now) (g .second) (autOf (g .nodes .now) (g .states .now) (g .members .now) (g .c)) (g .c) (g .scratch .now) (g .m) (c .before .before .before .before .before .before .before .before .pre) (v .nodes) (v .states) (v .members) (v .scratch) (v .d) (v .n) (v .i) (v .inv .0) (c .if1 .left)
+    turn-end (listKind (g .config .fields) (g .config .limits) (c .before .before .before .before .before .before .before .before .pre .list .limit)) (pairs-folds (g .config .fields) (g .config .limits) (sourceOf (g .second) (g .transitions .now) (g .scratch .now))) (c .before .before .before .before .before .before .before .before .pre .first) (listed.List (v .d) (v .n)) refl (v .inv .0) (c .if1 .left)
 
 pub insert-pairs-spec : {M : Type 1} → statement M
 insert-pairs-spec =

@@ -16,7 +16,7 @@ use Rattle.aut_st_insert.proofs.split_one.Reads as split-one-reads
 abbrev Inv-loop : tie.InvT-loop
 Inv-loop nodes₀ states₀ members₀ scratch₀ config s l m total₀ d₀ k₀ i₀ nodes states members scratch total d k i =
     Walked (config .fields) (config .limits) s (l .0) (autOf nodes₀ states₀ members₀ d₀) d₀ scratch₀ m (autOf nodes states members d) d scratch (total .0) k i
-    × (length nodes ≡ length nodes₀) × (length states ≡ length states₀) × (length members ≡ length members₀)
+    × (length nodes ≡ length nodes₀) × (length states ≡ length states₀) × (length members ≡ length members₀) × (length scratch ≡ length scratch₀)
 
 abbrev μ-loop : tie.MeasureT-loop
 μ-loop nodes₀ states₀ members₀ scratch₀ config s l m total₀ d₀ k₀ i₀ nodes states members scratch total d k i =
@@ -30,7 +30,7 @@ zero-at-depth-requires c κs =
 -- src/lib.rt:294:5
 loop-holds : tie.Need-loop-holds Inv-loop μ-loop
 loop-holds c =
-    let g = c .before .before .before .before .before .args in (walking.begin (g .config .fields) (g .config .limits) (g .s) (g .l .0) (autOf (g .nodes .now) (g .states .now) (g .members .now) (g .c)) (g .c) (g .scratch .now) (g .m) (c .before .before .before .before .before .pre) _ (c .zero-at-depth .ensures (g .config .fields)), refl, refl, refl)
+    let g = c .before .before .before .before .before .args in (walking.begin (g .config .fields) (g .config .limits) (g .s) (g .l .0) (autOf (g .nodes .now) (g .states .now) (g .members .now) (g .c)) (g .c) (g .scratch .now) (g .m) (c .before .before .before .before .before .pre) _ (c .zero-at-depth .ensures (g .config .fields)), refl, refl, refl, refl)
 
 -- src/lib.rt:295:22
 add-j : tie.Need-add-j Inv-loop μ-loop
@@ -40,17 +40,17 @@ add-j c =
 -- src/lib.rt:295:17
 mul-j : tie.Need-mul-j Inv-loop μ-loop
 mul-j c =
-    let g = c .before .before .before .before .before .before .before .args in omega (arith, c .loop-test .taken, walking.taken-few (g .config .fields) (g .config .limits) (g .s) (g .l .0) (autOf (g .nodes .now) (g .states .now) (g .members .now) (g .c)) (g .c) (g .scratch .now) (g .m) (c .before .before .before .before .before .before .before .pre), c .before .loop .inv .0 .len, c .before .before .before .before .before .before .before .pre .ready .room)
+    let g = c .before .before .before .before .before .before .before .args in omega (arith, c .loop-test .taken, walking.taken-few (g .config .fields) (g .config .limits) (g .s) (g .l .0) (autOf (g .nodes .now) (g .states .now) (g .members .now) (g .c)) (g .c) (g .scratch .now) (g .m) (c .before .before .before .before .before .before .before .pre), c .before .loop .inv .4, c .before .before .before .before .before .before .before .pre .ready .room)
 
 -- src/lib.rt:296:23
 mul-target2 : tie.Need-mul-target2 Inv-loop μ-loop
 mul-target2 c =
-    let g = c .before .before .before .before .before .before .before .args in omega (arith, c .loop-test .taken, walking.taken-few (g .config .fields) (g .config .limits) (g .s) (g .l .0) (autOf (g .nodes .now) (g .states .now) (g .members .now) (g .c)) (g .c) (g .scratch .now) (g .m) (c .before .before .before .before .before .before .before .pre), c .before .loop .inv .0 .len, c .before .before .before .before .before .before .before .pre .ready .room)
+    let g = c .before .before .before .before .before .before .before .args in omega (arith, c .loop-test .taken, walking.taken-few (g .config .fields) (g .config .limits) (g .s) (g .l .0) (autOf (g .nodes .now) (g .states .now) (g .members .now) (g .c)) (g .c) (g .scratch .now) (g .m) (c .before .before .before .before .before .before .before .pre), c .before .loop .inv .4, c .before .before .before .before .before .before .before .pre .ready .room)
 
 -- src/lib.rt:296:23
 slice-read-target2 : tie.Need-slice-read-target2 Inv-loop μ-loop
 slice-read-target2 c =
-    let g = c .before .before .before .before .before .before .before .before .args in omega (arith, c .before .loop-test .taken, walking.taken-few (g .config .fields) (g .config .limits) (g .s) (g .l .0) (autOf (g .nodes .now) (g .states .now) (g .members .now) (g .c)) (g .c) (g .scratch .now) (g .m) (c .before .before .before .before .before .before .before .before .pre), c .before .before .loop .inv .0 .len, c .before .before .before .before .before .before .before .before .pre .ready .room)
+    let g = c .before .before .before .before .before .before .before .before .args in omega (arith, c .before .loop-test .taken, walking.taken-few (g .config .fields) (g .config .limits) (g .s) (g .l .0) (autOf (g .nodes .now) (g .states .now) (g .members .now) (g .c)) (g .c) (g .scratch .now) (g .m) (c .before .before .before .before .before .before .before .before .pre), c .before .before .loop .inv .4, c .before .before .before .before .before .before .before .before .pre .ready .room)
 
 -- src/lib.rt:297:34
 add-t23 : tie.Need-add-t23 Inv-loop μ-loop
@@ -60,17 +60,17 @@ add-t23 c =
 -- src/lib.rt:297:26
 mul-t26 : tie.Need-mul-t26 Inv-loop μ-loop
 mul-t26 c =
-    let g = c .before .before .before .before .before .before .before .before .args in omega (arith, c .before .loop-test .taken, walking.taken-few (g .config .fields) (g .config .limits) (g .s) (g .l .0) (autOf (g .nodes .now) (g .states .now) (g .members .now) (g .c)) (g .c) (g .scratch .now) (g .m) (c .before .before .before .before .before .before .before .before .pre), c .before .before .loop .inv .0 .len, c .before .before .before .before .before .before .before .before .pre .ready .room)
+    let g = c .before .before .before .before .before .before .before .before .args in omega (arith, c .before .loop-test .taken, walking.taken-few (g .config .fields) (g .config .limits) (g .s) (g .l .0) (autOf (g .nodes .now) (g .states .now) (g .members .now) (g .c)) (g .c) (g .scratch .now) (g .m) (c .before .before .before .before .before .before .before .before .pre), c .before .before .loop .inv .4, c .before .before .before .before .before .before .before .before .pre .ready .room)
 
 -- src/lib.rt:297:26
 slice-read-t25 : tie.Need-slice-read-t25 Inv-loop μ-loop
 slice-read-t25 c =
-    let g = c .before .before .before .before .before .before .before .before .before .args in omega (arith, c .before .before .loop-test .taken, walking.taken-few (g .config .fields) (g .config .limits) (g .s) (g .l .0) (autOf (g .nodes .now) (g .states .now) (g .members .now) (g .c)) (g .c) (g .scratch .now) (g .m) (c .before .before .before .before .before .before .before .before .before .pre), c .before .before .before .loop .inv .0 .len, c .before .before .before .before .before .before .before .before .before .pre .ready .room)
+    let g = c .before .before .before .before .before .before .before .before .before .args in omega (arith, c .before .before .loop-test .taken, walking.taken-few (g .config .fields) (g .config .limits) (g .s) (g .l .0) (autOf (g .nodes .now) (g .states .now) (g .members .now) (g .c)) (g .c) (g .scratch .now) (g .m) (c .before .before .before .before .before .before .before .before .before .pre), c .before .before .before .loop .inv .4, c .before .before .before .before .before .before .before .before .before .pre .ready .room)
 
 -- src/lib.rt:298:13
 split-one-requires : tie.Need-split-one-requires Inv-loop μ-loop
 split-one-requires c κs =
-    let g = c .before .before .before .before .before .before .before .before .before .before .before .before .before .args in let v = c .before .before .before .before .before .before .before .loop in walking.split-ready (g .config .fields) (g .config .limits) (g .s) (g .l .0) (autOf (g .nodes .now) (g .states .now) (g .members .now) (g .c)) (g .c) (g .scratch .now) (g .m) (c .before .before .before .before .before .before .before .before .before .before .before .before .before .pre) (v .nodes) (v .states) (v .members) (v .scratch) (v .d) (v .total .0) (v .k) (v .i) (v .inv .0) (c .before .before .before .before .before .before .loop-test .taken)
+    let g = c .before .before .before .before .before .before .before .before .before .before .before .before .before .args in let v = c .before .before .before .before .before .before .before .loop in walking.split-ready (g .config .fields) (g .config .limits) (g .s) (g .l .0) (autOf (g .nodes .now) (g .states .now) (g .members .now) (g .c)) (g .c) (g .scratch .now) (g .m) (c .before .before .before .before .before .before .before .before .before .before .before .before .before .pre) (v .nodes) (v .states) (v .members) (v .scratch) (v .d) (v .total) (v .k) (v .i) (v .inv .0) (c .before .before .before .before .before .before .loop-test .taken)
 
 -- src/lib.rt:314:26
 enum-known-met : tie.Need-enum-known-met Inv-loop μ-loop
@@ -95,12 +95,12 @@ same-length-3 c =
 -- src/lib.rt:315:17
 same-length-4 : tie.Need-same-length-4 Inv-loop μ-loop
 same-length-4 c =
-    c .before .before .before .before .before .before .before .before .before .before .before .split-one .kept .1 .1 .1 .0 ∙ c .before .before .before .before .before .before .before .before .before .before .before .before .before .before .before .before .before .before .before .loop .inv .0 .len
+    c .before .before .before .before .before .before .before .before .before .before .before .split-one .kept .1 .1 .1 .0 ∙ c .before .before .before .before .before .before .before .before .before .before .before .before .before .before .before .before .before .before .before .loop .inv .4
 
 -- src/lib.rt:315:17
 returns : tie.Need-returns Inv-loop μ-loop
 returns c =
-    let g = c .before .before .before .before .before .before .before .before .before .before .before .before .before .before .before .before .before .before .before .before .before .before .before .before .before .args in let v = c .before .before .before .before .before .before .before .before .before .before .before .before .before .before .before .before .before .before .before .loop in record { is = walking.stuck (g .config .fields) (g .config .limits) (g .s) (g .l .0) (autOf (g .nodes .now) (g .states .now) (g .members .now) (g .c)) (g .c) (g .scratch .now) (g .m) (c .before .before .before .before .before .before .before .before .before .before .before .before .before .before .before .before .before .before .before .before .before .before .before .before .before .pre) (v .nodes) (v .states) (v .members) (v .scratch) (v .d) (v .total .0) (v .k) (v .i) (v .inv .0) (c .before .before .before .before .before .before .before .before .before .before .before .before .before .before .before .before .before .before .loop-test .taken) (c .before .before .before .before .before .before .before .before .before .before .before .split-one .result) (c .before .before .before .before .before .before .before .before .before .before .before .split-one .last .0) (c .before .before .before .before .before .before .before .before .before .before .before .split-one .last .1 .0) (c .before .before .before .before .before .before .before .before .before .before .before .split-one .last .1 .1 .0) (c .before .before .before .before .before .before .before .before .before .before .before .split-one .last .1 .1 .1 .0) (c .before .before .before .before .before .before .before .before .before .before .before .split-one .ensures) (c .before .before .before .before .before .before .before .before .before .before .before .split-one .kept .1 .1 .1 .0) _ (c .before .met .given .1); beside = tt; left = tt }
+    let g = c .before .before .before .before .before .before .before .before .before .before .before .before .before .before .before .before .before .before .before .before .before .before .before .before .before .args in let v = c .before .before .before .before .before .before .before .before .before .before .before .before .before .before .before .before .before .before .before .loop in walking.stuck (g .config .fields) (g .config .limits) (g .s) (g .l .0) (autOf (g .nodes .now) (g .states .now) (g .members .now) (g .c)) (g .c) (g .scratch .now) (g .m) (c .before .before .before .before .before .before .before .before .before .before .before .before .before .before .before .before .before .before .before .before .before .before .before .before .before .pre) (v .nodes) (v .states) (v .members) (v .scratch) (v .d) (v .total) (v .k) (v .i) (v .inv .0) (c .before .before .before .before .before .before .before .before .before .before .before .before .before .before .before .before .before .before .loop-test .taken) (c .before .before .before .before .before .before .before .before .before .before .before .split-one .result) (c .before .before .before .before .before .before .before .before .before .before .before .split-one .last .0) (c .before .before .before .before .before .before .before .before .before .before .before .split-one .last .1 .0) (c .before .before .before .before .before .before .before .before .before .before .before .split-one .last .1 .1 .0) (c .before .before .before .before .before .before .before .before .before .before .before .split-one .last .1 .1 .1 .0) (c .before .before .before .before .before .before .before .before .before .before .before .split-one .ensures) (c .before .before .before .before .before .before .before .before .before .before .before .split-one .kept .1 .1 .1 .0) _ (c .before .met .given .1)
 
 -- src/lib.rt:317:23
 enum-known-met-2 : tie.Need-enum-known-met-2 Inv-loop μ-loop
@@ -120,7 +120,7 @@ loop-less c =
 -- src/lib.rt:294:5
 loop-again : tie.Need-loop-again Inv-loop μ-loop
 loop-again c =
-    let g = c .before .before .before .before .before .before .before .before .before .before .before .before .before .before .before .before .before .before .before .before .before .before .before .before .before .args in let v = c .before .before .before .before .before .before .before .before .before .before .before .before .before .before .before .before .before .before .before .loop in (walking.again (g .config .fields) (g .config .limits) (g .s) (g .l .0) (autOf (g .nodes .now) (g .states .now) (g .members .now) (g .c)) (g .c) (g .scratch .now) (g .m) (c .before .before .before .before .before .before .before .before .before .before .before .before .before .before .before .before .before .before .before .before .before .before .before .before .before .pre) (v .nodes) (v .states) (v .members) (v .scratch) (v .d) (v .total .0) (v .k) (v .i) (v .inv .0) (c .before .before .before .before .before .before .before .before .before .before .before .before .before .before .before .before .before .before .loop-test .taken) (c .before .before .before .before .before .before .before .before .before .before .before .split-one .result) (c .before .before .before .before .before .before .before .before .before .before .before .split-one .last .0) (c .before .before .before .before .before .before .before .before .before .before .before .split-one .last .1 .0) (c .before .before .before .before .before .before .before .before .before .before .before .split-one .last .1 .1 .0) (c .before .before .before .before .before .before .before .before .before .before .before .split-one .last .1 .1 .1 .0) (c .before .before .before .before .before .before .before .before .before .before .before .split-one .ensures) (c .before .before .before .before .before .before .before .before .before .before .before .split-one .kept .1 .1 .1 .0) _ _ _ (c .before .met2 .given .1), c .before .before .before .before .before .before .before .before .before .before .before .split-one .kept .0 ∙ v .inv .1, c .before .before .before .before .before .before .before .before .before .before .before .split-one .kept .1 .0 ∙ v .inv .2, c .before .before .before .before .before .before .before .before .before .before .before .split-one .kept .1 .1 .0 ∙ v .inv .3)
+    let g = c .before .before .before .before .before .before .before .before .before .before .before .before .before .before .before .before .before .before .before .before .before .before .before .before .before .args in let v = c .before .before .before .before .before .before .before .before .before .before .before .before .before .before .before .before .before .before .before .loop in (walking.again (g .config .fields) (g .config .limits) (g .s) (g .l .0) (autOf (g .nodes .now) (g .states .now) (g .members .now) (g .c)) (g .c) (g .scratch .now) (g .m) (c .before .before .before .before .before .before .before .before .before .before .before .before .before .before .before .before .before .before .before .before .before .before .before .before .before .pre) (v .nodes) (v .states) (v .members) (v .scratch) (v .d) (v .total) (v .k) (v .i) (v .inv .0) (c .before .before .before .before .before .before .before .before .before .before .before .before .before .before .before .before .before .before .loop-test .taken) (c .before .before .before .before .before .before .before .before .before .before .before .split-one .result) (c .before .before .before .before .before .before .before .before .before .before .before .split-one .last .0) (c .before .before .before .before .before .before .before .before .before .before .before .split-one .last .1 .0) (c .before .before .before .before .before .before .before .before .before .before .before .split-one .last .1 .1 .0) (c .before .before .before .before .before .before .before .before .before .before .before .split-one .last .1 .1 .1 .0) (c .before .before .before .before .before .before .before .before .before .before .before .split-one .ensures) (c .before .before .before .before .before .before .before .before .before .before .before .split-one .kept .1 .1 .1 .0) _ _ _ (c .before .met2 .given .1), c .before .before .before .before .before .before .before .before .before .before .before .split-one .kept .0 ∙ v .inv .1, c .before .before .before .before .before .before .before .before .before .before .before .split-one .kept .1 .0 ∙ v .inv .2, c .before .before .before .before .before .before .before .before .before .before .before .split-one .kept .1 .1 .0 ∙ v .inv .3, c .before .before .before .before .before .before .before .before .before .before .before .split-one .kept .1 .1 .1 .0 ∙ v .inv .4)
 
 -- src/lib.rt:275:1
 same-length-5 : tie.Need-same-length-5 Inv-loop μ-loop
@@ -140,12 +140,12 @@ same-length-7 c =
 -- src/lib.rt:275:1
 same-length-8 : tie.Need-same-length-8 Inv-loop μ-loop
 same-length-8 c =
-    c .before .loop .inv .0 .len
+    c .before .loop .inv .4
 
 -- src/lib.rt:275:1
 returns-2 : tie.Need-returns-2 Inv-loop μ-loop
 returns-2 c =
-    let g = c .before .before .before .before .before .before .before .args in let v = c .before .loop in walking.end (g .config .fields) (g .config .limits) (g .s) (g .l .0) (autOf (g .nodes .now) (g .states .now) (g .members .now) (g .c)) (g .c) (g .scratch .now) (g .m) (c .before .before .before .before .before .before .before .pre) (v .nodes) (v .states) (v .members) (v .scratch) (v .d) (v .total .0) (v .k) (v .i) (v .inv .0) (c .loop-test .left) (v .total) refl
+    let g = c .before .before .before .before .before .before .before .args in let v = c .before .loop in walking.end (g .config .fields) (g .config .limits) (g .s) (g .l .0) (autOf (g .nodes .now) (g .states .now) (g .members .now) (g .c)) (g .c) (g .scratch .now) (g .m) (c .before .before .before .before .before .before .before .pre) (v .nodes) (v .states) (v .members) (v .scratch) (v .d) (v .total) (v .k) (v .i) (v .inv .0) (c .loop-test .left)
 
 pub walk-spec : {M : Type 1} → statement M
 walk-spec =

@@ -5,10 +5,15 @@ use Rattle.aut_st_source.proofs.Sources.{length-few}
 use borrow.Author.Needs.{needs}
 use lib.ListN.{length}
 use Rattle.aut_st_steps.proofs.Edges.{edge-grown}
+use Rattle.aut_st_steps.specs.ListSpec.{SumAt}
+use Rattle.aut_states.specs.Contracts.{limitsOf}
 use Rattle.aut_relations.specs.Contracts.{autOf}
+use Rattle.aut_st_stage.proofs.Loops.{Turning, turn-begin, turn-read, turn-edge, turn-stuck, turn-again, turn-end}
 use Rattle.aut_st_source.specs.Contracts.{edgeOf}
-use Rattle.aut_st_minus.proofs.Loops as loops
-use Rattle.aut_st_minus.proofs.Loops.{Turning, row, row-folds}
+use Rattle.aut_st_minus.specs.declared.Summed.the-variants as next
+use Rattle.aut_st_minus.specs.Contracts.{sumOf}
+use Rattle.aut_st_minus.proofs.Readings.{sumKind}
+use Rattle.aut_st_minus.proofs.Loops.{row, row-folds}
 use Rattle.aut_st_minus.proofs.subtract_row.Statement.{statement}
 use Rattle.aut_st_minus.proofs.subtract_row.Tie as tie
 use Rattle.aut_st_minus.proofs.subtract_row.Reads as reads
@@ -18,7 +23,8 @@ use Rattle.aut_st_source.proofs.read.Reads as read-reads
 
 abbrev Inv-loop : tie.InvT-loop
 Inv-loop nodes₀ states₀ members₀ transitions scratch₀ config t second m d₀ h₀ n₀ i₀ nodes states members scratch d h n i =
-    Turning (config .fields) (config .limits) (row (config .fields) (config .limits) (edgeOf t)) transitions second (autOf nodes₀ states₀ members₀ d₀) d₀ scratch₀ (h₀ .0) n₀ (autOf nodes states members d) d scratch (h .0) n i
+    Turning (config .fields) (config .limits) (SumAt (config .fields) (limitsOf (config .limits))) (row (config .fields) (config .limits) (edgeOf t)) transitions second (autOf nodes₀ states₀ members₀ d₀) d₀ scratch₀ (sumOf (config .fields) (config .limits) scratch₀ (h₀ .0) n₀)
+    (autOf nodes states members d) d scratch (sumOf (config .fields) (config .limits) scratch (h .0) n) i
     × (length nodes ≡ length nodes₀) × (length states ≡ length states₀) × (length members ≡ length members₀) × (length scratch ≡ length scratch₀)
 
 abbrev μ-loop : tie.MeasureT-loop
@@ -28,17 +34,17 @@ abbrev μ-loop : tie.MeasureT-loop
 -- src/lib.rt:119:5
 loop-holds : tie.Need-loop-holds Inv-loop μ-loop
 loop-holds c =
-    (loops.turn-begin (row-folds (c .before .before .before .before .before .args .config .fields) (c .before .before .before .before .before .args .config .limits) (edgeOf (c .before .before .before .before .before .args .t))) (c .before .before .before .before .before .pre .second) (c .before .before .before .before .before .pre .list) (c .before .before .before .before .before .pre .sum) (c .before .before .before .before .before .args .c), refl, refl, refl, refl)
+    (turn-begin (sumKind (c .before .before .before .before .before .args .config .fields) (c .before .before .before .before .before .args .config .limits) (c .before .before .before .before .before .pre .list .limit)) (row-folds (c .before .before .before .before .before .args .config .fields) (c .before .before .before .before .before .args .config .limits) (edgeOf (c .before .before .before .before .before .args .t))) (c .before .before .before .before .before .pre .second) (c .before .before .before .before .before .pre .list .ready) (record { sum = c .before .before .before .before .before .pre .sum; result = c .before .before .before .before .before .pre .list .list }), refl, refl, refl, refl)
 
 -- src/lib.rt:120:13
 read-requires : tie.Need-read-requires Inv-loop μ-loop
 read-requires c κs =
-    loops.turn-read (row-folds (c .before .before .before .before .before .before .before .before .before .args .config .fields) (c .before .before .before .before .before .before .before .before .before .args .config .limits) (edgeOf (c .before .before .before .before .before .before .before .before .before .args .t))) (c .before .before .before .before .before .before .before .before .before .pre .second) (c .before .before .before .before .before .before .before .before .before .pre .list) (c .before .before .before .before .before .before .before .before .before .pre .sum) (c .before .before .before .before .before .before .before .before .before .args .c) (c .before .before .before .loop .h .0) (c .before .before .before .loop .n) (c .before .before .before .loop .inv .0) (c .before .if1 .taken)
+    turn-read (sumKind (c .before .before .before .before .before .before .before .before .before .args .config .fields) (c .before .before .before .before .before .before .before .before .before .args .config .limits) (c .before .before .before .before .before .before .before .before .before .pre .list .limit)) (row-folds (c .before .before .before .before .before .before .before .before .before .args .config .fields) (c .before .before .before .before .before .before .before .before .before .args .config .limits) (edgeOf (c .before .before .before .before .before .before .before .before .before .args .t))) (c .before .before .before .before .before .before .before .before .before .pre .second) (c .before .before .before .loop .inv .0) (c .before .if1 .taken)
 
 -- src/lib.rt:121:13
 subtract-one-requires : tie.Need-subtract-one-requires Inv-loop μ-loop
 subtract-one-requires c κs =
-    record { list = loops.turn-list (row-folds (c .before .before .before .before .before .before .before .before .before .before .before .before .before .before .args .config .fields) (c .before .before .before .before .before .before .before .before .before .before .before .before .before .before .args .config .limits) (edgeOf (c .before .before .before .before .before .before .before .before .before .before .before .before .before .before .args .t))) (c .before .before .before .before .before .before .before .before .before .before .before .before .before .before .pre .second) (c .before .before .before .before .before .before .before .before .before .before .before .before .before .before .pre .list) (c .before .before .before .before .before .before .before .before .before .before .before .before .before .before .pre .sum) (c .before .before .before .before .before .before .before .before .before .before .before .before .before .before .args .c) (c .before .before .before .before .before .before .before .before .loop .h .0) (c .before .before .before .before .before .before .before .before .loop .n) (c .before .before .before .before .before .before .before .before .loop .inv .0); first = edge-grown (c .before .before .before .before .before .before .before .before .loop .inv .0 .stage .ext .grown) (c .before .before .before .before .before .before .before .before .before .before .before .before .before .before .pre .first); second = loops.turn-edge (row-folds (c .before .before .before .before .before .before .before .before .before .before .before .before .before .before .args .config .fields) (c .before .before .before .before .before .before .before .before .before .before .before .before .before .before .args .config .limits) (edgeOf (c .before .before .before .before .before .before .before .before .before .before .before .before .before .before .args .t))) (c .before .before .before .before .before .before .before .before .before .before .before .before .before .before .pre .second) (c .before .before .before .before .before .before .before .before .before .before .before .before .before .before .pre .list) (c .before .before .before .before .before .before .before .before .before .before .before .before .before .before .pre .sum) (c .before .before .before .before .before .before .before .before .before .before .before .before .before .before .args .c) (c .before .before .before .before .before .before .before .before .loop .h .0) (c .before .before .before .before .before .before .before .before .loop .n) (c .before .before .before .before .before .before .before .before .loop .inv .0) (c .before .before .before .before .before .before .if1 .taken) (c .before .before .before .before .read .ensures); sum = c .before .before .before .before .before .before .before .before .loop .inv .0 .holds .sum }
+    record { list = record { ready = c .before .before .before .before .before .before .before .before .loop .inv .0 .stage .ready; list = c .before .before .before .before .before .before .before .before .loop .inv .0 .holds .result; limit = c .before .before .before .before .before .before .before .before .before .before .before .before .before .before .pre .list .limit }; first = edge-grown (c .before .before .before .before .before .before .before .before .loop .inv .0 .stage .ext .grown) (c .before .before .before .before .before .before .before .before .before .before .before .before .before .before .pre .first); second = turn-edge (sumKind (c .before .before .before .before .before .before .before .before .before .before .before .before .before .before .args .config .fields) (c .before .before .before .before .before .before .before .before .before .before .before .before .before .before .args .config .limits) (c .before .before .before .before .before .before .before .before .before .before .before .before .before .before .pre .list .limit)) (row-folds (c .before .before .before .before .before .before .before .before .before .before .before .before .before .before .args .config .fields) (c .before .before .before .before .before .before .before .before .before .before .before .before .before .before .args .config .limits) (edgeOf (c .before .before .before .before .before .before .before .before .before .before .before .before .before .before .args .t))) (c .before .before .before .before .before .before .before .before .before .before .before .before .before .before .pre .second) (c .before .before .before .before .before .before .before .before .loop .inv .0) (c .before .before .before .before .before .before .if1 .taken) (c .before .before .before .before .read .ensures); sum = c .before .before .before .before .before .before .before .before .loop .inv .0 .holds .sum }
 
 -- src/lib.rt:135:29
 enum-known-summed : tie.Need-enum-known-summed Inv-loop μ-loop
@@ -68,7 +74,7 @@ same-length-4 c =
 -- src/lib.rt:136:17
 returns : tie.Need-returns Inv-loop μ-loop
 returns c =
-    loops.turn-stuck (row-folds (c .before .before .before .before .before .before .before .before .before .before .before .before .before .before .before .before .before .before .before .before .before .before .before .before .before .before .args .config .fields) (c .before .before .before .before .before .before .before .before .before .before .before .before .before .before .before .before .before .before .before .before .before .before .before .before .before .before .args .config .limits) (edgeOf (c .before .before .before .before .before .before .before .before .before .before .before .before .before .before .before .before .before .before .before .before .before .before .before .before .before .before .args .t))) (c .before .before .before .before .before .before .before .before .before .before .before .before .before .before .before .before .before .before .before .before .before .before .before .before .before .before .pre .second) (c .before .before .before .before .before .before .before .before .before .before .before .before .before .before .before .before .before .before .before .before .before .before .before .before .before .before .pre .list) (c .before .before .before .before .before .before .before .before .before .before .before .before .before .before .before .before .before .before .before .before .before .before .before .before .before .before .pre .sum) (c .before .before .before .before .before .before .before .before .before .before .before .before .before .before .before .before .before .before .before .before .before .before .before .before .before .before .args .c) (c .before .before .before .before .before .before .before .before .before .before .before .before .before .before .before .before .before .before .before .before .loop .h .0) (c .before .before .before .before .before .before .before .before .before .before .before .before .before .before .before .before .before .before .before .before .loop .n) (c .before .before .before .before .before .before .before .before .before .before .before .before .before .before .before .before .before .before .before .before .loop .inv .0) (c .before .before .before .before .before .before .before .before .before .before .before .before .before .before .before .before .before .before .if1 .taken) (c .before .before .before .before .before .before .before .before .before .before .before .before .before .before .before .before .read .ensures) (c .before .before .before .before .before .before .before .before .before .before .before .subtract-one .ensures) (c .before .summed .given .1)
+    turn-stuck (sumKind (c .before .before .before .before .before .before .before .before .before .before .before .before .before .before .before .before .before .before .before .before .before .before .before .before .before .before .args .config .fields) (c .before .before .before .before .before .before .before .before .before .before .before .before .before .before .before .before .before .before .before .before .before .before .before .before .before .before .args .config .limits) (c .before .before .before .before .before .before .before .before .before .before .before .before .before .before .before .before .before .before .before .before .before .before .before .before .before .before .pre .list .limit)) (row-folds (c .before .before .before .before .before .before .before .before .before .before .before .before .before .before .before .before .before .before .before .before .before .before .before .before .before .before .args .config .fields) (c .before .before .before .before .before .before .before .before .before .before .before .before .before .before .before .before .before .before .before .before .before .before .before .before .before .before .args .config .limits) (edgeOf (c .before .before .before .before .before .before .before .before .before .before .before .before .before .before .before .before .before .before .before .before .before .before .before .before .before .before .args .t))) (c .before .before .before .before .before .before .before .before .before .before .before .before .before .before .before .before .before .before .before .before .before .before .before .before .before .before .pre .second) (c .before .before .before .before .before .before .before .before .before .before .before .before .before .before .before .before .before .before .before .before .loop .inv .0) (c .before .before .before .before .before .before .before .before .before .before .before .before .before .before .before .before .before .before .if1 .taken) (c .before .before .before .before .before .before .before .before .before .before .before .before .before .before .before .before .read .ensures) (c .before .before .before .before .before .before .before .before .before .before .before .subtract-one .ensures) (c .before .summed .given .1) refl
 
 -- src/lib.rt:138:26
 enum-known-summed-2 : tie.Need-enum-known-summed-2 Inv-loop μ-loop
@@ -88,7 +94,7 @@ loop-less c =
 -- src/lib.rt:119:5
 loop-again : tie.Need-loop-again Inv-loop μ-loop
 loop-again c =
-    (loops.turn-again (row-folds (c .before .before .before .before .before .before .before .before .before .before .before .before .before .before .before .before .before .before .before .before .before .before .before .before .before .before .args .config .fields) (c .before .before .before .before .before .before .before .before .before .before .before .before .before .before .before .before .before .before .before .before .before .before .before .before .before .before .args .config .limits) (edgeOf (c .before .before .before .before .before .before .before .before .before .before .before .before .before .before .before .before .before .before .before .before .before .before .before .before .before .before .args .t))) (c .before .before .before .before .before .before .before .before .before .before .before .before .before .before .before .before .before .before .before .before .before .before .before .before .before .before .pre .second) (c .before .before .before .before .before .before .before .before .before .before .before .before .before .before .before .before .before .before .before .before .before .before .before .before .before .before .pre .list) (c .before .before .before .before .before .before .before .before .before .before .before .before .before .before .before .before .before .before .before .before .before .before .before .before .before .before .pre .sum) (c .before .before .before .before .before .before .before .before .before .before .before .before .before .before .before .before .before .before .before .before .before .before .before .before .before .before .args .c) (c .before .before .before .before .before .before .before .before .before .before .before .before .before .before .before .before .before .before .before .before .loop .h .0) (c .before .before .before .before .before .before .before .before .before .before .before .before .before .before .before .before .before .before .before .before .loop .n) (c .before .before .before .before .before .before .before .before .before .before .before .before .before .before .before .before .before .before .before .before .loop .inv .0) (c .before .before .before .before .before .before .before .before .before .before .before .before .before .before .before .before .before .before .if1 .taken) (c .before .before .before .before .before .before .before .before .before .before .before .before .before .before .before .before .read .ensures) (c .before .before .before .before .before .before .before .before .before .before .before .subtract-one .ensures) (c .before .summed2 .given .1), c .before .before .before .before .before .before .before .before .before .before .before .subtract-one .kept .0 ∙ c .before .before .before .before .before .before .before .before .before .before .before .before .before .before .before .before .before .before .before .before .loop .inv .1, c .before .before .before .before .before .before .before .before .before .before .before .subtract-one .kept .1 .0 ∙ c .before .before .before .before .before .before .before .before .before .before .before .before .before .before .before .before .before .before .before .before .loop .inv .2, c .before .before .before .before .before .before .before .before .before .before .before .subtract-one .kept .1 .1 .0 ∙ c .before .before .before .before .before .before .before .before .before .before .before .before .before .before .before .before .before .before .before .before .loop .inv .3, c .before .before .before .before .before .before .before .before .before .before .before .subtract-one .kept .1 .1 .1 .0 ∙ c .before .before .before .before .before .before .before .before .before .before .before .before .before .before .before .before .before .before .before .before .loop .inv .4)
+    (turn-again (sumKind (c .before .before .before .before .before .before .before .before .before .before .before .before .before .before .before .before .before .before .before .before .before .before .before .before .before .before .args .config .fields) (c .before .before .before .before .before .before .before .before .before .before .before .before .before .before .before .before .before .before .before .before .before .before .before .before .before .before .args .config .limits) (c .before .before .before .before .before .before .before .before .before .before .before .before .before .before .before .before .before .before .before .before .before .before .before .before .before .before .pre .list .limit)) (row-folds (c .before .before .before .before .before .before .before .before .before .before .before .before .before .before .before .before .before .before .before .before .before .before .before .before .before .before .args .config .fields) (c .before .before .before .before .before .before .before .before .before .before .before .before .before .before .before .before .before .before .before .before .before .before .before .before .before .before .args .config .limits) (edgeOf (c .before .before .before .before .before .before .before .before .before .before .before .before .before .before .before .before .before .before .before .before .before .before .before .before .before .before .args .t))) (c .before .before .before .before .before .before .before .before .before .before .before .before .before .before .before .before .before .before .before .before .before .before .before .before .before .before .pre .second) (c .before .before .before .before .before .before .before .before .before .before .before .before .before .before .before .before .before .before .before .before .loop .inv .0) (c .before .before .before .before .before .before .before .before .before .before .before .before .before .before .before .before .before .before .if1 .taken) (c .before .before .before .before .before .before .before .before .before .before .before .before .before .before .before .before .read .ensures) (c .before .before .before .before .before .before .before .before .before .before .before .subtract-one .ensures) (c .before .summed2 .given .1) refl, c .before .before .before .before .before .before .before .before .before .before .before .subtract-one .kept .0 ∙ c .before .before .before .before .before .before .before .before .before .before .before .before .before .before .before .before .before .before .before .before .loop .inv .1, c .before .before .before .before .before .before .before .before .before .before .before .subtract-one .kept .1 .0 ∙ c .before .before .before .before .before .before .before .before .before .before .before .before .before .before .before .before .before .before .before .before .loop .inv .2, c .before .before .before .before .before .before .before .before .before .before .before .subtract-one .kept .1 .1 .0 ∙ c .before .before .before .before .before .before .before .before .before .before .before .before .before .before .before .before .before .before .before .before .loop .inv .3, c .before .before .before .before .before .before .before .before .before .before .before .subtract-one .kept .1 .1 .1 .0 ∙ c .before .before .before .before .before .before .before .before .before .before .before .before .before .before .before .before .before .before .before .before .loop .inv .4)
 
 -- src/lib.rt:97:1
 same-length-5 : tie.Need-same-length-5 Inv-loop μ-loop
@@ -113,7 +119,7 @@ same-length-8 c =
 -- src/lib.rt:97:1
 returns-2 : tie.Need-returns-2 Inv-loop μ-loop
 returns-2 c =
-    loops.turn-end (row-folds (c .before .before .before .before .before .before .before .before .args .config .fields) (c .before .before .before .before .before .before .before .before .args .config .limits) (edgeOf (c .before .before .before .before .before .before .before .before .args .t))) (c .before .before .before .before .before .before .before .before .pre .second) (c .before .before .before .before .before .before .before .before .pre .list) (c .before .before .before .before .before .before .before .before .pre .sum) (c .before .before .before .before .before .before .before .before .args .c) (c .before .before .loop .h) (c .before .before .loop .n) (c .before .before .loop .inv .0) (c .if1 .left)
+    turn-end (sumKind (c .before .before .before .before .before .before .before .before .args .config .fields) (c .before .before .before .before .before .before .before .before .args .config .limits) (c .before .before .before .before .before .before .before .before .pre .list .limit)) (row-folds (c .before .before .before .before .before .before .before .before .args .config .fields) (c .before .before .before .before .before .before .before .before .args .config .limits) (edgeOf (c .before .before .before .before .before .before .before .before .args .t))) (c .before .before .before .before .before .before .before .before .pre .second) (next.Next (c .before .before .loop .d) (c .before .before .loop .h) (c .before .before .loop .n)) refl (c .before .before .loop .inv .0) (c .if1 .left)
 
 pub subtract-row-spec : {M : Type 1} → statement M
 subtract-row-spec =

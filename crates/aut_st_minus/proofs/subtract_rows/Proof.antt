@@ -3,11 +3,16 @@ use Prim.Native.Nat.{_-_}
 use native.Mathlib.Omega.{arith}
 use borrow.Author.Needs.{needs}
 use lib.ListN.{length}
+use Rattle.aut_st_steps.specs.ListSpec.{SumAt}
+use Rattle.aut_states.specs.Contracts.{limitsOf}
 use Rattle.aut_relations.specs.Contracts.{autOf}
+use Rattle.aut_st_stage.proofs.Loops.{Turning, turn-begin, turn-read, turn-edge, turn-stuck, turn-again, turn-end, turn-row}
 use Rattle.aut_st_source.specs.Contracts.{edgeOf, sourceOf}
 use Rattle.aut_st_source.proofs.Sources.{length-few, walked-later}
-use Rattle.aut_st_minus.proofs.Loops as loops
-use Rattle.aut_st_minus.proofs.Loops.{Turning, rows, rows-folds}
+use Rattle.aut_st_minus.specs.declared.Summed.the-variants as next
+use Rattle.aut_st_minus.specs.Contracts.{sumOf}
+use Rattle.aut_st_minus.proofs.Readings.{sumKind}
+use Rattle.aut_st_minus.proofs.Loops.{row, rows, rows-folds}
 use Rattle.aut_st_minus.proofs.subtract_rows.Statement.{statement}
 use Rattle.aut_st_minus.proofs.subtract_rows.Tie as tie
 use Rattle.aut_st_minus.proofs.subtract_rows.Reads as reads
@@ -17,7 +22,8 @@ use Rattle.aut_st_source.proofs.read.Reads as read-reads
 
 abbrev Inv-loop : tie.InvT-loop
 Inv-loop nodes₀ states₀ members₀ transitions scratch₀ config first second m d₀ h₀ n₀ i₀ nodes states members scratch d h n i =
-    Turning (config .fields) (config .limits) (rows (config .fields) (config .limits) (sourceOf second transitions scratch₀)) transitions first (autOf nodes₀ states₀ members₀ d₀) d₀ scratch₀ (h₀ .0) n₀ (autOf nodes states members d) d scratch (h .0) n i
+    Turning (config .fields) (config .limits) (SumAt (config .fields) (limitsOf (config .limits))) (rows (config .fields) (config .limits) (sourceOf second transitions scratch₀)) transitions first (autOf nodes₀ states₀ members₀ d₀) d₀ scratch₀ (sumOf (config .fields) (config .limits) scratch₀ (h₀ .0) n₀)
+    (autOf nodes states members d) d scratch (sumOf (config .fields) (config .limits) scratch (h .0) n) i
     × (length nodes ≡ length nodes₀) × (length states ≡ length states₀) × (length members ≡ length members₀) × (length scratch ≡ length scratch₀)
 
 abbrev μ-loop : tie.MeasureT-loop
@@ -27,17 +33,17 @@ abbrev μ-loop : tie.MeasureT-loop
 -- src/lib.rt:172:5
 loop-holds : tie.Need-loop-holds Inv-loop μ-loop
 loop-holds c =
-    (loops.turn-begin (rows-folds (c .before .before .before .before .before .args .config .fields) (c .before .before .before .before .before .args .config .limits) (sourceOf (c .before .before .before .before .before .args .second) (c .before .before .before .before .before .args .transitions .now) (c .before .before .before .before .before .args .scratch .now))) (c .before .before .before .before .before .pre .first) (c .before .before .before .before .before .pre .list) (c .before .before .before .before .before .pre .sum) (c .before .before .before .before .before .args .c), refl, refl, refl, refl)
+    (turn-begin (sumKind (c .before .before .before .before .before .args .config .fields) (c .before .before .before .before .before .args .config .limits) (c .before .before .before .before .before .pre .list .limit)) (rows-folds (c .before .before .before .before .before .args .config .fields) (c .before .before .before .before .before .args .config .limits) (sourceOf (c .before .before .before .before .before .args .second) (c .before .before .before .before .before .args .transitions .now) (c .before .before .before .before .before .args .scratch .now))) (c .before .before .before .before .before .pre .first) (c .before .before .before .before .before .pre .list .ready) (record { sum = c .before .before .before .before .before .pre .sum; result = c .before .before .before .before .before .pre .list .list }), refl, refl, refl, refl)
 
 -- src/lib.rt:173:13
 read-requires : tie.Need-read-requires Inv-loop μ-loop
 read-requires c κs =
-    loops.turn-read (rows-folds (c .before .before .before .before .before .before .before .before .before .args .config .fields) (c .before .before .before .before .before .before .before .before .before .args .config .limits) (sourceOf (c .before .before .before .before .before .before .before .before .before .args .second) (c .before .before .before .before .before .before .before .before .before .args .transitions .now) (c .before .before .before .before .before .before .before .before .before .args .scratch .now))) (c .before .before .before .before .before .before .before .before .before .pre .first) (c .before .before .before .before .before .before .before .before .before .pre .list) (c .before .before .before .before .before .before .before .before .before .pre .sum) (c .before .before .before .before .before .before .before .before .before .args .c) (c .before .before .before .loop .h .0) (c .before .before .before .loop .n) (c .before .before .before .loop .inv .0) (c .before .if1 .taken)
+    turn-read (sumKind (c .before .before .before .before .before .before .before .before .before .args .config .fields) (c .before .before .before .before .before .before .before .before .before .args .config .limits) (c .before .before .before .before .before .before .before .before .before .pre .list .limit)) (rows-folds (c .before .before .before .before .before .before .before .before .before .args .config .fields) (c .before .before .before .before .before .before .before .before .before .args .config .limits) (sourceOf (c .before .before .before .before .before .before .before .before .before .args .second) (c .before .before .before .before .before .before .before .before .before .args .transitions .now) (c .before .before .before .before .before .before .before .before .before .args .scratch .now))) (c .before .before .before .before .before .before .before .before .before .pre .first) (c .before .before .before .loop .inv .0) (c .before .if1 .taken)
 
 -- src/lib.rt:174:13
 subtract-row-requires : tie.Need-subtract-row-requires Inv-loop μ-loop
 subtract-row-requires c κs =
-    record { list = loops.turn-list (rows-folds (c .before .before .before .before .before .before .before .before .before .before .before .before .before .before .args .config .fields) (c .before .before .before .before .before .before .before .before .before .before .before .before .before .before .args .config .limits) (sourceOf (c .before .before .before .before .before .before .before .before .before .before .before .before .before .before .args .second) (c .before .before .before .before .before .before .before .before .before .before .before .before .before .before .args .transitions .now) (c .before .before .before .before .before .before .before .before .before .before .before .before .before .before .args .scratch .now))) (c .before .before .before .before .before .before .before .before .before .before .before .before .before .before .pre .first) (c .before .before .before .before .before .before .before .before .before .before .before .before .before .before .pre .list) (c .before .before .before .before .before .before .before .before .before .before .before .before .before .before .pre .sum) (c .before .before .before .before .before .before .before .before .before .before .before .before .before .before .args .c) (c .before .before .before .before .before .before .before .before .loop .h .0) (c .before .before .before .before .before .before .before .before .loop .n) (c .before .before .before .before .before .before .before .before .loop .inv .0); first = loops.turn-edge (rows-folds (c .before .before .before .before .before .before .before .before .before .before .before .before .before .before .args .config .fields) (c .before .before .before .before .before .before .before .before .before .before .before .before .before .before .args .config .limits) (sourceOf (c .before .before .before .before .before .before .before .before .before .before .before .before .before .before .args .second) (c .before .before .before .before .before .before .before .before .before .before .before .before .before .before .args .transitions .now) (c .before .before .before .before .before .before .before .before .before .before .before .before .before .before .args .scratch .now))) (c .before .before .before .before .before .before .before .before .before .before .before .before .before .before .pre .first) (c .before .before .before .before .before .before .before .before .before .before .before .before .before .before .pre .list) (c .before .before .before .before .before .before .before .before .before .before .before .before .before .before .pre .sum) (c .before .before .before .before .before .before .before .before .before .before .before .before .before .before .args .c) (c .before .before .before .before .before .before .before .before .loop .h .0) (c .before .before .before .before .before .before .before .before .loop .n) (c .before .before .before .before .before .before .before .before .loop .inv .0) (c .before .before .before .before .before .before .if1 .taken) (c .before .before .before .before .read .ensures); second = walked-later (c .before .before .before .before .before .before .before .before .loop .inv .0 .stage .frame) (c .before .before .before .before .before .before .before .before .before .before .before .before .before .before .args .transitions .now) (c .before .before .before .before .before .before .before .before .before .before .before .before .before .before .pre .second) (c .before .before .before .before .before .before .before .before .loop .inv .0 .stage .ext .grown); sum = c .before .before .before .before .before .before .before .before .loop .inv .0 .holds .sum }
+    record { list = record { ready = c .before .before .before .before .before .before .before .before .loop .inv .0 .stage .ready; list = c .before .before .before .before .before .before .before .before .loop .inv .0 .holds .result; limit = c .before .before .before .before .before .before .before .before .before .before .before .before .before .before .pre .list .limit }; first = turn-edge (sumKind (c .before .before .before .before .before .before .before .before .before .before .before .before .before .before .args .config .fields) (c .before .before .before .before .before .before .before .before .before .before .before .before .before .before .args .config .limits) (c .before .before .before .before .before .before .before .before .before .before .before .before .before .before .pre .list .limit)) (rows-folds (c .before .before .before .before .before .before .before .before .before .before .before .before .before .before .args .config .fields) (c .before .before .before .before .before .before .before .before .before .before .before .before .before .before .args .config .limits) (sourceOf (c .before .before .before .before .before .before .before .before .before .before .before .before .before .before .args .second) (c .before .before .before .before .before .before .before .before .before .before .before .before .before .before .args .transitions .now) (c .before .before .before .before .before .before .before .before .before .before .before .before .before .before .args .scratch .now))) (c .before .before .before .before .before .before .before .before .before .before .before .before .before .before .pre .first) (c .before .before .before .before .before .before .before .before .loop .inv .0) (c .before .before .before .before .before .before .if1 .taken) (c .before .before .before .before .read .ensures); second = walked-later (c .before .before .before .before .before .before .before .before .loop .inv .0 .stage .frame) (c .before .before .before .before .before .before .before .before .before .before .before .before .before .before .args .transitions .now) (c .before .before .before .before .before .before .before .before .before .before .before .before .before .before .pre .second) (c .before .before .before .before .before .before .before .before .loop .inv .0 .stage .ext .grown); sum = c .before .before .before .before .before .before .before .before .loop .inv .0 .holds .sum }
 
 -- src/lib.rt:190:29
 enum-known-summed : tie.Need-enum-known-summed Inv-loop μ-loop
@@ -67,7 +73,7 @@ same-length-4 c =
 -- src/lib.rt:191:17
 returns : tie.Need-returns Inv-loop μ-loop
 returns c =
-    loops.turn-stuck (rows-folds (c .before .before .before .before .before .before .before .before .before .before .before .before .before .before .before .before .before .before .before .before .before .before .before .before .before .before .args .config .fields) (c .before .before .before .before .before .before .before .before .before .before .before .before .before .before .before .before .before .before .before .before .before .before .before .before .before .before .args .config .limits) (sourceOf (c .before .before .before .before .before .before .before .before .before .before .before .before .before .before .before .before .before .before .before .before .before .before .before .before .before .before .args .second) (c .before .before .before .before .before .before .before .before .before .before .before .before .before .before .before .before .before .before .before .before .before .before .before .before .before .before .args .transitions .now) (c .before .before .before .before .before .before .before .before .before .before .before .before .before .before .before .before .before .before .before .before .before .before .before .before .before .before .args .scratch .now))) (c .before .before .before .before .before .before .before .before .before .before .before .before .before .before .before .before .before .before .before .before .before .before .before .before .before .before .pre .first) (c .before .before .before .before .before .before .before .before .before .before .before .before .before .before .before .before .before .before .before .before .before .before .before .before .before .before .pre .list) (c .before .before .before .before .before .before .before .before .before .before .before .before .before .before .before .before .before .before .before .before .before .before .before .before .before .before .pre .sum) (c .before .before .before .before .before .before .before .before .before .before .before .before .before .before .before .before .before .before .before .before .before .before .before .before .before .before .args .c) (c .before .before .before .before .before .before .before .before .before .before .before .before .before .before .before .before .before .before .before .before .loop .h .0) (c .before .before .before .before .before .before .before .before .before .before .before .before .before .before .before .before .before .before .before .before .loop .n) (c .before .before .before .before .before .before .before .before .before .before .before .before .before .before .before .before .before .before .before .before .loop .inv .0) (c .before .before .before .before .before .before .before .before .before .before .before .before .before .before .before .before .before .before .if1 .taken) (c .before .before .before .before .before .before .before .before .before .before .before .before .before .before .before .before .read .ensures) (loops.row-of (c .before .before .before .before .before .before .before .before .before .before .before .before .before .before .before .before .before .before .before .before .loop .d) (edgeOf (c .before .before .before .before .before .before .before .before .before .before .before .before .before .before .before .before .read .result)) (c .before .before .before .before .before .before .before .before .before .before .before .before .before .before .before .before .before .before .before .before .loop .h .0) (c .before .before .before .before .before .before .before .before .before .before .before .before .before .before .before .before .before .before .before .before .loop .n) (c .before .before .before .before .before .before .before .before .before .before .before .before .before .before .before .before .before .before .before .before .loop .inv .0 .stage .frame) (c .before .before .before .before .before .before .before .before .before .before .before .before .before .before .before .before .before .before .before .before .before .before .before .before .before .before .pre .second) (c .before .before .before .before .before .before .before .before .before .before .before .subtract-row .ensures)) (c .before .summed .given .1)
+    turn-stuck (sumKind (c .before .before .before .before .before .before .before .before .before .before .before .before .before .before .before .before .before .before .before .before .before .before .before .before .before .before .args .config .fields) (c .before .before .before .before .before .before .before .before .before .before .before .before .before .before .before .before .before .before .before .before .before .before .before .before .before .before .args .config .limits) (c .before .before .before .before .before .before .before .before .before .before .before .before .before .before .before .before .before .before .before .before .before .before .before .before .before .before .pre .list .limit)) (rows-folds (c .before .before .before .before .before .before .before .before .before .before .before .before .before .before .before .before .before .before .before .before .before .before .before .before .before .before .args .config .fields) (c .before .before .before .before .before .before .before .before .before .before .before .before .before .before .before .before .before .before .before .before .before .before .before .before .before .before .args .config .limits) (sourceOf (c .before .before .before .before .before .before .before .before .before .before .before .before .before .before .before .before .before .before .before .before .before .before .before .before .before .before .args .second) (c .before .before .before .before .before .before .before .before .before .before .before .before .before .before .before .before .before .before .before .before .before .before .before .before .before .before .args .transitions .now) (c .before .before .before .before .before .before .before .before .before .before .before .before .before .before .before .before .before .before .before .before .before .before .before .before .before .before .args .scratch .now))) (c .before .before .before .before .before .before .before .before .before .before .before .before .before .before .before .before .before .before .before .before .before .before .before .before .before .before .pre .first) (c .before .before .before .before .before .before .before .before .before .before .before .before .before .before .before .before .before .before .before .before .loop .inv .0) (c .before .before .before .before .before .before .before .before .before .before .before .before .before .before .before .before .before .before .if1 .taken) (c .before .before .before .before .before .before .before .before .before .before .before .before .before .before .before .before .read .ensures) (turn-row (sumKind (c .before .before .before .before .before .before .before .before .before .before .before .before .before .before .before .before .before .before .before .before .before .before .before .before .before .before .args .config .fields) (c .before .before .before .before .before .before .before .before .before .before .before .before .before .before .before .before .before .before .before .before .before .before .before .before .before .before .args .config .limits) (c .before .before .before .before .before .before .before .before .before .before .before .before .before .before .before .before .before .before .before .before .before .before .before .before .before .before .pre .list .limit)) (λ us. row (c .before .before .before .before .before .before .before .before .before .before .before .before .before .before .before .before .before .before .before .before .before .before .before .before .before .before .args .config .fields) (c .before .before .before .before .before .before .before .before .before .before .before .before .before .before .before .before .before .before .before .before .before .before .before .before .before .before .args .config .limits) (edgeOf (c .before .before .before .before .before .before .before .before .before .before .before .before .before .before .before .before .read .result)) us (sumOf (c .before .before .before .before .before .before .before .before .before .before .before .before .before .before .before .before .before .before .before .before .before .before .before .before .before .before .args .config .fields) (c .before .before .before .before .before .before .before .before .before .before .before .before .before .before .before .before .before .before .before .before .before .before .before .before .before .before .args .config .limits) (c .before .before .before .before .before .before .before .before .before .before .before .before .before .before .before .before .before .before .before .before .loop .scratch) (c .before .before .before .before .before .before .before .before .before .before .before .before .before .before .before .before .before .before .before .before .loop .h .0) (c .before .before .before .before .before .before .before .before .before .before .before .before .before .before .before .before .before .before .before .before .loop .n))) (c .before .before .before .before .before .before .before .before .before .before .before .before .before .before .before .before .before .before .before .before .loop .inv .0 .stage .frame) (c .before .before .before .before .before .before .before .before .before .before .before .before .before .before .before .before .before .before .before .before .before .before .before .before .before .before .pre .second) (c .before .before .before .before .before .before .before .before .before .before .before .subtract-row .ensures)) (c .before .summed .given .1) refl
 
 -- src/lib.rt:193:26
 enum-known-summed-2 : tie.Need-enum-known-summed-2 Inv-loop μ-loop
@@ -87,7 +93,7 @@ loop-less c =
 -- src/lib.rt:172:5
 loop-again : tie.Need-loop-again Inv-loop μ-loop
 loop-again c =
-    (loops.turn-again (rows-folds (c .before .before .before .before .before .before .before .before .before .before .before .before .before .before .before .before .before .before .before .before .before .before .before .before .before .before .args .config .fields) (c .before .before .before .before .before .before .before .before .before .before .before .before .before .before .before .before .before .before .before .before .before .before .before .before .before .before .args .config .limits) (sourceOf (c .before .before .before .before .before .before .before .before .before .before .before .before .before .before .before .before .before .before .before .before .before .before .before .before .before .before .args .second) (c .before .before .before .before .before .before .before .before .before .before .before .before .before .before .before .before .before .before .before .before .before .before .before .before .before .before .args .transitions .now) (c .before .before .before .before .before .before .before .before .before .before .before .before .before .before .before .before .before .before .before .before .before .before .before .before .before .before .args .scratch .now))) (c .before .before .before .before .before .before .before .before .before .before .before .before .before .before .before .before .before .before .before .before .before .before .before .before .before .before .pre .first) (c .before .before .before .before .before .before .before .before .before .before .before .before .before .before .before .before .before .before .before .before .before .before .before .before .before .before .pre .list) (c .before .before .before .before .before .before .before .before .before .before .before .before .before .before .before .before .before .before .before .before .before .before .before .before .before .before .pre .sum) (c .before .before .before .before .before .before .before .before .before .before .before .before .before .before .before .before .before .before .before .before .before .before .before .before .before .before .args .c) (c .before .before .before .before .before .before .before .before .before .before .before .before .before .before .before .before .before .before .before .before .loop .h .0) (c .before .before .before .before .before .before .before .before .before .before .before .before .before .before .before .before .before .before .before .before .loop .n) (c .before .before .before .before .before .before .before .before .before .before .before .before .before .before .before .before .before .before .before .before .loop .inv .0) (c .before .before .before .before .before .before .before .before .before .before .before .before .before .before .before .before .before .before .if1 .taken) (c .before .before .before .before .before .before .before .before .before .before .before .before .before .before .before .before .read .ensures) (loops.row-of (c .before .before .before .before .before .before .before .before .before .before .before .before .before .before .before .before .before .before .before .before .loop .d) (edgeOf (c .before .before .before .before .before .before .before .before .before .before .before .before .before .before .before .before .read .result)) (c .before .before .before .before .before .before .before .before .before .before .before .before .before .before .before .before .before .before .before .before .loop .h .0) (c .before .before .before .before .before .before .before .before .before .before .before .before .before .before .before .before .before .before .before .before .loop .n) (c .before .before .before .before .before .before .before .before .before .before .before .before .before .before .before .before .before .before .before .before .loop .inv .0 .stage .frame) (c .before .before .before .before .before .before .before .before .before .before .before .before .before .before .before .before .before .before .before .before .before .before .before .before .before .before .pre .second) (c .before .before .before .before .before .before .before .before .before .before .before .subtract-row .ensures)) (c .before .summed2 .given .1), c .before .before .before .before .before .before .before .before .before .before .before .subtract-row .kept .0 ∙ c .before .before .before .before .before .before .before .before .before .before .before .before .before .before .before .before .before .before .before .before .loop .inv .1, c .before .before .before .before .before .before .before .before .before .before .before .subtract-row .kept .1 .0 ∙ c .before .before .before .before .before .before .before .before .before .before .before .before .before .before .before .before .before .before .before .before .loop .inv .2, c .before .before .before .before .before .before .before .before .before .before .before .subtract-row .kept .1 .1 .0 ∙ c .before .before .before .before .before .before .before .before .before .before .before .before .before .before .before .before .before .before .before .before .loop .inv .3, c .before .before .before .before .before .before .before .before .before .before .before .subtract-row .kept .1 .1 .1 .1 .0 ∙ c .before .before .before .before .before .before .before .before .before .before .before .before .before .before .before .before .before .before .before .before .loop .inv .4)
+    (turn-again (sumKind (c .before .before .before .before .before .before .before .before .before .before .before .before .before .before .before .before .before .before .before .before .before .before .before .before .before .before .args .config .fields) (c .before .before .before .before .before .before .before .before .before .before .before .before .before .before .before .before .before .before .before .before .before .before .before .before .before .before .args .config .limits) (c .before .before .before .before .before .before .before .before .before .before .before .before .before .before .before .before .before .before .before .before .before .before .before .before .before .before .pre .list .limit)) (rows-folds (c .before .before .before .before .before .before .before .before .before .before .before .before .before .before .before .before .before .before .before .before .before .before .before .before .before .before .args .config .fields) (c .before .before .before .before .before .before .before .before .before .before .before .before .before .before .before .before .before .before .before .before .before .before .before .before .before .before .args .config .limits) (sourceOf (c .before .before .before .before .before .before .before .before .before .before .before .before .before .before .before .before .before .before .before .before .before .before .before .before .before .before .args .second) (c .before .before .before .before .before .before .before .before .before .before .before .before .before .before .before .before .before .before .before .before .before .before .before .before .before .before .args .transitions .now) (c .before .before .before .before .before .before .before .before .before .before .before .before .before .before .before .before .before .before .before .before .before .before .before .before .before .before .args .scratch .now))) (c .before .before .before .before .before .before .before .before .before .before .before .before .before .before .before .before .before .before .before .before .before .before .before .before .before .before .pre .first) (c .before .before .before .before .before .before .before .before .before .before .before .before .before .before .before .before .before .before .before .before .loop .inv .0) (c .before .before .before .before .before .before .before .before .before .before .before .before .before .before .before .before .before .before .if1 .taken) (c .before .before .before .before .before .before .before .before .before .before .before .before .before .before .before .before .read .ensures) (turn-row (sumKind (c .before .before .before .before .before .before .before .before .before .before .before .before .before .before .before .before .before .before .before .before .before .before .before .before .before .before .args .config .fields) (c .before .before .before .before .before .before .before .before .before .before .before .before .before .before .before .before .before .before .before .before .before .before .before .before .before .before .args .config .limits) (c .before .before .before .before .before .before .before .before .before .before .before .before .before .before .before .before .before .before .before .before .before .before .before .before .before .before .pre .list .limit)) (λ us. row (c .before .before .before .before .before .before .before .before .before .before .before .before .before .before .before .before .before .before .before .before .before .before .before .before .before .before .args .config .fields) (c .before .before .before .before .before .before .before .before .before .before .before .before .before .before .before .before .before .before .before .before .before .before .before .before .before .before .args .config .limits) (edgeOf (c .before .before .before .before .before .before .before .before .before .before .before .before .before .before .before .before .read .result)) us (sumOf (c .before .before .before .before .before .before .before .before .before .before .before .before .before .before .before .before .before .before .before .before .before .before .before .before .before .before .args .config .fields) (c .before .before .before .before .before .before .before .before .before .before .before .before .before .before .before .before .before .before .before .before .before .before .before .before .before .before .args .config .limits) (c .before .before .before .before .before .before .before .before .before .before .before .before .before .before .before .before .before .before .before .before .loop .scratch) (c .before .before .before .before .before .before .before .before .before .before .before .before .before .before .before .before .before .before .before .before .loop .h .0) (c .before .before .before .before .before .before .before .before .before .before .before .before .before .before .before .before .before .before .before .before .loop .n))) (c .before .before .before .before .before .before .before .before .before .before .before .before .before .before .before .before .before .before .before .before .loop .inv .0 .stage .frame) (c .before .before .before .before .before .before .before .before .before .before .before .before .before .before .before .before .before .before .before .before .before .before .before .before .before .before .pre .second) (c .before .before .before .before .before .before .before .before .before .before .before .subtract-row .ensures)) (c .before .summed2 .given .1) refl, c .before .before .before .before .before .before .before .before .before .before .before .subtract-row .kept .0 ∙ c .before .before .before .before .before .before .before .before .before .before .before .before .before .before .before .before .before .before .before .before .loop .inv .1, c .before .before .before .before .before .before .before .before .before .before .before .subtract-row .kept .1 .0 ∙ c .before .before .before .before .before .before .before .before .before .before .before .before .before .before .before .before .before .before .before .before .loop .inv .2, c .before .before .before .before .before .before .before .before .before .before .before .subtract-row .kept .1 .1 .0 ∙ c .before .before .before .before .before .before .before .before .before .before .before .before .before .before .before .before .before .before .before .before .loop .inv .3, c .before .before .before .before .before .before .before .before .before .before .before .subtract-row .kept .1 .1 .1 .1 .0 ∙ c .before .before .before .before .before .before .before .before .before .before .before .before .before .before .before .before .before .before .before .before .loop .inv .4)
 
 -- src/lib.rt:149:1
 same-length-5 : tie.Need-same-length-5 Inv-loop μ-loop
@@ -112,7 +118,7 @@ same-length-8 c =
 -- src/lib.rt:149:1
 returns-2 : tie.Need-returns-2 Inv-loop μ-loop
 returns-2 c =
-    loops.turn-end (rows-folds (c .before .before .before .before .before .before .before .before .args .config .fields) (c .before .before .before .before .before .before .before .before .args .config .limits) (sourceOf (c .before .before .before .before .before .before .before .before .args .second) (c .before .before .before .before .before .before .before .before .args .transitions .now) (c .before .before .before .before .before .before .before .before .args .scratch .now))) (c .before .before .before .before .before .before .before .before .pre .first) (c .before .before .before .before .before .before .before .before .pre .list) (c .before .before .before .before .before .before .before .before .pre .sum) (c .before .before .before .before .before .before .before .before .args .c) (c .before .before .loop .h) (c .before .before .loop .n) (c .before .before .loop .inv .0) (c .if1 .left)
+    turn-end (sumKind (c .before .before .before .before .before .before .before .before .args .config .fields) (c .before .before .before .before .before .before .before .before .args .config .limits) (c .before .before .before .before .before .before .before .before .pre .list .limit)) (rows-folds (c .before .before .before .before .before .before .before .before .args .config .fields) (c .before .before .before .before .before .before .before .before .args .config .limits) (sourceOf (c .before .before .before .before .before .before .before .before .args .second) (c .before .before .before .before .before .before .before .before .args .transitions .now) (c .before .before .before .before .before .before .before .before .args .scratch .now))) (c .before .before .before .before .before .before .before .before .pre .first) (next.Next (c .before .before .loop .d) (c .before .before .loop .h) (c .before .before .loop .n)) refl (c .before .before .loop .inv .0) (c .if1 .left)
 
 pub subtract-rows-spec : {M : Type 1} → statement M
 subtract-rows-spec =
