@@ -6,14 +6,13 @@ use Prim.Native.Nat.{ℕ, _≤_, _<_}
 use native.Mathlib.Omega.{arith}
 use lib.ListN.{length}
 use Rattle.common.specs.Outcome.{Outcome, refused, given, Step, after}
-use Rattle.common.proofs.Follow.{given-of}
 use Rattle.common.specs.Runs.{Table, table, placed}
 use Rattle.spp_steps.proofs.Laws.{den-top}
 use Rattle.spp.specs.declared.SPP as Spp
 use Rattle.aut_steps.specs.Tables.{words, Aut, putNodes}
 use Rattle.aut_steps.specs.Relations as Rel
 use Rattle.aut_steps.specs.Ascending.{All}
-use Rattle.aut_steps.proofs.ListLaws.{all-map, all-sorted}
+use Rattle.aut_steps.proofs.ListLaws.{all-sorted}
 use Rattle.aut_steps.specs.Lists.{sorted}
 use Rattle.aut_steps.specs.Wf.{WfAut}
 use Rattle.aut_steps.proofs.StepSpec.{good-nodes}
@@ -29,8 +28,9 @@ use Rattle.aut_relations.proofs.Behind.{left-wide}
 use Rattle.aut_relations.specs.Contracts.{autOf, Ready, Does}
 use Rattle.aut_relations.proofs.Join.{same-left, beside-more}
 use Rattle.aut_relations.proofs.Order as order
-use Rattle.aut_relations.proofs.Each.{Grows, each-gives}
+use Rattle.aut_relations.proofs.Each.{Grows}
 use Rattle.aut_union.specs.Contracts.{ListAt}
+use Rattle.aut_union.proofs.Gather.{gathered}
 use Rattle.aut_union.proofs.Calls.{left-then}
 use Rattle.aut_intersect_base.specs.declared.Met.{Met}
 use Rattle.aut_intersect_base.specs.declared.Met.the-variants.{Rest}
@@ -70,10 +70,7 @@ module _ (N : ℕ) (l : Bounds) (t st mem s : List ℕ) (c : Counts) (k : ℕ) (
     few-1 = subst (λ (r : Met). MetMost r k) told (U .few)
 
     grows : Grows N (Held N st (λ x. x < c .states)) (table t (c .spp)) (table t1 n) (met b (h .0) (words s1 320 m))
-    grows = given-of
-        (each-gives (keeps N st (λ x. x < c .states)) (words s 256 k) (table t (c .spp)) (met false (Rel.topAt N) []) (R .good .nodes) (den-top (R .good .nodes) N (omega arith) .at, tt)
-        (all-map (words s 256 k) (λ x m. (order.rel-at (R .good) m, m)) (A .states)))
-        is-1
+    grows = gathered (R .good) (keeps N st (λ x. x < c .states)) (words s 256 k) (A .states) (met false (Rel.topAt N) []) (den-top (R .good .nodes) N (omega arith) .at, tt) is-1
 
     abbrev d : Counts
     d = record { sp = c .sp; spp = n; states = c .states; members = c .members; transitions = c .transitions }

@@ -11,7 +11,7 @@ use Rattle.common.specs.Outcome.{Outcome, refused, given, Step, return, after, 
 use Rattle.common.proofs.Follow.{call, branch}
 use Rattle.common.specs.Runs.{Table, table, placed}
 use Rattle.spp_steps.specs.Wf.{Wf, ValidAt}
-use Rattle.spp_steps.proofs.Laws.{ext-refl, at-ext, den-mem}
+use Rattle.spp_steps.proofs.Laws.{ext-refl}
 use Rattle.spp.specs.declared.SPP as Spp
 use Rattle.aut_steps.specs.Tables.{SPP, TOP, INTERSECT, kindOf, op1, words, Limits, Aut, exprs, putStates, putExprs, onStates, onExprs}
 use Rattle.aut_steps.specs.Relations as Rel
@@ -19,13 +19,11 @@ use Rattle.aut_steps.proofs.RelationLaws.{intersect-made}
 use Rattle.aut_steps.specs.Ascending.{All}
 use Rattle.aut_steps.proofs.ListLaws.{all-append}
 use Rattle.aut_steps.proofs.Facts.{words-length}
-use Rattle.aut_steps.proofs.Scratch.{kept-refl, kept-sets, words-append}
+use Rattle.aut_steps.proofs.Scratch.{kept-sets, words-append}
 use Rattle.aut_steps.specs.Intern.{internL}
 use Rattle.aut_steps.specs.Wf.{states, WfAut}
-use Rattle.aut_steps.proofs.Wf.{states-grown}
 use Rattle.aut_steps.specs.StepSpec.{Gone}
-use Rattle.aut_steps.proofs.StepSpec.{StepSpec, came, goes-return, placed-map}
-use Rattle.aut_steps.proofs.StateLaws.{mk-spp-goes}
+use Rattle.aut_steps.proofs.StepSpec.{StepSpec, came, goes-return}
 use Rattle.aut_steps.specs.Constructors as C
 use Rattle.aut_steps.specs.Constructors.{met, meetOne, addLast, meetFinish, mk-spp, mk-top}
 use Rattle.aut_states.specs.declared.Counts.{Counts}
@@ -35,12 +33,13 @@ use Rattle.aut_states.specs.declared.State.the-variants.{Refused}
 use Rattle.aut_states.specs.Contracts.{limitsOf, Interned, ListReady}
 use Rattle.aut_relations.specs.Behind.{LISTS, Modifies}
 use Rattle.aut_relations.proofs.Behind.{left-refl, left-any, left-kept, words-behind}
-use Rattle.aut_relations.specs.Contracts.{RelAt, autOf}
+use Rattle.aut_relations.specs.Contracts.{autOf}
 use Rattle.aut_relations.proofs.Order as order
 use Rattle.aut_relations.proofs.Each.{Grows, Keeps, makes-gives}
 use Rattle.aut_union.specs.declared.Added.{Added}
 use Rattle.aut_union.specs.declared.Added.the-variants as added
 use Rattle.aut_union.specs.Contracts.{seenAdded, AddedMost, Adds}
+use Rattle.aut_union.proofs.Gather.{Each, each-later, behind-goes}
 use Rattle.aut_union.proofs.Calls.{interned-is, interned-beside, interned-nodes}
 use Rattle.aut_intersect_base.specs.declared.Met.{Met}
 use Rattle.aut_intersect_base.specs.declared.Met.the-variants.{Rest, Full}
@@ -49,13 +48,10 @@ use Rattle.aut_intersect_base.specs.Contracts.{nothingOf, aloneOf, listO
 -- ---- one member
 
 module _ (N : ℕ) (st : List ℕ) (P : ℕ → Type 0) where
-  abbrev pub Each : Table → ℕ → Type 0
-  Each t x = RelAt N t st x × P x
-
   abbrev pub Held : Table → C.Met → Type 0
   Held t p = ValidAt t N (p .relation) × All P (p .others)
 
-  one : (t : Table) (x : ℕ) (p : C.Met) → Wf N t → Held t p → Each t x → Gives (Grows N Held t) (meetOne N st x p t)
+  one : (t : Table) (x : ℕ) (p : C.Met) → Wf N t → Held t p → Each N st P t x → Gives (Grows N Held t) (meetOne N st x p t)
   unfolding meetOne
   one t x p w h v =
       branch (eqb (kindOf st x) TOP) (return p) (if eqb (kindOf st x) SPP then (Rel.intersect N (p .relation) (op1 st x) >>= (λ u. return (met true u (p .others)))) else return (met (p .some) (p .relation) (p .others ++ x ∷ []))) t
@@ -65,11 +61,8 @@ module _ (N : ℕ) (st : List ℕ) (P : ℕ → Type 0) where
       (λ q. gives (record { ext = ext-refl t; wf = w; holds = (h .0, all-append P (p .others) (x ∷ []) (h .1) (v .1, tt)) })))
 
   -- what a step leaves
-  pub keeps : Keeps N (meetOne N st) Each Held
-  keeps = record {
-    later = λ t t′ x e v. (record { state = v .0 .state; handle = λ k. at-ext e N (op1 st x) (v .0 .handle k) }, v .1);
-    step = one;
-  }
+  pub keeps : Keeps N (meetOne N st) (Each N st P) Held
+  keeps = record { later = each-later N st P; step = one }
 
 module _ (N : ℕ) (st t s : List ℕ) (n x : ℕ) (b : Bool) (h : Spp.SPP) (to m : ℕ) where
   abbrev acc : C.Met
@@ -117,26 +110,18 @@ module _ (N : ℕ) (st t s : List ℕ) (n x : ℕ) (b : Bool) (h : Spp.SPP) (to 
 -- ---- the relation's state goes last
 
 module _ (st s : List ℕ) (n at k : ℕ) (b : Bool) (h : ℕ) (others : List ℕ) where
-  abbrev sum : Outcome Table (List ℕ)
+  abbrev pub sum : Outcome Table (List ℕ)
   sum = addLast (met b h others) (words s at k) (table st n)
 
   is-sum : (c : Bool) → b ≡ c → sum ≡ (if c then (mk-spp h >>= (λ i. return (words s at k ++ i ∷ []))) else return (words s at k)) (table st n)
   unfolding addLast
   is-sum c e = ap (λ (c : Bool). (if c then (mk-spp h >>= (λ i. return (words s at k ++ i ∷ []))) else return (words s at k)) (table st n)) e
 
-  pub none-last : b ≡ false → Adds sum (added.List k n) st s s at k
-  none-last e = record { is = is-sum false e; kept = kept-refl (at + k) 1 s; few = omega arith }
+  pub none-last : b ≡ false → sum ≡ given (table st n) (words s at k)
+  none-last e = is-sum false e
 
-  module _ (e : b ≡ true) where
-    pub not-last : {number : ℕ} → mk-spp h (table st n) ≡ refused number → (st1 : List ℕ) → Adds sum (added.Refused number) st1 s s at k
-    not-last q st1 = record { is = is-sum true e ∙ ap (λ (o : Outcome Table ℕ). after o (λ i. return (words s at k ++ i ∷ []))) q; kept = kept-refl (at + k) 1 s; few = tt }
-
-    pub is-last : {i n1 : ℕ} {st1 : List ℕ} → at + k < length s → mk-spp h (table st n) ≡ given (table st1 n1) i → Adds sum (added.List (k + 1) n1) st1 s (set s (at + k) i) at k
-    is-last {i} {n1} {st1} r q = record {
-      is = is-sum true e ∙ ap (λ (o : Outcome Table ℕ). after o (λ i. return (words s at k ++ i ∷ []))) q ∙ ap (given (table st1 n1)) (sym (words-append s (i ∷ []) at k 1 refl (omega arith)));
-      kept = kept-sets (i ∷ []) s (at + k) 1 (at + k) (omega arith) (omega arith);
-      few = omega arith;
-    }
+  pub a-last : b ≡ true → sum ≡ after (mk-spp h (table st n)) (λ i. return (words s at k ++ i ∷ []))
+  a-last e = is-sum true e
 
 -- ---- no other members
 
@@ -153,8 +138,7 @@ module _ (b : Bool) (h : ℕ) (st : List ℕ) (n : ℕ) where
 last-goes : {N : ℕ} {L : Limits} {σ : Aut} → WfAut N L σ → (b : Bool) (h : ℕ) (others xs : List ℕ) → ValidAt (σ .nodes) N h → All (λ x. x < states σ) xs
     → StepSpec N L (λ τ ys. All (λ y. y < states τ) ys) σ (onStates (addLast (met b h others) xs) σ)
 unfolding addLast
-last-goes {σ = σ} g true h others xs a l =
-    placed-map putStates σ (mk-spp h (σ .states)) (λ i. xs ++ i ∷ []) (mk-spp-goes g (den-mem a)) (λ τ i w v s. all-append (λ y. y < states τ) xs (i ∷ []) (states-grown w xs l) (s .state, tt))
+last-goes g true h others xs a l = behind-goes g h xs a l
 last-goes g false h others xs a l = goes-return xs g l
 
 module _ (N : ℕ) (l : Bounds) (st mem s : List ℕ) (c : Counts) (b : Bool) (h k : ℕ) (F : FinishReady N l st mem s c b h k) where

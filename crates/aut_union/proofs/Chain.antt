@@ -1,28 +1,25 @@
 -- The chain of calls of a union: what each call is asked, and what the whole comes to.
 use mathlib.Core.Path.{_≡_, refl, _∙_, ap, subst}
-use mathlib.Core.List.{List, [], _∷_, _++_}
+use mathlib.Core.List.{List, []}
 use Prim.Native.Nat.{ℕ, _+_, _≤_, _<_}
 use native.Mathlib.Omega.{arith}
 use lib.Dec.{eqb}
 use lib.ListN.{length}
 use Rattle.common.specs.Outcome.{Outcome, refused, given, Step, after, _>>=_}
-use Rattle.common.proofs.Follow.{given-of}
 use Rattle.common.specs.Runs.{Table, table, placed}
 use Rattle.spp_steps.specs.Wf.{ValidAt}
-use Rattle.spp_steps.proofs.Laws.{den-zero, den-mem}
+use Rattle.spp_steps.proofs.Laws.{den-zero}
 use Rattle.spp.specs.declared.SPP as Spp
 use Rattle.aut_steps.specs.Tables.{SPP, UNION, words, Limits, Aut, aut, Exprs, exprs, putNodes, putStates, putExprs, onStates, onExprs}
 use Rattle.aut_steps.specs.Relations as Rel
 use Rattle.aut_steps.specs.Ascending.{All}
-use Rattle.aut_steps.proofs.ListLaws.{all-map, all-append, all-sorted}
+use Rattle.aut_steps.proofs.ListLaws.{all-map, all-sorted}
 use Rattle.aut_steps.specs.Lists.{sorted}
 use Rattle.aut_steps.specs.Wf.{states, WfAut}
-use Rattle.aut_steps.proofs.Wf.{states-grown}
 use Rattle.aut_steps.specs.StepSpec.{Gone}
-use Rattle.aut_steps.proofs.StepSpec.{StepSpec, goes-return, came, good-nodes, branch-in, placed-map}
-use Rattle.aut_steps.proofs.StateLaws.{mk-spp-goes}
+use Rattle.aut_steps.proofs.StepSpec.{StepSpec, goes-return, came, good-nodes, branch-in}
 use Rattle.aut_steps.specs.Constructors as C
-use Rattle.aut_steps.specs.Constructors.{Parts, parts, each, uniteOne, addRelation, mk-spp, mk-top, Opened, list, openUnion, uniteOpened}
+use Rattle.aut_steps.specs.Constructors.{Parts, parts, each, uniteOne, addRelation, mk-top, Opened, list, openUnion, uniteOpened}
 use Rattle.aut_steps.proofs.Scratch.{kept-wide}
 use Rattle.aut_states.specs.declared.Counts.{Counts}
 use Rattle.aut_states.specs.declared.Limits.{Limits as Bounds}
@@ -39,13 +36,13 @@ use Rattle.aut_relations.proofs.Join as join
 use Rattle.aut_relations.proofs.Order as order
 use Rattle.aut_relations.proofs.Order.{backed-of}
 use Rattle.aut_relations.proofs.Opens.{AllOpen, union-states}
-use Rattle.aut_relations.proofs.Each.{Grows, each-gives}
+use Rattle.aut_relations.proofs.Each.{Grows}
 use Rattle.aut_union.specs.declared.Gathered.{Gathered}
 use Rattle.aut_union.specs.declared.Gathered.the-variants.{Rest}
 use Rattle.aut_union.specs.declared.Added.{Added}
 use Rattle.aut_union.specs.declared.Added.the-variants as added
 use Rattle.aut_union.specs.Contracts.{seenParts, PartsLeft, PartsMost, Unites, UnitesReady, seenAdded, AddedMost, AddReady, Adds, ListAt}
-use Rattle.aut_union.proofs.Gather.{keeps, Held}
+use Rattle.aut_union.proofs.Gather.{keeps, Held, gathered, behind-goes}
 use Rattle.aut_union.proofs.Calls.{left-then, interned-is, interned-beside, interned-nodes, Written, written-ready, written-done, ListExits, OfList, several, PairExits, OfPair}
 
 -- the list with the relation's state
@@ -55,8 +52,7 @@ unfolding addRelation
 added-goes {N} {L} {σ} g p h a =
     branch-in putStates σ (eqb (p .relation) (Rel.zeroAt N)) _ _ (σ .states)
     (λ q. goes-return (p .others) g a)
-    (λ q. placed-map putStates σ (mk-spp (p .relation) (σ .states)) (λ i. p .others ++ i ∷ []) (mk-spp-goes g (den-mem h))
-    (λ τ i w v s. all-append (λ y. y < states τ) (p .others) (i ∷ []) (states-grown w (p .others) a) (s .state, tt)))
+    (λ q. behind-goes g (p .relation) (p .others) h a)
 
 -- ---- unite
 
@@ -97,10 +93,7 @@ module _ (N : ℕ) (l : Bounds) (t st mem s : List ℕ) (c : Counts) (k : ℕ) (
     few-1 = subst (λ (r : Gathered). PartsMost r k) told1 (U .few)
 
     grows : Grows N (Held N st (λ x. x < c .states)) (table t (c .spp)) (table t1 n) (parts (h .0) (words s1 320 m))
-    grows = given-of
-        (each-gives (keeps N st (λ x. x < c .states)) (words s 256 k) (table t (c .spp)) (parts (Rel.zeroAt N) []) (R .good .nodes) (den-zero (R .good .nodes) N (omega arith) .at, tt)
-        (all-map (words s 256 k) (λ x m. (order.rel-at (R .good) m, m)) (A .states)))
-        is-1
+    grows = gathered (R .good) (keeps N st (λ x. x < c .states)) (words s 256 k) (A .states) (parts (Rel.zeroAt N) []) (den-zero (R .good .nodes) N (omega arith) .at, tt) is-1
 
     abbrev σ1 : Aut
     σ1 = aut (table t1 n) (table st (c .states)) (table mem (c .members))

@@ -1,54 +1,74 @@
 -- The relations of a list united, and the relation's state.
-use mathlib.Core.Path.{_≡_, refl, sym, _∙_, ap, ap₂, subst}
+use mathlib.Core.Path.{_≡_, refl, sym, _∙_, ap, ap₂}
 use mathlib.Core.Bool.{Bool, true, false}
 use mathlib.Core.List.{List, [], _∷_, _++_}
-use Prim.Native.Nat.{ℕ, zero, suc, _+_, _*_, _-_, _≤_, _<_}
+use Prim.Native.Nat.{ℕ, _+_, _*_, _≤_, _<_}
 use native.Mathlib.Omega.{arith}
 use lib.Dec.{eqb}
 use lib.ListN.{length, getD, set, length-set}
 use borrow.Author.Tests.{eq-eqb, ne-eqb, eqb-true}
-use Rattle.common.specs.Outcome.{Outcome, refused, given, Step, return, after, _>>=_, Gives, refusal, gives, if_then_else_}
-use Rattle.common.proofs.Follow.{call, branch}
+use Rattle.common.specs.Outcome.{Outcome, refused, given, Step, return, after, _>>=_, Gives, gives, if_then_else_}
+use Rattle.common.proofs.Follow.{call, branch, given-of}
 use Rattle.common.specs.Runs.{Table, table, placed}
 use Rattle.spp_steps.specs.Wf.{Wf, Ext, ValidAt}
-use Rattle.spp_steps.proofs.Laws.{ext-refl, at-ext, den-zero}
+use Rattle.spp_steps.proofs.Laws.{ext-refl, at-ext, den-mem}
 use Rattle.spp.specs.declared.SPP as Spp
-use Rattle.aut_steps.specs.Tables.{SPP, UNION, kindOf, op1, words, Limits, Exprs, exprs}
+use Rattle.aut_steps.specs.Tables.{SPP, UNION, kindOf, op1, words, Limits, Exprs, exprs, Aut, putStates}
 use Rattle.aut_steps.specs.Relations as Rel
 use Rattle.aut_steps.proofs.RelationLaws.{union-made}
 use Rattle.aut_steps.specs.Ascending.{All}
-use Rattle.aut_steps.proofs.ListLaws.{all-append}
+use Rattle.aut_steps.proofs.ListLaws.{all-append, all-map}
 use Rattle.aut_steps.proofs.Facts.{words-length}
+use Rattle.aut_steps.specs.Wf.{states, WfAut}
+use Rattle.aut_steps.proofs.Wf.{states-grown}
+use Rattle.aut_steps.proofs.StepSpec.{StepSpec, placed-map}
+use Rattle.aut_steps.proofs.StateLaws.{mk-spp-goes}
 use Rattle.aut_steps.specs.Intern.{internL}
 use Rattle.aut_steps.specs.Constructors as C
 use Rattle.aut_steps.specs.Constructors.{Parts, parts, each, uniteOne, addRelation, mk-spp}
-use Rattle.aut_steps.specs.Scratch.{Kept}
 use Rattle.aut_steps.proofs.Scratch.{kept-refl, kept-sets, words-append}
 use Rattle.aut_states.specs.declared.Counts.{Counts}
 use Rattle.aut_states.specs.declared.State.{State}
 use Rattle.aut_states.specs.declared.State.the-variants.{Is, Refused}
-use Rattle.aut_states.specs.Contracts.{Interned, seenState}
 use Rattle.aut_states.specs.Contracts as Put
-use Rattle.aut_relations.specs.Behind.{LISTS, Modifies, CacheReady}
+use Rattle.aut_relations.specs.Behind.{LISTS, Modifies}
 use Rattle.aut_relations.proofs.Behind.{left-any, left-kept, words-behind}
 use Rattle.aut_relations.specs.Contracts.{RelAt, Beside, SameNodes}
-use Rattle.aut_relations.proofs.Each.{Grows, Keeps, makes-gives}
-use Rattle.aut_union.specs.declared.Gathered.{Gathered}
+use Rattle.aut_relations.proofs.Order as order
+use Rattle.aut_relations.proofs.Each.{Grows, Keeps, makes-gives, each-gives}
 use Rattle.aut_union.specs.declared.Gathered.the-variants.{Rest, Full}
-use Rattle.aut_union.specs.declared.Added.{Added}
 use Rattle.aut_union.specs.declared.Added.the-variants as added
-use Rattle.aut_union.specs.Contracts.{seenParts, PartsLeft, PartsMost, Unites, seenAdded, Adds}
+use Rattle.aut_union.specs.Contracts.{Unites, Adds}
 
--- ---- one member
+-- ---- the members of a list, of which P holds
 
 module _ (N : ℕ) (st : List ℕ) (P : ℕ → Type 0) where
   abbrev pub Each : Table → ℕ → Type 0
   Each t x = RelAt N t st x × P x
 
+  pub each-later : (t t′ : Table) (x : ℕ) → Ext t t′ → Each t x → Each t′ x
+  each-later t t′ x e v = (record { state = v .0 .state; handle = λ k. at-ext e N (op1 st x) (v .0 .handle k) }, v .1)
+
+-- nothing but relations in order
+unfoldable pub Any : ℕ → Type 0
+Any x = Unit
+
+pub members-of : (N : ℕ) (st : List ℕ) (t : Table) (xs : List ℕ) → All (RelAt N t st) xs → All (Each N st Any t) xs
+unfolding Any
+members-of N st t xs a = all-map xs (λ x r. (r, tt)) a
+
+-- a step for each of a list of states
+pub gathered : {N : ℕ} {L : Limits} {σ : Aut} {A : Type 0} {one : ℕ → A → Step Table A} {I : Table → A → Type 0} → WfAut N L σ → Keeps N one (Each N (σ .states .words) (λ x. x < states σ)) I
+    → (xs : List ℕ) → All (λ x. x < states σ) xs → (a : A) → I (σ .nodes) a → {t1 : Table} {a1 : A} → each one xs a (σ .nodes) ≡ given t1 a1 → Grows N I (σ .nodes) t1 a1
+gathered {σ = σ} g K xs h a i e = given-of (each-gives K xs (σ .nodes) a (g .nodes) i (all-map xs (λ x m. (order.rel-at g m, m)) h)) e
+
+-- ---- one member
+
+module _ (N : ℕ) (st : List ℕ) (P : ℕ → Type 0) where
   abbrev pub Held : Table → Parts → Type 0
   Held t p = ValidAt t N (p .relation) × All P (p .others)
 
-  one : (t : Table) (x : ℕ) (p : Parts) → Wf N t → Held t p → Each t x → Gives (Grows N Held t) (uniteOne N st x p t)
+  one : (t : Table) (x : ℕ) (p : Parts) → Wf N t → Held t p → Each N st P t x → Gives (Grows N Held t) (uniteOne N st x p t)
   unfolding uniteOne
   one t x p w h v =
       branch (eqb (kindOf st x) SPP) (Rel.union N (p .relation) (op1 st x) >>= (λ u. return (parts u (p .others)))) (return (parts (p .relation) (p .others ++ x ∷ []))) t
@@ -56,11 +76,8 @@ module _ (N : ℕ) (st : List ℕ) (P : ℕ → Type 0) where
       (λ q. gives (record { ext = ext-refl t; wf = w; holds = (h .0, all-append P (p .others) (x ∷ []) (h .1) (v .1, tt)) }))
 
   -- what a step leaves
-  pub keeps : Keeps N (uniteOne N st) Each Held
-  keeps = record {
-    later = λ t t′ x e v. (record { state = v .0 .state; handle = λ k. at-ext e N (op1 st x) (v .0 .handle k) }, v .1);
-    step = one;
-  }
+  pub keeps : Keeps N (uniteOne N st) (Each N st P) Held
+  keeps = record { later = each-later N st P; step = one }
 
 module _ (N : ℕ) (st : List ℕ) (t : Table) (s : List ℕ) (x h to m : ℕ) where
   abbrev out : Outcome Table Parts
@@ -91,30 +108,44 @@ other N st t s n x to m h p l r = record {
   few = omega arith;
 }
 
+-- ---- a state goes behind a list, or none
+
+pub adds-none : {st s : List ℕ} {n at k : ℕ} {sum : Outcome Table (List ℕ)} → sum ≡ given (table st n) (words s at k) → Adds sum (added.List k n) st s s at k
+adds-none {s = s} {at = at} {k = k} e = record { is = e; kept = kept-refl (at + k) 1 s; few = omega arith }
+
+after-state : (s : List ℕ) (at k : ℕ) {sum : Outcome Table (List ℕ)} {o o′ : Outcome Table ℕ} → sum ≡ after o (λ i. return (words s at k ++ i ∷ [])) → o ≡ o′ → sum ≡ after o′ (λ i. return (words s at k ++ i ∷ []))
+after-state s at k e q = e ∙ ap (λ (o : Outcome Table ℕ). after o (λ i. return (words s at k ++ i ∷ []))) q
+
+module _ {s : List ℕ} {at k : ℕ} {sum : Outcome Table (List ℕ)} {o : Outcome Table ℕ} (e : sum ≡ after o (λ i. return (words s at k ++ i ∷ []))) where
+  pub adds-refused : {number : ℕ} → o ≡ refused number → (st1 : List ℕ) → Adds sum (added.Refused number) st1 s s at k
+  adds-refused q st1 = record { is = after-state s at k e q; kept = kept-refl (at + k) 1 s; few = tt }
+
+  pub adds-state : {i n1 : ℕ} {st1 : List ℕ} → at + k < length s → o ≡ given (table st1 n1) i → Adds sum (added.List (k + 1) n1) st1 s (set s (at + k) i) at k
+  adds-state {i} {n1} {st1} r q = record {
+    is = after-state s at k e q ∙ ap (given (table st1 n1)) (sym (words-append s (i ∷ []) at k 1 refl (omega arith)));
+    kept = kept-sets (i ∷ []) s (at + k) 1 (at + k) (omega arith) (omega arith);
+    few = omega arith;
+  }
+
+-- they are states
+pub behind-goes : {N : ℕ} {L : Limits} {σ : Aut} → WfAut N L σ → (h : ℕ) (xs : List ℕ) → ValidAt (σ .nodes) N h → All (λ x. x < states σ) xs
+    → StepSpec N L (λ τ ys. All (λ y. y < states τ) ys) σ (placed putStates σ (after (mk-spp h (σ .states)) (λ i. return (xs ++ i ∷ []))))
+behind-goes {σ = σ} g h xs v a =
+    placed-map putStates σ (mk-spp h (σ .states)) (λ i. xs ++ i ∷ []) (mk-spp-goes g (den-mem v)) (λ τ i w u s. all-append (λ y. y < states τ) xs (i ∷ []) (states-grown w xs a) (s .state, tt))
+
 -- ---- the relation's state
 
 module _ (N : ℕ) (st s : List ℕ) (n z h at k : ℕ) (z-is : Rel.zeroAt N ≡ z) where
-  abbrev sum : Outcome Table (List ℕ)
+  abbrev pub sum : Outcome Table (List ℕ)
   sum = addRelation N (parts h (words s at k)) (table st n)
 
-  pub no-relation : h ≡ z → Adds sum (added.List k n) st s s at k
+  pub no-relation : h ≡ z → sum ≡ given (table st n) (words s at k)
   unfolding addRelation
-  no-relation e = record { is = simp (eq-eqb h (Rel.zeroAt N) (e ∙ sym z-is)); kept = kept-refl (at + k) 1 s; few = omega arith }
+  no-relation e = simp (eq-eqb h (Rel.zeroAt N) (e ∙ sym z-is))
 
-  module _ (e : h ≡ z → ⊥) where
-    is-sum : {o : Outcome Table ℕ} → mk-spp h (table st n) ≡ o → sum ≡ after o (λ i. return (words s at k ++ i ∷ []))
-    unfolding addRelation
-    is-sum q = simp (ne-eqb h (Rel.zeroAt N) (λ d. e (d ∙ z-is))) (ap (λ (o : Outcome Table ℕ). after o (λ i. return (words s at k ++ i ∷ []))) q)
-
-    pub not-added : {number : ℕ} → mk-spp h (table st n) ≡ refused number → (st1 : List ℕ) → Adds sum (added.Refused number) st1 s s at k
-    not-added q st1 = record { is = is-sum q; kept = kept-refl (at + k) 1 s; few = tt }
-
-    pub is-added : {i n1 : ℕ} {st1 : List ℕ} → at + k < length s → mk-spp h (table st n) ≡ given (table st1 n1) i → Adds sum (added.List (k + 1) n1) st1 s (set s (at + k) i) at k
-    is-added {i} {n1} {st1} r q = record {
-      is = is-sum q ∙ ap (given (table st1 n1)) (sym (words-append s (i ∷ []) at k 1 refl (omega arith)));
-      kept = kept-sets (i ∷ []) s (at + k) 1 (at + k) (omega arith) (omega arith);
-      few = omega arith;
-    }
+  pub a-relation : (h ≡ z → ⊥) → sum ≡ after (mk-spp h (table st n)) (λ i. return (words s at k ++ i ∷ []))
+  unfolding addRelation
+  a-relation e = simp (ne-eqb h (Rel.zeroAt N) (λ d. e (d ∙ z-is)))
 
 -- ---- the list's state
 

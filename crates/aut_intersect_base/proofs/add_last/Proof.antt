@@ -1,6 +1,7 @@
 use mathlib.Core.Path.{_≡_, _∙_, ap}
 use Rattle.aut_states.specs.Contracts.{seenPut}
 use Rattle.aut_states.specs.declared.Put.{Put}
+use Rattle.aut_union.proofs.Gather.{adds-none, adds-refused, adds-state}
 use Rattle.aut_intersect_base.proofs.Gather as gather
 use borrow.Author.Needs.{needs}
 use Rattle.aut_intersect_base.proofs.add_last.Statement.{statement}
@@ -24,7 +25,7 @@ same-length c = search needs
 -- src/lib.rt:85:17
 returns : tie.Need-returns
 returns c =
-    λ others. let g = c .before .before .before .before .before .before .before .before .before .before .args in gather.not-last (g .states .now) (g .scratch .now) (g .count) (g .at) (g .k) (g .some) (g .h .0) others (c .before .before .before .before .before .before .before .if1 .taken) (c .before .before .before .before .before .mk-spp .ensures ∙ ap (λ (r : Put). seenPut r (c .before .before .before .before .before .mk-spp .last .0)) (c .before .put .given .1)) (c .before .before .before .before .before .mk-spp .last .0)
+    λ others. let g = c .before .before .before .before .before .before .before .before .before .before .args in adds-refused (gather.a-last (g .states .now) (g .scratch .now) (g .count) (g .at) (g .k) (g .some) (g .h .0) others (c .before .before .before .before .before .before .before .if1 .taken)) (c .before .before .before .before .before .mk-spp .ensures ∙ ap (λ (r : Put). seenPut r (c .before .before .before .before .before .mk-spp .last .0)) (c .before .put .given .1)) (c .before .before .before .before .before .mk-spp .last .0)
 
 -- src/lib.rt:87:21
 enum-known-put-2 : tie.Need-enum-known-put-2
@@ -57,12 +58,12 @@ same-length-3 c = search needs
 -- src/lib.rt:89:17
 returns-2 : tie.Need-returns-2
 returns-2 c =
-    λ others. let g = c .before .before .before .before .before .before .before .before .before .before .args in gather.is-last (g .states .now) (g .scratch .now) (g .count) (g .at) (g .k) (g .some) (g .h .0) others (c .before .before .before .before .before .before .before .if1 .taken) (c .before .before .before .before .before .before .before .before .before .before .pre .room) (c .before .before .before .before .before .mk-spp .ensures ∙ ap (λ (r : Put). seenPut r (c .before .before .before .before .before .mk-spp .last .0)) (c .before .put2 .given .1))
+    λ others. let g = c .before .before .before .before .before .before .before .before .before .before .args in adds-state (gather.a-last (g .states .now) (g .scratch .now) (g .count) (g .at) (g .k) (g .some) (g .h .0) others (c .before .before .before .before .before .before .before .if1 .taken)) (c .before .before .before .before .before .before .before .before .before .before .pre .room) (c .before .before .before .before .before .mk-spp .ensures ∙ ap (λ (r : Put). seenPut r (c .before .before .before .before .before .mk-spp .last .0)) (c .before .put2 .given .1))
 
 -- src/lib.rt:77:1
 returns-3 : tie.Need-returns-3
 returns-3 c =
-    λ others. let g = c .before .before .before .args in gather.none-last (g .states .now) (g .scratch .now) (g .count) (g .at) (g .k) (g .some) (g .h .0) others (c .if1 .left)
+    λ others. let g = c .before .before .before .args in adds-none (gather.none-last (g .states .now) (g .scratch .now) (g .count) (g .at) (g .k) (g .some) (g .h .0) others (c .if1 .left))
 
 pub add-last-spec : {M : Type 1} → statement M
 add-last-spec =

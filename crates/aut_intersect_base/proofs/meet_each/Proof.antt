@@ -8,16 +8,14 @@ use lib.ListN.{length}
 use Rattle.common.specs.Runs.{Table, table}
 use Rattle.spp_steps.proofs.Laws.{den-top}
 use Rattle.aut_steps.specs.Tables.{words}
-use Rattle.aut_steps.specs.Ascending.{All}
-use Rattle.aut_steps.proofs.ListLaws.{all-map}
 use Rattle.aut_steps.specs.Relations.{topAt}
 use Rattle.aut_steps.specs.Constructors.{met, meetOne}
 use Rattle.aut_relations.specs.Behind.{CacheReady}
-use Rattle.aut_relations.specs.Contracts.{RelAt}
 use Rattle.aut_relations.proofs.Each as each
 use Rattle.aut_relations.proofs.Each.{Turn}
 use Rattle.aut_intersect_base.specs.declared.Met.{Met}
 use Rattle.aut_intersect_base.specs.Contracts.{seenMet, MetLeft, MetMost}
+use Rattle.aut_union.proofs.Gather.{Any, members-of}
 use Rattle.aut_intersect_base.proofs.Gather as gather
 use Rattle.aut_intersect_base.proofs.meet_each.Statement.{statement}
 use Rattle.aut_intersect_base.proofs.meet_each.Tie as tie
@@ -26,15 +24,8 @@ use Rattle.aut_intersect_base.proofs.meet_each.Lts as lts
 use Rattle.aut_intersect_base.proofs.meet_one.Reads as meet-one-reads
 use Rattle.spp.proofs.top_at_depth.Reads as top-at-depth-reads
 
-Any : ℕ → Type 0
-Any x = Unit
-
 abbrev At-turn : (N : ℕ) (st : List ℕ) (t₀ : Table) (s₀ : List ℕ) (from k to : ℕ) (b : Bool) (h : ℕ) (t : Table) (s : List ℕ) (m i : ℕ) → Type 0
 At-turn N st t₀ s₀ from k to b h t s m i = Turn N (meetOne N st) (gather.Held N st Any) (met false (topAt N) []) t₀ s₀ from k to (met b h (words s to m)) t s m i
-
-members-of : (N : ℕ) (st : List ℕ) (t : Table) (xs : List ℕ) → All (RelAt N t st) xs → All (gather.Each N st Any t) xs
-unfolding Any
-members-of N st t xs a = all-map xs (λ x r. (r, tt)) a
 
 begin-turn : (N : ℕ) (st : List ℕ) (t : Table) (s : List ℕ) (from k to : ℕ) → from + k ≤ to → to + k ≤ 1152 → CacheReady N t s → (z : ℕ) → topAt N ≡ z → At-turn N st t s from k to false z t s 0 0
 unfolding words

@@ -17,7 +17,7 @@ zero-at-depth-requires c κs = search needs
 -- src/lib.rt:81:9
 returns : tie.Need-returns
 returns c =
-    let g = c .before .before .before .before .before .before .args in gather.no-relation (g .fields) (g .states .now) (g .scratch .now) (g .count) _ (g .h .0) (g .at) (g .k) (c .before .before .before .zero-at-depth .ensures (g .fields)) (c .if1 .taken)
+    let g = c .before .before .before .before .before .before .args in gather.adds-none (gather.no-relation (g .fields) (g .states .now) (g .scratch .now) (g .count) _ (g .h .0) (g .at) (g .k) (c .before .before .before .zero-at-depth .ensures (g .fields)) (c .if1 .taken))
 
 -- src/lib.rt:83:9
 mk-spp-requires : tie.Need-mk-spp-requires
@@ -54,7 +54,7 @@ same-length c = search needs
 -- src/lib.rt:75:1
 returns-2 : tie.Need-returns-2
 returns-2 c =
-    let g = c .before .before .before .before .before .before .before .before .before .before .before .before .before .args in gather.not-added (g .fields) (g .states .now) (g .scratch .now) (g .count) _ (g .h .0) (g .at) (g .k) (c .before .before .before .before .before .before .before .before .before .before .zero-at-depth .ensures (g .fields)) (c .before .before .before .before .before .before .before .if1 .left) (c .before .before .before .before .before .mk-spp .ensures ∙ ap (λ (r : Put). seenPut r (c .before .before .before .before .before .mk-spp .last .0)) (c .before .put .given .1)) (c .before .before .before .before .before .mk-spp .last .0)
+    let g = c .before .before .before .before .before .before .before .before .before .before .before .before .before .args in gather.adds-refused (gather.a-relation (g .fields) (g .states .now) (g .scratch .now) (g .count) _ (g .h .0) (g .at) (g .k) (c .before .before .before .before .before .before .before .before .before .before .zero-at-depth .ensures (g .fields)) (c .before .before .before .before .before .before .before .if1 .left)) (c .before .before .before .before .before .mk-spp .ensures ∙ ap (λ (r : Put). seenPut r (c .before .before .before .before .before .mk-spp .last .0)) (c .before .put .given .1)) (c .before .before .before .before .before .mk-spp .last .0)
 
 -- src/lib.rt:75:1
 same-length-2 : tie.Need-same-length-2
@@ -67,7 +67,7 @@ same-length-3 c = search needs
 -- src/lib.rt:75:1
 returns-3 : tie.Need-returns-3
 returns-3 c =
-    let g = c .before .before .before .before .before .before .before .before .before .before .before .before .before .args in gather.is-added (g .fields) (g .states .now) (g .scratch .now) (g .count) _ (g .h .0) (g .at) (g .k) (c .before .before .before .before .before .before .before .before .before .before .zero-at-depth .ensures (g .fields)) (c .before .before .before .before .before .before .before .if1 .left) (c .before .before .before .before .before .before .before .before .before .before .before .before .before .pre .room) (c .before .before .before .before .before .mk-spp .ensures ∙ ap (λ (r : Put). seenPut r (c .before .before .before .before .before .mk-spp .last .0)) (c .before .put2 .given .1))
+    let g = c .before .before .before .before .before .before .before .before .before .before .before .before .before .args in gather.adds-state (gather.a-relation (g .fields) (g .states .now) (g .scratch .now) (g .count) _ (g .h .0) (g .at) (g .k) (c .before .before .before .before .before .before .before .before .before .before .zero-at-depth .ensures (g .fields)) (c .before .before .before .before .before .before .before .if1 .left)) (c .before .before .before .before .before .before .before .before .before .before .before .before .before .pre .room) (c .before .before .before .before .before .mk-spp .ensures ∙ ap (λ (r : Put). seenPut r (c .before .before .before .before .before .mk-spp .last .0)) (c .before .put2 .given .1))
 
 pub add-relation-spec : {M : Type 1} → statement M
 add-relation-spec =

@@ -7,16 +7,14 @@ use lib.ListN.{length}
 use Rattle.common.specs.Runs.{Table, table}
 use Rattle.spp_steps.proofs.Laws.{den-zero}
 use Rattle.aut_steps.specs.Tables.{words}
-use Rattle.aut_steps.specs.Ascending.{All}
-use Rattle.aut_steps.proofs.ListLaws.{all-map}
 use Rattle.aut_steps.specs.Relations.{zeroAt}
 use Rattle.aut_steps.specs.Constructors.{Parts, parts, uniteOne}
 use Rattle.aut_relations.specs.Behind.{CacheReady}
-use Rattle.aut_relations.specs.Contracts.{RelAt}
 use Rattle.aut_relations.proofs.Each as each
 use Rattle.aut_relations.proofs.Each.{Turn}
 use Rattle.aut_union.specs.declared.Gathered.{Gathered}
 use Rattle.aut_union.specs.Contracts.{seenParts, PartsLeft, PartsMost}
+use Rattle.aut_union.proofs.Gather.{Any, members-of}
 use Rattle.aut_union.proofs.Gather as gather
 use Rattle.aut_union.proofs.unite_each.Statement.{statement}
 use Rattle.aut_union.proofs.unite_each.Tie as tie
@@ -25,15 +23,8 @@ use Rattle.aut_union.proofs.unite_each.Lts as lts
 use Rattle.aut_union.proofs.unite_one.Reads as unite-one-reads
 use Rattle.spp.proofs.zero_at_depth.Reads as zero-at-depth-reads
 
-Any : ℕ → Type 0
-Any x = Unit
-
 abbrev At-turn : (N : ℕ) (st : List ℕ) (t₀ : Table) (s₀ : List ℕ) (from k to h : ℕ) (t : Table) (s : List ℕ) (m i : ℕ) → Type 0
 At-turn N st t₀ s₀ from k to h t s m i = Turn N (uniteOne N st) (gather.Held N st Any) (parts (zeroAt N) []) t₀ s₀ from k to (parts h (words s to m)) t s m i
-
-members-of : (N : ℕ) (st : List ℕ) (t : Table) (xs : List ℕ) → All (RelAt N t st) xs → All (gather.Each N st Any t) xs
-unfolding Any
-members-of N st t xs a = all-map xs (λ x r. (r, tt)) a
 
 begin-turn : (N : ℕ) (st : List ℕ) (t : Table) (s : List ℕ) (from k to : ℕ) → from + k ≤ to → to + k ≤ 1152 → CacheReady N t s → (z : ℕ) → zeroAt N ≡ z → At-turn N st t s from k to z t s 0 0
 unfolding words
