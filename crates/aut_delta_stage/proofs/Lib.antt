@@ -1,2 +1,2 @@
--- The laws of delta_stage, each beside the definitions of the same name in specs/.
+-- The laws of the layer of specs/.
 pub mod OnStore

@@ -1,4 +1,4 @@
--- 01, "Who can cause a refusal": why each list that delta makes is refused, and that it is within the limit, its targets states and its labels relations (st_steps has this of the operations).
+-- 01, "Who can cause a refusal": why each list that delta makes is refused, and that it is within the limit, its targets states and its labels relations (aut_st_steps has this of the operations).
 use mathlib.Core.List.{List, [], _∷_}
 use Prim.Native.Nat.{ℕ, _≤_}
 use native.Mathlib.Omega.{arith}

@@ -1,4 +1,4 @@
--- `epsilon` and `delta` (delta_steps' Epsilon, Delta) on tables that are alike: they recurse on a depth that they read in word 3, which is the same.
+-- `epsilon` and `delta` (aut_delta_steps' Epsilon, Delta) on tables that are alike: they recurse on a depth that they read in word 3, which is the same.
 use mathlib.Core.Path.{_≡_, refl, ap, subst}
 use mathlib.Core.List.{List, [], _∷_}
 use Prim.Native.Nat.{ℕ, zero, suc, _+_, _-_}

@@ -1,2 +1,2 @@
--- The laws of query_stage, each beside the definitions of the same name in specs/.
+-- The laws of the layer of specs/.
 pub mod Layer

@@ -1,5 +1,5 @@
 -- Demand 3 for the search on the tables: unless it is refused, `is-empty` reports exactly the answer and the count of 01's plain search, which is fed what epsilon and delta give from the
--- book's tables alone (delta_steps' Answers); each yes or no says "empty" exactly if no string belongs to the state. And the tables are in order again, with all that was worked out.
+-- book's tables alone (aut_delta_steps' PlainSearch); each yes or no says "empty" exactly if no string belongs to the state. And the tables are in order again, with all that was worked out.
 use mathlib.Core.Path.{_≡_, refl, sym, _∙_, ap, subst}
 use mathlib.Core.Bool.{not}
 use mathlib.Core.List.{List, map}

@@ -1,3 +1,3 @@
--- The laws of st_stage, each beside the definitions of the same name in specs/.
+-- The laws of the readings of specs/.
 pub mod Readings
 pub mod Loops

@@ -1,5 +1,5 @@
 -- aut.rs, the smart constructors: what each has seen to of its operands before it interns a state, as the words of the states tell. Order and length of lists
--- stand apart (Good: United, Meeting, short). A kind that is not named here (SPP, Dup, Next, Until, Top) is interned as it is given.
+-- stand apart (Wf: United, Meeting, short). A kind that is not named here (SPP, Dup, Next, Until, Top) is interned as it is given.
 use mathlib.Core.Path.{_≡_}
 use mathlib.Core.List.{List}
 use mathlib.Core.Logic.{_≢_}

@@ -1,5 +1,5 @@
 -- A store for the list operations of ListSteps.antt: the list of the relations made and the list of the rules made. A label and a state are places
--- in them, and each operation puts one more at the end. So what is asked of labels and states can be had (proofs/Workshop.antt).
+-- in them, and each operation puts one more at the end. So what is asked of labels and states can be had (ExampleStoreLaws.antt).
 use mathlib.Core.List.{List, [], _∷_, _++_}
 use lib.ListN.{length, getD}
 use Prim.Native.Nat.{ℕ}

@@ -1,4 +1,4 @@
--- The store of Workshop.antt fits: what ListSteps.antt asks can be had.
+-- The store of ExampleStore.antt fits: what ListSteps.antt asks can be had.
 use mathlib.Core.Path.{_≡_, refl, sym, _∙_, ap, ap₂, subst, fun-ext}
 use mathlib.Core.Bool.{Bool, true, false}
 use mathlib.Core.Logic.{_↔_}

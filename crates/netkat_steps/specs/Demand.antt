@@ -1,6 +1,6 @@
 -- Demand 3, for one search of a program: of all emptiness searches that 01 does not refuse, each reports exactly the answer and the count of
 -- 01's plain search, and what is promised of the plain search holds of it. Each yes or no says "empty" exactly if no string belongs to the
--- state, and exactly if its live set is empty where both answer, in whichever order. Laws/Demand.antt proves it of a machine that works for a
+-- state, and exactly if its live set is empty where both answer, in whichever order. proofs/Demand.antt proves it of a machine that works for a
 -- lawful automaton.
 use mathlib.Core.Path.{_≡_}
 use mathlib.Core.Logic.{_↔_}

@@ -1,5 +1,5 @@
 -- The plain search as a search over handles: a set is its own handle, a relation its own label, and no operation is refused but by the pending
--- list's capacity. So what Handles.antt asks can be had, for every automaton (Laws/Direct.antt).
+-- list's capacity. So what Handles.antt asks can be had, for every automaton (proofs/Direct.antt).
 use mathlib.Core.Path.{_≡_}
 use mathlib.Core.Bool.{not}
 use mathlib.Core.List.{map}

@@ -1,6 +1,6 @@
 -- aut.rs's operations on transition lists (ST) as steps over a store: a target is a state's number, a label the handle of a relation, and each
 -- operation on either may make new records or be refused. 01: a transition list, intermediate ones included, that passes its limit is refused
--- (9); targets ascend. The order of steps is the Rust's. Laws/ListSteps.antt has the law of each: a layer above only has to say what its own
+-- (9); targets ascend. The order of steps is the Rust's. proofs/ListSteps.antt has the law of each: a layer above only has to say what its own
 -- operations on labels and states do (`LawfulOps`).
 use mathlib.Core.Logic.{_↔_, _⊎_}
 use mathlib.Core.Bool.{Bool}

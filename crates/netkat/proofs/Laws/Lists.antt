@@ -5,7 +5,7 @@
 --      its operands: any transition with the right strings will do (`delta-with`). `through-none`, `through-more`, `pair-none`, `pair-more`:
 --      a loop of inserts, by what is still to be walked. `delta-kept`, `placed-kept`, `splitting-kept`: while the targets keep their strings.
 --   3. the laws of the operations of Lists.antt, from these two.
--- Where targets and labels are handles into a store and steps may be refused, the first two groups are used as Laws/ListSteps.antt uses them.
+-- Where targets and labels are handles into a store and steps may be refused, the first two groups are used as netkat_steps/proofs/ListSteps.antt uses them.
 use mathlib.Core.Path.{_≡_, refl, sym, _∙_, subst}
 use mathlib.Core.Logic.{_↔_, _⊎_, inl, inr}
 use mathlib.Core.Bool.{Bool, true, false, not, _&&_, _||_}
