@@ -41,10 +41,12 @@ use Rattle.aut_relations.proofs.Order.{ready-complement, backed-of, ready-after
 use Rattle.aut_sequence.specs.Contracts.{Enters, Makes, Asks, Sequences}
 use Rattle.aut_sequence.proofs.Join.{enters}
 use Rattle.aut_union.specs.Contracts.{PairAt}
+use Rattle.aut_stage.specs.OnNodes.{withNodes}
+use Rattle.aut_stage.proofs.OnNodes.{relation-refused}
 use Rattle.aut_st_insert.specs.declared.Listed.{Listed}
 use Rattle.aut_st_insert.specs.declared.Listed.the-variants as listed
 use Rattle.aut_st_insert.specs.Contracts.{RESULT, ListReady, DoesList}
-use Rattle.aut_st_insert.proofs.Join.{edges-behind, ready-few, list-later, withNodes, full-is, made-is}
+use Rattle.aut_st_insert.proofs.Join.{edges-behind, ready-few, list-later, made-is}
 use Rattle.aut_st_source.specs.declared.Transition.{Transition}
 use Rattle.aut_st_source.specs.Contracts.{edgeOf}
 use Rattle.aut_st_each.specs.declared.Each.{Each}
@@ -93,7 +95,7 @@ module _ {N : ℕ} {l : Limits} {σ : Aut} {s : List ℕ} (o : Step Aut Edge) (R
   from-label q x t st mem s1 d e b f (Node h n) {t′} {s′} A len =
       does-edge o R G (labelEdge (Node h n) d x) t′ st mem s′ (e ∙ ap (λ (p : Outcome Aut ℕ). after p (λ m. return (edge x m))) (made-is d A refl st mem)) b (f t′ s′ n (h .0) (made-is d A refl st mem) (A .left)) len
   from-label q x t st mem s1 d e b f Full {t′} {s′} A len =
-      does-edge o R G (edged.Refused 21) t′ st mem s′ (e ∙ ap (λ (p : Outcome Aut ℕ). after p (λ m. return (edge x m))) (full-is d A refl st mem)) tt tt len
+      does-edge o R G (edged.Refused 21) t′ st mem s′ (e ∙ ap (λ (p : Outcome Aut ℕ). after p (λ m. return (edge x m))) (relation-refused st mem d A refl)) tt tt len
 
 -- ---- meet_of: the target is made before the label
 

@@ -4,7 +4,7 @@ use mathlib.Core.List.{List}
 use Prim.Native.Nat.{ℕ}
 use native.Mathlib.Omega.{arith}
 use lib.ListN.{length}
-use Rattle.common.specs.Outcome.{Outcome, given, Step, return, after, _>>=_}
+use Rattle.common.specs.Outcome.{Outcome, Step, return, after, _>>=_}
 use Rattle.common.specs.Runs.{table}
 use Rattle.netkat_steps.specs.ListSteps as St
 use Rattle.netkat_steps.specs.ListSteps.{Edge, edge}
@@ -15,7 +15,7 @@ use Rattle.aut_steps.specs.Tables as T
 use Rattle.aut_steps.specs.Tables.{Aut, onNodes}
 use Rattle.aut_steps.specs.Relations as Rel
 use Rattle.aut_steps.specs.StepSpec.{Gone}
-use Rattle.aut_steps.proofs.StepSpec.{StepSpec, came, goes-map}
+use Rattle.aut_steps.proofs.StepSpec.{StepSpec, goes-map}
 use Rattle.aut_steps.specs.Constructors.{mk-union}
 use Rattle.aut_steps.proofs.UnionLaws.{mk-union-goes}
 use Rattle.aut_st_steps.specs.Operations.{ops}
@@ -31,32 +31,28 @@ use Rattle.aut_states.specs.declared.Limits.{Limits}
 use Rattle.aut_states.specs.declared.State as S
 use Rattle.aut_states.specs.declared.State.the-variants as state
 use Rattle.aut_relations.specs.Behind.{Modifies}
-use Rattle.aut_relations.proofs.Behind.{left-any, left-wide, left-trans}
+use Rattle.aut_relations.proofs.Behind.{left-any, left-trans}
 use Rattle.aut_relations.specs.Contracts.{autOf, seenAut, Beside, ModifiesBy, Ready, Does, RelateReady, Relates}
-use Rattle.aut_relations.proofs.Order.{backed-of, ready-after}
+use Rattle.aut_relations.proofs.Order.{backed-of}
+use Rattle.aut_stage.specs.Stage.{gave, Post, Stage}
+use Rattle.aut_stage.proofs.Stage.{begin, next, finish, done, all-of}
+use Rattle.aut_stage.proofs.OnAut.{autLayer, by-law}
+use Rattle.aut_stage.specs.OnNodes.{withNodes}
+use Rattle.aut_stage.proofs.OnNodes.{relation-given, relation-refused}
 use Rattle.aut_union.specs.Contracts.{PairAt}
 use Rattle.aut_st_insert.specs.declared.Listed.{Listed}
 use Rattle.aut_st_insert.specs.declared.Listed.the-variants as listed
 use Rattle.aut_st_insert.specs.declared.Met.{Met}
 use Rattle.aut_st_insert.specs.declared.Met.the-variants as met
-use Rattle.aut_st_insert.specs.Contracts.{RESULT, ListReady, PlaceReady, MeetReady, RestReady, seenList, ListBeside, ListLeft, MakesList, seenPart, PartBeside, PartLeft, DoesPart, MakesPart}
-use Rattle.aut_st_insert.proofs.Join.{edges-behind, ready-few, list-later, withNodes, full-is, made-is, made-left, made-gone, beside-part}
+use Rattle.aut_st_insert.specs.Contracts.{RESULT, ListReady, PlaceReady, MeetReady, RestReady, seenList, MakesList, DoesPart, MakesPart}
+use Rattle.aut_st_insert.proofs.Readings.{partOf, part-given, part-refused, of-part, to-part, no-part, placed-given, placed-refused, anywhere, list-ready, list-stage}
+use Rattle.aut_st_insert.proofs.Join.{edges-behind, ready-few, list-later, made-is, made-left, made-gone}
 
--- ---- a list made at the end of a chain: nodes as they are then
+-- ---- what a list made at the end of a chain is
 
-module _ {N : ℕ} {l : Limits} {t st s t′ st′ s′ : List ℕ} {c : Counts} {m x h : ℕ} (R : PlaceReady N l t st s c m (edge x h)) {r : Listed}
-    (M : MakesList N 576 128 (St.place (ops N (limitsOf l)) x h (edges s RESULT m)) r c t st s t′ st′ s′) {d : Counts} {k : ℕ} (told : r ≡ listed.List d k) where
-  pub placed-is : (mem : List ℕ) → St.place (ops N (limitsOf l)) x h (edges s RESULT m) (autOf t st mem c) ≡ given (autOf t′ st′ mem d) (edges s′ RESULT k)
-  placed-is mem = M .is mem ∙ ap (λ (r : Listed). seenList r t′ st′ mem s′) told
-
-  pub placed-gone : Gone N (limitsOf l) (ListAt N (limitsOf l)) (autOf t st (R .members) c) (autOf t′ st′ (R .members) d) (edges s′ RESULT k)
-  placed-gone = came (subst (StepSpec N (limitsOf l) (ListAt N (limitsOf l)) (autOf t st (R .members) c)) (placed-is (R .members)) (place-goes (R .ready .ready .good) (R .edge .state) (relation-of (R .edge)) (R .ready .list)))
-
-  pub placed-left : Modifies N 576 128 (table t′ (d .spp)) s s′
-  placed-left = subst (λ (r : Listed). ListLeft N 576 128 r t′ s s′) told (M .left)
-
-  pub placed-beside : (d .sp ≡ c .sp) × (d .transitions ≡ c .transitions)
-  placed-beside = subst (λ (r : Listed). ListBeside r c) told (M .beside)
+pub placing : {N : ℕ} {l : Limits} {t st s : List ℕ} {c : Counts} {m x h : ℕ} (R : PlaceReady N l t st s c m (edge x h))
+    → StepSpec N (limitsOf l) (ListAt N (limitsOf l)) (autOf t st (R .members) c) (St.place (ops N (limitsOf l)) x h (edges s RESULT m) (autOf t st (R .members) c))
+placing R = place-goes (R .ready .ready .good) (R .edge .state) (relation-of (R .edge)) (R .ready .list)
 
 -- ---- meet_in
 
@@ -79,13 +75,13 @@ module _ (N : ℕ) (l : Limits) (t st mem s : List ℕ) (c : Counts) (x h x2 h2 
   abbrev second : ℕ → Step Aut Part
   second meet = mk-union N L x x2 >>= third meet
 
-  is-0 : whole σ ≡ after (onNodes (Rel.intersect N h h2) σ) second
+  stage-0 : Stage (autLayer N l) 192 384 (whole σ) (after (onNodes (Rel.intersect N h h2) σ) second) σ σ c c s s
   unfolding meetIn
-  is-0 = refl
+  stage-0 = begin (autLayer N l) 192 384 (R .ready .ready) refl
 
   module _ (r1 : Made) (t1 s1 : List ℕ) (A : Relates N (Rel.intersect N h h2) (table t (c .spp)) r1 t1 s s1) where
     pub full-1 : r1 ≡ Full → DoesPart N 192 512 whole σ (met.Refused 21) c t1 st mem s s1
-    full-1 e = record { is = is-0 ∙ ap (λ (o : Outcome Aut ℕ). after o second) (full-is c A e st mem); beside = tt; left = tt }
+    full-1 e = no-part (stage-0 .is ∙ ap (λ (o : Outcome Aut ℕ). after o second) (relation-refused st mem c A e))
 
     module _ (u : SPP) (n : ℕ) (told1 : r1 ≡ Node u n) (len1 : length s1 ≡ length s) where
       abbrev c1 : Counts
@@ -94,74 +90,57 @@ module _ (N : ℕ) (l : Limits) (t st mem s : List ℕ) (c : Counts) (x h x2 h2 
       abbrev σ1 : Aut
       σ1 = autOf t1 st mem c1
 
-      is-1 : whole σ ≡ second (u .0) σ1
-      is-1 = is-0 ∙ ap (λ (o : Outcome Aut ℕ). after o second) (made-is c A told1 st mem)
+      post-1 : Post (autLayer N l) 192 384 (Label N) (onNodes (Rel.intersect N h h2) σ) σ c (gave c1 (u .0)) (autOf t1 st mem) s s1
+      post-1 = anywhere 192 384 (omega arith) (relation-given st mem c A told1 (R .ready .ready) (intersect-goes (R .ready .ready .good) (relation-of (R .new)) (relation-of (R .edge))) len1)
 
-      gone-1 : Gone N L (Label N) σ σ1 (u .0)
-      gone-1 = made-gone c A told1 st mem (intersect-goes (R .ready .ready .good) (relation-of (R .new)) (relation-of (R .edge)))
-
-      left-1 : Modifies N 0 0 (table t1 n) s s1
-      left-1 = made-left c A told1
-
-      list-1 : ListReady N l σ1 s1 m
-      list-1 = list-later (R .ready) (gone-1 .grown) (gone-1 .good) left-1 (omega arith) len1
+      stage-1 : Stage (autLayer N l) 192 384 (whole σ) (after (mk-union N L x x2 σ1) (third (u .0))) σ σ1 c c1 s s1
+      stage-1 = next (autLayer N l) 192 384 post-1 (all-of 192 384) second stage-0
 
       pub union-ready : Ready N l σ1 s1 × PairAt (c .states) x x2
-      union-ready = (list-1 .ready, record { has-x = R .new .state; has-y = R .edge .state })
+      union-ready = (stage-1 .ready, record { has-x = R .new .state; has-y = R .edge .state })
 
       module _ (r2 : S.State) (t2 st2 mem2 s2 : List ℕ) (D : Does N 192 384 (mk-union N L x x2 σ1) r2 c1 t2 st2 mem2 s1 s2) (len2 : length s2 ≡ length s1) where
-        is-2 : whole σ ≡ after (seenAut r2 t2 st2 mem2) (third (u .0))
-        is-2 = is-1 ∙ ap (λ (o : Outcome Aut ℕ). after o (third (u .0))) (D .is)
-
         pub not-2 : (e : ℕ) → r2 ≡ state.Refused e → DoesPart N 192 512 whole σ (met.Refused e) c t2 st2 mem2 s s2
-        not-2 e q = record { is = is-2 ∙ ap (λ (r : S.State). after (seenAut r t2 st2 mem2) (third (u .0))) q; beside = tt; left = tt }
+        not-2 e q = no-part (stage-1 .is ∙ ap (λ (o : Outcome Aut ℕ). after o (third (u .0))) (D .is ∙ ap (λ (r : S.State). seenAut r t2 st2 mem2) q))
 
         module _ (y : ℕ) (c2 : Counts) (told2 : r2 ≡ state.Is y c2) where
           abbrev σ2 : Aut
           σ2 = autOf t2 st2 mem2 c2
 
-          gone-2 : Gone N L State σ1 σ2 y
-          gone-2 = came (subst (StepSpec N L State σ1) (D .is ∙ ap (λ (r : S.State). seenAut r t2 st2 mem2) told2)
-              (goes-map (mk-union-goes (gone-1 .good) (R .new .state) (R .edge .state)) (λ τ z w v i. i .state)))
+          post-2 : Post (autLayer N l) 192 384 State (mk-union N L x x2 σ1) σ1 c1 (gave c2 y) (autOf t2 st2 mem2) s1 s2
+          post-2 = by-law (stage-1 .ready) (goes-map (mk-union-goes (stage-1 .ready .good) (R .new .state) (R .edge .state)) (λ τ z w v i. i .state)) (D .is ∙ ap (λ (r : S.State). seenAut r t2 st2 mem2) told2)
+              (subst (λ (r : S.State). Beside r c1) told2 (D .beside)) (subst (λ (r : S.State). ModifiesBy N 192 384 r t2 s1 s2) told2 (D .left)) len2
 
-          left-2 : Modifies N 192 384 (table t2 (c2 .spp)) s1 s2
-          left-2 = subst (λ (r : S.State). ModifiesBy N 192 384 r t2 s1 s2) told2 (D .left)
+          abbrev put : List Edge → Step Aut (List Edge)
+          put fs = St.place (ops N L) y (u .0) fs
 
-          beside-2 : (c2 .sp ≡ c .sp) × (c2 .transitions ≡ c .transitions)
-          beside-2 = subst (λ (r : S.State). Beside r c1) told2 (D .beside)
+          abbrev last : List Edge → Step Aut Part
+          last fs = return (part (u .0) fs)
+
+          stage-2 : Stage (autLayer N l) 192 384 (whole σ) (after (put es σ2) last) σ σ2 c c2 s s2
+          stage-2 = next (autLayer N l) 192 384 post-2 (all-of 192 384) (third (u .0)) stage-1
+
+          stage-3 : Stage (autLayer N l) 192 512 (whole σ) (after (put (edges s2 RESULT m) σ2) last) σ σ2 c c2 s s2
+          stage-3 = list-stage (R .ready) (omega arith) put last stage-2 (record { from = omega arith; to = omega arith })
 
           pub place-ready : PlaceReady N l t2 st2 s2 c2 m (edge y (u .0))
           place-ready = record {
             members = mem2;
-            ready = list-later list-1 (gone-2 .grown) (gone-2 .good) left-2 (omega arith) len2;
-            edge = record { state = gone-2 .holds; relation = label-grown (gone-2 .grown) (gone-1 .holds) .at };
+            ready = list-ready (R .ready) (omega arith) put last stage-2;
+            edge = record { state = post-2 .then .holds; relation = label-grown (post-2 .then .ext .grown) (post-1 .then .holds) .at };
           }
 
-          same : edges s2 RESULT m ≡ es
-          same = edges-behind left-2 RESULT m (omega arith) (omega (arith, ready-few (R .ready))) ∙ edges-behind left-1 RESULT m (omega arith) (omega (arith, ready-few (R .ready)))
-
-          is-3 : whole σ ≡ after (St.place (ops N L) y (u .0) (edges s2 RESULT m) σ2) (λ fs. return (part (u .0) fs))
-          is-3 =
-              is-2 ∙ ap (λ (r : S.State). after (seenAut r t2 st2 mem2) (third (u .0))) told2
-              ∙ ap (λ (fs : List Edge). after (St.place (ops N L) y (u .0) fs σ2) (λ gs. return (part (u .0) gs))) (sym same)
-
-          module _ (r3 : Listed) (t3 st3 s3 : List ℕ) (M : MakesList N 576 128 (St.place (ops N L) y (u .0) (edges s2 RESULT m)) r3 c2 t2 st2 s2 t3 st3 s3) where
+          module _ (r3 : Listed) (t3 st3 s3 : List ℕ) (M : MakesList N 576 128 (put (edges s2 RESULT m)) r3 c2 t2 st2 s2 t3 st3 s3) where
             pub not-3 : (e : ℕ) → r3 ≡ listed.Refused e → DoesPart N 192 512 whole σ (met.Refused e) c t3 st3 mem2 s s3
-            not-3 e q = record {
-              is = is-3 ∙ ap (λ (o : Outcome Aut (List Edge)). after o (λ fs. return (part (u .0) fs))) (M .is mem2 ∙ ap (λ (r : Listed). seenList r t3 st3 mem2 s3) q);
-              beside = tt;
-              left = tt;
-            }
+            not-3 e q = no-part (stage-3 .is ∙ ap (λ (o : Outcome Aut (List Edge)). after o last) (placed-refused mem2 M q))
 
-            pub met-in : (c3 : Counts) (k : ℕ) → r3 ≡ listed.List c3 k → DoesPart N 192 512 whole σ (met.Next c3 u k) c t3 st3 mem2 s s3
-            met-in c3 k q = record {
-              is = is-3 ∙ ap (λ (o : Outcome Aut (List Edge)). after o (λ fs. return (part (u .0) fs))) (placed-is place-ready M q mem2);
-              beside = (placed-beside place-ready M q .0 ∙ beside-2 .0, placed-beside place-ready M q .1 ∙ beside-2 .1);
-              left =
-                  left-trans (placed-gone place-ready M q .grown .nodes)
-                  (left-trans (gone-2 .grown .nodes) (left-any 192 512 left-1 (omega arith)) (left-wide left-2 (omega arith) (omega arith)))
-                  (left-wide (placed-left place-ready M q) (omega arith) (omega arith));
-            }
+            pub met-in : (c3 : Counts) (k : ℕ) → r3 ≡ listed.List c3 k → length s3 ≡ length s2 → DoesPart N 192 512 whole σ (met.Next c3 u k) c t3 st3 mem2 s s3
+            unfolding place-ready
+            met-in c3 k q len3 =
+                let p = placed-given mem2 M q (stage-3 .ready) (placing place-ready) len3 in
+                to-part {l = l} whole (met.Next c3 u k)
+                (done (autLayer N l) 192 512 (autOf t3 st3 mem2) (next (autLayer N l) 192 512 p (record { from = omega arith; to = omega arith }) last stage-3)
+                (record { label = label-grown (p .then .ext .grown) (label-grown (post-2 .then .ext .grown) (post-1 .then .holds)); list = p .then .holds }))
 
 -- ---- rest_in
 
@@ -190,7 +169,7 @@ module _ (N : ℕ) (l : Limits) (t st s : List ℕ) (c : Counts) (total meet x2 
 
   module _ (r1 : Made) (t1 s1 : List ℕ) (A : Relates N (Rel.union N total meet) (table t (c .spp)) r1 t1 s s1) where
     pub no-sum : r1 ≡ Full → MakesPart N 576 128 wholeʳ (met.Refused 21) c t st s t1 st s1
-    no-sum e = record { is = λ mem. first-is (autOf t st mem c) ∙ ap (λ (o : Outcome Aut ℕ). after o secondʳ) (full-is c A e st mem); beside = tt; left = tt }
+    no-sum e = record { is = λ mem. first-is (autOf t st mem c) ∙ ap (λ (o : Outcome Aut ℕ). after o secondʳ) (relation-refused st mem c A e); beside = tt; left = tt }
 
     module _ (u : SPP) (n1 : ℕ) (told1 : r1 ≡ Node u n1) (len1 : length s1 ≡ length s) where
       abbrev d1 : Counts
@@ -213,7 +192,7 @@ module _ (N : ℕ) (l : Limits) (t st s : List ℕ) (c : Counts) (total meet x2 
 
       module _ (r2 : Made) (t2 s2 : List ℕ) (B : Relates N (Rel.difference N h2 meet) (table t1 n1) r2 t2 s1 s2) where
         pub no-rest : r2 ≡ Full → MakesPart N 576 128 wholeʳ (met.Refused 21) c t st s t2 st s2
-        no-rest e = record { is = λ mem. sum-is mem ∙ ap (λ (o : Outcome Aut ℕ). after o (thirdʳ (u .0))) (full-is d1 B e st mem); beside = tt; left = tt }
+        no-rest e = record { is = λ mem. sum-is mem ∙ ap (λ (o : Outcome Aut ℕ). after o (thirdʳ (u .0))) (relation-refused st mem d1 B e); beside = tt; left = tt }
 
         module _ (v : SPP) (n2 : ℕ) (told2 : r2 ≡ Node v n2) (len2 : length s2 ≡ length s1) where
           abbrev d2 : Counts
@@ -243,21 +222,17 @@ module _ (N : ℕ) (l : Limits) (t st s : List ℕ) (c : Counts) (total meet x2 
 
           module _ (r3 : Listed) (t3 st3 s3 : List ℕ) (M : MakesList N 576 128 (St.place (ops N Lʳ) x2 (v .0) (edges s2 RESULT m)) r3 d2 t2 st s2 t3 st3 s3) where
             pub not-placed : (e : ℕ) → r3 ≡ listed.Refused e → MakesPart N 576 128 wholeʳ (met.Refused e) c t st s t3 st3 s3
-            not-placed e q = record {
-              is = λ mem. place-is mem ∙ ap (λ (o : Outcome Aut (List Edge)). after o (λ fs. return (part (u .0) fs))) (M .is mem ∙ ap (λ (r : Listed). seenList r t3 st3 mem s3) q);
-              beside = tt;
-              left = tt;
-            }
+            not-placed e q = record { is = λ mem. place-is mem ∙ ap (λ (o : Outcome Aut (List Edge)). after o (λ fs. return (part (u .0) fs))) (placed-refused mem M q); beside = tt; left = tt }
 
-            pub rested : (c3 : Counts) (k : ℕ) → r3 ≡ listed.List c3 k → MakesPart N 576 128 wholeʳ (met.Next c3 u k) c t st s t3 st3 s3
-            rested c3 k q = record {
-              is = λ mem. place-is mem ∙ ap (λ (o : Outcome Aut (List Edge)). after o (λ fs. return (part (u .0) fs))) (placed-is rest-place-ready M q mem);
-              beside = placed-beside rest-place-ready M q;
-              left =
-                  left-trans (placed-gone rest-place-ready M q .grown .nodes)
-                  (left-trans (rest-gone .grown .nodes) (left-any 576 128 sum-left (omega arith)) (left-any 576 128 rest-left (omega arith)))
-                  (placed-left rest-place-ready M q);
-            }
+            pub rested : (c3 : Counts) (k : ℕ) → r3 ≡ listed.List c3 k → length s3 ≡ length s2 → MakesPart N 576 128 wholeʳ (met.Next c3 u k) c t st s t3 st3 s3
+            unfolding rest-place-ready
+            rested c3 k q len3 =
+                let p = placed-given mem M q (rest-place-ready .ready .ready) (placing rest-place-ready) len3 in
+                record {
+                  is = λ mem. place-is mem ∙ ap (λ (o : Outcome Aut (List Edge)). after o (λ fs. return (part (u .0) fs))) (M .is mem ∙ ap (λ (r : Listed). seenList r t3 st3 mem s3) q);
+                  beside = p .then .beside;
+                  left = left-trans (p .then .ext .grown .nodes) (left-trans (rest-gone .grown .nodes) (left-any 576 128 sum-left (omega arith)) (left-any 576 128 rest-left (omega arith))) (p .then .frame);
+                }
 
 -- ---- split_one
 
@@ -272,47 +247,29 @@ module _ (N : ℕ) (l : Limits) (t st mem s : List ℕ) (c : Counts) (x h total 
   half q = restIn N (limitsOf l) total (q .label) (edge x2 h2) (q .list)
 
   module _ (r1 : Met) (t1 st1 mem1 s1 : List ℕ) (D : DoesPart N 192 512 (meetIn N (limitsOf l) x h (edge x2 h2) (edges s RESULT m)) τ r1 c t1 st1 mem1 s s1) (len1 : length s1 ≡ length s) where
-    one-is : one τ ≡ after (seenPart r1 t1 st1 mem1 s1) half
+    stage : Stage (autLayer N l) 192 512 (one τ) (after (meetIn N (limitsOf l) x h (edge x2 h2) (edges s RESULT m) τ) half) τ τ c c s s
     unfolding splitOne
-    one-is = ap (λ (o : Outcome Aut Part). after o half) (D .is)
+    stage = begin (autLayer N l) 192 512 (R .ready .ready) refl
 
     pub no-meet : (e : ℕ) → r1 ≡ met.Refused e → DoesPart N 192 512 one τ (met.Refused e) c t1 st1 mem1 s s1
-    no-meet e q = record { is = one-is ∙ ap (λ (r : Met). after (seenPart r t1 st1 mem1 s1) half) q; beside = tt; left = tt }
+    no-meet e q = no-part (stage .is ∙ ap (λ (o : Outcome Aut Part). after o half) (part-refused D q))
 
     module _ (c1 : Counts) (u : SPP) (k : ℕ) (told : r1 ≡ met.Next c1 u k) where
-      abbrev τ1 : Aut
-      τ1 = autOf t1 st1 mem1 c1
-
-      meet-gone : Gone N (limitsOf l) (PartAt N (limitsOf l)) τ τ1 (part (u .0) (edges s1 RESULT k))
-      meet-gone = came (subst (StepSpec N (limitsOf l) (PartAt N (limitsOf l)) τ) (D .is ∙ ap (λ (r : Met). seenPart r t1 st1 mem1 s1) told)
-          (meetIn-goes (R .ready .ready .good) (R .new .state) (relation-of (R .new)) (R .edge) (R .ready .list)))
-
-      meet-left : Modifies N 192 512 (table t1 (c1 .spp)) s s1
-      meet-left = subst (λ (r : Met). PartLeft N 192 512 r t1 s s1) told (D .left)
-
-      meet-beside : (c1 .sp ≡ c .sp) × (c1 .transitions ≡ c .transitions)
-      meet-beside = subst (λ (r : Met). PartBeside r c) told (D .beside)
+      post : Post (autLayer N l) 192 512 (PartAt N (limitsOf l)) (meetIn N (limitsOf l) x h (edge x2 h2) (edges s RESULT m) τ) τ c (gave c1 (part (u .0) (edges s1 RESULT k))) (autOf t1 st1 mem1) s s1
+      post = part-given D told (R .ready .ready) (meetIn-goes (R .ready .ready .good) (R .new .state) (relation-of (R .new)) (R .edge) (R .ready .list)) len1
 
       pub rest-ready : RestReady N l t1 st1 s1 c1 k total (u .0) (edge x2 h2)
       rest-ready = record {
         members = mem1;
-        ready = record { ready = ready-after (R .ready .ready) (meet-gone .grown) (meet-gone .good) meet-left len1; list = meet-gone .holds .list; limit = R .ready .limit };
-        at-total = label-grown (meet-gone .grown) T₀;
-        at-meet = meet-gone .holds .label;
-        edge = edge-grown (meet-gone .grown) (R .edge);
+        ready = record { ready = post .then .ready; list = post .then .holds .list; limit = R .ready .limit };
+        at-total = label-grown (post .then .ext .grown) T₀;
+        at-meet = post .then .holds .label;
+        edge = edge-grown (post .then .ext .grown) (R .edge);
       }
 
-      split-left : (r : Met) (t2 st2 s2 : List ℕ) → restIn N (limitsOf l) total (u .0) (edge x2 h2) (edges s1 RESULT k) τ1 ≡ seenPart r t2 st2 mem1 s2 → PartLeft N 576 128 r t2 s1 s2 → PartLeft N 192 512 r t2 s s2
+      pub split : (r2 : Met) (t2 st2 s2 : List ℕ) → MakesPart N 576 128 (restIn N (limitsOf l) total (u .0) (edge x2 h2) (edges s1 RESULT k)) r2 c1 t1 st1 s1 t2 st2 s2 → length s2 ≡ length s1 → DoesPart N 192 512 one τ r2 c t2 st2 mem1 s s2
       unfolding rest-ready
-      split-left (met.Next d v n) t2 st2 s2 e p =
-          left-trans
-          (came (subst (StepSpec N (limitsOf l) (PartAt N (limitsOf l)) τ1) e (restIn-goes (meet-gone .good) (rest-ready .at-total) (rest-ready .at-meet) (rest-ready .edge) (rest-ready .ready .list))) .grown .nodes)
-          meet-left (left-wide p (omega arith) (omega arith))
-      split-left (met.Refused n) t2 st2 s2 e p = tt
-
-      pub split : (r2 : Met) (t2 st2 s2 : List ℕ) → MakesPart N 576 128 (restIn N (limitsOf l) total (u .0) (edge x2 h2) (edges s1 RESULT k)) r2 c1 t1 st1 s1 t2 st2 s2 → DoesPart N 192 512 one τ r2 c t2 st2 mem1 s s2
-      split r2 t2 st2 s2 M = record {
-        is = one-is ∙ ap (λ (r : Met). after (seenPart r t1 st1 mem1 s1) half) told ∙ M .is mem1;
-        beside = beside-part r2 c c1 (M .beside) (meet-beside .0) (meet-beside .1);
-        left = split-left r2 t2 st2 s2 (M .is mem1) (M .left);
-      }
+      split r2 t2 st2 s2 M len2 = to-part {l = l} one r2
+          (finish (autLayer N l) 192 512 (next (autLayer N l) 192 512 post (all-of 192 512) half stage) (partOf r2 s2)
+          (of-part (restIn N (limitsOf l) total (u .0) (edge x2 h2) (edges s1 RESULT k)) r2 (record { is = M .is mem1; beside = M .beside; left = M .left }) (post .then .ready) (restIn-goes (post .then .ready .good) (rest-ready .at-total) (rest-ready .at-meet) (rest-ready .edge) (post .then .holds .list)) len2)
+          (record { from = omega arith; to = omega arith }))

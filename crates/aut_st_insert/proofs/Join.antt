@@ -4,12 +4,12 @@ use mathlib.Core.List.{List}
 use Prim.Native.Nat.{ℕ, _+_, _*_, _≤_}
 use native.Mathlib.Omega.{arith}
 use lib.ListN.{length}
-use Rattle.common.specs.Outcome.{refused, given, Step}
+use Rattle.common.specs.Outcome.{given, Step}
 use Rattle.common.specs.Runs.{Table, table, placed}
 use Rattle.netkat_steps.specs.ListSteps.{Edge}
 use Rattle.spp.specs.declared.SPP.{SPP}
 use Rattle.spp.specs.declared.Made.{Made}
-use Rattle.spp.specs.declared.Made.the-variants.{Node, Full}
+use Rattle.spp.specs.declared.Made.the-variants.{Node}
 use Rattle.spp.specs.Contracts.{seen}
 use Rattle.aut_steps.specs.Tables as T
 use Rattle.aut_steps.specs.Tables.{Aut, putNodes, onNodes}
@@ -26,11 +26,10 @@ use Rattle.aut_states.specs.declared.Limits.{Limits}
 use Rattle.aut_relations.specs.Behind.{LISTS, Modifies}
 use Rattle.aut_relations.specs.Contracts.{autOf, MadeLeft, Relates, Ready}
 use Rattle.aut_relations.proofs.Order.{ready-after}
+use Rattle.aut_stage.specs.OnNodes.{withNodes}
 use Rattle.aut_st_insert.specs.declared.Listed.{Listed}
 use Rattle.aut_st_insert.specs.declared.Listed.the-variants as listed
-use Rattle.aut_st_insert.specs.declared.Met.{Met}
-use Rattle.aut_st_insert.specs.declared.Met.the-variants as met
-use Rattle.aut_st_insert.specs.Contracts.{RESULT, ListReady, seenList, ListBeside, ListLeft, ListNext, DoesList, PartBeside}
+use Rattle.aut_st_insert.specs.Contracts.{RESULT, ListReady, seenList, ListBeside, ListLeft, ListNext, DoesList}
 
 -- ---- lists elsewhere are as they were
 
@@ -64,13 +63,7 @@ list-later {N} {l} {τ = τ} {m = m} r w g p e len = record {
 
 -- ---- an operation on relations, and then counts with the new number of nodes
 
-abbrev pub withNodes : Counts → ℕ → Counts
-withNodes c n = record { sp = c .sp; spp = n; states = c .states; members = c .members; transitions = c .transitions }
-
 module _ {N : ℕ} {t s t1 s1 : List ℕ} (c : Counts) {o : Step Table ℕ} {r : Made} (A : Relates N o (table t (c .spp)) r t1 s s1) where
-  pub full-is : r ≡ Full → (st mem : List ℕ) → onNodes o (autOf t st mem c) ≡ refused 21
-  full-is e st mem = ap (placed putNodes (autOf t st mem c)) (A .gives ∙ ap (λ (r : Made). seen r t1) e)
-
   module _ {u : SPP} {n : ℕ} (told : r ≡ Node u n) where
     pub made-is : (st mem : List ℕ) → onNodes o (autOf t st mem c) ≡ given (autOf t1 st mem (withNodes c n)) (u .0)
     made-is st mem = ap (placed putNodes (autOf t st mem c)) (A .gives ∙ ap (λ (r : Made). seen r t1) told)
@@ -98,7 +91,3 @@ module _ {N : ℕ} {l : Limits} {σ : Aut} {s : List ℕ} (a n : ℕ) (o : Step 
 pub beside-list : (r : Listed) (c d : Counts) → ListBeside r d → d .sp ≡ c .sp → d .transitions ≡ c .transitions → ListBeside r c
 beside-list (listed.List e m) c d p x y = (p .0 ∙ x, p .1 ∙ y)
 beside-list (listed.Refused e) c d p x y = tt
-
-pub beside-part : (r : Met) (c d : Counts) → PartBeside r d → d .sp ≡ c .sp → d .transitions ≡ c .transitions → PartBeside r c
-beside-part (met.Next e h m) c d p x y = (p .0 ∙ x, p .1 ∙ y)
-beside-part (met.Refused e) c d p x y = tt

@@ -36,15 +36,17 @@ use Rattle.aut_relations.proofs.Order.{backed-of, ready-after}
 use Rattle.aut_stage.proofs.Stage.{Folds, Turned}
 use Rattle.aut_stage.proofs.Reading.{Entries, read-begin, read-at, read-stuck, read-again, read-end}
 use Rattle.aut_stage.proofs.OnAut.{autLayer}
+use Rattle.aut_stage.specs.OnNodes.{withNodes}
+use Rattle.aut_stage.proofs.OnNodes.{relation-refused}
 use Rattle.aut_st_edges.specs.Contracts.{Wrote, CopyReady}
 use Rattle.aut_st_insert.specs.declared.Listed.{Listed}
 use Rattle.aut_st_insert.specs.declared.Listed.the-variants as listed
 use Rattle.aut_st_insert.specs.declared.Met.{Met}
 use Rattle.aut_st_insert.specs.declared.Met.the-variants as met
 use Rattle.aut_st_insert.specs.Contracts.{RESULT, TAKEN, ListReady, PlaceReady, MeetReady, WalkReady, seenList, ListBeside, ListLeft, DoesList, MakesList, seenPart, PartBeside, PartLeft, DoesPart}
-use Rattle.aut_st_insert.proofs.Join.{edges-behind, list-few, ready-few, list-none, list-later, withNodes, full-is, made-is, made-left, made-gone, does-list, beside-list}
-use Rattle.aut_st_insert.proofs.Readings.{part-given, part-refused, to-part}
-use Rattle.aut_st_insert.proofs.Halves.{placed-gone, placed-left}
+use Rattle.aut_st_insert.proofs.Join.{edges-behind, list-few, ready-few, list-none, list-later, made-is, made-left, made-gone, does-list, beside-list}
+use Rattle.aut_st_insert.proofs.Readings.{part-given, part-refused, to-part, placed-given}
+use Rattle.aut_st_insert.proofs.Halves.{placing}
 
 edges-none : (s : List ℕ) (a : ℕ) → edges s a 0 ≡ []
 unfolding edges
@@ -186,7 +188,7 @@ module _ (N : ℕ) (l : Limits) (t st mem s : List ℕ) (c : Counts) (x h m : �
 
         module _ (r2 : Made) (t2 s3 : List ℕ) (A : Relates N (Rel.difference N h (g .0)) (table t1 (c1 .spp)) r2 t2 s2 s3) (len3 : length s3 ≡ length s2) where
           pub no-rest : r2 ≡ Full → DoesList N l 0 832 insert τ (listed.Refused 21) c t2 st1 mem1 s s3
-          no-rest e = does (rest-is ∙ ap (λ (o : Outcome Aut ℕ). after o place-in) (full-is c1 A e st1 mem1)) tt tt (len3 ∙ len2 ∙ len1)
+          no-rest e = does (rest-is ∙ ap (λ (o : Outcome Aut ℕ). after o place-in) (relation-refused st1 mem1 c1 A e)) tt tt (len3 ∙ len2 ∙ len1)
 
           module _ (v : SPP) (n : ℕ) (told2 : r2 ≡ Node v n) where
             abbrev c2 : Counts
@@ -211,13 +213,13 @@ module _ (N : ℕ) (l : Limits) (t st mem s : List ℕ) (c : Counts) (x h m : �
                 ∙ ap (λ (fs : List Edge). St.place (ops N Lᵢ) x (v .0) fs (autOf t2 st1 mem1 c2)) (sym (edges-behind left-3 RESULT k (omega arith) (omega (arith, ready-few list-1))))
 
             module _ (r3 : Listed) (t3 st3 s4 : List ℕ) (M : MakesList N 576 128 (St.place (ops N Lᵢ) x (v .0) (edges s3 RESULT k)) r3 c2 t2 st1 s3 t3 st3 s4) where
-              insert-left : (r : Listed) → r3 ≡ r → ListLeft N 0 832 r t3 s s4
-              insert-left (listed.List d j) q =
+              insert-left : length s4 ≡ length s3 → (r : Listed) → r3 ≡ r → ListLeft N 0 832 r t3 s s4
+              unfolding last-ready
+              insert-left len4 (listed.List d j) q =
+                  let p = placed-given mem1 M q (last-ready .ready .ready) (placing last-ready) len4 in
                   kept-left (W .kept) len1 (omega arith) (omega (arith, ready-few R)) (omega arith)
-                  (left-trans (placed-gone last-ready M q .grown .nodes)
-                  (left-trans (gone-2 .grown .nodes) (left-wide left-2 (omega arith) (omega arith)) (left-any 0 832 left-3 (omega arith)))
-                  (left-wide (placed-left last-ready M q) (omega arith) (omega arith)))
-              insert-left (listed.Refused e) q = tt
+                  (left-trans (p .then .ext .grown .nodes) (left-trans (gone-2 .grown .nodes) (left-wide left-2 (omega arith) (omega arith)) (left-any 0 832 left-3 (omega arith))) (left-wide (p .then .frame) (omega arith) (omega arith)))
+              insert-left len4 (listed.Refused e) q = tt
 
               pub inserted : length s4 ≡ length s3 → DoesList N l 0 832 insert τ r3 c t3 st3 mem1 s s4
-              inserted len4 = does (last-is ∙ M .is mem1) (beside-list r3 c c2 (M .beside) (beside-1 .0) (beside-1 .1)) (insert-left r3 refl) (len4 ∙ len3 ∙ len2 ∙ len1)
+              inserted len4 = does (last-is ∙ M .is mem1) (beside-list r3 c c2 (M .beside) (beside-1 .0) (beside-1 .1)) (insert-left len4 r3 refl) (len4 ∙ len3 ∙ len2 ∙ len1)

@@ -46,6 +46,9 @@ module _ {N : ℕ} {l : Limits} {a n : ℕ} {σ : Aut} {c : Counts} {t st mem s 
   pub sum-refused : {o : Step Aut (Sum (ops N (limitsOf l)))} {r : Summed} {e : ℕ} → DoesSum N l a n o σ r c t st mem s s′ → r ≡ summed.Refused e → o σ ≡ refused e
   sum-refused D q = D .is ∙ ap (λ (r : Summed). seenSum N l r t st mem s′) q
 
+  pub no-sum : {o : Step Aut (Sum (ops N (limitsOf l)))} {e : ℕ} → o σ ≡ refused e → DoesSum N l a n o σ (summed.Refused e) c t st mem s s′
+  no-sum q = record { is = q; beside = tt; left = tt; next = tt }
+
   -- and back
   pub to-sum : (o : Step Aut (Sum (ops N (limitsOf l)))) (r : Summed) → l .transitions ≤ 64 → Post (autLayer N l) a n (SumAt N (limitsOf l)) (o σ) σ c (summedOf N l r s′) (autOf t st mem) s s′ → DoesSum N l a n o σ r c t st mem s s′
   to-sum o (summed.Next d h m) w p = record {

@@ -125,7 +125,7 @@ same-length-14 c =
 -- src/lib.rt:126:1
 returns-4 : tie.Need-returns-4
 returns-4 c =
-    let g = c .before .before .before .before .before .before .before .before .before .before .before .before .before .before .before .before .before .before .before .before .before .before .before .before .before .before .before .before .before .before .before .before .before .before .before .before .before .before .before .before .before .before .before .args in halves.met-in (g .config .fields) (g .config .limits) (g .nodes .now) (g .states .now) (g .members .now) (g .scratch .now) (g .c) (g .s) (g .l .0) (g .target2) (g .label2 .0) (g .m) (c .before .before .before .before .before .before .before .before .before .before .before .before .before .before .before .before .before .before .before .before .before .before .before .before .before .before .before .before .before .before .before .before .before .before .before .before .before .before .before .before .before .before .before .pre) (c .before .before .before .before .before .before .before .before .before .before .before .before .before .before .before .before .before .before .before .before .before .before .before .before .before .before .before .before .before .before .before .before .before .before .before .before .apply .result) (c .before .before .before .before .before .before .before .before .before .before .before .before .before .before .before .before .before .before .before .before .before .before .before .before .before .before .before .before .before .before .before .before .before .before .before .before .apply .last .0) (c .before .before .before .before .before .before .before .before .before .before .before .before .before .before .before .before .before .before .before .before .before .before .before .before .before .before .before .before .before .before .before .before .before .before .before .before .apply .last .1 .0) (c .before .before .before .before .before .before .before .before .before .before .before .before .before .before .before .before .before .before .before .before .before .before .before .before .before .before .before .before .before .before .before .before .before .before .before .before .apply .ensures) _ _ (c .before .before .before .before .before .before .before .before .before .before .before .before .before .before .before .before .before .before .before .before .before .before .before .before .before .before .before .before .before .before .meet .given .1) (c .before .before .before .before .before .before .before .before .before .before .before .before .before .before .before .before .before .before .before .before .before .before .before .before .before .before .before .before .before .before .before .before .before .before .before .before .apply .kept .1 .0) (c .before .before .before .before .before .before .before .before .before .before .before .before .before .before .before .before .before .before .before .before .before .before .before .before .mk-union .result) (c .before .before .before .before .before .before .before .before .before .before .before .before .before .before .before .before .before .before .before .before .before .before .before .before .mk-union .last .0) (c .before .before .before .before .before .before .before .before .before .before .before .before .before .before .before .before .before .before .before .before .before .before .before .before .mk-union .last .1 .0) (c .before .before .before .before .before .before .before .before .before .before .before .before .before .before .before .before .before .before .before .before .before .before .before .before .mk-union .last .1 .1 .0) (c .before .before .before .before .before .before .before .before .before .before .before .before .before .before .before .before .before .before .before .before .before .before .before .before .mk-union .last .1 .1 .1 .0) (c .before .before .before .before .before .before .before .before .before .before .before .before .before .before .before .before .before .before .before .before .before .before .before .before .mk-union .ensures) (c .before .before .before .before .before .before .before .before .before .before .before .before .before .before .before .before .before .before .before .before .before .before .before .before .mk-union .kept .1 .1 .1 .0) _ _ (c .before .before .before .before .before .before .before .before .before .before .before .before .before .before .both2 .given .1) (c .before .before .before .before .before .before .before .before .before .st-insert-helper .result) (c .before .before .before .before .before .before .before .before .before .st-insert-helper .last .0) (c .before .before .before .before .before .before .before .before .before .st-insert-helper .last .1 .0) (c .before .before .before .before .before .before .before .before .before .st-insert-helper .last .1 .1 .0) (c .before .before .before .before .before .before .before .before .before .st-insert-helper .ensures) _ _ (c .before .listed2 .given .1)
+    let g = c .before .before .before .before .before .before .before .before .before .before .before .before .before .before .before .before .before .before .before .before .before .before .before .before .before .before .before .before .before .before .before .before .before .before .before .before .before .before .before .before .before .before .before .args in halves.met-in (g .config .fields) (g .config .limits) (g .nodes .now) (g .states .now) (g .members .now) (g .scratch .now) (g .c) (g .s) (g .l .0) (g .target2) (g .label2 .0) (g .m) (c .before .before .before .before .before .before .before .before .before .before .before .before .before .before .before .before .before .before .before .before .before .before .before .before .before .before .before .before .before .before .before .before .before .before .before .before .before .before .before .before .before .before .before .pre) (c .before .before .before .before .before .before .before .before .before .before .before .before .before .before .before .before .before .before .before .before .before .before .before .before .before .before .before .before .before .before .before .before .before .before .before .before .apply .result) (c .before .before .before .before .before .before .before .before .before .before .before .before .before .before .before .before .before .before .before .before .before .before .before .before .before .before .before .before .before .before .before .before .before .before .before .before .apply .last .0) (c .before .before .before .before .before .before .before .before .before .before .before .before .before .before .before .before .before .before .before .before .before .before .before .before .before .before .before .before .before .before .before .before .before .before .before .before .apply .last .1 .0) (c .before .before .before .before .before .before .before .before .before .before .before .before .before .before .before .before .before .before .before .before .before .before .before .before .before .before .before .before .before .before .before .before .before .before .before .before .apply .ensures) _ _ (c .before .before .before .before .before .before .before .before .before .before .before .before .before .before .before .before .before .before .before .before .before .before .before .before .before .before .before .before .before .before .meet .given .1) (c .before .before .before .before .before .before .before .before .before .before .before .before .before .before .before .before .before .before .before .before .before .before .before .before .before .before .before .before .before .before .before .before .before .before .before .before .apply .kept .1 .0) (c .before .before .before .before .before .before .before .before .before .before .before .before .before .before .before .before .before .before .before .before .before .before .before .before .mk-union .result) (c .before .before .before .before .before .before .before .before .before .before .before .before .before .before .before .before .before .before .before .before .before .before .before .before .mk-union .last .0) (c .before .before .before .before .before .before .before .before .before .before .before .before .before .before .before .before .before .before .before .before .before .before .before .before .mk-union .last .1 .0) (c .before .before .before .before .before .before .before .before .before .before .before .before .before .before .before .before .before .before .before .before .before .before .before .before .mk-union .last .1 .1 .0) (c .before .before .before .before .before .before .before .before .before .before .before .before .before .before .before .before .before .before .before .before .before .before .before .before .mk-union .last .1 .1 .1 .0) (c .before .before .before .before .before .before .before .before .before .before .before .before .before .before .before .before .before .before .before .before .before .before .before .before .mk-union .ensures) (c .before .before .before .before .before .before .before .before .before .before .before .before .before .before .before .before .before .before .before .before .before .before .before .before .mk-union .kept .1 .1 .1 .0) _ _ (c .before .before .before .before .before .before .before .before .before .before .before .before .before .before .both2 .given .1) (c .before .before .before .before .before .before .before .before .before .st-insert-helper .result) (c .before .before .before .before .before .before .before .before .before .st-insert-helper .last .0) (c .before .before .before .before .before .before .before .before .before .st-insert-helper .last .1 .0) (c .before .before .before .before .before .before .before .before .before .st-insert-helper .last .1 .1 .0) (c .before .before .before .before .before .before .before .before .before .st-insert-helper .ensures) _ _ (c .before .listed2 .given .1) (c .before .before .before .before .before .before .before .before .before .st-insert-helper .kept .1 .1 .0)
 
 pub meet-in-spec : {M : Type 1} → statement M
 meet-in-spec =

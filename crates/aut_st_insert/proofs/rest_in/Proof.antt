@@ -107,7 +107,7 @@ same-length-10 c =
 -- src/lib.rt:178:1
 returns-4 : tie.Need-returns-4
 returns-4 c =
-    let g = c .before .before .before .before .before .before .before .before .before .before .before .before .before .before .before .before .before .before .before .before .before .before .before .before .before .before .before .before .before .before .before .before .before .before .before .before .args in halves.rested (g .config .fields) (g .config .limits) (g .nodes .now) (g .states .now) (g .scratch .now) (g .c) (g .total .0) (g .meet .0) (g .target2) (g .label2 .0) (g .m) (c .before .before .before .before .before .before .before .before .before .before .before .before .before .before .before .before .before .before .before .before .before .before .before .before .before .before .before .before .before .before .before .before .before .before .before .before .pre) (c .before .before .before .before .before .before .before .before .before .before .before .before .before .before .before .before .before .before .before .before .before .before .before .before .before .before .before .before .before .before .apply .result) (c .before .before .before .before .before .before .before .before .before .before .before .before .before .before .before .before .before .before .before .before .before .before .before .before .before .before .before .before .before .before .apply .last .0) (c .before .before .before .before .before .before .before .before .before .before .before .before .before .before .before .before .before .before .before .before .before .before .before .before .before .before .before .before .before .before .apply .last .1 .0) (c .before .before .before .before .before .before .before .before .before .before .before .before .before .before .before .before .before .before .before .before .before .before .before .before .before .before .before .before .before .before .apply .ensures) _ _ (c .before .before .before .before .before .before .before .before .before .before .before .before .before .before .before .before .before .before .before .before .before .before .before .before .sum .given .1) (c .before .before .before .before .before .before .before .before .before .before .before .before .before .before .before .before .before .before .before .before .before .before .before .before .before .before .before .before .before .before .apply .kept .1 .0) (c .before .before .before .before .before .before .before .before .before .before .before .before .before .before .before .before .before .before .before .before .apply2 .result) (c .before .before .before .before .before .before .before .before .before .before .before .before .before .before .before .before .before .before .before .before .apply2 .last .0) (c .before .before .before .before .before .before .before .before .before .before .before .before .before .before .before .before .before .before .before .before .apply2 .last .1 .0) (c .before .before .before .before .before .before .before .before .before .before .before .before .before .before .before .before .before .before .before .before .apply2 .ensures) _ _ (c .before .before .before .before .before .before .before .before .before .before .before .before .before .before .others .given .1) (c .before .before .before .before .before .before .before .before .before .before .before .before .before .before .before .before .before .before .before .before .apply2 .kept .1 .0) (c .before .before .before .before .before .before .before .before .before .st-insert-helper .result) (c .before .before .before .before .before .before .before .before .before .st-insert-helper .last .0) (c .before .before .before .before .before .before .before .before .before .st-insert-helper .last .1 .0) (c .before .before .before .before .before .before .before .before .before .st-insert-helper .last .1 .1 .0) (c .before .before .before .before .before .before .before .before .before .st-insert-helper .ensures) _ _ (c .before .listed2 .given .1)
+    let g = c .before .before .before .before .before .before .before .before .before .before .before .before .before .before .before .before .before .before .before .before .before .before .before .before .before .before .before .before .before .before .before .before .before .before .before .before .args in halves.rested (g .config .fields) (g .config .limits) (g .nodes .now) (g .states .now) (g .scratch .now) (g .c) (g .total .0) (g .meet .0) (g .target2) (g .label2 .0) (g .m) (c .before .before .before .before .before .before .before .before .before .before .before .before .before .before .before .before .before .before .before .before .before .before .before .before .before .before .before .before .before .before .before .before .before .before .before .before .pre) (c .before .before .before .before .before .before .before .before .before .before .before .before .before .before .before .before .before .before .before .before .before .before .before .before .before .before .before .before .before .before .apply .result) (c .before .before .before .before .before .before .before .before .before .before .before .before .before .before .before .before .before .before .before .before .before .before .before .before .before .before .before .before .before .before .apply .last .0) (c .before .before .before .before .before .before .before .before .before .before .before .before .before .before .before .before .before .before .before .before .before .before .before .before .before .before .before .before .before .before .apply .last .1 .0) (c .before .before .before .before .before .before .before .before .before .before .before .before .before .before .before .before .before .before .before .before .before .before .before .before .before .before .before .before .before .before .apply .ensures) _ _ (c .before .before .before .before .before .before .before .before .before .before .before .before .before .before .before .before .before .before .before .before .before .before .before .before .sum .given .1) (c .before .before .before .before .before .before .before .before .before .before .before .before .before .before .before .before .before .before .before .before .before .before .before .before .before .before .before .before .before .before .apply .kept .1 .0) (c .before .before .before .before .before .before .before .before .before .before .before .before .before .before .before .before .before .before .before .before .apply2 .result) (c .before .before .before .before .before .before .before .before .before .before .before .before .before .before .before .before .before .before .before .before .apply2 .last .0) (c .before .before .before .before .before .before .before .before .before .before .before .before .before .before .before .before .before .before .before .before .apply2 .last .1 .0) (c .before .before .before .before .before .before .before .before .before .before .before .before .before .before .before .before .before .before .before .before .apply2 .ensures) _ _ (c .before .before .before .before .before .before .before .before .before .before .before .before .before .before .others .given .1) (c .before .before .before .before .before .before .before .before .before .before .before .before .before .before .before .before .before .before .before .before .apply2 .kept .1 .0) (c .before .before .before .before .before .before .before .before .before .st-insert-helper .result) (c .before .before .before .before .before .before .before .before .before .st-insert-helper .last .0) (c .before .before .before .before .before .before .before .before .before .st-insert-helper .last .1 .0) (c .before .before .before .before .before .before .before .before .before .st-insert-helper .last .1 .1 .0) (c .before .before .before .before .before .before .before .before .before .st-insert-helper .ensures) _ _ (c .before .listed2 .given .1) (c .before .before .before .before .before .before .before .before .before .st-insert-helper .kept .1 .1 .0)
 
 pub rest-in-spec : {M : Type 1} → statement M
 rest-in-spec =
