@@ -1,0 +1,1 @@
+// The string that `why` picks, as mathematics, with its laws: no function of its own, only specs/.
