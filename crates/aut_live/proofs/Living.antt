@@ -215,7 +215,7 @@ module _ {N : ℕ} {l : Limits} {sp t st mem tr : List ℕ} {c : Counts} {s p : 
 -- ---- words 7 are written
 
 -- of states whose words 9 are their sets + 1
-kept-is : (xs : List ℕ) (live : ℕ → ℕ) (st : List ℕ) (k : ℕ) → ((y : ℕ) → List·Memᴰ y xs → workOf st y ≡ live y + 1) → table (keepWords xs st) k ≡ keepIn xs live (table st k)
+pub kept-is : (xs : List ℕ) (live : ℕ → ℕ) (st : List ℕ) (k : ℕ) → ((y : ℕ) → List·Memᴰ y xs → workOf st y ≡ live y + 1) → table (keepWords xs st) k ≡ keepIn xs live (table st k)
 unfolding keepWords keepIn setWord
 kept-is [] live st k f = refl
 kept-is (y ∷ xs) live st k f =
@@ -227,7 +227,7 @@ unfolding keepWords
 keep-length [] st = refl
 keep-length (y ∷ xs) st = keep-length xs (set st (12 * y + 7) (workOf st y)) ∙ length-set st (12 * y + 7) (workOf st y)
 
-keep-other : (xs st : List ℕ) (z w : ℕ) → 8 ≤ w → w < 12 → getD (keepWords xs st) (12 * z + w) 0 ≡ getD st (12 * z + w) 0
+pub keep-other : (xs st : List ℕ) (z w : ℕ) → 8 ≤ w → w < 12 → getD (keepWords xs st) (12 * z + w) 0 ≡ getD st (12 * z + w) 0
 unfolding keepWords
 keep-other [] st z w a b = refl
 keep-other (y ∷ xs) st z w a b = keep-other xs (set st (12 * y + 7) (workOf st y)) z w a b ∙ getD-set-other st (12 * y + 7) (12 * z + w) (workOf st y) 0 (λ q. omega arith)
