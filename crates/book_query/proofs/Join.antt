@@ -60,7 +60,8 @@ use Rattle.book_query.specs.declared.Asked.the-variants as asked
 use Rattle.book_reader.specs.declared.Query.{Query}
 use Rattle.book_reader.specs.declared.Query.the-variants as queries
 use Rattle.book_reader.specs.Contracts.{queryOf}
-use Rattle.book_query.specs.Contracts.{settingOf, told, PrePairs, PostPruned, PostAsk}
+use Rattle.book_pruned.specs.Contracts.{told, PrePairs, PostPruned}
+use Rattle.book_query.specs.Contracts.{settingOf, PostAsk, PostWhy}
 
 -- ---- the ends of a query
 
@@ -229,3 +230,6 @@ module _ {S : Setting} {pos : ℕ} {name : List ℕ} {x : ℕ} {σ : Tables} {r 
 
   pub as-pruned : q ≡ queries.Pruned → PostAsk S Reader.pruned pos name x σ r at s′ p p′ out out′ → PostAsk S (queryOf q) pos name x σ r at s′ p p′ out out′
   as-pruned e P = subst (λ (w : Query). PostAsk S (queryOf w) pos name x σ r at s′ p p′ out out′) (sym e) P
+
+  pub as-why : q ≡ queries.Why → PostWhy S pos x σ r at s′ p p′ out out′ → PostAsk S (queryOf q) pos name x σ r at s′ p p′ out out′
+  as-why e P = subst (λ (w : Query). PostAsk S (queryOf w) pos name x σ r at s′ p p′ out out′) (sym e) (P name)

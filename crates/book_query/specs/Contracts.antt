@@ -1,31 +1,18 @@
--- 01, "The book and its answers", the queries `empty`, `live` and `pruned`, and refusal 27, "output cannot hold the next answer's lines": what a query in code asks and promises. Its step is done, and its
+-- 01, "The book and its answers", the queries `empty`, `live` and `pruned`, 02 (i), `why`, and refusal 27, "output cannot hold the next answer's lines": what a query in code asks and promises. Its step is done, and its
 -- answer's lines stand in the output, or nothing was written.
 use mathlib.Core.Path.{_≡_}
-use mathlib.Core.List.{List, [], _∷_, _++_, map}
+use mathlib.Core.List.{List, [], _∷_, _++_}
 use mathlib.Core.Option.{Option, none}
-use Prim.Native.Nat.{ℕ, _+_, _*_, _/_, _≤_, _<_}
+use Prim.Native.Nat.{ℕ, _/_, _≤_}
 use lib.ListN.{length, getD, take}
 use Rattle.common.specs.Outcome.{Outcome, refused, given}
-use Rattle.common.specs.Runs.{Table}
-use Rattle.cache.specs.Cache.{OnCodes, OnlyCodes, Sound}
-use Rattle.netkat_steps.specs.ListSteps.{Edge}
-use Rattle.spp_steps.specs.Model as Spp
-use Rattle.spp_steps.specs.Wf.{Wf, ValidAt}
-use Rattle.spp_image.specs.Reuse.{Counted}
-use Rattle.aut_st_steps.specs.Edges.{edges}
-use Rattle.aut_st_insert.specs.Contracts.{RESULT}
 use Rattle.aut_query_steps.specs.Tables.{Tables, ExtTables}
-use Rattle.book_steps.specs.Answers.{Pairs, pairLines, prunedAnswer}
 use Rattle.book_steps.specs.Reader as Reader
 use Rattle.book_steps.specs.Run as Run
 use Rattle.book_steps.specs.Run.{RunState, place, query, after-asking}
 use Rattle.aut_states.specs.Contracts.{limitsOf}
 use Rattle.aut_states.specs.declared.Counts.{Counts}
-use Rattle.aut_relations.specs.Behind.{LISTS, cached}
-use Rattle.aut_sets.specs.Contracts.{NotesBehind}
 use Rattle.aut_query_stage.specs.Layer.{QueryReady, Zeroed, PreQuery}
-use Rattle.book_writer.specs.Contracts.{Put, Answers}
-use Rattle.book_writer.specs.declared.Answered.{Answered}
 use Rattle.book_query.specs.declared.Setting.{Setting}
 use Rattle.book_query.specs.declared.Asked.{Asked}
 use Rattle.book_query.specs.declared.Asked.the-variants as asked
@@ -33,42 +20,6 @@ use Rattle.book_query.specs.declared.Asked.the-variants as asked
 -- the setting in the words of the steps, for what is lent of entries and of bytes
 abbrev pub settingOf : Setting → ℕ → ℕ → Run.Setting
 settingOf S entries room = record { fields = S .config .fields; budget = S .budget; limits = limitsOf (S .config .limits); entries = entries; room = room }
-
--- ---- the lines of `pruned`
-
--- what the lines of the transitions tell
-abbrev pub told : ℕ → Table → List Edge → List Pairs
-told N t es = map (λ (e : Edge). record { target = e .target; number = Spp.size (t .words) N (e .label) }) es
-
--- the m transitions at RESULT have relations as labels, and numbers of pairs that are noted are right
-pub record PrePairs (N : ℕ) (t : Table) (s : List ℕ) (m : ℕ) : Type 0 where
-  pub few : N ≤ 31
-  pub wf : Wf N t
-  pub room : LISTS ≤ length s
-  pub sound : Sound (OnCodes 17 17 (Counted t)) (cached s)
-  pub most : m ≤ 64
-  pub labels : (i : ℕ) → i < m → ValidAt t N (getD s (2 * (RESULT + i) + 1) 0)
-
-pub record PostNumber (N : ℕ) (t : Table) (i r : ℕ) (s s′ : List ℕ) : Type 0 where
-  pub is : r ≡ Spp.size (t .words) N (getD s (2 * (RESULT + i) + 1) 0)
-  pub left : NotesBehind (OnlyCodes 17 17 (Counted t)) s s′
-
-pub record PostLength (N : ℕ) (t : Table) (m r : ℕ) (s s′ : List ℕ) : Type 0 where
-  pub is : r ≡ length (pairLines (told N t (edges s RESULT m)))
-  pub most : r ≤ 47 * m
-  pub left : NotesBehind (OnlyCodes 17 17 (Counted t)) s s′
-
-pub record PrePut (N : ℕ) (t : Table) (s out : List ℕ) (at m : ℕ) : Type 0 where
-  pub pairs : PrePairs N t s m
-  pub fits : at + length (pairLines (told N t (edges s RESULT m))) ≤ length out
-
-pub record PostPairs (N : ℕ) (t : Table) (at m r : ℕ) (s s′ out out′ : List ℕ) : Type 0 where
-  pub put : Put at (pairLines (told N t (edges s RESULT m))) r out out′
-  pub left : NotesBehind (OnlyCodes 17 17 (Counted t)) s s′
-
-pub record PostPruned (N : ℕ) (t : Table) (at : ℕ) (name : List ℕ) (m : ℕ) (r : Answered) (s s′ out out′ : List ℕ) : Type 0 where
-  pub answers : Answers (prunedAnswer name (told N t (edges s RESULT m))) at r out out′
-  pub left : NotesBehind (OnlyCodes 17 17 (Counted t)) s s′
 
 -- ---- a query
 
@@ -99,3 +50,7 @@ GoesBy S pos (asked.Refused n) σ at s′ p′ out out′ = out′ ≡ out
 pub record PostAsk (S : Setting) (q : Reader.Query) (pos : ℕ) (name : List ℕ) (x : ℕ) (σ : Tables) (r : Asked) (at : Counts → Tables) (s′ p p′ out out′ : List ℕ) : Type 0 where
   pub is : (lines : List (Option ℕ)) → after-asking (settingOf S (length p / 2) (length out)) (place σ lines (take pos out)) (query (settingOf S (length p / 2) (length out)) q name x σ) ≡ askedOf r lines at out′
   pub then : GoesBy S pos r σ at s′ p′ out out′
+
+-- of `why`, whose answer does not print the name
+abbrev pub PostWhy : Setting → ℕ → ℕ → Tables → Asked → (Counts → Tables) → List ℕ → List ℕ → List ℕ → List ℕ → List ℕ → Type 0
+PostWhy S pos x σ r at s′ p p′ out out′ = (name : List ℕ) → PostAsk S Reader.why pos name x σ r at s′ p p′ out out′

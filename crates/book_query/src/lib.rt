@@ -4,19 +4,16 @@ use aut_live::Lived;
 use aut_pruned::Pruned;
 use aut_states::Config;
 use aut_states::Counts;
+use aut_why_rounds::Whys;
 use book_reader::Query;
 use book_writer::Answered;
-use spp::SPP;
 ghost use mathlib.Core.Path.{_≡_};
-ghost use Prim.Native.Nat.{_≤_, _<_};
-ghost use lib.ListN.{length};
-ghost use Rattle.common.specs.Runs.{table};
 ghost use Rattle.book_steps.specs.Reader as Reader;
 ghost use Rattle.aut_query_stage.specs.Layer.{tablesOf};
 ghost use Rattle.book_reader.specs.Contracts.{queryOf};
 ghost use Rattle.aut_empty.specs.Contracts as Empty;
 ghost use Rattle.book_writer.specs.Contracts as Writer;
-ghost use Rattle.book_query.specs.Contracts.{PrePairs, PostNumber, PostLength, PrePut, PostPairs, PostPruned, PreAsk, PostAsk};
+ghost use Rattle.book_query.specs.Contracts.{PreAsk, PostAsk, PostWhy};
 
 // what holds for the whole book
 pub struct Setting {
@@ -141,87 +138,6 @@ pub fn ask_live(
     }
 }
 
-// the number of packet pairs in the label of transition i
-fn number_at(nodes: &[u32], scratch: &mut [u32], c: Counts, fields: u32, m: usize, i: usize) -> u64
-    requires { ⌜ PrePairs fields (table (now nodes) (c .spp)) (now scratch) m × (i < m) ⌝ }
-    ensures { λ r. ⌜ PostNumber fields (table (now (nodes .entry)) (c .spp)) i r (now (scratch .entry))
-        (now (scratch .exit)) ⌝ }
-{
-    let label = SPP(scratch[2 * (aut_st_insert::RESULT + i) + 1]);
-    aut_sets::pair_count(nodes, scratch, c, fields, label)
-}
-
-// how long the lines of the m transitions are
-fn pairs_length(nodes: &[u32], scratch: &mut [u32], c: Counts, fields: u32, m: usize) -> usize
-    requires { ⌜ PrePairs fields (table (now nodes) (c .spp)) (now scratch) m ⌝ }
-    ensures { λ r. ⌜ PostLength fields (table (now (nodes .entry)) (c .spp)) m r (now (scratch .entry))
-        (now (scratch .exit)) ⌝ }
-{
-    let mut total = 0;
-    let mut i = 0;
-    while i < m {
-        let target = scratch[2 * (aut_st_insert::RESULT + i)];
-        let n = number_at(nodes, scratch, c, fields, m, i);
-        total += book_writer::pair_length(target, n);
-        i += 1;
-    }
-    total
-}
-
-// the lines of the m transitions, for which there is room
-fn put_pairs(
-    nodes: &[u32],
-    scratch: &mut [u32],
-    output: &mut [u8],
-    c: Counts,
-    fields: u32,
-    at: usize,
-    m: usize,
-) -> usize
-    requires { ⌜ PrePut fields (table (now nodes) (c .spp)) (now scratch) (now output) at m ⌝ }
-    ensures { λ r. ⌜ PostPairs fields (table (now (nodes .entry)) (c .spp)) at m r (now (scratch .entry))
-        (now (scratch .exit)) (now (output .entry)) (now (output .exit)) ⌝ }
-{
-    let mut end = at;
-    let mut i = 0;
-    while i < m {
-        let target = scratch[2 * (aut_st_insert::RESULT + i)];
-        let n = number_at(nodes, scratch, c, fields, m, i);
-        let Answered::At(next) = book_writer::pair_line(output, end, target, n) else {
-            return end;
-        };
-        end = next;
-        i += 1;
-    }
-    end
-}
-
-// the whole answer of `pruned`, for the m transitions at RESULT
-fn pruned_answer(
-    nodes: &[u32],
-    scratch: &mut [u32],
-    output: &mut [u8],
-    c: Counts,
-    fields: u32,
-    at: usize,
-    name: &[u8],
-    m: usize,
-) -> Answered
-    requires { ⌜ PrePairs fields (table (now nodes) (c .spp)) (now scratch) m × (at ≤ length (now output)) ⌝ }
-    ensures { λ r. ⌜ PostPruned fields (table (now (nodes .entry)) (c .spp)) at (now (name .entry)) m r
-        (now (scratch .entry)) (now (scratch .exit)) (now (output .entry)) (now (output .exit)) ⌝ }
-{
-    let n = book_writer::head_length(name, m) + pairs_length(nodes, scratch, c, fields, m);
-    if output.len() - at < n {
-        return Answered::Full;
-    }
-    let Answered::At(next) = book_writer::pruned_head(output, at, name, m) else {
-        return Answered::Full;
-    };
-    let end = put_pairs(nodes, scratch, output, c, fields, next, m);
-    Answered::At(end)
-}
-
 pub fn ask_pruned(
     sp: &mut [u32],
     nodes: &mut [u32],
@@ -263,10 +179,76 @@ pub fn ask_pruned(
     match pruned {
         Pruned::Refused(e) => Asked::Refused(e),
         Pruned::List(d, m) => {
-            let told = pruned_answer(nodes, scratch, output, d, fields, at, name, m);
+            let told = book_pruned::pruned_answer(nodes, scratch, output, d, fields, at, name, m);
             match told {
                 Answered::Full => Asked::Refused(27),
                 Answered::At(end) => Asked::Told(d, end),
+            }
+        }
+    }
+}
+
+// the answer does not print the name of the line
+pub fn ask_why(
+    sp: &mut [u32],
+    nodes: &mut [u32],
+    states: &mut [u32],
+    members: &mut [u32],
+    transitions: &mut [u32],
+    pending: &mut [u32],
+    scratch: &mut [u32],
+    output: &mut [u8],
+    c: Counts,
+    setting: Setting,
+    at: usize,
+    x: u32,
+) -> Asked
+    requires { ⌜ PreAsk setting (tablesOf (now sp) (now nodes) (now states) (now members) (now transitions) c)
+        (now scratch) (now pending) (now output) at x ⌝ }
+    ensures { λ r. ⌜ PostWhy setting at x
+        (tablesOf (now (sp .entry)) (now (nodes .entry)) (now (states .entry)) (now (members .entry))
+        (now (transitions .entry)) c) r
+        (tablesOf (now (sp .exit)) (now (nodes .exit)) (now (states .exit)) (now (members .exit))
+        (now (transitions .exit))) (now (scratch .exit)) (now (pending .entry)) (now (pending .exit))
+        (now (output .entry)) (now (output .exit)) ⌝ }
+{
+    let config = setting.config;
+    let found = aut_why::why_sets(
+        sp,
+        nodes,
+        states,
+        members,
+        transitions,
+        pending,
+        scratch,
+        c,
+        config,
+        x,
+    );
+    match found {
+        Whys::Refused(e) => Asked::Refused(e),
+        Whys::To(d, n, f) => {
+            let told = book_why::why_answer(
+                sp,
+                nodes,
+                states,
+                transitions,
+                pending,
+                scratch,
+                output,
+                d,
+                config,
+                at,
+                n,
+                f,
+                x,
+            );
+            match told {
+                Answered::Full => Asked::Refused(27),
+                Answered::At(end) => {
+                    aut_why_words::clear(states, pending, n);
+                    Asked::Told(d, end)
+                }
             }
         }
     }
@@ -342,6 +324,20 @@ pub fn ask(
             setting,
             at,
             name,
+            x,
+        ),
+        Query::Why => ask_why(
+            sp,
+            nodes,
+            states,
+            members,
+            transitions,
+            pending,
+            scratch,
+            output,
+            c,
+            setting,
+            at,
             x,
         ),
     }

@@ -160,6 +160,7 @@ abbrev pub queryOf : Query → Reader.Query
 queryOf query.Empty = Reader.empty
 queryOf query.Live = Reader.live
 queryOf query.Pruned = Reader.pruned
+queryOf query.Why = Reader.why
 
 abbrev pub foundConstant : FoundConstant → Option Lines.Constant
 foundConstant (found-constant.Is w) = some (constantOf w)

@@ -68,6 +68,7 @@ pub enum Query {
     Empty,
     Live,
     Pruned,
+    Why,
 }
 
 pub enum FoundConstant {
@@ -387,6 +388,9 @@ fn query_named(book: &[u8], from: usize, to: usize) -> FoundQuery
     }
     if same(book, from, to, b"pruned") {
         return FoundQuery::Is(Query::Pruned);
+    }
+    if same(book, from, to, b"why") {
+        return FoundQuery::Is(Query::Why);
     }
     FoundQuery::Nothing
 }

@@ -1,15 +1,18 @@
--- What an answer says (specs/Demands: SearchSpec, LiveSpec, PrunedSpec), from the laws of the queries; and which numbers a query can be refused with.
+-- What an answer says (specs/Demands: SearchSpec, LiveSpec, PrunedSpec, WhySpec), from the laws of the queries; and which numbers a query can be refused with.
 use mathlib.Core.Path.{_≡_, refl, sym, _∙_, ap, ap₂, subst}
 use native.Mathlib.Omega.{arith}
 use mathlib.Core.Bool.{Bool, true, false}
 use mathlib.Core.List.{List, [], _∷_, map, List·Memᴰ, List·Memᴰ·head, List·Memᴰ·tail}
+use mathlib.Core.Option.{Option, none, some}
 use Prim.Native.Nat.{ℕ, _+_, _*_, _^_, _≤_, _<_}
 use lib.Dec.{ltb}
 use lib.ListN.{length}
 use borrow.Author.Tests.{ltb-true, ltb-false}
 use Rattle.common.specs.Outcome.{given}
 use Rattle.common.proofs.Follow.{given-same}
-use Rattle.netkat.specs.Rules.{Rule}
+use Rattle.netkat.specs.Strings.{Str}
+use Rattle.netkat.specs.Rules.{Language, Rule}
+use Rattle.netkat_paths.specs.Order.{Picked}
 use Rattle.netkat.specs.Lists.{State, Transition}
 use Rattle.netkat_steps.specs.ListSteps.{Edge, Are}
 use Rattle.netkat.specs.Search.{Verdict, yes, no, spent}
@@ -18,6 +21,8 @@ use Rattle.sp_steps.proofs.Size as SpSize
 use Rattle.spp_steps.proofs.Laws.{by-test}
 use Rattle.spp_steps.proofs.Size as SppSize
 use Rattle.aut_steps.specs.Tables.{Limits, Aut}
+use Rattle.aut_steps.specs.Languages.{_≈_}
+use Rattle.aut_steps.specs.Meaning.{Holds}
 use Rattle.aut_steps.proofs.StepSpec.{RefusalReason}
 use Rattle.aut_delta_steps.proofs.DeltaRuns.{listing, no-transitions}
 use Rattle.aut_delta_steps.specs.Fits.{tables as readings}
@@ -27,11 +32,12 @@ use Rattle.aut_query_steps.proofs.Steps.{QueryReason, no-packet-node, working, 
 use Rattle.aut_query_steps.proofs.SearchLaws.{Searched}
 use Rattle.aut_query_steps.proofs.LiveLaws.{Lived}
 use Rattle.aut_query_steps.proofs.PrunedLaws.{PrunedTo}
+use Rattle.aut_why_steps.proofs.WhyLaws.{Chosen, Explained}
 use Rattle.book_steps.specs.Answers.{Pairs}
 use Rattle.book_steps.specs.Run.{Setting}
 use Rattle.book_steps.specs.Meaning.{Same}
 use Rattle.book_steps.proofs.Meaning.{same-grown}
-use Rattle.book_steps.specs.Demands.{SearchSpec, LiveSpec, PrunedSpec, pairOf}
+use Rattle.book_steps.specs.Demands.{SearchSpec, LiveSpec, PrunedSpec, WhySpec, pairOf}
 use Rattle.book_steps.specs.RunSpec.{told}
 
 module _ (S : Setting) where
@@ -113,6 +119,20 @@ module _ (S : Setting) where
       counted : {es : List Edge} {list : List (Transition State N)} → Are (readings N (S .limits)) (τ .base .aut) es list → told S τ es ≡ map (pairOf S) list
       counted Are.none = refl
       counted (Are.also {s} k d as′) = ap₂ (λ (n : ℕ) (l : List Pairs). record { target = s; number = n } ∷ l) (SppSize.size-den d) (counted as′)
+
+  -- a set of the same strings has the same picked one
+  picked-same : {A B : Language N} → A ≈ B → {w : Str N} → Picked A w → Picked B w
+  picked-same f {w} p = record { held = f w .0 (p .held); first = λ v b. p .first v (f v .1 b) }
+
+  pub why-spec : {σ τ : Tables} {x : ℕ} {r : Rule N} {o : Option (Str N)} → WfTables N (S .limits) σ → Same N (σ .base .aut) x r → Explained N (S .limits) x σ τ o → WhySpec S r o
+  why-spec {τ = τ} {x} {r} o s d = go (d .chosen)
+    where
+      t : Same N (τ .base .aut) x r
+      t = same-grown (o .worked .good) (d .later .grown) s
+
+      go : {o : Option (Str N)} → Chosen (Holds N (τ .base .aut) x) o → WhySpec S r o
+      go (Chosen.nothing f) = WhySpec.nothing (λ w i. f w (t .strings w .1 i))
+      go (Chosen.picked p) = WhySpec.picked (picked-same (t .strings) p)
 
 -- ---- the numbers that can occur
 

@@ -38,6 +38,7 @@ use Rattle.aut_delta_steps.proofs.Extends.{edges-sets, room-transitions}
 use Rattle.aut_query_steps.specs.Tables.{Tables}
 use Rattle.aut_query_steps.specs.Search.{machine, capacity}
 use Rattle.aut_query_steps.specs.Live.{liveAt, Found, found, Work, work, enqueue, enlarge, live-sets, explore, settled}
+use Rattle.aut_why_steps.proofs.WhyLaws.{why-stops}
 use Rattle.book_steps.specs.Conditions.{opens, beforeTop, unseen, Lacks, New, Conditions}
 use Rattle.book_steps.proofs.Numbers.{Only, stops, then-only, unite-only, meet-only, bases-only, union-n-only, top-only, placed-only}
 
@@ -574,4 +575,5 @@ conditions N L = record {
   no-todo = no-todo;
   no-transitions = no-transitions;
   stored = stored;
+  why-stops = why-stops N L;
 }

@@ -8,7 +8,7 @@ use Rattle.common.specs.Rows.{Row, row, Hold}
 use Rattle.book_construct_steps.specs.Lines as Lines
 use Rattle.book_construct_steps.specs.Lines.{test, seq, union}
 use Rattle.book_steps.specs.Text.{bytes, words, same, digits, reading, number, decimalBy, decimal}
-use Rattle.book_steps.specs.Reader.{header, Instruction, bit, pair, listed, query, empty, find, numbers, exact, parse, makes, refuses, giving, resolve}
+use Rattle.book_steps.specs.Reader.{header, Instruction, bit, pair, listed, query, empty, why, find, numbers, exact, parse, makes, refuses, giving, resolve}
 
 -- a line, and what it says
 abbrev reads : String → Option Instruction → Row
@@ -19,6 +19,7 @@ rows =
     reads "test 0 1" (some (bit test 0 1))
     ∷ reads "seq 0 1" (some (pair seq 0 1))
     ∷ reads "empty 2" (some (query empty 2))
+    ∷ reads "why 2" (some (query why 2))
     ∷ reads "union" (some (listed union []))
     ∷ reads "union " none
     ∷ reads "union 3 3 0" (some (listed union (3 ∷ 3 ∷ 0 ∷ [])))
@@ -36,7 +37,7 @@ rows =
 
 pub all-read : Hold rows
 unfolding words same digits reading number find numbers exact parse
-all-read = (refl, (refl, (refl, (refl, (refl, (refl, (refl, (refl, (refl, (refl, (refl, (refl, (refl, (refl, (refl, (refl, tt))))))))))))))))
+all-read = (refl, (refl, (refl, (refl, (refl, (refl, (refl, (refl, (refl, (refl, (refl, (refl, (refl, (refl, (refl, (refl, (refl, tt)))))))))))))))))
 
 -- the first line
 pub first-line : header (words (bytes "fields 1 budget 10")) ≡ some (record { fields = 1; budget = 10 })

@@ -1,6 +1,7 @@
 -- That what specs/ states is so, and computed books. Read in this order.
 pub mod TextLaws  -- numbers are read as they are written
 pub mod AnswersLaws  -- the share is the nearest thousandth
+pub mod Sentence  -- the sentence of `why` in pieces, and its length
 pub mod MeaningLaws  -- the rule that a line adds
 pub mod Meaning  -- lines by states and by rules go alike
 pub mod Numbers  -- what a constructor line can be refused with

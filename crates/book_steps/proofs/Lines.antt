@@ -32,15 +32,17 @@ use Rattle.aut_query_steps.proofs.Tables.{gone-later}
 use Rattle.aut_query_steps.specs.Search.{is-empty}
 use Rattle.aut_query_steps.specs.Live.{live-packets}
 use Rattle.aut_query_steps.specs.Pruned.{delta-pruned}
+use Rattle.aut_why_steps.specs.Why as Why
 use Rattle.aut_query_steps.proofs.Steps as Steps
 use Rattle.aut_query_steps.proofs.Steps.{Ends, gone-base, ordered-base}
 use Rattle.aut_query_steps.proofs.SettleLaws.{decodes}
 use Rattle.aut_query_steps.proofs.SearchEnds.{search-ends}
 use Rattle.aut_query_steps.proofs.LiveLaws.{live-ends}
 use Rattle.aut_query_steps.proofs.PrunedLaws.{pruned-ends}
+use Rattle.aut_why_steps.proofs.WhyLaws.{why-ends}
 use Rattle.book_steps.specs.Reader as Reader
 use Rattle.book_steps.specs.Reader.{Query, Instruction, Resolved, makes, asks, refuses, resolve}
-use Rattle.book_steps.specs.Answers.{nameOf, emptyAnswer, liveAnswer, prunedAnswer}
+use Rattle.book_steps.specs.Answers.{nameOf, emptyAnswer, liveAnswer, prunedAnswer, whyAnswer}
 use Rattle.book_steps.specs.Run.{Lent, Setting, RunState, place, after-making, after-asking, execute, step}
 use Rattle.book_steps.proofs.Meaning as Meaning
 use Rattle.book_steps.specs.Meaning.{Matched, Same}
@@ -50,7 +52,7 @@ use Rattle.book_steps.specs.Demands.{TableSpec, RoomSpec, StateSpec, Tab
 use Rattle.book_steps.specs.RunSpec.{told, QuerySpec, QueryRefused, LineSpec, made, answered, Point, Reads, LineRefusal}
 use Rattle.book_steps.proofs.Numbers.{make-number}
 use Rattle.book_steps.proofs.Reading.{reads}
-use Rattle.book_steps.proofs.Answers.{search-spec, live-spec, pruned-spec, asking-number}
+use Rattle.book_steps.proofs.Answers.{search-spec, live-spec, pruned-spec, why-spec, asking-number}
 
 -- ---- the tables
 
@@ -176,6 +178,10 @@ module _ (S : Setting) (lent : Lent) where
         asked-lined (delta-pruned N (S .limits) (S .entries) x σ) (λ es τ. prunedAnswer (nameOf a) (told S τ es)) t u (λ number e. e)
         (λ τ es e d. (QuerySpec.pruned e (pruned-spec S o y d), d .ordered, d .later))
         (pruned-ends (S .entries) o (y .state))
+    query-lined Reader.why a x r t u y =
+        asked-lined (Why.why N (S .limits) (S .entries) x σ) (λ w τ. whyAnswer N w) t u (λ number e. e)
+        (λ τ w e d. (QuerySpec.explained e (why-spec S o y d), d .ordered, d .later))
+        (why-ends (S .entries) o (y .state))
 
     performed : {t : Resolved ℕ} {u : Resolved (Rule N)} → resolve N (p .lines) s ≡ t → resolve N R s ≡ u → Meaning.Alike N (σ .base .aut) t u → Lined c s (execute S t p)
     performed t u (Meaning.makes {l} a) = made-lined t u a (make N (S .limits) l (σ .base .aut)) refl (make-goes (o .worked .good) l (alike-asked a))

@@ -1,18 +1,20 @@
 -- The bytes of an answer determine its words, and its numbers below 2^64 (specs/RunSpec: PrintedSpec).
-use mathlib.Core.Path.{_≡_, refl, sym, _∙_, ap}
+use mathlib.Core.Path.{_≡_, refl, sym, _∙_, ap, ap₂}
 use native.Mathlib.Omega.{arith}
 use mathlib.Core.Bool.{Bool, true, false}
-use mathlib.Core.List.{List, [], _∷_, _++_, append-assoc}
-use mathlib.Core.Option.{Option, some}
+use mathlib.Core.List.{List, [], _∷_, _++_, map, append-assoc}
+use mathlib.Core.Option.{Option, none, some}
 use Prim.Native.Nat.{ℕ, zero, suc, _+_, _*_, _/_, _%_, _^_, _≤_, _<_}
 use lib.Dec.{eqb, ltb}
 use borrow.Author.Tests.{eqb-true}
+use Rattle.common.specs.Packets.{Packet, end, bit}
 use Rattle.common.specs.Outcome.{if_then_else_}
 use Rattle.spp_steps.proofs.Laws.{by-test}
+use Rattle.netkat.specs.Strings.{Str, str}
 use Rattle.netkat.specs.Search.{Verdict, yes, no, spent}
 use Rattle.book_steps.specs.Text.{bytes, Cut, line, before, cut, onFirst, words, number, decimalBy, decimal}
 use Rattle.book_steps.proofs.TextLaws.{decimal-read}
-use Rattle.book_steps.specs.Answers.{say, verdictWord, share, nameOf, emptyAnswer, liveAnswer}
+use Rattle.book_steps.specs.Answers.{say, verdictWord, share, nameOf, emptyAnswer, liveAnswer, bitsOf, packetWord, byWords, sentence, whyAnswer}
 use Rattle.book_steps.specs.RunSpec.{PrintedSpec}
 
 -- neither byte 10 nor a space
@@ -148,6 +150,12 @@ word-empty = (λ q. omega arith, λ q. omega arith, (λ q. omega arith, λ q. om
 word-live : Plain (bytes "live")
 word-live = (λ q. omega arith, λ q. omega arith, (λ q. omega arith, λ q. omega arith, (λ q. omega arith, λ q. omega arith, (λ q. omega arith, λ q. omega arith, tt))))
 
+word-from : Plain (bytes "from")
+word-from = (λ q. omega arith, λ q. omega arith, (λ q. omega arith, λ q. omega arith, (λ q. omega arith, λ q. omega arith, (λ q. omega arith, λ q. omega arith, tt))))
+
+word-none : Plain (bytes "none")
+word-none = (λ q. omega arith, λ q. omega arith, (λ q. omega arith, λ q. omega arith, (λ q. omega arith, λ q. omega arith, (λ q. omega arith, λ q. omega arith, tt))))
+
 pub empty-one : (a b c d : ℕ) (v w : Verdict) → a < 2 ^ 64 → b < 2 ^ 64 → c < 2 ^ 64 → d < 2 ^ 64 → emptyAnswer (nameOf a) v c ≡ emptyAnswer (nameOf b) w d → (a ≡ b) × (v ≡ w) × (c ≡ d)
 empty-one a b c d v w la lb lc ld e =
     let (x, y, z) = four-same (say-words (bytes "empty") (bytes "empty") (decimal a ∷ verdictWord v ∷ decimal c ∷ []) (decimal b ∷ verdictWord w ∷ decimal d ∷ [])
@@ -160,5 +168,96 @@ live-one N a b c d la lb lc ld e =
     (word-live, (number-plain a, (number-plain c, (number-plain (share c (2 ^ N)), tt)))) (word-live, (number-plain b, (number-plain d, (number-plain (share d (2 ^ N)), tt)))) e) in
     (decimal-one a b la lb x, decimal-one c d lc ld y)
 
+-- ---- a sentence
+
+bits-plain : {n : ℕ} (p : Packet n) → Plain (bitsOf p)
+unfolding bitsOf
+bits-plain end = tt
+bits-plain (bit true p) = (λ q. omega arith, λ q. omega arith, bits-plain p)
+bits-plain (bit false p) = (λ q. omega arith, λ q. omega arith, bits-plain p)
+
+packet-plain : (n : ℕ) (p : Packet n) → Plain (packetWord n p)
+packet-plain zero p = (λ q. omega arith, λ q. omega arith, tt)
+packet-plain (suc n) p = bits-plain p
+
+later-bytes : {a b : ℕ} {v w : List ℕ} → _≡_ {A = List ℕ} (a ∷ v) (b ∷ w) → v ≡ w
+later-bytes e = cc
+
+bits-one : {n : ℕ} (p q : Packet n) → bitsOf p ≡ bitsOf q → p ≡ q
+unfolding bitsOf
+bits-one end end e = refl
+bits-one (bit true p) (bit true q) e = ap (bit true) (bits-one p q (later-bytes e))
+bits-one (bit true p) (bit false q) e = absurd (let z : _≡_ {A = ℕ} 49 48 = first-byte e in omega arith)
+bits-one (bit false p) (bit true q) e = absurd (let z : _≡_ {A = ℕ} 48 49 = first-byte e in omega arith)
+bits-one (bit false p) (bit false q) e = ap (bit false) (bits-one p q (later-bytes e))
+
+packet-one : (n : ℕ) (p q : Packet n) → packetWord n p ≡ packetWord n q → p ≡ q
+packet-one zero end end e = refl
+packet-one (suc n) p q e = bits-one p q e
+
+-- a packet is not the word behind the hops
+not-to : (n : ℕ) (p : Packet n) → ¬ (packetWord n p ≡ bytes "to")
+unfolding bitsOf
+not-to zero p e = let z : _≡_ {A = ℕ} 45 116 = first-byte e in omega arith
+not-to (suc n) (bit true p) e = let z : _≡_ {A = ℕ} 49 116 = first-byte e in omega arith
+not-to (suc n) (bit false p) e = let z : _≡_ {A = ℕ} 48 116 = first-byte e in omega arith
+
+first-word : {v w : List ℕ} {vs ws : List (List ℕ)} → v ∷ vs ≡ w ∷ ws → v ≡ w
+first-word e = cc
+
+later-words : {v w : List ℕ} {vs ws : List (List ℕ)} → v ∷ vs ≡ w ∷ ws → vs ≡ ws
+later-words e = cc
+
+module _ (n : ℕ) where
+  abbrev toWords : Packet n → List (List ℕ)
+  toWords z = bytes "to" ∷ packetWord n z ∷ []
+
+  abbrev strWords : Str n → List (List ℕ)
+  strWords w = packetWord n (w .start) ∷ (byWords n (w .hops) ++ toWords (w .end))
+
+  to-one : (y z : Packet n) → toWords y ≡ toWords z → y ≡ z
+  to-one y z e = packet-one n y z (first-word (later-words e))
+
+  hops-one : (gs hs : List (Packet n)) (y z : Packet n) → map (packetWord n) gs ++ toWords y ≡ map (packetWord n) hs ++ toWords z → (gs ≡ hs) × (y ≡ z)
+  hops-one [] [] y z e = (refl, to-one y z e)
+  hops-one [] (h ∷ hs) y z e = absurd (not-to n h (sym (first-word e)))
+  hops-one (g ∷ gs) [] y z e = absurd (not-to n g (first-word e))
+  hops-one (g ∷ gs) (h ∷ hs) y z e =
+      let (a, b) = hops-one gs hs y z (later-words e) in
+      (ap₂ (λ (p : Packet n) (ps : List (Packet n)). p ∷ ps) (packet-one n g h (first-word e)) a, b)
+
+  by-one : (gs hs : List (Packet n)) (y z : Packet n) → byWords n gs ++ toWords y ≡ byWords n hs ++ toWords z → (gs ≡ hs) × (y ≡ z)
+  by-one [] [] y z e = (refl, to-one y z e)
+  by-one [] (h ∷ hs) y z e = absurd (let q : _≡_ {A = ℕ} 116 98 = first-byte (first-word e) in omega arith)
+  by-one (g ∷ gs) [] y z e = absurd (let q : _≡_ {A = ℕ} 98 116 = first-byte (first-word e) in omega arith)
+  by-one (g ∷ gs) (h ∷ hs) y z e = hops-one (g ∷ gs) (h ∷ hs) y z (later-words e)
+
+  str-one : (v w : Str n) → strWords v ≡ strWords w → v ≡ w
+  str-one v w e =
+      let (a, b) = by-one (v .hops) (w .hops) (v .end) (w .end) (later-words e) in
+      ap (λ (p : Packet n). str p (v .hops) (v .end)) (packet-one n (v .start) (w .start) (first-word e))
+      ∙ ap₂ (λ (hs : List (Packet n)) (z : Packet n). str (w .start) hs z) a b
+
+  to-plain : (z : Packet n) → AllPlain (toWords z)
+  to-plain z = ((λ q. omega arith, λ q. omega arith, (λ q. omega arith, λ q. omega arith, tt)), (packet-plain n z, tt))
+
+  hops-plain : (hs : List (Packet n)) (z : Packet n) → AllPlain (map (packetWord n) hs ++ toWords z)
+  hops-plain [] z = to-plain z
+  hops-plain (h ∷ hs) z = (packet-plain n h, hops-plain hs z)
+
+  by-plain : (hs : List (Packet n)) (z : Packet n) → AllPlain (byWords n hs ++ toWords z)
+  by-plain [] z = to-plain z
+  by-plain (h ∷ hs) z = ((λ q. omega arith, λ q. omega arith, (λ q. omega arith, λ q. omega arith, tt)), hops-plain (h ∷ hs) z)
+
+  sentence-plain : (w : Str n) → AllPlain (bytes "from" ∷ strWords w)
+  sentence-plain w = (word-from, (packet-plain n (w .start), by-plain (w .hops) (w .end)))
+
+  pub why-one : (v w : Option (Str n)) → whyAnswer n v ≡ whyAnswer n w → v ≡ w
+  unfolding sentence
+  why-one none none e = refl
+  why-one none (some w) e = absurd (let q : _≡_ {A = ℕ} 110 102 = first-byte (first-word (say-words (bytes "none") (bytes "from") [] (strWords w) (word-none, tt) (sentence-plain w) e)) in omega arith)
+  why-one (some v) none e = absurd (let q : _≡_ {A = ℕ} 102 110 = first-byte (first-word (say-words (bytes "from") (bytes "none") (strWords v) [] (sentence-plain v) (word-none, tt) e)) in omega arith)
+  why-one (some v) (some w) e = ap (λ (u : Str n). some u) (str-one v w (later-words (say-words (bytes "from") (bytes "from") (strWords v) (strWords w) (sentence-plain v) (sentence-plain w) e)))
+
 pub printed : PrintedSpec
-printed = record { empty = empty-one; live = live-one }
+printed = record { empty = empty-one; live = live-one; why = why-one }

@@ -14,6 +14,7 @@ use Rattle.common.specs.Packets.{packets, any, Set, inhabited}
 use Rattle.common.specs.Outcome.{Outcome, refused, given, after, if_then_else_}
 use Rattle.common.proofs.Follow.{given-of, given-same}
 use Rattle.common.specs.Runs.{placed}
+use Rattle.netkat.specs.Strings.{Str}
 use Rattle.netkat.specs.Rules.{Rule}
 use Rattle.netkat_steps.specs.ListSteps.{Edge}
 use Rattle.netkat.specs.Search.{Verdict, yes, spent}
@@ -38,7 +39,7 @@ use Rattle.aut_query_steps.proofs.LiveLaws.{live-goes}
 use Rattle.book_steps.specs.Text.{Cut, line, unended, cut, words}
 use Rattle.book_steps.specs.Reader as Reader
 use Rattle.book_steps.specs.Reader.{Query, Instruction, parse, Resolved, resolve}
-use Rattle.book_steps.specs.Answers.{nameOf, emptyAnswer, liveAnswer, prunedAnswer}
+use Rattle.book_steps.specs.Answers.{nameOf, emptyAnswer, liveAnswer, prunedAnswer, whyAnswer}
 use Rattle.book_steps.specs.Run as Run
 use Rattle.book_steps.specs.Run.{Lent, Setting, RunState, place, after-making, after-asking, execute, step, Ran, onward, with-line, run, Result, finish}
 use Rattle.book_steps.proofs.MeaningLaws.{noted}
@@ -103,11 +104,13 @@ module _ (S : Setting) where
   asked-is {name = name} (QuerySpec.emptied e k) = ap (λ (o : Outcome Tables (Verdict × ℕ)). after o (λ r τ. given τ (emptyAnswer name (r .0) (r .1)))) e
   asked-is {name = name} (QuerySpec.lived e k) = ap (λ (o : Outcome Tables ℕ). after o (λ l τ. given τ (liveAnswer N name (Sp.size (τ .sets .words) N l)))) e
   asked-is {name = name} (QuerySpec.pruned e k) = ap (λ (o : Outcome Tables (List Edge)). after o (λ es τ. given τ (prunedAnswer name (told S τ es)))) e
+  asked-is (QuerySpec.explained e k) = ap (λ (o : Outcome Tables (Option (Str N))). after o (λ w τ. given τ (whyAnswer N w))) e
 
   asked-not : (σ : Tables) (q : Query) (name : List ℕ) (x number : ℕ) → QueryRefused S σ q x number → Run.query S q name x σ ≡ refused number
   asked-not σ Reader.empty name x number e = ap (λ (o : Outcome Tables (Verdict × ℕ)). after o (λ r τ. given τ (emptyAnswer name (r .0) (r .1)))) e
   asked-not σ Reader.live name x number e = ap (λ (o : Outcome Tables ℕ). after o (λ l τ. given τ (liveAnswer N name (Sp.size (τ .sets .words) N l)))) e
   asked-not σ Reader.pruned name x number e = ap (λ (o : Outcome Tables (List Edge)). after o (λ es τ. given τ (prunedAnswer name (told S τ es)))) e
+  asked-not σ Reader.why name x number e = ap (λ (o : Outcome Tables (Option (Str N))). after o (λ w τ. given τ (whyAnswer N w))) e
 
   -- what `empty` and `live` have printed
   record Emptied (σ : Tables) (name : List ℕ) (x : ℕ) (τ : Tables) (answer : List ℕ) : Type 0 where

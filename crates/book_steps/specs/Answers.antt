@@ -1,8 +1,13 @@
 -- 01, "The book and its answers": the lines of an answer. `fields`: N. `empty`: the line named, verdict (yes, no, spent), pairs taken. `live`: line, live packets, and their
 -- share of 2^N in thousandths, the half rounded up. `pruned`: line, number of transitions; each `pair`: target state number, packet pairs in the label.
-use mathlib.Core.List.{List, [], _∷_, _++_}
-use Prim.Native.Nat.{ℕ, _+_, _*_, _/_, _^_}
+-- 02 (i): "A query `why a` prints a string of the state in words: `from 01 by 01 10 to 10`, bits with field 0 first, `-` for a packet without fields; without hops, `by` is left out; an empty state prints `none`."
+use mathlib.Core.List.{List, [], _∷_, _++_, map}
+use mathlib.Core.Option.{Option, none, some}
+use Prim.Native.Nat.{ℕ, zero, suc, _+_, _*_, _/_, _^_}
 use lib.ListN.{length}
+use Rattle.common.specs.Packets.{Packet, end, bit}
+use Rattle.common.specs.Outcome.{if_then_else_}
+use Rattle.netkat.specs.Strings.{Str}
 use Rattle.netkat.specs.Search.{Verdict, yes, no, spent}
 use Rattle.book_steps.specs.Text.{bytes, decimal}
 
@@ -46,3 +51,28 @@ pairLines (p ∷ ps) = say (bytes "pair" ∷ decimal (p .target) ∷ decimal (p 
 
 abbrev pub prunedAnswer : (name : List ℕ) → List Pairs → List ℕ
 prunedAnswer name pairs = say (bytes "pruned" ∷ name ∷ decimal (length pairs) ∷ []) ++ pairLines pairs
+
+-- ---- `why`
+
+-- the bits of a packet, field 0 first
+unfoldable pub bitsOf : {n : ℕ} → Packet n → List ℕ
+bitsOf end = []
+bitsOf (bit b p) = (if b then 49 else 48) ∷ bitsOf p
+
+-- a packet as a word: its bits, `-` if it has none
+abbrev pub packetWord : (n : ℕ) → Packet n → List ℕ
+packetWord zero p = bytes "-"
+packetWord (suc n) p = bitsOf p
+
+-- the hops in words; without hops, `by` is left out
+abbrev pub byWords : (n : ℕ) → List (Packet n) → List (List ℕ)
+byWords n [] = []
+byWords n (h ∷ hs) = bytes "by" ∷ map (packetWord n) (h ∷ hs)
+
+-- a string in words, without the name of the line
+unfoldable pub sentence : (n : ℕ) → Str n → List ℕ
+sentence n w = say (bytes "from" ∷ packetWord n (w .start) ∷ (byWords n (w .hops) ++ bytes "to" ∷ packetWord n (w .end) ∷ []))
+
+abbrev pub whyAnswer : (n : ℕ) → Option (Str n) → List ℕ
+whyAnswer n none = say (bytes "none" ∷ [])
+whyAnswer n (some w) = sentence n w

@@ -30,6 +30,7 @@ use Rattle.aut_delta_steps.specs.Delta.{startOf, countOf, Store, listAt, keepLi
 use Rattle.aut_query_steps.specs.Tables.{Tables}
 use Rattle.aut_query_steps.specs.Search.{machine}
 use Rattle.aut_query_steps.specs.Live.{found, Work, enqueue, explore, settled, enlarge, live-sets}
+use Rattle.aut_why_steps.specs.Why.{why}
 use Rattle.book_steps.specs.Reader as Reader
 use Rattle.book_steps.specs.Reader.{Instruction, refuses, resolve}
 
@@ -140,3 +141,6 @@ pub record Conditions (N : ℕ) (L : Limits) : Type 0 where
   pub stored : (x : ℕ) (es : List Edge) (σ τ : Store) → 12 * x + 6 < length (σ .aut .states .words)
       → keepList x es σ ≡ given τ es → (startOf (τ .aut .states .words) x ≡ σ .transitions .count)
       × (countOf (τ .aut .states .words) x ≡ length es + 1) × (listAt τ x ≡ es)
+  -- 02 (i): "beyond what these `live a` steps meet, only 20 and 27 can stop it" (27: RunSpec)
+  pub why-stops : (entries x : ℕ) (σ : Tables) (number : ℕ) → why N L entries x σ ≡ refused number
+      → (live-sets N L entries x σ ≡ refused number) ⊎ (number ≡ 20)

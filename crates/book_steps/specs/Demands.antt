@@ -3,7 +3,7 @@
 use mathlib.Core.Path.{_≡_}
 use mathlib.Core.Logic.{_↔_}
 use mathlib.Core.List.{List, map, List·Memᴰ}
-use mathlib.Core.Option.{Option}
+use mathlib.Core.Option.{Option, none, some}
 use Prim.Native.Nat.{ℕ, _+_, _*_, _^_, _≤_, _<_}
 use lib.ListN.{length, getD}
 use Rattle.common.specs.Packets.{Set}
@@ -16,6 +16,7 @@ use Rattle.netkat.specs.Lists.{State, Transition, Ascending, IsDelta}
 use Rattle.netkat.specs.Search.{Log, Verdict, yes, no, spent, search}
 use Rattle.netkat.specs.Promise.{Distinct, Needs}
 use Rattle.netkat.specs.Live as Live
+use Rattle.netkat_paths.specs.Order.{Picked}
 use Rattle.netkat.specs.Live.{IsLive}
 use Rattle.sp_steps.specs.Model as Sp
 use Rattle.sp_steps.specs.Size as SpSize
@@ -96,6 +97,12 @@ module _ (S : Setting) where
     pub lives : (t : Transition State N) → List·Memᴰ t list
         → IsLive (live (t .target)) (Holds N (τ .base .aut) (t .target))
     pub cut : pairs ≡ map pairOf (Live.pruned live list)
+
+  -- 02 (i): "`why a` prints a string of the state .. It picks the fewest hops, then the smallest start, then the hops in
+  -- order, then the end"; "an empty state prints `none`"
+  pub data WhySpec (r : Rule N) : Option (Str N) → Type 0 where
+    nothing : ((w : Str N) → ¬ In r w) → WhySpec r none
+    picked : {w : Str N} → Picked (In r) w → WhySpec r (some w)
 
   -- ---- the tables at a place of the book
 

@@ -3,6 +3,7 @@
 pub mod Text  -- bytes, lines, words and numbers
 pub mod Reader  -- what a line says; 4 and 5
 pub mod Answers  -- answers as bytes
+pub mod Sentence  -- the sentence of `why` in pieces
 pub mod Run  -- the outcome of a book with what is lent
 pub mod Meaning  -- the rules that its lines mean
 pub mod Conditions  -- when each number is returned

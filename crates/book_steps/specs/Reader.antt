@@ -35,7 +35,7 @@ header (f ∷ n ∷ b ∷ m ∷ l ∷ ls) = none
 -- ---- instructions, as they are written
 
 pub data Query : Type 0 where
-  empty live pruned : Query
+  empty live pruned why : Query
 
 pub data Instruction : Type 0 where
   constant : Constant → Instruction
@@ -68,7 +68,7 @@ abbrev pub lists : List (Named Listed)
 lists = named "union" union ∷ named "inter" inter ∷ []
 
 abbrev pub queries : List (Named Query)
-queries = named "empty" empty ∷ named "live" live ∷ named "pruned" pruned ∷ []
+queries = named "empty" empty ∷ named "live" live ∷ named "pruned" pruned ∷ named "why" why ∷ []
 
 -- what is named so
 unfoldable pub find : {A : Type 0} → List (Named A) → List ℕ → Option A

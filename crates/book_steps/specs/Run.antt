@@ -17,9 +17,10 @@ use Rattle.aut_query_steps.specs.Tables.{Tables, tables, onBase}
 use Rattle.aut_query_steps.specs.Search.{is-empty}
 use Rattle.aut_query_steps.specs.Live.{live-packets}
 use Rattle.aut_query_steps.specs.Pruned.{delta-pruned}
+use Rattle.aut_why_steps.specs.Why as Why
 use Rattle.book_steps.specs.Text.{Cut, line, unended, cut, words}
-use Rattle.book_steps.specs.Reader.{Header, header, Query, empty, live, pruned, Instruction, parse, Resolved, makes, asks, refuses, resolve}
-use Rattle.book_steps.specs.Answers.{nameOf, fieldsAnswer, emptyAnswer, liveAnswer, prunedAnswer}
+use Rattle.book_steps.specs.Reader.{Header, header, Query, empty, live, pruned, why, Instruction, parse, Resolved, makes, asks, refuses, resolve}
+use Rattle.book_steps.specs.Answers.{nameOf, fieldsAnswer, emptyAnswer, liveAnswer, prunedAnswer, whyAnswer}
 
 -- ---- what is lent: words of each table, bytes of the output
 
@@ -59,6 +60,7 @@ module _ (S : Setting) where
   query live name x = live-packets (S .fields) (S .limits) (S .entries) x >>= λ h σ. given σ (liveAnswer (S .fields) name (Sp.size (σ .sets .words) (S .fields) h))
   query pruned name x = delta-pruned (S .fields) (S .limits) (S .entries) x >>= λ es σ.
       given σ (prunedAnswer name (map (λ (e : Edge). record { target = e .target; number = Spp.size (σ .base .aut .nodes .words) (S .fields) (e .label) }) es))
+  query why name x = Why.why (S .fields) (S .limits) (S .entries) x >>= λ o. return (whyAnswer (S .fields) o)
 
   -- a line's step: a number that refuses it, or the next place
   abbrev pub after-making : RunState → Outcome Tables ℕ → Outcome RunState ℕ

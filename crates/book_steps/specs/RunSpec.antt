@@ -9,6 +9,7 @@ use mathlib.Core.Option.{Option, none, some}
 use Prim.Native.Nat.{ℕ, suc, _^_, _≤_, _<_}
 use lib.ListN.{length, getD, replicate}
 use Rattle.common.specs.Outcome.{refused, given}
+use Rattle.netkat.specs.Strings.{Str}
 use Rattle.netkat.specs.Rules.{Rule}
 use Rattle.netkat_steps.specs.ListSteps.{Edge}
 use Rattle.netkat.specs.Search.{Verdict, yes, spent}
@@ -21,13 +22,14 @@ use Rattle.aut_query_steps.specs.Tables.{Tables, putBase, ExtTables}
 use Rattle.aut_query_steps.specs.Search.{is-empty}
 use Rattle.aut_query_steps.specs.Live.{live-packets}
 use Rattle.aut_query_steps.specs.Pruned.{delta-pruned}
+use Rattle.aut_why_steps.specs.Why as Why
 use Rattle.book_steps.specs.Text.{line, unended, cut, words}
 use Rattle.book_steps.specs.Reader as Reader
 use Rattle.book_steps.specs.Reader.{Query, Instruction, parse, makes, asks, resolve}
-use Rattle.book_steps.specs.Answers.{nameOf, emptyAnswer, liveAnswer, Pairs, prunedAnswer}
+use Rattle.book_steps.specs.Answers.{nameOf, emptyAnswer, liveAnswer, Pairs, prunedAnswer, whyAnswer}
 use Rattle.book_steps.specs.Meaning.{Same}
 use Rattle.book_steps.specs.Conditions.{Misnamed, OutOfRange}
-use Rattle.book_steps.specs.Demands.{SearchSpec, LiveSpec, PrunedSpec, TablesSpec, InOrder}
+use Rattle.book_steps.specs.Demands.{SearchSpec, LiveSpec, PrunedSpec, WhySpec, TablesSpec, InOrder}
 use Rattle.book_steps.specs.Run.{Lent, Setting, RunState, place, Result, run, finish}
 
 -- "number, line, output, each word of each table"; "pending and scratch are zero" in both
@@ -79,11 +81,14 @@ module _ (S : Setting) where
         → QuerySpec σ name x r τ Reader.live (liveAnswer N name (Sp.size (τ .sets .words) N l))
     pruned : {es : List Edge} → delta-pruned N (S .limits) (S .entries) x σ ≡ given τ es
         → PrunedSpec S τ x r (told τ es) → QuerySpec σ name x r τ Reader.pruned (prunedAnswer name (told τ es))
+    explained : {o : Option (Str N)} → Why.why N (S .limits) (S .entries) x σ ≡ given τ o → WhySpec S r o
+        → QuerySpec σ name x r τ Reader.why (whyAnswer N o)
 
   abbrev pub QueryRefused : Tables → Query → ℕ → ℕ → Type 0
   QueryRefused σ Reader.empty x number = is-empty N (S .limits) (S .entries) (S .budget) x σ ≡ refused number
   QueryRefused σ Reader.live x number = live-packets N (S .limits) (S .entries) x σ ≡ refused number
   QueryRefused σ Reader.pruned x number = delta-pruned N (S .limits) (S .entries) x σ ≡ refused number
+  QueryRefused σ Reader.why x number = Why.why N (S .limits) (S .entries) x σ ≡ refused number
 
   -- What the line s has done: "constructors and queries in any order, .. each on what the last one left". The place and
   -- the rules behind it.
@@ -178,3 +183,5 @@ pub record PrintedSpec : Type 0 where
       → emptyAnswer (nameOf a) v c ≡ emptyAnswer (nameOf b) w d → (a ≡ b) × (v ≡ w) × (c ≡ d)
   pub live : (N a b c d : ℕ) → a < 2 ^ 64 → b < 2 ^ 64 → c < 2 ^ 64 → d < 2 ^ 64
       → liveAnswer N (nameOf a) c ≡ liveAnswer N (nameOf b) d → (a ≡ b) × (c ≡ d)
+  -- 02 (i): "No two strings may print alike."
+  pub why : (n : ℕ) (v w : Option (Str n)) → whyAnswer n v ≡ whyAnswer n w → v ≡ w

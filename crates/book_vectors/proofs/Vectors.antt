@@ -31,7 +31,7 @@ use Rattle.book_steps.specs.Answers as Answers
 use Rattle.book_steps.specs.Run.{Lent, run, begin, outcome}
 
 -- a book: its whole outcome with what is lent
-abbrev book : Lent → String → (number line : ℕ) → String → (sp spp states members transitions : List ℕ) → Row
+abbrev pub book : Lent → String → (number line : ℕ) → String → (sp spp states members transitions : List ℕ) → Row
 book l text number line output sp spp states members transitions =
     row (outcome l (bytes text)) (record {
       number = number;

@@ -50,6 +50,10 @@ put-append {at} {r} {r′} {bs} {cs} {s} {s′} {s″} p q = record {
   wrote = wrote-append (p .wrote) (subst (λ (a : ℕ). Wrote a cs s′ s″) (p .behind) (q .wrote));
 }
 
+-- the same bytes
+pub put-of : {at r : ℕ} {bs cs s s′ : List ℕ} → bs ≡ cs → Put at bs r s s′ → Put at cs r s s′
+put-of {at} {r} {bs} {cs} {s} {s′} e p = subst (λ (x : List ℕ). Put at x r s s′) e p
+
 -- one byte
 pub put-one : (at b : ℕ) (s : List ℕ) → at < length s → Put at (b ∷ []) (at + 1) s (set s at b)
 put-one at b s l = record {

@@ -1,3 +1,4 @@
 pub mod Contracts
 pub mod Rights
 pub mod Lines
+pub mod Sentence

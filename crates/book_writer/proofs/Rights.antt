@@ -10,7 +10,9 @@ use lib.Seq.{getD-at, getD-set-same, getD-set-other}
 use borrow.Author.Tests.{ltb-true, ltb-false, lt-ltb, le-ltb}
 use Rattle.common.specs.Outcome.{if_then_else_}
 use Rattle.book_steps.specs.Text.{decimalBy, decimal}
-use Rattle.book_writer.specs.Contracts.{Put}
+use Rattle.book_steps.specs.Sentence.{bitBytes}
+use Rattle.book_steps.proofs.Sentence.{bits-last}
+use Rattle.book_writer.specs.Contracts.{Put, lastDigits}
 
 -- ---- copying: i bytes are written
 
@@ -131,62 +133,67 @@ most-digits n = most-by 19 n
 
 -- ---- the last k digits
 
-unfoldable pub rights : ℕ → ℕ → List ℕ
-rights zero m = []
-rights (suc k) m = rights k (m / 10) ++ (48 + m % 10) ∷ []
+lastDigits-length : (base k m : ℕ) → length (lastDigits base k m) ≡ k
+unfolding lastDigits
+lastDigits-length base zero m = refl
+lastDigits-length base (suc k) m = length-append (lastDigits base k (m / base)) ((48 + m % base) ∷ []) ∙ omega (arith, lastDigits-length base k (m / base))
 
-rights-length : (k m : ℕ) → length (rights k m) ≡ k
-unfolding rights
-rights-length zero m = refl
-rights-length (suc k) m = length-append (rights k (m / 10)) ((48 + m % 10) ∷ []) ∙ omega (arith, rights-length k (m / 10))
+lastDigits-last : (base k m : ℕ) → getD (lastDigits base (suc k) m) k 0 ≡ 48 + m % base
+unfolding lastDigits
+lastDigits-last base k m = getD-at (lastDigits base k (m / base)) (48 + m % base) [] 0 k (lastDigits-length base k (m / base))
 
-rights-last : (k m : ℕ) → getD (rights (suc k) m) k 0 ≡ 48 + m % 10
-unfolding rights
-rights-last k m = getD-at (rights k (m / 10)) (48 + m % 10) [] 0 k (rights-length k (m / 10))
+lastDigits-other : (base k m j : ℕ) → j < k → getD (lastDigits base (suc k) m) j 0 ≡ getD (lastDigits base k (m / base)) j 0
+unfolding lastDigits
+lastDigits-other base k m j l = List·getD-append (lastDigits base k (m / base)) ((48 + m % base) ∷ []) 0 j (omega (arith, lastDigits-length base k (m / base)))
 
-rights-other : (k m j : ℕ) → j < k → getD (rights (suc k) m) j 0 ≡ getD (rights k (m / 10)) j 0
-unfolding rights
-rights-other k m j l = List·getD-append (rights k (m / 10)) ((48 + m % 10) ∷ []) 0 j (omega (arith, rights-length k (m / 10)))
+lastDigits-more : (base k m : ℕ) → lastDigits base (suc k) m ≡ lastDigits base k (m / base) ++ (48 + m % base) ∷ []
+unfolding lastDigits
+lastDigits-more base k m = refl
 
-rights-more : (k m : ℕ) → rights (suc k) m ≡ rights k (m / 10) ++ (48 + m % 10) ∷ []
-unfolding rights
-rights-more k m = refl
+-- ---- those of a number are its decimal
 
-rights-one : (m : ℕ) → m < 10 → rights 1 m ≡ (48 + m) ∷ []
-unfolding rights
-rights-one m l = ap (λ (x : ℕ). (48 + x) ∷ []) {x = m % 10} {y = m} (omega arith)
+decimal-one : (m : ℕ) → m < 10 → lastDigits 10 1 m ≡ (48 + m) ∷ []
+unfolding lastDigits
+decimal-one m l = ap (λ (x : ℕ). (48 + x) ∷ []) {x = m % 10} {y = m} (omega arith)
 
-rights-by : (f n : ℕ) → n < 10 ^ suc f → rights (length (decimalBy f n)) n ≡ decimalBy f n
-rights-by zero n l = ap (λ (ds : List ℕ). rights (length ds) n) (short 0 n (omega arith)) ∙ rights-one n (omega arith) ∙ sym (short 0 n (omega arith))
-rights-by (suc f) n l = go (ltb n 10) refl (rights-by f (n / 10) (lower f n l))
+decimal-by : (f n : ℕ) → n < 10 ^ suc f → lastDigits 10 (length (decimalBy f n)) n ≡ decimalBy f n
+decimal-by zero n l = ap (λ (ds : List ℕ). lastDigits 10 (length ds) n) (short 0 n (omega arith)) ∙ decimal-one n (omega arith) ∙ sym (short 0 n (omega arith))
+decimal-by (suc f) n l = go (ltb n 10) refl (decimal-by f (n / 10) (lower f n l))
   where
-    go : (b : Bool) → ltb n 10 ≡ b → rights (length (decimalBy f (n / 10))) (n / 10) ≡ decimalBy f (n / 10) → rights (length (decimalBy (suc f) n)) n ≡ decimalBy (suc f) n
+    go : (b : Bool) → ltb n 10 ≡ b → lastDigits 10 (length (decimalBy f (n / 10))) (n / 10) ≡ decimalBy f (n / 10) → lastDigits 10 (length (decimalBy (suc f) n)) n ≡ decimalBy (suc f) n
     go true e p =
         let m : n < 10 = ltb-true n 10 e in
-        ap (λ (ds : List ℕ). rights (length ds) n) (short (suc f) n m) ∙ rights-one n m ∙ sym (short (suc f) n m)
+        ap (λ (ds : List ℕ). lastDigits 10 (length ds) n) (short (suc f) n m) ∙ decimal-one n m ∙ sym (short (suc f) n m)
     go false e p =
         let m : 10 ≤ n = ltb-false n 10 e in
-        ap (λ (k : ℕ). rights k n) {x = length (decimalBy (suc f) n)} {y = suc (length (decimalBy f (n / 10)))} (omega (arith, longer f n m))
-        ∙ rights-more (length (decimalBy f (n / 10))) n
+        ap (λ (k : ℕ). lastDigits 10 k n) {x = length (decimalBy (suc f) n)} {y = suc (length (decimalBy f (n / 10)))} (omega (arith, longer f n m))
+        ∙ lastDigits-more 10 (length (decimalBy f (n / 10))) n
         ∙ ap (λ (ds : List ℕ). ds ++ (48 + n % 10) ∷ []) p
         ∙ sym (long f n m)
 
-pub rights-are : (n : ℕ) → n < 2 ^ 64 → rights (length (decimal n)) n ≡ decimal n
+pub decimal-are : (n : ℕ) → n < 2 ^ 64 → lastDigits 10 (length (decimal n)) n ≡ decimal n
 unfolding decimal
-rights-are n l = rights-by 19 n (omega arith)
+decimal-are n l = decimal-by 19 n (omega arith)
+
+-- ---- .. or its bits
+
+pub bits-are : (n m : ℕ) → lastDigits 2 n m ≡ bitBytes n m
+unfolding lastDigits bitBytes
+bits-are zero m = refl
+bits-are (suc n) m = ap (λ (ds : List ℕ). ds ++ (48 + m % 2) ∷ []) (bits-are n (m / 2)) ∙ sym (bits-last n m)
 
 -- ---- writing from the right: i digits, those of m, are to come
 
-pub record Drawn (s₀ : List ℕ) (at k n : ℕ) (s : List ℕ) (m i : ℕ) : Type 0 where
+pub record Drawn (s₀ : List ℕ) (at base k n : ℕ) (s : List ℕ) (m i : ℕ) : Type 0 where
   pub most : i ≤ k
   pub len : length s ≡ length s₀
-  pub left : (j : ℕ) → j < i → getD (rights i m) j 0 ≡ getD (rights k n) j 0
-  pub is : (j : ℕ) → i ≤ j → j < k → getD s (at + j) 0 ≡ getD (rights k n) j 0
+  pub left : (j : ℕ) → j < i → getD (lastDigits base i m) j 0 ≡ getD (lastDigits base k n) j 0
+  pub is : (j : ℕ) → i ≤ j → j < k → getD s (at + j) 0 ≡ getD (lastDigits base k n) j 0
   pub below : (j : ℕ) → j < at → getD s j 0 ≡ getD s₀ j 0
   pub above : (j : ℕ) → at + k ≤ j → getD s j 0 ≡ getD s₀ j 0
 
-module _ (s₀ : List ℕ) (at k n : ℕ) where
-  pub drawn-begin : Drawn s₀ at k n s₀ n k
+module _ (s₀ : List ℕ) (at base k n : ℕ) where
+  pub drawn-begin : Drawn s₀ at base k n s₀ n k
   drawn-begin = record {
     most = omega arith;
     len = refl;
@@ -196,39 +203,39 @@ module _ (s₀ : List ℕ) (at k n : ℕ) where
     above = λ j l. refl;
   }
 
-  drawn-suc : (room : at + k ≤ length s₀) (s : List ℕ) (m i : ℕ) → Drawn s₀ at k n s m (suc i) → Drawn s₀ at k n (set s (at + i) (48 + m % 10)) (m / 10) i
+  drawn-suc : (room : at + k ≤ length s₀) (s : List ℕ) (m i : ℕ) → Drawn s₀ at base k n s m (suc i) → Drawn s₀ at base k n (set s (at + i) (48 + m % base)) (m / base) i
   drawn-suc room s m i v = record {
     most = omega (arith, v .most);
-    len = length-set s (at + i) (48 + m % 10) ∙ v .len;
-    left = λ j l. sym (rights-other i m j l) ∙ v .left j (omega arith);
+    len = length-set s (at + i) (48 + m % base) ∙ v .len;
+    left = λ j l. sym (lastDigits-other base i m j l) ∙ v .left j (omega arith);
     is = λ j l h. go j l h (ltb i j) refl;
-    below = λ j l. getD-set-other s (at + i) j (48 + m % 10) 0 (λ e. omega arith) ∙ v .below j l;
-    above = λ j l. getD-set-other s (at + i) j (48 + m % 10) 0 (λ e. omega (arith, v .most)) ∙ v .above j l;
+    below = λ j l. getD-set-other s (at + i) j (48 + m % base) 0 (λ e. omega arith) ∙ v .below j l;
+    above = λ j l. getD-set-other s (at + i) j (48 + m % base) 0 (λ e. omega (arith, v .most)) ∙ v .above j l;
   }
     where
-      go : (j : ℕ) → i ≤ j → j < k → (b : Bool) → ltb i j ≡ b → getD (set s (at + i) (48 + m % 10)) (at + j) 0 ≡ getD (rights k n) j 0
+      go : (j : ℕ) → i ≤ j → j < k → (b : Bool) → ltb i j ≡ b → getD (set s (at + i) (48 + m % base)) (at + j) 0 ≡ getD (lastDigits base k n) j 0
       go j l h true e =
           let a : i < j = ltb-true i j e in
-          getD-set-other s (at + i) (at + j) (48 + m % 10) 0 (λ e. omega arith) ∙ v .is j (omega arith) h
+          getD-set-other s (at + i) (at + j) (48 + m % base) 0 (λ e. omega arith) ∙ v .is j (omega arith) h
       go j l h false e =
           let a : j ≤ i = ltb-false i j e in
-          ap (λ (x : ℕ). getD (set s (at + i) (48 + m % 10)) (at + x) 0) {x = j} {y = i} (omega arith)
-          ∙ getD-set-same s (at + i) (48 + m % 10) 0 (omega (arith, v .len, v .most))
-          ∙ sym (rights-last i m)
+          ap (λ (x : ℕ). getD (set s (at + i) (48 + m % base)) (at + x) 0) {x = j} {y = i} (omega arith)
+          ∙ getD-set-same s (at + i) (48 + m % base) 0 (omega (arith, v .len, v .most))
+          ∙ sym (lastDigits-last base i m)
           ∙ v .left i (omega arith)
-          ∙ ap (λ (x : ℕ). getD (rights k n) x 0) {x = i} {y = j} (omega arith)
+          ∙ ap (λ (x : ℕ). getD (lastDigits base k n) x 0) {x = i} {y = j} (omega arith)
 
-  pub drawn-again : at + k ≤ length s₀ → (s : List ℕ) (m i : ℕ) → Drawn s₀ at k n s m i → 0 < i → Drawn s₀ at k n (set s (at + (i - 1)) (48 + m % 10)) (m / 10) (i - 1)
-  drawn-again room s m i v h = drawn-suc room s m (i - 1) (subst (λ (x : ℕ). Drawn s₀ at k n s m x) {x = i} {y = suc (i - 1)} (omega arith) v)
+  pub drawn-again : at + k ≤ length s₀ → (s : List ℕ) (m i : ℕ) → Drawn s₀ at base k n s m i → 0 < i → Drawn s₀ at base k n (set s (at + (i - 1)) (48 + m % base)) (m / base) (i - 1)
+  drawn-again room s m i v h = drawn-suc room s m (i - 1) (subst (λ (x : ℕ). Drawn s₀ at base k n s m x) {x = i} {y = suc (i - 1)} (omega arith) v)
 
-  pub drawn-end : at + k ≤ length s₀ → n < 2 ^ 64 → k ≡ length (decimal n) → (s : List ℕ) (m i : ℕ) → Drawn s₀ at k n s m i → i ≤ 0 → Put at (decimal n) (at + k) s₀ s
-  drawn-end room l e s m i v z = record {
-    behind = omega (arith, e);
+  pub drawn-end : at + k ≤ length s₀ → (s : List ℕ) (m i : ℕ) → Drawn s₀ at base k n s m i → i ≤ 0 → Put at (lastDigits base k n) (at + k) s₀ s
+  drawn-end room s m i v z = record {
+    behind = omega (arith, lastDigits-length base k n);
     room = room;
     wrote = record {
       len = v .len;
-      is = λ j h. v .is j (omega arith) (omega (arith, e)) ∙ ap (λ (ds : List ℕ). getD ds j 0) (ap (λ (x : ℕ). rights x n) e ∙ rights-are n l);
+      is = λ j h. v .is j (omega arith) (omega (arith, lastDigits-length base k n));
       below = v .below;
-      above = λ j h. v .above j (omega (arith, e));
+      above = λ j h. v .above j (omega (arith, lastDigits-length base k n));
     };
   }

@@ -3,9 +3,10 @@ ghost use mathlib.Core.Path.{_≡_};
 ghost use mathlib.Core.List.{[], _∷_, _++_};
 ghost use Prim.Native.Nat.{_+_, _≤_, _<_, _^_};
 ghost use lib.ListN.{length};
-ghost use Rattle.book_steps.specs.Text.{decimal};
+ghost use Rattle.book_steps.specs.Text.{bytes, decimal};
 ghost use Rattle.book_steps.specs.Answers as Told;
-ghost use Rattle.book_writer.specs.Contracts.{Put, Answers, verdictOf, pairLine, prunedHead};
+ghost use Rattle.book_steps.specs.Sentence.{wordBytes, wordLength, sentenceLength};
+ghost use Rattle.book_writer.specs.Contracts.{Put, Answers, verdictOf, lastDigits, pairLine, prunedHead, startPart, hopPart, endPart};
 
 // the whole answer stands in the output, up to a place; or it has no room, which is refusal 27
 pub enum Answered {
@@ -44,20 +45,27 @@ pub fn digits(n: u64) -> usize
     k
 }
 
-// digits from the right
+// the last k digits of a number, from the right
+fn put_digits(out: &mut [u8], at: usize, base: u64, k: usize, n: u64) -> usize
+    requires { ⌜ (at + k ≤ length (now out)) × (0 < base) × (base ≤ 10) ⌝ }
+    ensures { λ r. ⌜ Put at (lastDigits base k n) r (now (out .entry)) (now (out .exit)) ⌝ }
+{
+    let mut m = n;
+    let mut i = k;
+    while 0 < i {
+        i -= 1;
+        out[at + i] = (48 + m % base) as u8;
+        m = m / base;
+    }
+    at + k
+}
+
 pub fn put_decimal(out: &mut [u8], at: usize, n: u64) -> usize
     requires { ⌜ at + length (decimal n) ≤ length (now out) ⌝ }
     ensures { λ r. ⌜ Put at (decimal n) r (now (out .entry)) (now (out .exit)) ⌝ }
 {
     let k = digits(n);
-    let mut m = n;
-    let mut i = k;
-    while 0 < i {
-        i -= 1;
-        out[at + i] = (48 + m % 10) as u8;
-        m = m / 10;
-    }
-    at + k
+    put_digits(out, at, 10, k, n)
 }
 
 // a space and a number
@@ -245,4 +253,85 @@ pub fn pair_length(target: u32, number: u64) -> usize
     ensures { λ r. ⌜ (r ≡ length (pairLine target number)) × (r ≤ 47) ⌝ }
 {
     7 + digits(target as u64) + digits(number)
+}
+
+// the answer to `why` for a state that is empty
+pub fn none_answer(out: &mut [u8], at: usize) -> Answered
+    requires { ⌜ at ≤ length (now out) ⌝ }
+    ensures { λ r. ⌜ Answers (Told.say (bytes "none" ∷ [])) at r (now (out .entry)) (now (out .exit)) ⌝ }
+{
+    if out.len() - at < 5 {
+        return Answered::Full;
+    }
+    let end = put(out, at, b"none\n");
+    Answered::At(end)
+}
+
+// a packet's word; packets come as numbers, field 0 the highest bit
+fn put_packet(out: &mut [u8], at: usize, fields: u32, packet: u32) -> usize
+    requires { ⌜ at + wordLength fields ≤ length (now out) ⌝ }
+    ensures { λ r. ⌜ Put at (wordBytes fields packet) r (now (out .entry)) (now (out .exit)) ⌝ }
+{
+    if fields == 0 {
+        return put(out, at, b"-");
+    }
+    put_digits(out, at, 2, fields as usize, packet as u64)
+}
+
+// some bytes and a packet's word
+fn put_behind(out: &mut [u8], at: usize, text: &[u8], fields: u32, packet: u32) -> usize
+    requires { ⌜ at + (length (now text) + wordLength fields) ≤ length (now out) ⌝ }
+    ensures { λ r. ⌜ Put at (now (text .entry) ++ wordBytes fields packet) r (now (out .entry)) (now (out .exit)) ⌝ }
+{
+    let word = put(out, at, text);
+    put_packet(out, word, fields, packet)
+}
+
+// the parts of the sentence of `why`, in their order: the start, each hop, the end
+pub fn put_start(out: &mut [u8], at: usize, fields: u32, packet: u32) -> usize
+    requires { ⌜ at + (5 + wordLength fields) ≤ length (now out) ⌝ }
+    ensures { λ r. ⌜ Put at (startPart fields packet) r (now (out .entry)) (now (out .exit)) ⌝ }
+{
+    put_behind(out, at, b"from ", fields, packet)
+}
+
+// there is room as for the first hop: an end comes behind
+pub fn put_hop(out: &mut [u8], at: usize, fields: u32, first: bool, packet: u32) -> usize
+    requires { ⌜ at + (4 + wordLength fields) ≤ length (now out) ⌝ }
+    ensures { λ r. ⌜ Put at (hopPart fields first packet) r (now (out .entry)) (now (out .exit)) ⌝ }
+{
+    if first {
+        return put_behind(out, at, b" by ", fields, packet);
+    }
+    put_behind(out, at, b" ", fields, packet)
+}
+
+pub fn put_end(out: &mut [u8], at: usize, fields: u32, packet: u32) -> usize
+    requires { ⌜ at + (5 + wordLength fields) ≤ length (now out) ⌝ }
+    ensures { λ r. ⌜ Put at (endPart fields packet) r (now (out .entry)) (now (out .exit)) ⌝ }
+{
+    let end = put_behind(out, at, b" to ", fields, packet);
+    out[end] = 10;
+    end + 1
+}
+
+fn word_length(fields: u32) -> usize
+    ensures { λ r. ⌜ r ≡ wordLength fields ⌝ }
+{
+    if fields == 0 {
+        return 1;
+    }
+    fields as usize
+}
+
+// how long the sentence is: the whole of it has to fit before its first byte is written
+pub fn why_length(fields: u32, hops: usize) -> usize
+    requires { ⌜ (fields ≤ 31) × (hops ≤ 2 ^ 55) ⌝ }
+    ensures { λ r. ⌜ r ≡ sentenceLength fields hops ⌝ }
+{
+    let n = word_length(fields);
+    if hops == 0 {
+        return 10 + 2 * n;
+    }
+    13 + 2 * n + hops * (n + 1)
 }

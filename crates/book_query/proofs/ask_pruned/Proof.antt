@@ -6,7 +6,7 @@ use Rattle.book_query.proofs.ask_pruned.Tie as tie
 use Rattle.book_query.proofs.ask_pruned.Reads as reads
 use Rattle.book_query.proofs.ask_pruned.Lts as lts
 use Rattle.aut_pruned.proofs.delta_pruned.Reads as delta-pruned-reads
-use Rattle.book_query.proofs.pruned_answer.Reads as pruned-answer-reads
+use Rattle.book_pruned.proofs.pruned_answer.Reads as pruned-answer-reads
 
 -- src/lib.rt:229:9
 delta-pruned-requires : tie.Need-delta-pruned-requires

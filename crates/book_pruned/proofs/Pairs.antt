@@ -20,7 +20,7 @@ use Rattle.book_writer.specs.Contracts.{Put, Answers, pairLine, prunedHead}
 use Rattle.book_writer.proofs.Contracts.{put-append, pairs-are}
 use Rattle.book_writer.specs.declared.Answered.{Answered}
 use Rattle.book_writer.specs.declared.Answered.the-variants as answered
-use Rattle.book_query.specs.Contracts.{told, PrePairs, PostNumber, PostLength, PrePut, PostPairs, PostPruned}
+use Rattle.book_pruned.specs.Contracts.{told, PrePairs, PostNumber, PostLength, PrePut, PostPairs, PostPruned}
 
 pub notes-none : {P : Valid} {s : List ℕ} → NotesBehind P s s
 notes-none = record { below = λ i l. refl; notes = notes-refl }

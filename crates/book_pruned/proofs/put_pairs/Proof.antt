@@ -2,13 +2,13 @@ use mathlib.Core.Path.{_∙_}
 use Prim.Native.Nat.{_-_, _*_, _+_}
 use native.Mathlib.Omega.{arith}
 use Rattle.common.specs.Runs.{table}
-use Rattle.book_query.proofs.Pairs as pairs
+use Rattle.book_pruned.proofs.Pairs as pairs
 use borrow.Author.Needs.{needs}
-use Rattle.book_query.proofs.put_pairs.Statement.{statement}
-use Rattle.book_query.proofs.put_pairs.Tie as tie
-use Rattle.book_query.proofs.put_pairs.Reads as reads
-use Rattle.book_query.proofs.put_pairs.Lts as lts
-use Rattle.book_query.proofs.number_at.Reads as number-at-reads
+use Rattle.book_pruned.proofs.put_pairs.Statement.{statement}
+use Rattle.book_pruned.proofs.put_pairs.Tie as tie
+use Rattle.book_pruned.proofs.put_pairs.Reads as reads
+use Rattle.book_pruned.proofs.put_pairs.Lts as lts
+use Rattle.book_pruned.proofs.number_at.Reads as number-at-reads
 use Rattle.book_writer.proofs.pair_line.Reads as pair-line-reads
 
 abbrev Inv-loop : tie.InvT-loop

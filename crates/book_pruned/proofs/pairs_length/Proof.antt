@@ -1,13 +1,13 @@
 use Prim.Native.Nat.{_-_, _*_, _+_}
 use native.Mathlib.Omega.{arith}
 use Rattle.common.specs.Runs.{table}
-use Rattle.book_query.proofs.Pairs as pairs
+use Rattle.book_pruned.proofs.Pairs as pairs
 use borrow.Author.Needs.{needs}
-use Rattle.book_query.proofs.pairs_length.Statement.{statement}
-use Rattle.book_query.proofs.pairs_length.Tie as tie
-use Rattle.book_query.proofs.pairs_length.Reads as reads
-use Rattle.book_query.proofs.pairs_length.Lts as lts
-use Rattle.book_query.proofs.number_at.Reads as number-at-reads
+use Rattle.book_pruned.proofs.pairs_length.Statement.{statement}
+use Rattle.book_pruned.proofs.pairs_length.Tie as tie
+use Rattle.book_pruned.proofs.pairs_length.Reads as reads
+use Rattle.book_pruned.proofs.pairs_length.Lts as lts
+use Rattle.book_pruned.proofs.number_at.Reads as number-at-reads
 use Rattle.book_writer.proofs.pair_length.Reads as pair-length-reads
 
 abbrev Inv-loop : tie.InvT-loop

@@ -1,13 +1,13 @@
 use mathlib.Core.Path.{_∙_}
 use native.Mathlib.Omega.{arith}
-use Rattle.book_query.proofs.Pairs as pairs
+use Rattle.book_pruned.proofs.Pairs as pairs
 use borrow.Author.Needs.{needs}
-use Rattle.book_query.proofs.pruned_answer.Statement.{statement}
-use Rattle.book_query.proofs.pruned_answer.Tie as tie
-use Rattle.book_query.proofs.pruned_answer.Reads as reads
-use Rattle.book_query.proofs.pruned_answer.Lts as lts
-use Rattle.book_query.proofs.pairs_length.Reads as pairs-length-reads
-use Rattle.book_query.proofs.put_pairs.Reads as put-pairs-reads
+use Rattle.book_pruned.proofs.pruned_answer.Statement.{statement}
+use Rattle.book_pruned.proofs.pruned_answer.Tie as tie
+use Rattle.book_pruned.proofs.pruned_answer.Reads as reads
+use Rattle.book_pruned.proofs.pruned_answer.Lts as lts
+use Rattle.book_pruned.proofs.pairs_length.Reads as pairs-length-reads
+use Rattle.book_pruned.proofs.put_pairs.Reads as put-pairs-reads
 use Rattle.book_writer.proofs.head_length.Reads as head-length-reads
 use Rattle.book_writer.proofs.pruned_head.Reads as pruned-head-reads
 

@@ -1,8 +1,8 @@
 use borrow.Author.Needs.{needs}
-use Rattle.book_query.proofs.number_at.Statement.{statement}
-use Rattle.book_query.proofs.number_at.Tie as tie
-use Rattle.book_query.proofs.number_at.Reads as reads
-use Rattle.book_query.proofs.number_at.Lts as lts
+use Rattle.book_pruned.proofs.number_at.Statement.{statement}
+use Rattle.book_pruned.proofs.number_at.Tie as tie
+use Rattle.book_pruned.proofs.number_at.Reads as reads
+use Rattle.book_pruned.proofs.number_at.Lts as lts
 use Rattle.aut_sets.proofs.pair_count.Reads as pair-count-reads
 
 -- src/lib.rt:137:34

@@ -1,0 +1,2 @@
+pub mod Picking
+pub mod Writing
