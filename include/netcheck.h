@@ -17,7 +17,7 @@
  *  - each pointer leads to as many elements as its length says, aligned for the element, and stays valid during the call;
  *  - no two of the eight lent slices overlap each other or the book;
  *  - a slice of length 0 may have any pointer, also NULL;
- *  - enough stack: NETCHECK_STACK_BYTES. Measured, not proved: 27,512 bytes for the deepest books (nesting 256, 31 fields; tools/deep). It follows
+ *  - enough stack: NETCHECK_STACK_BYTES. Measured, not proved: 27,752 bytes for the deepest books (nesting 256, 31 fields; tools/deep). It follows
  *    the number of fields; it does not grow with the nesting of a rule or the book's length.
  *
  * What a caller gets: one book with one set of lent lengths has one outcome. Every table is zeroed first; answered, pending and scratch are zero at the

@@ -1,11 +1,12 @@
 //! The child module that aut.rs declares. This file is the oracle's own: as a child of `aut` it reaches what is private
-//! there. It adds no step to the Rust's functions except `q_search`, which is `is_empty`'s loop with a budget and a count.
+//! there. It adds no step to the Rust's functions except `q_search`, which is `is_empty`'s loop with a budget and a count,
+//! and `q_why`, which is 02 (i) with the Rust's `bwd`, `pull` and `union`.
 
 use super::{AExpr, Aut, State};
 use crate::machine::{Finished, Record, Verdict};
 use crate::sp::SP;
 use crate::spp::SPP;
-use std::collections::HashSet;
+use std::collections::{HashMap, HashSet};
 
 // Names that aut.rs re-exports; the oracle has no use for them.
 pub struct PreparedQuery;
@@ -67,21 +68,85 @@ impl Aut {
     pub fn q_live(&mut self, state: State, finished: &mut Finished) -> SP {
         let stored = self.live_cache.contains_key(&state);
         let live = self.live_packets(state);
-        if !stored {
-            // The walk of live_packets again, over the lists now stored.
-            let mut states = vec![state];
-            let mut met: HashSet<State> = states.iter().copied().collect();
-            let mut head = 0;
-            while head < states.len() {
-                let state = states[head];
-                head += 1;
-                self.q_finish(state, finished);
-                for (&target, _) in &self.delta_map[&state].transitions {
-                    if met.insert(target) { states.push(target); }
-                }
+        if !stored { self.q_walk(state, finished); }
+        live
+    }
+
+    /// The walk of live_packets again, over the lists now stored: the states in the order of their visits.
+    fn q_walk(&self, state: State, finished: &mut Finished) -> Vec<State> {
+        let mut states = vec![state];
+        let mut met: HashSet<State> = states.iter().copied().collect();
+        let mut head = 0;
+        while head < states.len() {
+            let state = states[head];
+            head += 1;
+            self.q_finish(state, finished);
+            for (&target, _) in &self.delta_map[&state].transitions {
+                if met.insert(target) { states.push(target); }
             }
         }
-        live
+        states
+    }
+
+    /// 02 (i): the rounds until none changes, and the string that is picked: start, hops, end, as numbers.
+    pub fn q_why(&mut self, x: State, fields: u32, finished: &mut Finished) -> Option<Vec<u32>> {
+        self.live_cache.remove(&x);
+        self.live_packets(x);
+        let states = self.q_walk(x, finished);
+        let mut epsilons = HashMap::new();
+        for &s in &states { epsilons.insert(s, self.epsilon(s)); }
+        let mut rounds: Vec<HashMap<State, SP>> = vec![HashMap::new()];
+        for &s in &states {
+            let ends = self.spp.bwd(epsilons[&s]);
+            rounds[0].insert(s, ends);
+        }
+        loop {
+            let before = rounds.last().unwrap().clone();
+            let mut now = HashMap::new();
+            for &s in &states {
+                let mut u = self.spp.bwd(epsilons[&s]);
+                for (t, l) in self.q_stored_list(s).unwrap() {
+                    let p = self.spp.pull(l, before[&t]);
+                    u = self.spp.sp.union(u, p);
+                }
+                now.insert(s, u);
+            }
+            if now == before { break; }
+            rounds.push(now);
+        }
+        let zero = self.spp.sp.zero;
+        let fewest = rounds.iter().position(|w| w[&x] != zero)?;
+        let all = self.spp.top;
+        let one = self.spp.sp.one;
+        let mut p = self.q_least(fields, 0, rounds[fewest][&x], all, &mut HashMap::new()).unwrap();
+        let mut string = vec![p];
+        let mut s = x;
+        for k in (0..fewest).rev() {
+            let mut best: Option<(u32, State)> = None;
+            for (t, l) in self.q_stored_list(s).unwrap() {
+                if let Some(h) = self.q_least(fields, p, rounds[k][&t], l, &mut HashMap::new()) {
+                    if best.map_or(true, |(b, _)| h < b) { best = Some((h, t)); }
+                }
+            }
+            (p, s) = best.expect("a set holds starts of strings only");
+            string.push(p);
+        }
+        string.push(self.q_least(fields, p, one, epsilons[&s], &mut HashMap::new()).unwrap());
+        Some(string)
+    }
+
+    /// The least packet of a set to which a relation leads the packet p.
+    fn q_least(&self, depth: u32, p: u32, set: SP, r: SPP, known: &mut HashMap<(u32, u32), Option<u32>>) -> Option<u32> {
+        if depth == 0 { return if set.0 == 1 && r.0 == 1 { Some(0) } else { None }; }
+        if let Some(&least) = known.get(&(set.0, r.0)) { return least; }
+        let half = 1 << (depth - 1);
+        let (n, m) = (self.spp.sp.get(set), self.spp.get(r));
+        let (to0, to1) = if p & half == 0 { (m.x00, m.x01) } else { (m.x10, m.x11) };
+        let least = self
+            .q_least(depth - 1, p & (half - 1), n.x0, to0, known)
+            .or_else(|| self.q_least(depth - 1, p & (half - 1), n.x1, to1, known).map(|h| h + half));
+        known.insert((set.0, r.0), least);
+        least
     }
 
     /// `delta_pruned`, its list in ascending order of target.

@@ -29,7 +29,7 @@ impl From<Refusal> for Stop {
 
 /// 01's output, line for line, to `out`; the tables as they stand at the end.
 pub fn exact(text: &[u8], out: &mut dyn FnMut(&str)) -> Result<katch2_ordered::machine::Machine, Stop> {
-    use katch2_ordered::machine::{share, Machine, Measure, Step};
+    use katch2_ordered::machine::{sentence, share, Machine, Measure, Step};
     let mut reader = Reader::new(text)?;
     let mut machine = Machine::new(reader.fields, reader.budget);
     let mut measure = Measure::default();
@@ -52,6 +52,7 @@ pub fn exact(text: &[u8], out: &mut dyn FnMut(&str)) -> Result<katch2_ordered::m
                 }
                 out(&text);
             }
+            Step::Why(string) => out(&sentence(&string, reader.fields)),
         }
     }
     Ok(machine)
@@ -61,7 +62,7 @@ pub fn exact(text: &[u8], out: &mut dyn FnMut(&str)) -> Result<katch2_ordered::m
 /// `empty line verdict`, `live line packets share key`, and for `pruned line count` a line `pair pairs key` for each label,
 /// sorted, and `all pairs key` for the union of the labels.
 pub fn plain(text: &[u8], out: &mut dyn FnMut(&str)) -> Result<katch2::machine::Machine, Stop> {
-    use katch2::machine::{share, Machine, Measure, Step};
+    use katch2::machine::{sentence, share, Machine, Measure, Step};
     let mut reader = Reader::new(text)?;
     let mut machine = Machine::new(reader.fields, reader.budget);
     let mut measure = Measure::default();
@@ -88,6 +89,7 @@ pub fn plain(text: &[u8], out: &mut dyn FnMut(&str)) -> Result<katch2::machine::
                     writeln!(text, "all {pairs} {key:032x}").unwrap();
                     out(&text);
                 }
+                Step::Why(string) => out(&sentence(&string, reader.fields)),
             }
         }
         if machine.new_nesting() > NESTING { return Err(Stop::Nesting(reader.line())); }

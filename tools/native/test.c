@@ -38,8 +38,8 @@ static void expect(struct netcheck_outcome r, uint32_t number, uint32_t line, co
 
 int main(void)
 {
-    const char *book = "fields 1 budget 10\ntest 0 1\ndup\nseq 0 1\nempty 2\nlive 2\npruned 2\n";
-    expect(run(book, usual, 4096), NETCHECK_ANSWERED, 0, "fields 1\nempty 2 no 2\nlive 2 1 500\npruned 2 1\npair 3 1\n");
+    const char *book = "fields 1 budget 10\ntest 0 1\ndup\nseq 0 1\nempty 2\nlive 2\npruned 2\nwhy 2\n";
+    expect(run(book, usual, 4096), NETCHECK_ANSWERED, 0, "fields 1\nempty 2 no 2\nlive 2 1 500\npruned 2 1\npair 3 1\nfrom 1 by 1 to 1\n");
     /* this book ends with 5 states */
     assert(tables[2][8 + 4 * NETCHECK_STATE_WORDS] != 0 && tables[2][8 + 5 * NETCHECK_STATE_WORDS] == 0);
     expect(run("fields 1 budget 10\ndup\nempty 0\nor 0 1\n", usual, 4096), NETCHECK_NAMED, 4, "fields 1\nempty 0 no 2\n");

@@ -33,11 +33,12 @@ pub enum Instruction {
     Empty(usize),
     Live(usize),
     Pruned(usize),
+    Why(usize),
 }
 
 impl Instruction {
     pub fn is_query(&self) -> bool {
-        matches!(self, Instruction::Empty(_) | Instruction::Live(_) | Instruction::Pruned(_))
+        matches!(self, Instruction::Empty(_) | Instruction::Live(_) | Instruction::Pruned(_) | Instruction::Why(_))
     }
 }
 
@@ -96,7 +97,7 @@ impl<'a> Reader<'a> {
         let any = |_: usize| true;
         let form: &dyn Fn(usize) -> bool = match words[0] {
             b"zero" | b"one" | b"all" | b"dup" | b"top" => &|n| n == 0,
-            b"not" | b"star" | b"empty" | b"live" | b"pruned" => &|n| n == 1,
+            b"not" | b"star" | b"empty" | b"live" | b"pruned" | b"why" => &|n| n == 1,
             b"test" | b"set" | b"or" | b"and" | b"xor" | b"minus" | b"seq" | b"until" => &|n| n == 2,
             b"union" | b"inter" => &any,
             _ => return Err(refuse(3)),
@@ -133,6 +134,7 @@ impl<'a> Reader<'a> {
             b"empty" => Empty(at(0)),
             b"live" => Live(at(0)),
             b"pruned" => Pruned(at(0)),
+            b"why" => Why(at(0)),
             _ => unreachable!(),
         };
         self.rest = rest;
