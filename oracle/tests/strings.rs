@@ -103,7 +103,7 @@ fn language(space: &Space, fields: u32, lines: &[Option<Language>], i: &Instruct
         Seq(a, b) => space.join(at(a), at(b)),
         Star(a) => space.star(at(a)),
         Until(a, b) => space.until(at(a), at(b)),
-        Empty(_) | Live(_) | Pruned(_) => return None,
+        Empty(_) | Live(_) | Pruned(_) | Why(_) => return None,
     })
 }
 
@@ -270,7 +270,8 @@ macro_rules! check {
                     let none = !sets[&state].contains(&true);
                     // Before live sets are stored, and by both loops.
                     assert_eq!(m.aut.is_empty(state), none, "{text}\nline {n}");
-                    for wanted in [&Instruction::Empty(n), &Instruction::Live(n), &Instruction::Pruned(n), &Instruction::Empty(n)] {
+                    use Instruction::{Empty, Live, Pruned, Why};
+                    for wanted in [&Empty(n), &Why(n), &Live(n), &Pruned(n), &Empty(n), &Why(n)] {
                         match m.step(wanted) {
                             Step::Made(_) => unreachable!(),
                             Step::Empty(_, verdict, count) => {
@@ -302,6 +303,20 @@ macro_rules! check {
                                     }
                                 }
                                 assert_eq!(list.iter().map(|(t, _)| *t).collect::<HashSet<_>>(), left, "{text}\nline {n}");
+                            }
+                            Step::Why(got) => {
+                                // The fewest hops, then start, hops and end as numbers.
+                                let strings = space.list.iter().zip(lines[n].as_ref().unwrap()).filter(|(_, &inside)| inside);
+                                match strings.map(|(string, _)| string).min_by_key(|string| (string.len(), string.to_vec())) {
+                                    Some(string) => {
+                                        let wanted = string.iter().map(|&p| p as u32).collect();
+                                        assert_eq!(got, Some(wanted), "{text}\nline {n}");
+                                    }
+                                    None => match got {
+                                        Some(string) => assert!(string.len() > HOPS + 2 && !none, "{text}\nline {n}"),
+                                        None => assert!(none, "{text}\nline {n}"),
+                                    },
+                                }
                             }
                         }
                     }
