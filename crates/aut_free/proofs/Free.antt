@@ -21,6 +21,7 @@ use Rattle.aut_query_steps.specs.Live.{keepIn, keepLives}
 use Rattle.aut_free.proofs.Alike.{Framed, AlikeWords, AlikeAut, AlikeStore, AlikeRuns, stops, comes}
 use Rattle.aut_free.specs.Clear.{inAut, inStore, inTables, clear, clearTables}
 use Rattle.aut_free.proofs.Clear.{cleared, Beyond, writing, clearAut, clearStore, AtRest}
+use Rattle.aut_free.proofs.Twin.{by-twins}
 use Rattle.aut_free.proofs.Constructors.{make-free}
 use Rattle.aut_free.proofs.Deltas.{epsilon-alike, on-aut, listAt-same, delta-alike}
 use Rattle.aut_free.proofs.Clearing.{same-words, clear-kept, clear-rest, clear-set, clear-live, clear-beyond, writing-beyond}
@@ -67,7 +68,7 @@ module _ {φ : List ℕ → List ℕ} (b : Beyond φ) where
   -- ---- constructors, epsilon and delta
 
   pub make-beyond : (N : ℕ) (L : Limits) (l : Line ℕ) (σ : Aut) → make N L l (inAut φ σ) ≡ cleared (inAut φ) (make N L l σ)
-  make-beyond N L l σ = runs-aut (make-free N L l σ (inAut φ σ) (changed-aut σ))
+  make-beyond N L l σ = runs-aut (by-twins (λ h k. make-free N L l) σ (inAut φ σ) (changed-aut σ))
 
   pub epsilon-beyond : (N x : ℕ) (σ : Aut) → epsilon N x (inAut φ σ) ≡ cleared (inAut φ) (epsilon N x σ)
   epsilon-beyond N x σ = runs-aut (epsilon-alike N x σ (inAut φ σ) (changed-aut σ))
@@ -94,7 +95,7 @@ same-aut σ = record {
 }
 
 pub make-framed : (N : ℕ) (L : Limits) (l : Line ℕ) (σ τ : Aut) (a : ℕ) → make N L l σ ≡ given τ a → Framed (σ .states .words) (τ .states .words)
-make-framed N L l σ τ a e = came-aut (subst (λ (o : Outcome Aut ℕ). AlikeRuns (AlikeAut (σ .states .words) (σ .states .words)) o (make N L l σ)) e (make-free N L l σ σ (same-aut σ)))
+make-framed N L l σ τ a e = came-aut (subst (λ (o : Outcome Aut ℕ). AlikeRuns (AlikeAut (σ .states .words) (σ .states .words)) o (make N L l σ)) e (by-twins (λ h k. make-free N L l) σ σ (same-aut σ)))
 
 pub epsilon-framed : (N x : ℕ) (σ τ : Aut) (a : ℕ) → epsilon N x σ ≡ given τ a → Framed (σ .states .words) (τ .states .words)
 epsilon-framed N x σ τ a e = came-aut (subst (λ (o : Outcome Aut ℕ). AlikeRuns (AlikeAut (σ .states .words) (σ .states .words)) o (epsilon N x σ)) e (epsilon-alike N x σ σ (same-aut σ)))

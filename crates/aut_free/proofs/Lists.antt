@@ -1,16 +1,19 @@
--- The operations on transition lists (netkat's ListSteps) have alike runs if what they call has: said once for all stores and relations, then for the operations of the tables.
-use mathlib.Core.List.{List, [], _∷_}
+-- The operations on transition lists (netkat's ListSteps) have alike runs if what they call has: said once for all stores and relations, then for the operations of the tables; and so what delta puts together.
+use mathlib.Core.List.{List, [], _∷_, map}
 use Prim.Native.Nat.{ℕ}
 use lib.Dec.{eqb, ltb}
 use lib.ListN.{length}
 use Rattle.common.specs.Outcome.{Step}
 use Rattle.netkat_steps.specs.ListSteps.{Edge, edge, Operations, leadsTo, unite, enter, enterIn, place, st-singleton, split, insert, insertEach, insertPairs, st-union, st-intersect, Summed, subtractRow, subtractRows, st-difference, st-xor, coverAll, st-complement, st-postcompose, st-precompose, st-intersect-expr}
 use Rattle.aut_steps.specs.Relations as Rel
-use Rattle.aut_steps.specs.Tables.{Limits}
+use Rattle.aut_steps.specs.Tables.{SPP, UNION, INTERSECT, XOR, DIFFERENCE, COMPLEMENT, SEQUENCE, STAR, DUP, NEXT, UNTIL, Limits}
 use Rattle.aut_st_steps.specs.Operations.{ops, complement}
-use Rattle.aut_free.proofs.Alike.{AlikeAut, stops, Respects}
+use Rattle.aut_delta_steps.specs.Delta.{unionAll, intersectAll, intersectFirst, sequenceList, starList, untilList, dupList, topList}
+use Rattle.aut_delta_steps.specs.DeltaReads.{togetherWith}
+use Rattle.aut_free.proofs.Alike.{stops, Respects}
+use Rattle.aut_free.proofs.Twin.{TwinAut}
 use Rattle.aut_free.proofs.Runs.{returns, test, bind}
-use Rattle.aut_free.proofs.Constructors.{on-nodes, on-states, mk-spp-free, mk-top-free, mk-union-free, mk-intersect-free, mk-difference-free, mk-complement-free, mk-sequence-free}
+use Rattle.aut_free.proofs.Constructors.{on-nodes, on-states, mk-spp-free, mk-top-free, mk-until-free, mk-union-free, mk-intersect-free, mk-difference-free, mk-complement-free, mk-sequence-free}
 
 -- each of the operations has alike runs
 pub record AllRespect (𝓞 : Operations) (R : 𝓞 .Store → 𝓞 .Store → Type 0) : Type 0 where
@@ -118,9 +121,9 @@ module _ {𝓞 : Operations} {R : 𝓞 .Store → 𝓞 .Store → Type 0} (h : A
   unfolding st-intersect-expr
   st-intersect-expr-free ts e = insertEach-free (λ t. bind (h .mkIntersect (t .target) e) (λ x. returns (edge x (t .label)))) ts []
 
--- ---- the operations of the tables
+-- ---- the operations of the tables, on twins
 
-pub ops-respect : {f g : List ℕ} (N : ℕ) (L : Limits) → AllRespect (ops N L) (AlikeAut f g)
+pub ops-respect : {f g : List ℕ} (N : ℕ) (L : Limits) → AllRespect (ops N L) (TwinAut f g)
 ops-respect N L = record {
   union = λ l m. on-nodes (Rel.union N l m);
   intersect = λ l m. on-nodes (Rel.intersect N l m);
@@ -135,3 +138,56 @@ ops-respect N L = record {
   mkTop = on-states mk-top-free;
   mkZero = on-states (mk-spp-free (Rel.zeroAt N));
 }
+
+-- ---- what delta puts together of the operands' lists
+
+module _ {f g : List ℕ} (N : ℕ) (L : Limits) where
+  pub unionAll-free : (ess : List (List Edge)) (es : List Edge) → Respects (TwinAut f g) (unionAll N L ess es)
+  unfolding unionAll
+  unionAll-free [] es = returns es
+  unionAll-free (us ∷ ess) es = bind (st-union-free (ops-respect N L) es us) (unionAll-free ess)
+
+  intersectAll-free : (ess : List (List Edge)) (es : List Edge) → Respects (TwinAut f g) (intersectAll N L ess es)
+  unfolding intersectAll
+  intersectAll-free [] es = returns es
+  intersectAll-free (us ∷ ess) es = bind (st-intersect-free (ops-respect N L) es us) (intersectAll-free ess)
+
+  pub intersectFirst-free : (ess : List (List Edge)) → Respects (TwinAut f g) (intersectFirst N L ess)
+  intersectFirst-free [] = returns []
+  intersectFirst-free (es ∷ ess) = intersectAll-free ess es
+
+  pub sequenceList-free : (y ε : ℕ) (ts us : List Edge) → Respects (TwinAut f g) (sequenceList N L y ε ts us)
+  unfolding sequenceList
+  sequenceList-free y ε ts us = bind (st-postcompose-free (ops-respect N L) ts y) (λ late. bind (st-precompose-free (ops-respect N L) ε us) (λ early. st-union-free (ops-respect N L) late early))
+
+  pub starList-free : (x ε* : ℕ) (ts : List Edge) → Respects (TwinAut f g) (starList N L x ε* ts)
+  unfolding starList
+  starList-free x ε* ts = bind (st-postcompose-free (ops-respect N L) ts x) (λ late. st-precompose-free (ops-respect N L) ε* late)
+
+  pub untilList-free : (a b : ℕ) (ts us : List Edge) → Respects (TwinAut f g) (untilList N L a b ts us)
+  unfolding untilList
+  untilList-free a b ts us = bind (on-states (mk-until-free L a b)) (λ u. bind (st-intersect-expr-free (ops-respect N L) ts u) (λ met. st-union-free (ops-respect N L) us met))
+
+  pub dupList-free : Respects (TwinAut f g) (dupList N L)
+  unfolding dupList
+  dupList-free = bind (on-states (mk-spp-free (Rel.oneAt N))) (st-singleton-free (ops-respect N L) (Rel.oneAt N))
+
+  pub topList-free : Respects (TwinAut f g) (topList N L)
+  unfolding topList
+  topList-free = bind (on-states mk-top-free) (st-singleton-free (ops-respect N L) (Rel.topAt N))
+
+  pub together-free : (v : ℕ → List Edge) (e k x : ℕ) (ys : List ℕ) (a b : ℕ) → Respects (TwinAut f g) (togetherWith N L v e k x ys a b)
+  unfolding togetherWith
+  together-free v e k x ys a b =
+      test (eqb k SPP) (returns [])
+      (test (eqb k UNION) (unionAll-free (map v ys) [])
+      (test (eqb k INTERSECT) (intersectFirst-free (map v ys))
+      (test (eqb k XOR) (st-xor-free (ops-respect N L) (v a) (v b))
+      (test (eqb k DIFFERENCE) (st-difference-free (ops-respect N L) (v a) (v b))
+      (test (eqb k COMPLEMENT) (st-complement-free (ops-respect N L) (v a))
+      (test (eqb k SEQUENCE) (sequenceList-free b e (v a) (v b))
+      (test (eqb k STAR) (bind (on-nodes (Rel.star N e)) (λ h. starList-free x h (v a)))
+      (test (eqb k DUP) dupList-free
+      (test (eqb k NEXT) (st-singleton-free (ops-respect N L) (Rel.topAt N) a)
+      (test (eqb k UNTIL) (untilList-free a b (v a) (v b))
+      topList-free))))))))))

@@ -19,6 +19,10 @@ pub alike-placed : {S B A : Type 0} {R : S → S → Type 0} {Q : B → B → Ty
 alike-placed put β γ stops f = stops
 alike-placed put β γ (comes {σ} {τ} r) f = comes (f σ τ r)
 
+pub alike-wider : {S A : Type 0} {R Q : S → S → Type 0} {o p : Outcome S A} → AlikeRuns R o p → ((s t : S) → R s t → Q s t) → AlikeRuns Q o p
+alike-wider stops f = stops
+alike-wider (comes {σ} {τ} r) f = comes (f σ τ r)
+
 module _ {S A : Type 0} {R : S → S → Type 0} where
   pub alike-given : {σ τ : S} {a b : A} → R σ τ → a ≡ b → AlikeRuns R (given σ a) (given τ b)
   alike-given {σ} {τ} {a} r e = subst (λ (c : A). AlikeRuns R (given σ a) (given τ c)) e (comes r)
