@@ -12,6 +12,7 @@ pub mod Header  -- a header's numbers are below 2^64
 pub mod Printed  -- what an answer's bytes tell
 pub mod Lines  -- a line
 pub mod Runs  -- a run
+pub mod Finished  -- run, then finished, is the outcome
 pub mod Claim  -- a book, and the public entry
 pub mod Netcheck  -- the program
 pub mod Examples  -- lines read, computed

@@ -196,3 +196,35 @@ module _ (lent : Lent) where
   -- the outcome of a book
   unfoldable pub outcome : List ℕ → Result
   outcome book = if ltb (lent .scratch) 6144 then refusal 26 0 [] else opened (cut book)
+
+-- ---- a run, not yet finished
+
+-- the place at the end, with its setting; or a number, a text line, and the output of the lines before
+pub data Came : Type 0 where
+  came : Setting → RunState → Came
+  failed : (number line : ℕ) → List ℕ → Came
+
+abbrev pub cameOf : (S : Setting) → Ran S → Came
+cameOf S (answered p) = came S p
+cameOf S (stopped e k out) = failed e k out
+
+module _ (lent : Lent) where
+  abbrev pub startedBook : Header → List ℕ → Outcome RunState ℕ → Came
+  startedBook h text (refused e) = failed e 1 []
+  startedBook h text (given p x) = cameOf (settingOf lent h) (run (settingOf lent h) instructions text 2 p)
+
+  abbrev pub headedBook : Option Header → List ℕ → Came
+  headedBook none text = failed 1 1 []
+  headedBook (some h) text = startedBook h text (begin lent h)
+
+  abbrev pub openedBook : Cut → Came
+  openedBook unended = failed 1 1 []
+  openedBook (line l rest) = headedBook (header (words l)) rest
+
+  -- a book; finished, it is its outcome (proofs/Finished)
+  unfoldable pub ranBook : List ℕ → Came
+  ranBook book = if ltb (lent .scratch) 6144 then failed 26 0 [] else openedBook (cut book)
+
+  abbrev pub finished : Came → Result
+  finished (came S p) = success lent p
+  finished (failed e k out) = refusal lent e k out
