@@ -40,9 +40,9 @@ use Rattle.book_writer.specs.Contracts.{Put, Answers}
 use Rattle.book_writer.proofs.Contracts.{put-take}
 use Rattle.book_writer.specs.declared.Answered.{Answered}
 use Rattle.book_writer.specs.declared.Answered.the-variants as answered
-use Rattle.book_line.specs.declared.Place.{Place}
-use Rattle.book_line.specs.Contracts.{WORK, work, linesOf, tablesAt, Standing}
-use Rattle.book_line.proofs.Scratch.{line-beyond}
+use Rattle.book_place.specs.declared.Place.{Place}
+use Rattle.book_place.specs.Contracts.{WORK, work, linesOf, tablesAt, Standing}
+use Rattle.book_place.proofs.Scratch.{line-beyond}
 use Rattle.book_begin.specs.declared.Header.{Header}
 use Rattle.book_begin.specs.declared.Begun.the-variants as begun
 use Rattle.book_begin.specs.Contracts.{headerOf, limits, settingFor, PreBegin, fresh, PostBegin}
@@ -50,7 +50,7 @@ use Rattle.book_begin.proofs.Zero.{zeros}
 
 -- ---- an empty cache
 
-readable-zero : (N : ℕ) (σ : Tables) → Readable N σ 0 0 0 0
+pub readable-zero : (N : ℕ) (σ : Tables) → Readable N σ 0 0 0 0
 readable-zero N σ = record {
   relations = λ l h. absurd (omega arith);
   images = record { sets = valid-not (λ c. ⊎-elim (λ e. omega arith) (λ e. omega arith) (code-range c)); images = λ l h. absurd (omega arith) };

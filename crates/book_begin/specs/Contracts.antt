@@ -9,9 +9,9 @@ use Rattle.book_steps.specs.Run as Run
 use Rattle.book_steps.specs.Run.{Lent, zeroed}
 use Rattle.aut_states.specs.declared.Limits.{Limits}
 use Rattle.aut_relations.specs.Behind.{LISTS}
-use Rattle.book_query.specs.declared.Setting.{Setting}
-use Rattle.book_line.specs.declared.Place.{Place}
-use Rattle.book_line.specs.Contracts.{WORK, Memory, memory, placeOf, Standing}
+use Rattle.book_place.specs.declared.Setting.{Setting}
+use Rattle.book_place.specs.declared.Place.{Place}
+use Rattle.book_place.specs.Contracts.{WORK, Memory, memory, placeOf, Standing}
 use Rattle.book_begin.specs.declared.Header.{Header}
 use Rattle.book_begin.specs.declared.Begun.{Begun}
 use Rattle.book_begin.specs.declared.Begun.the-variants as begun

@@ -2,8 +2,8 @@
 use aut_states::Config;
 use aut_states::Counts;
 use aut_states::Limits;
-use book_line::Place;
-use book_query::Setting;
+use book_place::Place;
+use book_place::Setting;
 use book_writer::Answered;
 ghost use mathlib.Core.Path.{_≡_};
 ghost use lib.ListN.{length};

@@ -1,10 +1,8 @@
-// The queries of a book: each does its step and writes its answer, whole or not at all. The lists that the steps leave and the cache lie in scratch.
+// The queries of a book: `empty`, which does its step and writes its answer, whole or not at all, and all four by name (the others: book_ask).
 use aut_empty::Searched;
-use aut_live::Lived;
-use aut_pruned::Pruned;
-use aut_states::Config;
 use aut_states::Counts;
-use aut_why_rounds::Whys;
+use book_ask::Asked;
+use book_place::Setting;
 use book_reader::Query;
 use book_writer::Answered;
 ghost use mathlib.Core.Path.{_≡_};
@@ -13,19 +11,7 @@ ghost use Rattle.aut_query_stage.specs.Layer.{tablesOf};
 ghost use Rattle.book_reader.specs.Contracts.{queryOf};
 ghost use Rattle.aut_empty.specs.Contracts as Empty;
 ghost use Rattle.book_writer.specs.Contracts as Writer;
-ghost use Rattle.book_query.specs.Contracts.{PreAsk, PostAsk, PostWhy};
-
-// what holds for the whole book
-pub struct Setting {
-    pub config: Config,
-    pub budget: u64,
-}
-
-// the records in use, and the place behind the answer in the output; or 01's number
-pub enum Asked {
-    Told(Counts, usize),
-    Refused(u32),
-}
+ghost use Rattle.book_ask.specs.Contracts.{PreAsk, PostAsk};
 
 fn verdict_of(v: aut_empty::Verdict) -> book_writer::Verdict
     ensures { λ r. ⌜ Writer.verdictOf r ≡ Empty.verdictOf v ⌝ }
@@ -87,173 +73,6 @@ pub fn ask_empty(
     }
 }
 
-pub fn ask_live(
-    sp: &mut [u32],
-    nodes: &mut [u32],
-    states: &mut [u32],
-    members: &mut [u32],
-    transitions: &mut [u32],
-    pending: &mut [u32],
-    scratch: &mut [u32],
-    output: &mut [u8],
-    c: Counts,
-    setting: Setting,
-    at: usize,
-    name: &[u8],
-    x: u32,
-) -> Asked
-    requires { ⌜ PreAsk setting (tablesOf (now sp) (now nodes) (now states) (now members) (now transitions) c)
-        (now scratch) (now pending) (now output) at x ⌝ }
-    ensures { λ r. ⌜ PostAsk setting Reader.live at (now (name .entry)) x
-        (tablesOf (now (sp .entry)) (now (nodes .entry)) (now (states .entry)) (now (members .entry))
-        (now (transitions .entry)) c) r
-        (tablesOf (now (sp .exit)) (now (nodes .exit)) (now (states .exit)) (now (members .exit))
-        (now (transitions .exit))) (now (scratch .exit)) (now (pending .entry)) (now (pending .exit))
-        (now (output .entry)) (now (output .exit)) ⌝ }
-{
-    let config = setting.config;
-    let fields = config.fields;
-    let lived = aut_live::live_packets(
-        sp,
-        nodes,
-        states,
-        members,
-        transitions,
-        pending,
-        scratch,
-        c,
-        config,
-        x,
-    );
-    match lived {
-        Lived::Refused(e) => Asked::Refused(e),
-        Lived::Live(h, d) => {
-            let k = aut_sets::set_size(sp, scratch, d, fields, h);
-            let told = book_writer::live_answer(output, at, name, k, fields);
-            match told {
-                Answered::Full => Asked::Refused(27),
-                Answered::At(end) => Asked::Told(d, end),
-            }
-        }
-    }
-}
-
-pub fn ask_pruned(
-    sp: &mut [u32],
-    nodes: &mut [u32],
-    states: &mut [u32],
-    members: &mut [u32],
-    transitions: &mut [u32],
-    pending: &mut [u32],
-    scratch: &mut [u32],
-    output: &mut [u8],
-    c: Counts,
-    setting: Setting,
-    at: usize,
-    name: &[u8],
-    x: u32,
-) -> Asked
-    requires { ⌜ PreAsk setting (tablesOf (now sp) (now nodes) (now states) (now members) (now transitions) c)
-        (now scratch) (now pending) (now output) at x ⌝ }
-    ensures { λ r. ⌜ PostAsk setting Reader.pruned at (now (name .entry)) x
-        (tablesOf (now (sp .entry)) (now (nodes .entry)) (now (states .entry)) (now (members .entry))
-        (now (transitions .entry)) c) r
-        (tablesOf (now (sp .exit)) (now (nodes .exit)) (now (states .exit)) (now (members .exit))
-        (now (transitions .exit))) (now (scratch .exit)) (now (pending .entry)) (now (pending .exit))
-        (now (output .entry)) (now (output .exit)) ⌝ }
-{
-    let config = setting.config;
-    let fields = config.fields;
-    let pruned = aut_pruned::delta_pruned(
-        sp,
-        nodes,
-        states,
-        members,
-        transitions,
-        pending,
-        scratch,
-        c,
-        config,
-        x,
-    );
-    match pruned {
-        Pruned::Refused(e) => Asked::Refused(e),
-        Pruned::List(d, m) => {
-            let told = book_pruned::pruned_answer(nodes, scratch, output, d, fields, at, name, m);
-            match told {
-                Answered::Full => Asked::Refused(27),
-                Answered::At(end) => Asked::Told(d, end),
-            }
-        }
-    }
-}
-
-// the answer does not print the name of the line
-pub fn ask_why(
-    sp: &mut [u32],
-    nodes: &mut [u32],
-    states: &mut [u32],
-    members: &mut [u32],
-    transitions: &mut [u32],
-    pending: &mut [u32],
-    scratch: &mut [u32],
-    output: &mut [u8],
-    c: Counts,
-    setting: Setting,
-    at: usize,
-    x: u32,
-) -> Asked
-    requires { ⌜ PreAsk setting (tablesOf (now sp) (now nodes) (now states) (now members) (now transitions) c)
-        (now scratch) (now pending) (now output) at x ⌝ }
-    ensures { λ r. ⌜ PostWhy setting at x
-        (tablesOf (now (sp .entry)) (now (nodes .entry)) (now (states .entry)) (now (members .entry))
-        (now (transitions .entry)) c) r
-        (tablesOf (now (sp .exit)) (now (nodes .exit)) (now (states .exit)) (now (members .exit))
-        (now (transitions .exit))) (now (scratch .exit)) (now (pending .entry)) (now (pending .exit))
-        (now (output .entry)) (now (output .exit)) ⌝ }
-{
-    let config = setting.config;
-    let found = aut_why::why_sets(
-        sp,
-        nodes,
-        states,
-        members,
-        transitions,
-        pending,
-        scratch,
-        c,
-        config,
-        x,
-    );
-    match found {
-        Whys::Refused(e) => Asked::Refused(e),
-        Whys::To(d, n, f) => {
-            let told = book_why::why_answer(
-                sp,
-                nodes,
-                states,
-                transitions,
-                pending,
-                scratch,
-                output,
-                d,
-                config,
-                at,
-                n,
-                f,
-                x,
-            );
-            match told {
-                Answered::Full => Asked::Refused(27),
-                Answered::At(end) => {
-                    aut_why_words::clear(states, pending, n);
-                    Asked::Told(d, end)
-                }
-            }
-        }
-    }
-}
-
 // the query of the line that is named so, whose state is x
 pub fn ask(
     sp: &mut [u32],
@@ -296,7 +115,7 @@ pub fn ask(
             name,
             x,
         ),
-        Query::Live => ask_live(
+        Query::Live => book_ask::ask_live(
             sp,
             nodes,
             states,
@@ -311,7 +130,7 @@ pub fn ask(
             name,
             x,
         ),
-        Query::Pruned => ask_pruned(
+        Query::Pruned => book_ask::ask_pruned(
             sp,
             nodes,
             states,
@@ -326,7 +145,7 @@ pub fn ask(
             name,
             x,
         ),
-        Query::Why => ask_why(
+        Query::Why => book_ask::ask_why(
             sp,
             nodes,
             states,

@@ -1,7 +1,7 @@
 -- What holds of the definitions of specs/Contracts.
 use mathlib.Core.Path.{_≡_}
 use lib.ListN.{length}
-use Rattle.book_line.specs.Contracts.{Memory}
+use Rattle.book_place.specs.Contracts.{Memory}
 
 -- the same lengths
 pub record SameLengths (m m′ : Memory) : Type 0 where

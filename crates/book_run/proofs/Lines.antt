@@ -13,11 +13,12 @@ use Rattle.book_reader.specs.Contracts.{Begins, BeginsBy, Cuts, cutOf, rest}
 use Rattle.book_reader.specs.declared.Cursor.{Cursor}
 use Rattle.book_reader.specs.declared.Cut.{Cut}
 use Rattle.book_reader.specs.declared.Cut.the-variants as cut-read
-use Rattle.book_query.specs.declared.Setting.{Setting}
-use Rattle.book_line.specs.declared.Place.{Place}
+use Rattle.book_place.specs.declared.Setting.{Setting}
+use Rattle.book_place.specs.declared.Place.{Place}
 use Rattle.book_line.specs.declared.Obeyed.{Obeyed}
 use Rattle.book_line.specs.declared.Obeyed.the-variants as obeyed
-use Rattle.book_line.specs.Contracts.{LINES, WORK, Memory, placeOf, settingIn, Standing, PreObey, PostObey}
+use Rattle.book_place.specs.Contracts.{LINES, WORK, Memory, placeOf, settingIn, Standing}
+use Rattle.book_line.specs.Contracts.{PreObey, PostObey}
 use Rattle.book_run.specs.declared.Turned.{Turned}
 use Rattle.book_run.specs.declared.Turned.the-variants as turned
 use Rattle.book_run.specs.declared.Went.{Went}
@@ -144,9 +145,10 @@ module _ {book : List ℕ} {S : Setting} {m₀ : Memory} {p₀ : Place} {from fi
     wrote : Wrote (p .output) (m₀ .output) (m .output)
     wrote = record { fits = omega (arith, v .standing .written, v .same .output); beyond = v .beyond }
 
-    pub going-end : length book ≤ at → PostGo book S m₀ p₀ from first all (went.End p) m
+    pub going-end : length book ≤ at → PostGo book S m₀ p₀ from first all (went.End S p) m
     going-end l = record {
-      is = all-lent (went.End p) m (v .is ∙ run-end (lending S (length (m₀ .pending)) (length (m₀ .output))) left (drop at book) line (placeOf m p) (omega (arith, length-drop at book)));
+      is = all-lent (went.End S p) m (v .is ∙ run-end (lending S (length (m₀ .pending)) (length (m₀ .output))) left (drop at book) line (placeOf m p) (omega (arith, length-drop at book)));
+      setting = refl;
       ends = v .standing;
       on = v .on;
       wrote = wrote;
@@ -159,6 +161,7 @@ module _ {book : List ℕ} {S : Setting} {m₀ : Memory} {p₀ : Place} {from fi
       pub going-many : left ≡ 0 → PostGo book S m₀ p₀ from first all (went.Stopped 3 line (p .output)) m
       going-many e = record {
         is = all-lent (went.Stopped 3 line (p .output)) m (v .is ∙ run-many (lending S (length (m₀ .pending)) (length (m₀ .output))) left (drop at book) line (placeOf m p) e text-left);
+        setting = tt;
         ends = tt;
         on = v .on;
         wrote = wrote;
@@ -181,6 +184,7 @@ module _ {book : List ℕ} {S : Setting} {m₀ : Memory} {p₀ : Place} {from fi
             is = all-lent (went.Stopped e line (p .output)) m′
                 (step ∙ d .is (length (m₀ .pending)) (length (m₀ .output)) (sym (v .same .pending)) (sym (v .same .output)) line (Run.run (lending S (length (m₀ .pending)) (length (m₀ .output))) (left - 1))
                 ∙ ap (λ (o : List ℕ). stopped e line (take (p .output) o)) (sym (d .output)));
+            setting = tt;
             ends = tt;
             on = v .on;
             wrote = subst (Wrote (p .output) (m₀ .output)) (sym (d .output)) wrote;

@@ -1,4 +1,4 @@
--- 01, promise 1, in code: a book and what is lent come to the defined outcome (book_steps, `outcome`). What each part of a run asks and promises: a line, the lines from any place in order, a whole book, and the end (its beginning: book_begin);
+-- 01, promise 1, in code: a book and what is lent come to the defined outcome (book_steps, `outcome`). What each part of a run asks and promises: a line, the lines from any place in order, a whole book that is not yet finished, and the end (its beginning: book_begin);
 -- and the number, line and length of what is returned.
 use mathlib.Core.Path.{_≡_}
 use mathlib.Core.List.{List}
@@ -6,14 +6,15 @@ use Prim.Native.Nat.{ℕ, suc, _+_, _/_, _≤_, _<_}
 use lib.ListN.{length, getD, take, drop}
 use Rattle.book_steps.specs.Text.{cut}
 use Rattle.book_steps.specs.Run as Run
-use Rattle.book_steps.specs.Run.{Lent, with-line, answered, stopped, Result, success, refusal, outcome}
+use Rattle.book_steps.specs.Run.{Lent, with-line, answered, stopped}
 use Rattle.book_steps.specs.Claim.{Slices}
-use Rattle.book_query.specs.Contracts.{settingOf}
-use Rattle.book_query.specs.declared.Setting.{Setting}
-use Rattle.book_line.specs.declared.Place.{Place}
-use Rattle.book_line.specs.Contracts.{LINES, WORK, Memory, placeOf, Standing}
+use Rattle.book_place.specs.Contracts.{settingOf}
+use Rattle.book_place.specs.declared.Setting.{Setting}
+use Rattle.book_place.specs.declared.Place.{Place}
+use Rattle.book_place.specs.Contracts.{LINES, WORK, Memory, placeOf, settingIn, Standing}
 use Rattle.book_begin.specs.declared.Header.{Header}
 use Rattle.book_begin.specs.Contracts.{TablesZeroed, WorkZeroed, headerOf, Wrote}
+use Rattle.book_steps.specs.Run.{Came, came, failed, startedBook, ranBook}
 use Rattle.book_run.specs.declared.Turned.{Turned}
 use Rattle.book_run.specs.declared.Turned.the-variants as turned
 use Rattle.book_run.specs.declared.Went.{Went}
@@ -75,21 +76,28 @@ pub record PreGo (book : List ℕ) (S : Setting) (m : Memory) (p : Place) (from 
   pub small : first + left < 4294967296
 
 abbrev pub wentOf : {S : Run.Setting} → Went → Memory → Run.Ran S
-wentOf (went.End q) m = answered (placeOf m q)
+wentOf (went.End S q) m = answered (placeOf m q)
 wentOf (went.Stopped e k n) m = stopped e k (take n (m .output))
 
 -- the length of what is written
 abbrev pub writtenBy : Went → ℕ
-writtenBy (went.End q) = q .output
+writtenBy (went.End S q) = q .output
 writtenBy (went.Stopped e k n) = n
 
-abbrev pub EndsIn : Setting → Went → Memory → Type 0
-EndsIn S (went.End q) m = Standing S m q
-EndsIn S (went.Stopped e k n) m = Unit
+-- the last place is in order
+abbrev pub EndsBy : Went → Memory → Type 0
+EndsBy (went.End S q) m = Standing S m q
+EndsBy (went.Stopped e k n) m = Unit
+
+-- its setting is S
+abbrev pub EndsWith : Setting → Went → Type 0
+EndsWith S (went.End T q) = T ≡ S
+EndsWith S (went.Stopped e k n) = Unit
 
 pub record PostGo (book : List ℕ) (S : Setting) (m : Memory) (p : Place) (from first left : ℕ) (r : Went) (m′ : Memory) : Type 0 where
   pub is : (pending output : ℕ) → pending ≡ length (m .pending) → output ≡ length (m .output) → Run.run (lending S pending output) left (drop from book) first (placeOf m p) ≡ wentOf r m′
-  pub ends : EndsIn S r m′
+  pub setting : EndsWith S r
+  pub ends : EndsBy r m′
   pub on : p .output ≤ writtenBy r
   pub wrote : Wrote (writtenBy r) (m .output) (m′ .output)
 
@@ -100,9 +108,10 @@ pub record Empty (m : Memory) : Type 0 where
   pub tables : TablesZeroed (m .sp) (m .nodes) (m .states) (m .members) (m .transitions) (m .sp) (m .nodes) (m .states) (m .members) (m .transitions)
   pub work : WorkZeroed (m .pending) (m .scratch) (m .pending) (m .scratch)
 
-abbrev pub resultOf : Lent → Went → Memory → Result
-resultOf lent (went.End q) m = success lent (placeOf m q)
-resultOf lent (went.Stopped e k n) m = refusal lent e k (take n (m .output))
+-- what the run came to, not yet finished
+abbrev pub cameBy : Went → Memory → Came
+cameBy (went.End S q) m = came (settingIn S m) (placeOf m q)
+cameBy (went.Stopped e k n) m = failed e k (take n (m .output))
 
 pub record PreStarted (book : List ℕ) (m : Memory) (h : Header) (from : ℕ) : Type 0 where
   pub empty : Empty m
@@ -111,20 +120,22 @@ pub record PreStarted (book : List ℕ) (m : Memory) (h : Header) (from : ℕ) :
   pub inside : from ≤ length book
 
 pub record PostStarted (book : List ℕ) (m : Memory) (h : Header) (from : ℕ) (r : Went) (m′ : Memory) : Type 0 where
-  pub is : Run.started (lengthsOf m) (headerOf h) (drop from book) (Run.begin (lengthsOf m) (headerOf h)) ≡ resultOf (lengthsOf m) r m′
+  pub is : startedBook (lengthsOf m) (headerOf h) (drop from book) (Run.begin (lengthsOf m) (headerOf h)) ≡ cameBy r m′
+  pub ends : EndsBy r m′
   pub wrote : Wrote (writtenBy r) (m .output) (m′ .output)
 
 abbrev pub PreOpen : Memory → Type 0
 PreOpen m = Empty m
 
 pub record PostOpen (book : List ℕ) (m : Memory) (r : Went) (m′ : Memory) : Type 0 where
-  pub is : outcome (lengthsOf m) book ≡ resultOf (lengthsOf m) r m′
+  pub is : ranBook (lengthsOf m) book ≡ cameBy r m′
+  pub ends : EndsBy r m′
   pub wrote : Wrote (writtenBy r) (m .output) (m′ .output)
 
 -- ---- the end
 
 abbrev pub ranOf : Went → Ran
-ranOf (went.End q) = ran.Answered (q .output)
+ranOf (went.End S q) = ran.Answered (q .output)
 ranOf (went.Stopped e k n) = ran.Refused e k n
 
 pub record SameTables (m m′ : Memory) : Type 0 where
@@ -135,7 +146,7 @@ pub record SameTables (m m′ : Memory) : Type 0 where
   pub transitions : m′ .transitions ≡ m .transitions
 
 abbrev pub TablesBy : Went → Memory → Memory → Type 0
-TablesBy (went.End q) m m′ = SameTables m m′
+TablesBy (went.End S q) m m′ = SameTables m m′
 TablesBy (went.Stopped e k n) m m′ = TablesZeroed (m .sp) (m .nodes) (m .states) (m .members) (m .transitions) (m′ .sp) (m′ .nodes) (m′ .states) (m′ .members) (m′ .transitions)
 
 pub record PostFinish (w : Went) (r : Ran) (m m′ : Memory) : Type 0 where

@@ -2,12 +2,12 @@
 use book_begin::Begun;
 use book_begin::Header;
 use book_line::Obeyed;
-use book_line::Place;
-use book_query::Setting;
+use book_place::Place;
+use book_place::Setting;
 use book_reader::Cut;
 use book_reader::Heading;
 ghost use mathlib.Core.List.{[]};
-ghost use Rattle.book_line.specs.Contracts.{memory};
+ghost use Rattle.book_place.specs.Contracts.{memory};
 ghost use Rattle.book_steps.specs.Claim.{EntrySpec};
 ghost use Rattle.book_run.specs.Contracts as Its;
 ghost use Rattle.book_run.specs.Contracts.{numberOf, textLineOf, lengthOf, slices, lentOf};
@@ -24,9 +24,9 @@ pub enum Turned {
     Refused(u32),
 }
 
-// the place at the end; or 01's number, the text line, and the output's length of the lines before
+// the place at the end, with its setting; or 01's number, the text line, and the output's length of the lines before
 pub enum Went {
-    End(Place),
+    End(Setting, Place),
     Stopped(u32, usize, usize),
 }
 
@@ -146,7 +146,7 @@ pub fn go_on(
             }
         }
     }
-    Went::End(place)
+    Went::End(setting, place)
 }
 
 // ---- a whole book
@@ -196,8 +196,8 @@ fn started(
     }
 }
 
-// from zeroed tables
-fn open(
+// From zeroed tables to the last line. Tables, lines and output are left as the lines made them.
+pub fn open(
     book: &[u8],
     sp: &mut [u32],
     nodes: &mut [u32],
@@ -248,7 +248,7 @@ fn open(
 }
 
 // pending and scratch are zeroed, and after a refusal every table
-fn finish(
+pub fn finish(
     sp: &mut [u32],
     nodes: &mut [u32],
     states: &mut [u32],
@@ -266,7 +266,7 @@ fn finish(
 {
     book_begin::clear_work(pending, scratch);
     match went {
-        Went::End(place) => Ran::Answered(place.output),
+        Went::End(_, place) => Ran::Answered(place.output),
         Went::Stopped(number, line, length) => {
             book_begin::clear_tables(sp, nodes, states, members, transitions);
             Ran::Refused(number, line, length)

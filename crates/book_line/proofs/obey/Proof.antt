@@ -1,4 +1,4 @@
-use Rattle.book_line.specs.Contracts.{memory}
+use Rattle.book_place.specs.Contracts.{memory}
 use mathlib.Core.Path.{_∙_}
 use Rattle.book_line.proofs.Doing as doing
 use borrow.Author.Needs.{needs}
@@ -7,7 +7,7 @@ use Rattle.book_line.proofs.obey.Tie as tie
 use Rattle.book_line.proofs.obey.Reads as reads
 use Rattle.book_line.proofs.obey.Lts as lts
 use Rattle.book_line.proofs.perform.Reads as perform-reads
-use Rattle.book_line.proofs.tell.Reads as tell-reads
+use Rattle.book_place.proofs.tell.Reads as tell-reads
 use Rattle.book_reader.proofs.instruction.Reads as instruction-reads
 
 -- src/lib.rt:368:9

@@ -7,7 +7,7 @@ use Rattle.book_line.proofs.perform.Tie as tie
 use Rattle.book_line.proofs.perform.Reads as reads
 use Rattle.book_line.proofs.perform.Lts as lts
 use Rattle.book_line.proofs.ask_line.Reads as ask-line-reads
-use Rattle.book_line.proofs.make_line.Reads as make-line-reads
+use Rattle.book_place.proofs.make_line.Reads as make-line-reads
 
 -- src/lib.rt:301:23
 enum-known-told : tie.Need-enum-known-told

@@ -5,9 +5,9 @@ use Rattle.book_query.proofs.ask.Tie as tie
 use Rattle.book_query.proofs.ask.Reads as reads
 use Rattle.book_query.proofs.ask.Lts as lts
 use Rattle.book_query.proofs.ask_empty.Reads as ask-empty-reads
-use Rattle.book_query.proofs.ask_live.Reads as ask-live-reads
-use Rattle.book_query.proofs.ask_pruned.Reads as ask-pruned-reads
-use Rattle.book_query.proofs.ask_why.Reads as ask-why-reads
+use Rattle.book_ask.proofs.ask_live.Reads as ask-live-reads
+use Rattle.book_ask.proofs.ask_pruned.Reads as ask-pruned-reads
+use Rattle.book_ask.proofs.ask_why.Reads as ask-why-reads
 
 -- src/lib.rt:370:13
 enum-told : tie.Need-enum-told

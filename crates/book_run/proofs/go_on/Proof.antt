@@ -1,7 +1,7 @@
 use mathlib.Core.Path.{_∙_}
 use native.Mathlib.Omega.{arith}
 use borrow.Author.Needs.{needs}
-use Rattle.book_line.specs.Contracts.{memory}
+use Rattle.book_place.specs.Contracts.{memory}
 use Rattle.book_run.proofs.Lines as lines
 use Rattle.book_run.proofs.go_on.Statement.{statement}
 use Rattle.book_run.proofs.go_on.Tie as tie

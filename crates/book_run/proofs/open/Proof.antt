@@ -1,5 +1,5 @@
 use native.Mathlib.Omega.{arith}
-use Rattle.book_line.specs.Contracts.{memory}
+use Rattle.book_place.specs.Contracts.{memory}
 use Rattle.book_run.proofs.Whole as whole
 use borrow.Author.Needs.{needs}
 use Rattle.book_run.proofs.open.Statement.{statement}

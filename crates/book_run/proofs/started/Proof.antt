@@ -60,7 +60,7 @@ same-length-11 c = c .before .before .before .before .before .before .before .be
 
 returns-2 : tie.Need-returns-2
 returns-2 c =
-    whole.started-went _ _ _ _ (c .before .before .before .before .before .before .before .before .before .before .before .before .before .before .before .before .before .before .before .before .before .before .before .before .before .before .before .before .before .before .before .before .before .before .before .before .before .before .before .before .before .before .before .before .before .before .before .before .pre) (c .before .before .before .before .before .before .before .before .before .before .before .before .before .before .before .before .before .before .before .before .before .before .before .before .before .before .before .before .before .before .before .before .before .before .before .begin .ensures) (c .before .before .before .before .before .before .before .before .before .before .before .before .before .before .before .before .before .before .before .before .before .before .before .before .before .before .before .begun2 .given .1) (c .before .before .before .before .before .before .before .before .before .before .before .before .before .before .before .before .before .before .before .before .before .before .before .before .before .before .before .before .before .before .before .before .before .before .before .begin .kept .1 .1 .0) (c .before .before .before .before .before .before .before .before .before .before .before .before .before .before .before .before .before .setting-of .result) (c .before .before .before .before .before .before .before .before .before .before .before .before .before .before .before .before .before .setting-of .ensures) (c .before .before .before .before .before .before .before .before .before .before .before .before .before .before .before .before .go-on .ensures)
+    whole.started-went _ _ _ _ (c .before .before .before .before .before .before .before .before .before .before .before .before .before .before .before .before .before .before .before .before .before .before .before .before .before .before .before .before .before .before .before .before .before .before .before .before .before .before .before .before .before .before .before .before .before .before .before .before .pre) (c .before .before .before .before .before .before .before .before .before .before .before .before .before .before .before .before .before .before .before .before .before .before .before .before .before .before .before .before .before .before .before .before .before .before .before .begin .ensures) (c .before .before .before .before .before .before .before .before .before .before .before .before .before .before .before .before .before .before .before .before .before .before .before .before .before .before .before .begun2 .given .1) (c .before .before .before .before .before .before .before .before .before .before .before .before .before .before .before .before .before .before .before .before .before .before .before .before .before .before .before .before .before .before .before .before .before .before .before .begin .kept .1 .1 .0) (c .before .before .before .before .before .before .before .before .before .before .before .before .before .before .before .before .before .setting-of .result) (c .before .before .before .before .before .before .before .before .before .before .before .before .before .before .before .before .before .setting-of .ensures) (c .before .before .before .before .before .before .before .before .before .before .before .before .before .before .before .before .go-on .ensures) (c .before .before .before .before .before .before .before .before .before .before .before .before .before .before .before .before .go-on .kept .1 .1 .1 .1 .1 .1 .0) (c .before .before .before .before .before .before .before .before .before .before .before .before .before .before .before .before .go-on .kept .1 .1 .1 .1 .1 .1 .1 .1 .0)
 
 pub started-spec : {M : Type 1} → statement M
 started-spec =

@@ -1,0 +1,3 @@
+-- what the proofs of several functions use
+pub mod Join
+pub mod Why
