@@ -1,0 +1,2 @@
+-- An image read: what is asked and promised.
+pub mod Contracts
