@@ -19,7 +19,8 @@ use Rattle.aut_free.proofs.Runs.{alike-placed, alike-given, alike-if, a
 use Rattle.aut_free.proofs.Twin.{TwinAut, twins, by-twins}
 use Rattle.aut_free.proofs.Words.{kinds, firsts, seconds, nests, epsilons, starts, counts, alike-word}
 use Rattle.aut_free.proofs.Constructors.{on-nodes}
-use Rattle.aut_free.proofs.Lists.{st-singleton-free, st-difference-free, st-xor-free, st-complement-free, ops-respect, unionAll-free, intersectFirst-free, sequenceList-free, starList-free, untilList-free, dupList-free, topList-free}
+use Rattle.netkat_steps.proofs.Related.{st-singleton-related, st-difference-related, st-xor-related, st-complement-related}
+use Rattle.aut_free.proofs.Lists.{ops-respect, unionAll-free, intersectFirst-free, sequenceList-free, starList-free, untilList-free, dupList-free, topList-free}
 
 module _ {f g : List ℕ} where
   -- the members of a list's state
@@ -139,16 +140,16 @@ module _ {f g : List ℕ} where
           alike-if (λ d. eqb (kinds w d x) SPP) (comes r)
           (alike-if (λ d. eqb (kinds w d x) UNION) (reading (λ l. bind (eachOf-respects h l) (λ ess. on-twins (λ h k. unionAll-free N L ess []))) (list-same (r .aut) x) σ τ r)
           (alike-if (λ d. eqb (kinds w d x) INTERSECT) (reading (λ l. bind (eachOf-respects h l) (λ ess. on-twins (λ h k. intersectFirst-free N L ess))) (list-same (r .aut) x) σ τ r)
-          (alike-if (λ d. eqb (kinds w d x) XOR) (along (λ d. again (firsts w d x) >>= λ ts. again (seconds w d x) >>= λ us. onAut (st-xor (ops N L) ts us)) (join-free (λ ts us h k. st-xor-free (ops-respect N L) ts us) _ _) σ τ r)
-          (alike-if (λ d. eqb (kinds w d x) DIFFERENCE) (along (λ d. again (firsts w d x) >>= λ ts. again (seconds w d x) >>= λ us. onAut (st-difference (ops N L) ts us)) (join-free (λ ts us h k. st-difference-free (ops-respect N L) ts us) _ _) σ τ r)
-          (alike-if (λ d. eqb (kinds w d x) COMPLEMENT) (reading (λ a. bind (h a) (λ ts. on-twins (λ h k. st-complement-free (ops-respect N L) ts))) (λ d. firsts w d x) σ τ r)
+          (alike-if (λ d. eqb (kinds w d x) XOR) (along (λ d. again (firsts w d x) >>= λ ts. again (seconds w d x) >>= λ us. onAut (st-xor (ops N L) ts us)) (join-free (λ ts us h k. st-xor-related (ops-respect N L) ts us) _ _) σ τ r)
+          (alike-if (λ d. eqb (kinds w d x) DIFFERENCE) (along (λ d. again (firsts w d x) >>= λ ts. again (seconds w d x) >>= λ us. onAut (st-difference (ops N L) ts us)) (join-free (λ ts us h k. st-difference-related (ops-respect N L) ts us) _ _) σ τ r)
+          (alike-if (λ d. eqb (kinds w d x) COMPLEMENT) (reading (λ a. bind (h a) (λ ts. on-twins (λ h k. st-complement-related (ops-respect N L) ts))) (λ d. firsts w d x) σ τ r)
           (alike-if (λ d. eqb (kinds w d x) SEQUENCE)
           (along (λ d. onAut (epsilon N (firsts w d x)) >>= λ ε. again (firsts w d x) >>= λ ts. again (seconds w d x) >>= λ us. onAut (sequenceList N L (seconds w d x) ε ts us))
           (bind (on-aut (epsilon-alike N _)) (λ ε. join-free (λ ts us h k. sequenceList-free N L (op2 (σ .aut .states .words) x) ε ts us) _ _)) σ τ r)
           (alike-if (λ d. eqb (kinds w d x) STAR)
           (reading (λ a. bind (on-aut (epsilon-alike N a)) (λ ε. bind (on-aut (nodes-free (Rel.star N ε))) (λ ε*. bind (h a) (λ ts. on-twins (λ h k. starList-free N L x ε* ts))))) (λ d. firsts w d x) σ τ r)
           (alike-if (λ d. eqb (kinds w d x) DUP) (on-twins (λ h k. dupList-free N L) σ τ r)
-          (alike-if (λ d. eqb (kinds w d x) NEXT) (reading (λ a. on-twins (λ h k. st-singleton-free (ops-respect N L) (Rel.topAt N) a)) (λ d. firsts w d x) σ τ r)
+          (alike-if (λ d. eqb (kinds w d x) NEXT) (reading (λ a. on-twins (λ h k. st-singleton-related (ops-respect N L) (Rel.topAt N) a)) (λ d. firsts w d x) σ τ r)
           (alike-if (λ d. eqb (kinds w d x) UNTIL)
           (along (λ d. again (firsts w d x) >>= λ ts. again (seconds w d x) >>= λ us. onAut (untilList N L (firsts w d x) (seconds w d x) ts us)) (join-free (λ ts us h k. untilList-free N L (op1 (σ .aut .states .words) x) (op2 (σ .aut .states .words) x) ts us) _ _) σ τ r)
           (on-twins (λ h k. topList-free N L) σ τ r)))))))))))

@@ -1,5 +1,5 @@
 -- The law of specs/Limits: each step followed under two limits.
-use mathlib.Core.Path.{_≡_, refl, sym, _∙_, subst}
+use mathlib.Core.Path.{_≡_, refl, sym, subst}
 use mathlib.Core.Bool.{Bool, true, false, _&&_}
 use mathlib.Core.List.{List, [], _∷_, _++_}
 use Prim.Native.Nat.{ℕ, zero, suc, _+_, _*_, _≤_, max}
@@ -9,15 +9,15 @@ use lib.ListN.{length}
 use borrow.Author.Tests.{ltb-true, lt-ltb, leb-true, le-leb}
 use Rattle.common.specs.Outcome.{Outcome, refused, given, Step, return, after, _>>=_, if_then_else_}
 use Rattle.common.specs.Runs.{Table, placed}
-use Rattle.netkat_steps.specs.ListSteps as St
-use Rattle.netkat_steps.specs.ListSteps.{Edge, leadsTo, unite, enter, enterIn, place, st-singleton, split, insert, insertEach, insertPairs, st-union, meetOf, st-intersect, Summed, subtractRow, subtractRows, restOf, st-difference, st-xor, complementOf, coverAll, st-complement, followedBy, st-postcompose, st-precompose, metWith, st-intersect-expr}
+use Rattle.netkat_steps.specs.ListSteps.{Edge, enter, enterIn}
+use Rattle.netkat_steps.proofs.Related.{Related, insert-related, st-singleton-related, st-union-related, st-intersect-related, st-difference-related, st-xor-related, st-complement-related, st-postcompose-related, st-precompose-related, st-intersect-expr-related}
 use Rattle.aut_steps.specs.Relations as Rel
 use Rattle.aut_steps.specs.Tables.{SPP, UNION, INTERSECT, XOR, DIFFERENCE, COMPLEMENT, SEQUENCE, STAR, DUP, NEXT, UNTIL, TOP, kindOf, op1, op2, nest, listOf, Limits, Exprs, Aut, putStates, putExprs, onNodes, onStates, onExprs}
 use Rattle.aut_steps.specs.Intern.{seek, same2, sameL, nestL, intern1, intern2, internL}
 use Rattle.aut_steps.specs.Lists.{sorted}
 use Rattle.aut_steps.specs.Constructors as Make
 use Rattle.aut_steps.specs.Constructors.{Within, within, beyond, thenWithin, opened, extend, openAll, Opened, thenOpen, openUnion, countOne, countAll, product, each, mk-spp, mk-top, mk-until, relations, is-relation, Met, addLast, parts, met, uniteOne, meetOne, addRelation, finish, uniteOpened, mk-union-n, mk-union, meetFinish, meet, meetOpened, mk-intersect-n-base, base, bases, distribute, intersectOpened, mk-intersect-n, mk-intersect, mk-xor, mk-difference, mk-complement, sequence-with, sequence-by, mk-sequence, mk-star}
-use Rattle.aut_st_steps.specs.Operations.{ops, complement}
+use Rattle.aut_st_steps.specs.Operations.{ops}
 use Rattle.aut_delta_steps.specs.Epsilon.{eachOf, epsilon}
 use Rattle.aut_delta_steps.specs.Delta.{countOf, Store, putAut, onAut, keepList, unionAll, intersectAll, intersectFirst, sequenceList, starList, untilList, dupList, topList, delta-by-kind, delta-with, delta-by, delta}
 use Rattle.spp_steps.proofs.Laws.{false-true}
@@ -25,8 +25,7 @@ use Rattle.aut_replay.specs.Replay as Replay
 use Rattle.aut_replay.specs.Replay.{Wider, Call, called, ListCall, listed}
 use Rattle.aut_replay.specs.Limits as Of
 use Rattle.aut_replay.specs.Limits.{OfLimit, Carries, lifted, same, Carried, LimitsOnly}
-use Rattle.aut_replay.proofs.Runs.{assoc}
-use Rattle.aut_replay.proofs.Lists.{enter-as, summed, toFirst}
+use Rattle.aut_replay.proofs.Lists.{enter-as}
 
 -- ---- following a step under two limits
 
@@ -60,9 +59,6 @@ module _ {S A B : Type 0} where
 
   carry-bind : {m m′ : Step S A} {k j : A → Step S B} → Carried m m′ → ((a : A) → Carried (k a) (j a)) → Carried (m >>= k) (m′ >>= j)
   carry-bind {m} {m′} {k} {j} h f σ = carry-after (m σ) (m′ σ) k j (h σ) f
-
-carry-assoc : {S A B C : Type 0} {m m′ : Step S A} {k : A → Step S C} (next : A → Step S B) (last : B → Step S C) → Carried m m′ → ((a : A) → Carried (k a) (next a >>= last)) → Carried (m >>= k) ((m′ >>= next) >>= last)
-carry-assoc {S} {A} {C = C} {m = m} {m′ = m′} {k = k} next last h f σ = subst (Carries (after (m σ) k)) (sym (assoc (m′ σ) next last)) (carry-after (m σ) (m′ σ) k (λ a. next a >>= last) (h σ) f)
 
 carry-placed : {S B A : Type 0} (put : S → B → B) (β : B) (o p : Outcome S A) → Carries o p → Carries (placed put β o) (placed put β p)
 carry-placed put β _ p (lifted n) = lifted n
@@ -289,137 +285,58 @@ module _ (N : ℕ) {L L′ : Limits} (wide : Wider L L′) where
 
   -- ---- lists
 
-  abbrev O : St.Operations
-  O = ops N L
-
-  abbrev O′ : St.Operations
-  O′ = ops N L′
-
-  l-unite : (s l : ℕ) (us : List Edge) → Carried (unite O s l us) (unite O′ s l us)
-  unfolding unite
-  l-unite s l [] = carry-same _
-  l-unite s l (u ∷ us) = carry-test (eqb s (u .target)) _ _ _ _ (carry-same _) (carry-bind (l-unite s l us) (λ vs. carry-same _))
-
-  l-enterIn : (s l : ℕ) (us : List Edge) → Carried (enterIn O s l us) (enterIn O′ s l us)
+  enters-carry : (s l : ℕ) (us : List Edge) → Carried (enterIn (ops N L) s l us) (enterIn (ops N L′) s l us)
   unfolding enterIn
-  l-enterIn s l us = go (ltb (length us) (L .transitions)) (ltb (length us) (L′ .transitions)) (λ q. lt-ltb (length us) (L′ .transitions) (omega (arith, ltb-true (length us) (L .transitions) q, wide .transitions)))
+  enters-carry s l us = go (ltb (length us) (L .transitions)) (ltb (length us) (L′ .transitions)) (λ q. lt-ltb (length us) (L′ .transitions) (omega (arith, ltb-true (length us) (L .transitions) q, wide .transitions)))
     where
-      go : (b c : Bool) → (b ≡ true → c ≡ true) → Carried {S = Aut} (if b then return (enter O s l us) else λ σ. refused 9) (if c then return (enter O′ s l us) else λ σ. refused 9)
-      go true true f σ = subst (λ (es : List Edge). Carries (given σ (enter O s l us)) (given σ es)) (sym (enter-as N L L′ s l us)) same
+      go : (b c : Bool) → (b ≡ true → c ≡ true) → Carried {S = Aut} (if b then return (enter (ops N L) s l us) else λ σ. refused 9) (if c then return (enter (ops N L′) s l us) else λ σ. refused 9)
+      go true true f σ = subst (λ (es : List Edge). Carries (given σ (enter (ops N L) s l us)) (given σ es)) (sym (enter-as N L L′ s l us)) same
       go true false f σ = absurd (false-true (f refl))
       go false c f σ = lifted Of.transitions
 
-  l-place : (s l : ℕ) (us : List Edge) → Carried (place O s l us) (place O′ s l us)
-  unfolding place
-  l-place s l us =
-      carry-test (eqb l (Rel.zeroAt N)) _ _ _ _ (carry-same (return us))
-      (carry-bind (carry-same (onStates (mk-spp (Rel.zeroAt N)))) (λ z. carry-test (eqb s z) _ _ _ _ (carry-same (return us)) (carry-test (leadsTo O s us) _ _ _ _ (l-unite s l us) (l-enterIn s l us))))
-
-  l-singleton : (l s : ℕ) → Carried (st-singleton O l s) (st-singleton O′ l s)
-  unfolding st-singleton
-  l-singleton l s = carry-same _
-
-  l-split : (s l : ℕ) (us : List Edge) (total : ℕ) (result : List Edge) → Carried (split O s l us total result) (split O′ s l us total result)
-  unfolding split
-  l-split s l [] total result = carry-bind (carry-same (onNodes (Rel.difference N l total))) (λ rest. l-place s rest result)
-  l-split s l (u ∷ us) total result =
-      carry-bind (carry-same (onNodes (Rel.intersect N l (u .label)))) (λ meet. carry-bind (mk-union-carry s (u .target)) (λ both. carry-bind (l-place both meet result) (λ result₁. carry-bind (carry-same (onNodes (Rel.union N total meet))) (λ total₁.
-      carry-bind (carry-same (onNodes (Rel.difference N (u .label) meet))) (λ others. carry-bind (l-place (u .target) others result₁) (λ result₂. l-split s l us total₁ result₂))))))
-
-  l-insert : (s l : ℕ) (us : List Edge) → Carried (insert O s l us) (insert O′ s l us)
-  unfolding insert
-  l-insert s l us = l-split s l us (Rel.zeroAt N) []
-
-  l-each : {make make′ : Edge → Step Aut Edge} → ((e : Edge) → Carried (make e) (make′ e)) → (us result : List Edge) → Carried (insertEach O make us result) (insertEach O′ make′ us result)
-  unfolding insertEach
-  l-each f [] result = carry-same _
-  l-each f (u ∷ us) result = carry-bind (f u) (λ new. carry-bind (l-insert (new .target) (new .label) result) (λ result₁. l-each f us result₁))
-
-  l-pairs : {make make′ : Edge → Edge → Step Aut Edge} → ((t u : Edge) → Carried (make t u) (make′ t u)) → (ts us result : List Edge) → Carried (insertPairs O make ts us result) (insertPairs O′ make′ ts us result)
-  unfolding insertPairs
-  l-pairs f [] us result = carry-same _
-  l-pairs f (t ∷ ts) us result = carry-bind (l-each (f t) us result) (λ result₁. l-pairs f ts us result₁)
-
-  l-union : (ts us : List Edge) → Carried (st-union O ts us) (st-union O′ ts us)
-  unfolding st-union
-  l-union ts us = carry-bind (l-each (λ e. carry-same (return e)) ts []) (λ first. l-each (λ e. carry-same (return e)) us first)
-
-  l-intersect : (ts us : List Edge) → Carried (st-intersect O ts us) (st-intersect O′ ts us)
-  unfolding st-intersect
-  l-intersect ts us = l-pairs {make = meetOf O} {make′ = meetOf O′} (λ t u. carry-bind (mk-intersect-carry (t .target) (u .target)) (λ x. carry-same _)) ts us []
-
-  l-row : (t : Edge) (us : List Edge) (s : Summed O′) → Carried (subtractRow O t us (summed N L L′ s)) (subtractRow O′ t us s >>= toFirst N L L′)
-  unfolding subtractRow
-  l-row t [] s = carry-same _
-  l-row t (u ∷ us) s =
-      carry-assoc _ (toFirst N L L′) (mk-difference-carry (t .target) (u .target)) (λ x. carry-assoc _ (toFirst N L L′) (carry-same (onNodes (Rel.intersect N (t .label) (u .label)))) (λ m. carry-assoc _ (toFirst N L L′) (carry-same (onNodes (Rel.union N (s .sum) m))) (λ sum₁.
-      carry-assoc _ (toFirst N L L′) (l-insert x m (s .result)) (λ result₁. l-row t us (record { sum = sum₁; result = result₁ })))))
-
-  l-rows : (ts us : List Edge) (s : Summed O′) → Carried (subtractRows O ts us (summed N L L′ s)) (subtractRows O′ ts us s >>= toFirst N L L′)
-  unfolding subtractRows
-  l-rows [] us s σ = same
-  l-rows (t ∷ ts) us s σ =
-      subst (Carries (subtractRows O (t ∷ ts) us (summed N L L′ s) σ))
-      (assoc (subtractRow O′ t us s σ) (toFirst N L L′) (λ r. subtractRows O′ ts us (summed N L′ L r) >>= toFirst N L L′) ∙ sym (assoc (subtractRow O′ t us s σ) (subtractRows O′ ts us) (toFirst N L L′)))
-      (carry-after (subtractRow O t us (summed N L L′ s) σ) ((subtractRow O′ t us s >>= toFirst N L L′) σ) (subtractRows O ts us) (λ r. subtractRows O′ ts us (summed N L′ L r) >>= toFirst N L L′) (l-row t us s σ) (λ r. l-rows ts us (summed N L′ L r)))
-
-  l-difference : (ts us : List Edge) → Carried (st-difference O ts us) (st-difference O′ ts us)
-  unfolding st-difference
-  l-difference ts us σ =
-      subst (Carries (st-difference O ts us σ))
-      (assoc (subtractRows O′ ts us (record { sum = Rel.zeroAt N; result = [] }) σ) (toFirst N L L′) (λ s. insertEach O′ (restOf O′ (s .sum)) ts (s .result)))
-      (carry-after (subtractRows O ts us (record { sum = Rel.zeroAt N; result = [] }) σ) ((subtractRows O′ ts us (record { sum = Rel.zeroAt N; result = [] }) >>= toFirst N L L′) σ) (λ s. insertEach O (restOf O (s .sum)) ts (s .result)) (λ s. insertEach O′ (restOf O′ (s .sum)) ts (s .result)) (l-rows ts us (record { sum = Rel.zeroAt N; result = [] }) σ) (λ s. l-each {make = restOf O (s .sum)} {make′ = restOf O′ (s .sum)} (λ t. carry-same _) ts (s .result)))
-
-  l-xor : (ts us : List Edge) → Carried (st-xor O ts us) (st-xor O′ ts us)
-  unfolding st-xor
-  l-xor ts us = carry-bind (l-difference ts us) (λ left. carry-bind (l-difference us ts) (λ right. l-union left right))
-
-  l-cover : (ts : List Edge) (sum : ℕ) → Carried (coverAll O ts sum) (coverAll O′ ts sum)
-  unfolding coverAll
-  l-cover [] sum = carry-same _
-  l-cover (t ∷ ts) sum = carry-bind (carry-same (onNodes (Rel.union N sum (t .label)))) (λ sum₁. l-cover ts sum₁)
-
-  l-complement : (ts : List Edge) → Carried (st-complement O ts) (st-complement O′ ts)
-  unfolding st-complement
-  l-complement ts =
-      carry-bind (l-each {make = complementOf O} {make′ = complementOf O′} (λ t. carry-bind (on-states (mk-complement-carry (t .target))) (λ x. carry-same _)) ts []) (λ complements. carry-bind (l-cover ts (Rel.zeroAt N)) (λ covered.
-      carry-bind (carry-same (onNodes (complement N covered))) (λ rest. carry-bind (carry-same (onStates mk-top)) (λ top. l-insert top rest complements))))
-
-  l-postcompose : (ts : List Edge) (e : ℕ) → Carried (st-postcompose O ts e) (st-postcompose O′ ts e)
-  unfolding st-postcompose
-  l-postcompose ts e = l-each {make = followedBy O e} {make′ = followedBy O′ e} (λ t. carry-bind (mk-sequence-carry (t .target) e) (λ x. carry-same _)) ts []
-
-  l-precompose : (l : ℕ) (ts : List Edge) → Carried (st-precompose O l ts) (st-precompose O′ l ts)
-  unfolding st-precompose
-  l-precompose l ts = l-each {make = St.after O l} {make′ = St.after O′ l} (λ t. carry-same _) ts []
-
-  l-intersect-expr : (ts : List Edge) (e : ℕ) → Carried (st-intersect-expr O ts e) (st-intersect-expr O′ ts e)
-  unfolding st-intersect-expr
-  l-intersect-expr ts e = l-each {make = metWith O e} {make′ = metWith O′ e} (λ t. carry-bind (mk-intersect-carry (t .target) e) (λ x. carry-same _)) ts []
+  ops-carry : Related (ops N L) (ops N L′) (λ (A : Type 0) (c d : Step Aut A). Carried c d)
+  ops-carry = record {
+    returns = λ a. carry-same (return a);
+    bind = λ p q. carry-bind p q;
+    zero = refl;
+    enters = enters-carry;
+    union = λ l m. carry-same _;
+    intersect = λ l m. carry-same _;
+    difference = λ l m. carry-same _;
+    sequence = λ l m. carry-same _;
+    complement = λ l. carry-same _;
+    mkUnion = mk-union-carry;
+    mkIntersect = mk-intersect-carry;
+    mkDifference = mk-difference-carry;
+    mkSequence = mk-sequence-carry;
+    mkComplement = λ x. on-states (mk-complement-carry x);
+    mkTop = carry-same _;
+    mkZero = carry-same _;
+  }
 
   list-carry : (c : ListCall) → Carried (listed N c L) (listed N c L′)
-  list-carry (Replay.insert s l es) = l-insert s l es
-  list-carry (Replay.st-singleton l s) = l-singleton l s
-  list-carry (Replay.st-union ts us) = l-union ts us
-  list-carry (Replay.st-intersect ts us) = l-intersect ts us
-  list-carry (Replay.st-difference ts us) = l-difference ts us
-  list-carry (Replay.st-xor ts us) = l-xor ts us
-  list-carry (Replay.st-complement ts) = l-complement ts
-  list-carry (Replay.st-postcompose ts x) = l-postcompose ts x
-  list-carry (Replay.st-precompose l ts) = l-precompose l ts
-  list-carry (Replay.st-intersect-expr ts x) = l-intersect-expr ts x
+  list-carry (Replay.insert s l es) = insert-related ops-carry s l es
+  list-carry (Replay.st-singleton l s) = st-singleton-related ops-carry l s
+  list-carry (Replay.st-union ts us) = st-union-related ops-carry ts us
+  list-carry (Replay.st-intersect ts us) = st-intersect-related ops-carry ts us
+  list-carry (Replay.st-difference ts us) = st-difference-related ops-carry ts us
+  list-carry (Replay.st-xor ts us) = st-xor-related ops-carry ts us
+  list-carry (Replay.st-complement ts) = st-complement-related ops-carry ts
+  list-carry (Replay.st-postcompose ts x) = st-postcompose-related ops-carry ts x
+  list-carry (Replay.st-precompose l ts) = st-precompose-related ops-carry l ts
+  list-carry (Replay.st-intersect-expr ts x) = st-intersect-expr-related ops-carry ts x
 
   -- ---- delta
 
   d-unionAll : (lists : List (List Edge)) (r : List Edge) → Carried (unionAll N L lists r) (unionAll N L′ lists r)
   unfolding unionAll
   d-unionAll [] r = carry-same _
-  d-unionAll (es ∷ ess) r = carry-bind (l-union r es) (d-unionAll ess)
+  d-unionAll (es ∷ ess) r = carry-bind (st-union-related ops-carry r es) (d-unionAll ess)
 
   d-intersectAll : (lists : List (List Edge)) (r : List Edge) → Carried (intersectAll N L lists r) (intersectAll N L′ lists r)
   unfolding intersectAll
   d-intersectAll [] r = carry-same _
-  d-intersectAll (es ∷ ess) r = carry-bind (l-intersect r es) (d-intersectAll ess)
+  d-intersectAll (es ∷ ess) r = carry-bind (st-intersect-related ops-carry r es) (d-intersectAll ess)
 
   d-intersectFirst : (lists : List (List Edge)) → Carried (intersectFirst N L lists) (intersectFirst N L′ lists)
   d-intersectFirst [] = carry-same _
@@ -427,23 +344,23 @@ module _ (N : ℕ) {L L′ : Limits} (wide : Wider L L′) where
 
   d-sequence : (y ε : ℕ) (ts us : List Edge) → Carried (sequenceList N L y ε ts us) (sequenceList N L′ y ε ts us)
   unfolding sequenceList
-  d-sequence y ε ts us = carry-bind (l-postcompose ts y) (λ late. carry-bind (l-precompose ε us) (λ early. l-union late early))
+  d-sequence y ε ts us = carry-bind (st-postcompose-related ops-carry ts y) (λ late. carry-bind (st-precompose-related ops-carry ε us) (λ early. st-union-related ops-carry late early))
 
   d-star : (x ε : ℕ) (ts : List Edge) → Carried (starList N L x ε ts) (starList N L′ x ε ts)
   unfolding starList
-  d-star x ε ts = carry-bind (l-postcompose ts x) (λ late. l-precompose ε late)
+  d-star x ε ts = carry-bind (st-postcompose-related ops-carry ts x) (λ late. st-precompose-related ops-carry ε late)
 
   d-until : (a b : ℕ) (ts us : List Edge) → Carried (untilList N L a b ts us) (untilList N L′ a b ts us)
   unfolding untilList
-  d-until a b ts us = carry-bind (on-states (mk-until-carry a b)) (λ u. carry-bind (l-intersect-expr ts u) (λ met. l-union us met))
+  d-until a b ts us = carry-bind (on-states (mk-until-carry a b)) (λ u. carry-bind (st-intersect-expr-related ops-carry ts u) (λ met. st-union-related ops-carry us met))
 
   d-dup : Carried (dupList N L) (dupList N L′)
   unfolding dupList
-  d-dup = carry-bind (carry-same (onStates (mk-spp (Rel.oneAt N)))) (λ x. l-singleton (Rel.oneAt N) x)
+  d-dup = carry-bind (carry-same (onStates (mk-spp (Rel.oneAt N)))) (λ x. st-singleton-related ops-carry (Rel.oneAt N) x)
 
   d-top : Carried (topList N L) (topList N L′)
   unfolding topList
-  d-top = carry-bind (carry-same (onStates mk-top)) (λ x. l-singleton (Rel.topAt N) x)
+  d-top = carry-bind (carry-same (onStates mk-top)) (λ x. st-singleton-related ops-carry (Rel.topAt N) x)
 
   d-each : {again other : ℕ → Step Store (List Edge)} → ((x : ℕ) → Carried (again x) (other x)) → (xs : List ℕ) → Carried (eachOf again xs) (eachOf other xs)
   unfolding eachOf
@@ -461,13 +378,13 @@ module _ (N : ℕ) {L L′ : Limits} (wide : Wider L L′) where
       carry-if (eqb k SPP) same
       (carry-if (eqb k UNION) (carry-bind (d-each h ms) (λ lists. on-aut (d-unionAll lists [])) σ)
       (carry-if (eqb k INTERSECT) (carry-bind (d-each h ms) (λ lists. on-aut (d-intersectFirst lists)) σ)
-      (carry-if (eqb k XOR) (carry-bind (h a) (λ ts. carry-bind (h b) (λ us. on-aut (l-xor ts us))) σ)
-      (carry-if (eqb k DIFFERENCE) (carry-bind (h a) (λ ts. carry-bind (h b) (λ us. on-aut (l-difference ts us))) σ)
-      (carry-if (eqb k COMPLEMENT) (carry-bind (h a) (λ ts. on-aut (l-complement ts)) σ)
+      (carry-if (eqb k XOR) (carry-bind (h a) (λ ts. carry-bind (h b) (λ us. on-aut (st-xor-related ops-carry ts us))) σ)
+      (carry-if (eqb k DIFFERENCE) (carry-bind (h a) (λ ts. carry-bind (h b) (λ us. on-aut (st-difference-related ops-carry ts us))) σ)
+      (carry-if (eqb k COMPLEMENT) (carry-bind (h a) (λ ts. on-aut (st-complement-related ops-carry ts)) σ)
       (carry-if (eqb k SEQUENCE) (carry-bind (carry-same (onAut (epsilon N a))) (λ ε. carry-bind (h a) (λ ts. carry-bind (h b) (λ us. on-aut (d-sequence b ε ts us)))) σ)
       (carry-if (eqb k STAR) (carry-bind (carry-same (onAut (epsilon N a))) (λ ε. carry-bind (carry-same (onAut (onNodes (Rel.star N ε)))) (λ ε*. carry-bind (h a) (λ ts. on-aut (d-star x ε* ts)))) σ)
       (carry-if (eqb k DUP) (on-aut d-dup σ)
-      (carry-if (eqb k NEXT) (on-aut (l-singleton (Rel.topAt N) a) σ)
+      (carry-if (eqb k NEXT) (on-aut (st-singleton-related ops-carry (Rel.topAt N) a) σ)
       (carry-if (eqb k UNTIL) (carry-bind (h a) (λ ts. carry-bind (h b) (λ us. on-aut (d-until a b ts us))) σ)
       (on-aut d-top σ)))))))))))
 

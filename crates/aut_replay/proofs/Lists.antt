@@ -1,5 +1,5 @@
 -- The operations on transition lists (netkat's ListSteps, on the tables) replay.
-use mathlib.Core.Path.{_≡_, refl, sym, _∙_, ap}
+use mathlib.Core.Path.{_≡_, refl, _∙_, ap}
 use mathlib.Core.Bool.{Bool, true, false}
 use mathlib.Core.List.{List, [], _∷_}
 use Prim.Native.Nat.{ℕ, suc, _≤_}
@@ -7,7 +7,7 @@ use native.Mathlib.Omega.{arith}
 use lib.Dec.{eqb, ltb}
 use lib.ListN.{length}
 use borrow.Author.Tests.{ltb-true, lt-ltb}
-use Rattle.common.specs.Outcome.{refused, given, Step, return, after, _>>=_, if_then_else_}
+use Rattle.common.specs.Outcome.{refused, given, Step, return, if_then_else_}
 use Rattle.netkat_steps.specs.ListSteps as St
 use Rattle.netkat_steps.specs.ListSteps.{Edge, edge, leadsTo, unite, enter, enterIn, place, st-singleton, split, insert, insertEach, insertPairs, st-union, meetOf, st-intersect, Summed, subtractRow, subtractRows, restOf, st-difference, st-xor, complementOf, coverAll, st-complement, followedBy, st-postcompose, st-precompose, metWith, st-intersect-expr}
 use Rattle.spp_steps.specs.Model as Spp
@@ -21,7 +21,7 @@ use Rattle.aut_st_steps.proofs.Edges.{first-at, rest-at, edge-grown, edges-grow
 use Rattle.aut_st_steps.specs.ListSpec.{ListAt, Label, State, SumAt}
 use Rattle.aut_st_steps.proofs.ListSpec.{list-grown, list-empty, label-grown, relation-of, zero-label, enterIn-goes}
 use Rattle.aut_replay.specs.Replay.{Wider, Replays, stops, In}
-use Rattle.aut_replay.proofs.Runs.{replays-return, replays-map, replays-as, assoc, replays-bind, replays-assoc, replays-branch, replays-goes}
+use Rattle.aut_replay.proofs.Runs.{replays-return, replays-map, replays-as, replays-bind, replays-branch, replays-goes}
 use Rattle.aut_replay.proofs.Constructors.{apply-replay, sequence-replay, complement-replay, zero-replay, mk-top-replay, mk-union-replay, mk-intersect-replay, mk-difference-replay, mk-complement-replay, mk-sequence-replay}
 
 -- ---- one transition more
@@ -180,41 +180,32 @@ module _ {N : ℕ} {L L′ : Limits} (wide : Wider L L′) where
 
 -- ---- st_difference
 
--- the same sum and list, as the other limits' record has them
-abbrev pub summed : (N : ℕ) (L L′ : Limits) → Summed (ops N L′) → Summed (ops N L)
-summed N L L′ s = record { sum = s .sum; result = s .result }
-
-abbrev pub toFirst : (N : ℕ) (L L′ : Limits) → Summed (ops N L′) → Step Aut (Summed (ops N L))
-toFirst N L L′ s = return (summed N L L′ s)
-
 module _ {N : ℕ} {L L′ : Limits} (wide : Wider L L′) where
-  subtractRow-replay : {σ : Aut} → WfAut N L σ → {t : Edge} → EdgeAt N σ t → (us : List Edge) → EdgesAt N σ us → (s : Summed (ops N L′)) → SumAt N L σ (summed N L L′ s)
-      → Replays N L′ (In N L (SumAt N L)) (subtractRow (ops N L′) t us s >>= (toFirst N L L′)) σ (subtractRow (ops N L) t us (summed N L L′ s) σ)
+  subtractRow-replay : {σ : Aut} → WfAut N L σ → {t : Edge} → EdgeAt N σ t → (us : List Edge) → EdgesAt N σ us → {s : Summed} → SumAt N L σ s
+      → Replays N L′ (In N L (SumAt N L)) (subtractRow (ops N L′) t us s) σ (subtractRow (ops N L) t us s σ)
   unfolding subtractRow
-  subtractRow-replay g q [] b s p = replays-return (summed N L L′ s) (g, p)
-  subtractRow-replay g q (u ∷ us) b s p =
-      replays-assoc _ (toFirst N L L′) (mk-difference-replay g (q .state) (first-at b .state)) (λ τ₁ x w₁ (v₁, b₁).
-      replays-assoc _ (toFirst N L L′) (apply-replay v₁ (relation-of (edge-grown w₁ q)) (relation-of (edge-grown w₁ (first-at b))) Spp.intersect) (λ τ₂ m w₂ (v₂, b₂).
-      replays-assoc _ (toFirst N L L′) (apply-replay v₂ (label-grown (grown-trans w₁ w₂) (p .sum)) b₂ Spp.union) (λ τ₃ sum₁ w₃ (v₃, b₃).
-      replays-assoc _ (toFirst N L L′) (insert-replay wide v₃ (state-grown (grown-trans w₂ w₃) b₁) (label-grown w₃ b₂) (list-grown (grown-trans w₁ (grown-trans w₂ w₃)) (p .result) .edges)) (λ τ₄ r w₄ (v₄, b₄).
+  subtractRow-replay g q [] b {s} p = replays-return s (g, p)
+  subtractRow-replay g q (u ∷ us) b p =
+      replays-bind (mk-difference-replay g (q .state) (first-at b .state)) (λ τ₁ x w₁ (v₁, b₁).
+      replays-bind (apply-replay v₁ (relation-of (edge-grown w₁ q)) (relation-of (edge-grown w₁ (first-at b))) Spp.intersect) (λ τ₂ m w₂ (v₂, b₂).
+      replays-bind (apply-replay v₂ (label-grown (grown-trans w₁ w₂) (p .sum)) b₂ Spp.union) (λ τ₃ sum₁ w₃ (v₃, b₃).
+      replays-bind (insert-replay wide v₃ (state-grown (grown-trans w₂ w₃) b₁) (label-grown w₃ b₂) (list-grown (grown-trans w₁ (grown-trans w₂ w₃)) (p .result) .edges)) (λ τ₄ r w₄ (v₄, b₄).
       let w = grown-trans w₁ (grown-trans w₂ (grown-trans w₃ w₄)) in
-      subtractRow-replay v₄ (edge-grown w q) us (edges-grown w (rest-at b)) (record { sum = sum₁; result = r }) (record { sum = label-grown w₄ b₃; result = b₄ })))))
+      subtractRow-replay v₄ (edge-grown w q) us (edges-grown w (rest-at b)) (record { sum = label-grown w₄ b₃; result = b₄ })))))
 
-  subtractRows-replay : {σ : Aut} → WfAut N L σ → (ts us : List Edge) → EdgesAt N σ ts → EdgesAt N σ us → (s : Summed (ops N L′)) → SumAt N L σ (summed N L L′ s)
-      → Replays N L′ (In N L (SumAt N L)) (subtractRows (ops N L′) ts us s >>= (toFirst N L L′)) σ (subtractRows (ops N L) ts us (summed N L L′ s) σ)
+  subtractRows-replay : {σ : Aut} → WfAut N L σ → (ts us : List Edge) → EdgesAt N σ ts → EdgesAt N σ us → {s : Summed} → SumAt N L σ s
+      → Replays N L′ (In N L (SumAt N L)) (subtractRows (ops N L′) ts us s) σ (subtractRows (ops N L) ts us s σ)
   unfolding subtractRows
-  subtractRows-replay g [] us a b s p = replays-return (summed N L L′ s) (g, p)
-  subtractRows-replay g (t ∷ ts) us a b s p =
-      replays-as (λ υ w v. assoc (subtractRow (ops N L′) t us s υ) (subtractRows (ops N L′) ts us) (toFirst N L L′) ∙ sym (assoc (subtractRow (ops N L′) t us s υ) (toFirst N L L′) (λ r. subtractRows (ops N L′) ts us (summed N L′ L r) >>= (toFirst N L L′))))
-      (replays-bind (subtractRow-replay g (first-at a) us b s p) (λ τ r w (v, q). subtractRows-replay v ts us (edges-grown w (rest-at a)) (edges-grown w b) (summed N L′ L r) q))
+  subtractRows-replay g [] us a b {s} p = replays-return s (g, p)
+  subtractRows-replay g (t ∷ ts) us a b p =
+      replays-bind (subtractRow-replay g (first-at a) us b p) (λ τ r w (v, q). subtractRows-replay v ts us (edges-grown w (rest-at a)) (edges-grown w b) q)
 
   module _ {σ : Aut} (g : WfAut N L σ) where
     pub st-difference-replay : {ts us : List Edge} → EdgesAt N σ ts → EdgesAt N σ us → Replays N L′ (In N L (ListAt N L)) (st-difference (ops N L′) ts us) σ (st-difference (ops N L) ts us σ)
     unfolding st-difference
     st-difference-replay {ts} {us} a b =
-        replays-as (λ υ w v. sym (assoc (subtractRows (ops N L′) ts us (record { sum = Rel.zeroAt N; result = [] }) υ) (toFirst N L L′) (λ s. insertEach (ops N L′) (restOf (ops N L′) (s .sum)) ts (s .result))))
-        (replays-bind (subtractRows-replay g ts us a b (record { sum = Rel.zeroAt N; result = [] }) (record { sum = zero-label g; result = list-empty σ })) (λ τ s w (v, p).
-        insertEach-replay wide v (restOf (ops N L) (s .sum)) (restOf (ops N L′) (s .sum)) (rest-makes wide (p .sum)) ts (edges-grown w a) (p .result)))
+        replays-bind (subtractRows-replay g ts us a b (record { sum = zero-label g; result = list-empty σ })) (λ τ s w (v, p).
+        insertEach-replay wide v (restOf (ops N L) (s .sum)) (restOf (ops N L′) (s .sum)) (rest-makes wide (p .sum)) ts (edges-grown w a) (p .result))
 
   module _ {σ : Aut} (g : WfAut N L σ) where
     -- st_xor

@@ -61,10 +61,6 @@ again-grown g r = record { same = λ υ w v. r .same υ (grown-later g w) v }
 
 -- ---- following two runs
 
-pub assoc : {S A B C : Type 0} (o : Outcome S A) (k : A → Step S B) (j : B → Step S C) → after (after o k) j ≡ after o (λ a σ. after (k a σ) j)
-assoc (refused number) k j = refl
-assoc (given σ a) k j = refl
-
 module _ {N : ℕ} {L : Limits} {A : Type 0} where
   -- what is given, and that it is given again
   pub replayed : {P : Aut → A → Type 0} {step : Step Aut A} {σ τ : Aut} {a : A} → Replays N L P step σ (given τ a) → P τ a × Again N L step τ a
@@ -137,11 +133,6 @@ module _ {N : ℕ} {L : Limits} {A : Type 0} where
       → ((τ : Aut) (a : A) → WfAut N M τ → Q τ a → Again N L step τ a) → Replays N L (In N M Q) step σ o
   replays-of (Going.stops w g y) f = stops
   replays-of (Going.comes {τ} {a} r) f = comes (r .grown) (r .memos) (r .good, r .holds) (f τ a (r .good) (r .holds))
-
--- one step after another, of which the second goes on
-pub replays-assoc : {N : ℕ} {L : Limits} {A B C : Type 0} {P : Aut → A → Type 0} {Q : Aut → C → Type 0} {step : Step Aut A} (next : A → Step Aut B) (last : B → Step Aut C) {σ : Aut} {o : Outcome Aut A} {k : A → Step Aut C}
-    → Replays N L P step σ o → ((τ : Aut) (a : A) → ExtAut σ τ → P τ a → Replays N L Q (next a >>= last) τ (k a τ)) → Replays N L Q ((step >>= next) >>= last) σ (after o k)
-replays-assoc {step = step} next last r f = replays-as {step = step >>= λ a. next a >>= last} (λ υ w v. assoc (step υ) next last) (replays-bind r f)
 
 -- a step on some of the tables, and then a value made of its answer
 pub placed-then : {S A B : Type 0} (put : S → Aut → Aut) (σ : Aut) (o : Outcome S A) (f : A → B) → placed put σ (after o (λ a. return (f a))) ≡ after (placed put σ o) (λ a. return (f a))

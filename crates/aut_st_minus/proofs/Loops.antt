@@ -15,10 +15,10 @@ use Rattle.aut_stage.proofs.Stage.{Folds}
 -- ---- subtract_row
 
 module _ (N : ℕ) (l : Limits) (e : Edge) where
-  abbrev pub row : List Edge → Sum (ops N (limitsOf l)) → Step Aut (Sum (ops N (limitsOf l)))
+  abbrev pub row : List Edge → Sum → Step Aut Sum
   row us q = St.subtractRow (ops N (limitsOf l)) e us q
 
-  abbrev pub rowOne : Edge → Sum (ops N (limitsOf l)) → Step Aut (Sum (ops N (limitsOf l)))
+  abbrev pub rowOne : Edge → Sum → Step Aut Sum
   rowOne u q = subtractOne N (limitsOf l) e u q
 
   pub row-folds : Folds rowOne row
@@ -27,10 +27,10 @@ module _ (N : ℕ) (l : Limits) (e : Edge) where
 -- ---- subtract_rows
 
 module _ (N : ℕ) (l : Limits) (us : List Edge) where
-  abbrev pub rows : List Edge → Sum (ops N (limitsOf l)) → Step Aut (Sum (ops N (limitsOf l)))
+  abbrev pub rows : List Edge → Sum → Step Aut Sum
   rows ts q = St.subtractRows (ops N (limitsOf l)) ts us q
 
-  abbrev pub rowsOne : Edge → Sum (ops N (limitsOf l)) → Step Aut (Sum (ops N (limitsOf l)))
+  abbrev pub rowsOne : Edge → Sum → Step Aut Sum
   rowsOne t q = St.subtractRow (ops N (limitsOf l)) t us q
 
   pub rows-folds : Folds rowsOne rows

@@ -57,16 +57,16 @@ module _ (c : Counts) {N : ℕ} {l : Limits} {t st mem s : List ℕ} {T₁ U : E
   abbrev es : List Edge
   es = edges s RESULT m
 
-  abbrev whole : Step Aut (Sum (ops N L))
+  abbrev whole : Step Aut Sum
   whole = subtractOne N L T₁ U (sumOf N l s h m)
 
-  abbrev fourth : ℕ → ℕ → ℕ → Step Aut (Sum (ops N L))
+  abbrev fourth : ℕ → ℕ → ℕ → Step Aut Sum
   fourth x meet g = St.insert (ops N L) x meet es >>= λ fs. return (summed N L g fs)
 
-  abbrev third : ℕ → ℕ → Step Aut (Sum (ops N L))
+  abbrev third : ℕ → ℕ → Step Aut Sum
   third x meet = onNodes (Rel.union N h meet) >>= fourth x meet
 
-  abbrev second : ℕ → Step Aut (Sum (ops N L))
+  abbrev second : ℕ → Step Aut Sum
   second x = onNodes (Rel.intersect N (T₁ .label) (U .label)) >>= third x
 
   stage-0 : Stage (autLayer N l) 0 0 (whole σ) (after (mk-difference N L (T₁ .target) (U .target) σ) second) σ σ c c s s
@@ -136,7 +136,7 @@ module _ (c : Counts) {N : ℕ} {l : Limits} {t st mem s : List ℕ} {T₁ U : E
               abbrev put : List Edge → Step Aut (List Edge)
               put fs = St.insert (ops N L) x (u .0) fs
 
-              abbrev last : List Edge → Step Aut (Sum (ops N L))
+              abbrev last : List Edge → Step Aut Sum
               last fs = return (summed N L (v .0) fs)
 
               stage-3 : Stage (autLayer N l) 0 0 (whole σ) (after (put es σ3) last) σ σ3 c c3 s s3

@@ -43,10 +43,10 @@ pub record RowsReady (N : ℕ) (l : Limits) (σ : Aut) (tr s : List ℕ) (x y : 
 
 -- ---- an answer that is a sum of labels and a list
 
-abbrev pub sumOf : (N : ℕ) (l : Limits) → List ℕ → ℕ → ℕ → Sum (ops N (limitsOf l))
+abbrev pub sumOf : (N : ℕ) (l : Limits) → List ℕ → ℕ → ℕ → Sum
 sumOf N l s h m = record { sum = h; result = edges s RESULT m }
 
-abbrev pub seenSum : (N : ℕ) (l : Limits) → Summed → List ℕ → List ℕ → List ℕ → List ℕ → Outcome Aut (Sum (ops N (limitsOf l)))
+abbrev pub seenSum : (N : ℕ) (l : Limits) → Summed → List ℕ → List ℕ → List ℕ → List ℕ → Outcome Aut Sum
 seenSum N l (summed.Next d h m) t st mem s = given (autOf t st mem d) (sumOf N l s (h .0) m)
 seenSum N l (summed.Refused e) t st mem s = refused e
 
@@ -66,7 +66,7 @@ abbrev pub SumNext : ℕ → Limits → Aut → Summed → List ℕ → List ℕ
 SumNext N l σ (summed.Next d h m) t st mem s = SumOn N l σ (autOf t st mem d) s (h .0) m
 SumNext N l σ (summed.Refused e) t st mem s = Unit
 
-pub record DoesSum (N : ℕ) (l : Limits) (a n : ℕ) (o : Step Aut (Sum (ops N (limitsOf l)))) (σ : Aut) (r : Summed) (c : Counts) (t′ st′ mem′ s s′ : List ℕ) : Type 0 where
+pub record DoesSum (N : ℕ) (l : Limits) (a n : ℕ) (o : Step Aut Sum) (σ : Aut) (r : Summed) (c : Counts) (t′ st′ mem′ s s′ : List ℕ) : Type 0 where
   pub is : o σ ≡ seenSum N l r t′ st′ mem′ s′
   pub beside : SumBeside r c
   pub left : SumLeft N a n r t′ s s′

@@ -108,10 +108,10 @@ module _ {N : ℕ} {l : Limits} {σ : Aut} {tr s : List ℕ} {x y : Source} (W :
   abbrev minus : Step Aut (List Edge)
   minus = St.st-difference (ops N (limitsOf l)) (sourceOf x tr s) (sourceOf y tr s)
 
-  abbrev rows-loop : Step Aut (Sum (ops N (limitsOf l)))
+  abbrev rows-loop : Step Aut Sum
   rows-loop = St.subtractRows (ops N (limitsOf l)) (sourceOf x tr s) (sourceOf y tr s) (sumOf N l s zero 0)
 
-  abbrev rest-loop : Sum (ops N (limitsOf l)) → Step Aut (List Edge)
+  abbrev rest-loop : Sum → Step Aut (List Edge)
   rest-loop q = St.insertEach (ops N (limitsOf l)) (St.restOf (ops N (limitsOf l)) (q .sum)) (sourceOf x tr s) (q .result)
 
   minus-0 : (c : Counts) → Stage (autLayer N l) 0 832 (minus σ) (after (rows-loop σ) rest-loop) σ σ c c s s

@@ -241,7 +241,7 @@ module _ {N : ℕ} {L : Limits} where
     st-intersect-expr-goes {ts} a {x} i = insertEach-goes g (metWith (ops N L) x) (meet-with-makes i) ts a (list-empty σ)
 
 module _ {N : ℕ} {L : Limits} where
-  pub subtractRow-goes : {σ : Aut} → WfAut N L σ → {t : Edge} → EdgeAt N σ t → (us : List Edge) → EdgesAt N σ us → {s : Summed (ops N L)} → SumAt N L σ s
+  pub subtractRow-goes : {σ : Aut} → WfAut N L σ → {t : Edge} → EdgeAt N σ t → (us : List Edge) → EdgesAt N σ us → {s : Summed} → SumAt N L σ s
       → StepSpec N L (SumAt N L) σ (subtractRow (ops N L) t us s σ)
   unfolding subtractRow
   subtractRow-goes g q [] b {s} p = goes-return s g p
@@ -253,7 +253,7 @@ module _ {N : ℕ} {L : Limits} where
       let w = grown-trans w₁ (grown-trans w₂ (grown-trans w₃ w₄)) in
       subtractRow-goes v₄ (edge-grown w q) us (edges-grown w (rest-at b)) (record { sum = label-grown w₄ b₃; result = b₄ })))))
 
-  pub subtractRows-goes : {σ : Aut} → WfAut N L σ → (ts us : List Edge) → EdgesAt N σ ts → EdgesAt N σ us → {s : Summed (ops N L)} → SumAt N L σ s
+  pub subtractRows-goes : {σ : Aut} → WfAut N L σ → (ts us : List Edge) → EdgesAt N σ ts → EdgesAt N σ us → {s : Summed} → SumAt N L σ s
       → StepSpec N L (SumAt N L) σ (subtractRows (ops N L) ts us s σ)
   unfolding subtractRows
   subtractRows-goes g [] us a b {s} p = goes-return s g p

@@ -20,11 +20,11 @@ use Rattle.aut_st_steps.proofs.ListSpec.{list-grown, label-grown, relat
 use Rattle.aut_st_steps.specs.EachSteps.{subtractOne}
 
 module _ (N : ℕ) (L : Limits) where
-  abbrev pub summed : ℕ → List Edge → Summed (ops N L)
+  abbrev pub summed : ℕ → List Edge → Summed
   summed h es = record { sum = h; result = es }
 
   module _ (t u : Edge) (us : List Edge) where
-    abbrev rest : Summed (ops N L) → Step Aut (Summed (ops N L))
+    abbrev rest : Summed → Step Aut Summed
     rest = subtractRow (ops N L) t us
 
     inserted : (h : ℕ) (o : Outcome Aut (List Edge)) → after o (λ es. rest (summed h es)) ≡ after (after o (λ es. return (summed h es))) rest
@@ -49,24 +49,24 @@ module _ (N : ℕ) (L : Limits) where
     made h es (given τ x) = met x h es (onNodes (Rel.intersect N (t .label) (u .label)) τ)
 
   -- one transition, then the others
-  pub subtractRow-is : (t u : Edge) (us : List Edge) (s : Summed (ops N L)) (σ : Aut) → subtractRow (ops N L) t (u ∷ us) s σ ≡ after (subtractOne N L t u s σ) (subtractRow (ops N L) t us)
+  pub subtractRow-is : (t u : Edge) (us : List Edge) (s : Summed) (σ : Aut) → subtractRow (ops N L) t (u ∷ us) s σ ≡ after (subtractOne N L t u s σ) (subtractRow (ops N L) t us)
   unfolding subtractRow subtractOne
   subtractRow-is t u us s σ = made t u us (s .sum) (s .result) (mk-difference N L (t .target) (u .target) σ)
 
-  pub subtractRow-none : (t : Edge) (s : Summed (ops N L)) (σ : Aut) → subtractRow (ops N L) t [] s σ ≡ given σ s
+  pub subtractRow-none : (t : Edge) (s : Summed) (σ : Aut) → subtractRow (ops N L) t [] s σ ≡ given σ s
   unfolding subtractRow
   subtractRow-none t s σ = refl
 
-  pub subtractRows-is : (us : List Edge) (t : Edge) (ts : List Edge) (s : Summed (ops N L)) (σ : Aut)
+  pub subtractRows-is : (us : List Edge) (t : Edge) (ts : List Edge) (s : Summed) (σ : Aut)
       → subtractRows (ops N L) (t ∷ ts) us s σ ≡ after (subtractRow (ops N L) t us s σ) (λ s₁. subtractRows (ops N L) ts us s₁)
   unfolding subtractRows
   subtractRows-is us t ts s σ = refl
 
-  pub subtractRows-none : (us : List Edge) (s : Summed (ops N L)) (σ : Aut) → subtractRows (ops N L) [] us s σ ≡ given σ s
+  pub subtractRows-none : (us : List Edge) (s : Summed) (σ : Aut) → subtractRows (ops N L) [] us s σ ≡ given σ s
   unfolding subtractRows
   subtractRows-none us s σ = refl
 
-pub subtractOne-goes : {N : ℕ} {L : Limits} {σ : Aut} → WfAut N L σ → {t u : Edge} → EdgeAt N σ t → EdgeAt N σ u → {s : Summed (ops N L)} → SumAt N L σ s → StepSpec N L (SumAt N L) σ (subtractOne N L t u s σ)
+pub subtractOne-goes : {N : ℕ} {L : Limits} {σ : Aut} → WfAut N L σ → {t u : Edge} → EdgeAt N σ t → EdgeAt N σ u → {s : Summed} → SumAt N L σ s → StepSpec N L (SumAt N L) σ (subtractOne N L t u s σ)
 unfolding subtractOne
 subtractOne-goes g t u p =
     goes-bind (mk-difference-goes g (t .state) (u .state)) (λ τ₁ x w₁ v₁ b₁.

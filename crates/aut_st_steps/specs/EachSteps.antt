@@ -37,7 +37,7 @@ module _ (N : ℕ) (L : Limits) where
   insertMade each e list = made each e >>= λ new. St.insert (ops N L) (new .target) (new .label) list
 
   -- the difference of t and u, where their labels meet, inserted; the labels met so far
-  unfoldable pub subtractOne : Edge → Edge → Summed (ops N L) → Step Aut (Summed (ops N L))
+  unfoldable pub subtractOne : Edge → Edge → Summed → Step Aut Summed
   subtractOne t u s = do
     x ← mk-difference N L (t .target) (u .target)
     m ← onNodes (Rel.intersect N (t .label) (u .label))

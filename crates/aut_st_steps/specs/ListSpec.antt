@@ -25,6 +25,6 @@ State τ x = x < states τ
 -- ---- st_difference
 
 -- the sum is a relation, the list in order
-pub record SumAt (N : ℕ) (L : Limits) (σ : Aut) (s : Summed (ops N L)) : Type 0 where
+pub record SumAt (N : ℕ) (L : Limits) (σ : Aut) (s : Summed) : Type 0 where
   pub sum : Label N σ (s .sum)
   pub result : ListAt N L σ (s .result)

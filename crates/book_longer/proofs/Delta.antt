@@ -25,7 +25,8 @@ use Rattle.book_longer.proofs.Sets.{and-true}
 use Rattle.book_longer.proofs.Relations.{star-longer}
 use Rattle.book_longer.proofs.Anchored.{Anchor, InAut, InStore, here, in-here, store-longer}
 use Rattle.book_longer.proofs.Constructors.{on-nodes, on-states, mk-spp-longer, mk-top-longer, mk-until-longer}
-use Rattle.book_longer.proofs.Lists.{st-singleton-longer, st-union-longer, st-intersect-longer, st-difference-longer, st-xor-longer, st-complement-longer, st-postcompose-longer, st-precompose-longer, st-intersect-expr-longer, ops-respect}
+use Rattle.netkat_steps.proofs.Related.{st-singleton-related, st-union-related, st-intersect-related, st-difference-related, st-xor-related, st-complement-related, st-postcompose-related, st-precompose-related, st-intersect-expr-related}
+use Rattle.book_longer.proofs.Lists.{ops-respect}
 use Rattle.book_longer.proofs.Operands as Op
 use Rattle.book_longer.proofs.Operands.{First, Second, Closed, closed-here, first-below, second-below, list-below, each-below, word-longer}
 use Rattle.book_longer.proofs.Epsilon.{list-same, epsilon-longer}
@@ -76,12 +77,12 @@ module _ {a : Anchor} where
     unionAll-longer : (ess : List (List Edge)) (es : List Edge) → Respects (InAut a) (unionAll N L ess es)
     unfolding unionAll
     unionAll-longer [] es = returns es
-    unionAll-longer (us ∷ ess) es = bind (st-union-longer (ops-respect N L) es us) (unionAll-longer ess)
+    unionAll-longer (us ∷ ess) es = bind (st-union-related (ops-respect N L) es us) (unionAll-longer ess)
 
     intersectAll-longer : (ess : List (List Edge)) (es : List Edge) → Respects (InAut a) (intersectAll N L ess es)
     unfolding intersectAll
     intersectAll-longer [] es = returns es
-    intersectAll-longer (us ∷ ess) es = bind (st-intersect-longer (ops-respect N L) es us) (intersectAll-longer ess)
+    intersectAll-longer (us ∷ ess) es = bind (st-intersect-related (ops-respect N L) es us) (intersectAll-longer ess)
 
     intersectFirst-longer : (ess : List (List Edge)) → Respects (InAut a) (intersectFirst N L ess)
     intersectFirst-longer [] = returns []
@@ -89,23 +90,23 @@ module _ {a : Anchor} where
 
     sequenceList-longer : (y ε : ℕ) (ts us : List Edge) → Respects (InAut a) (sequenceList N L y ε ts us)
     unfolding sequenceList
-    sequenceList-longer y ε ts us = bind (st-postcompose-longer (ops-respect N L) ts y) (λ late. bind (st-precompose-longer (ops-respect N L) ε us) (λ early. st-union-longer (ops-respect N L) late early))
+    sequenceList-longer y ε ts us = bind (st-postcompose-related (ops-respect N L) ts y) (λ late. bind (st-precompose-related (ops-respect N L) ε us) (λ early. st-union-related (ops-respect N L) late early))
 
     starList-longer : (x ε* : ℕ) (ts : List Edge) → Respects (InAut a) (starList N L x ε* ts)
     unfolding starList
-    starList-longer x ε* ts = bind (st-postcompose-longer (ops-respect N L) ts x) (λ late. st-precompose-longer (ops-respect N L) ε* late)
+    starList-longer x ε* ts = bind (st-postcompose-related (ops-respect N L) ts x) (λ late. st-precompose-related (ops-respect N L) ε* late)
 
     untilList-longer : (x y : ℕ) (ts us : List Edge) → Respects (InAut a) (untilList N L x y ts us)
     unfolding untilList
-    untilList-longer x y ts us = bind (on-states (mk-until-longer L x y)) (λ u. bind (st-intersect-expr-longer (ops-respect N L) ts u) (λ met. st-union-longer (ops-respect N L) us met))
+    untilList-longer x y ts us = bind (on-states (mk-until-longer L x y)) (λ u. bind (st-intersect-expr-related (ops-respect N L) ts u) (λ met. st-union-related (ops-respect N L) us met))
 
     dupList-longer : Respects (InAut a) (dupList N L)
     unfolding dupList
-    dupList-longer = bind (on-states (mk-spp-longer (Rel.oneAt N))) (st-singleton-longer (ops-respect N L) (Rel.oneAt N))
+    dupList-longer = bind (on-states (mk-spp-longer (Rel.oneAt N))) (st-singleton-related (ops-respect N L) (Rel.oneAt N))
 
     topList-longer : Respects (InAut a) (topList N L)
     unfolding topList
-    topList-longer = bind (on-states mk-top-longer) (st-singleton-longer (ops-respect N L) (Rel.topAt N))
+    topList-longer = bind (on-states mk-top-longer) (st-singleton-related (ops-respect N L) (Rel.topAt N))
 
     module _ (c : Closed a) {again : ℕ → Step Store (List Edge)} (h : (x : ℕ) → x < a .states → Respects (InStore a) (again x)) {x : ℕ} (l : x < a .states) {σ τ : Store} (r : InStore a σ τ) where
       -- the lists of two operands, then an operation on them
@@ -127,10 +128,10 @@ module _ {a : Anchor} where
           (λ e. along (λ d. eachOf again (list-same (r .aut) x d) >>= λ ess. onAut (unionAll N L ess [])) (bind (each-below h _ (list-below c (r .aut) l Op.union e)) (λ ess. on-aut (unionAll-longer ess []))) σ τ r)
           (λ _. follows-case (λ d. eqb (kinds w d x) INTERSECT)
           (λ e. along (λ d. eachOf again (list-same (r .aut) x d) >>= λ ess. onAut (intersectFirst N L ess)) (bind (each-below h _ (list-below c (r .aut) l Op.intersect e)) (λ ess. on-aut (intersectFirst-longer ess))) σ τ r)
-          (λ _. follows-case (λ d. eqb (kinds w d x) XOR) (join-longer (st-xor-longer o) Op.xor Op.xor₂)
-          (λ _. follows-case (λ d. eqb (kinds w d x) DIFFERENCE) (join-longer (st-difference-longer o) Op.difference Op.difference₂)
+          (λ _. follows-case (λ d. eqb (kinds w d x) XOR) (join-longer (st-xor-related o) Op.xor Op.xor₂)
+          (λ _. follows-case (λ d. eqb (kinds w d x) DIFFERENCE) (join-longer (st-difference-related o) Op.difference Op.difference₂)
           (λ _. follows-case (λ d. eqb (kinds w d x) COMPLEMENT)
-          (λ e. along (λ d. again (firsts w d x) >>= λ ts. onAut (st-complement (ops N L) ts)) (bind (h _ (first-below c (r .aut) l Op.complement e)) (λ ts. on-aut (st-complement-longer o ts))) σ τ r)
+          (λ e. along (λ d. again (firsts w d x) >>= λ ts. onAut (st-complement (ops N L) ts)) (bind (h _ (first-below c (r .aut) l Op.complement e)) (λ ts. on-aut (st-complement-related o ts))) σ τ r)
           (λ _. follows-case (λ d. eqb (kinds w d x) SEQUENCE)
           (λ e. along (λ d. onAut (epsilon N (firsts w d x)) >>= λ ε. again (firsts w d x) >>= λ ts. again (seconds w d x) >>= λ us. onAut (sequenceList N L (seconds w d x) ε ts us))
           (bind (on-aut (epsilon-longer N c _ (first-below c (r .aut) l Op.sequence e))) (λ ε. bind (h _ (first-below c (r .aut) l Op.sequence e)) (λ ts. bind (h _ (second-below c (r .aut) l Op.sequence₂ e)) (λ us. on-aut (sequenceList-longer _ ε ts us))))) σ τ r)
@@ -138,7 +139,7 @@ module _ {a : Anchor} where
           (λ e. along (λ d. onAut (epsilon N (firsts w d x)) >>= λ ε. onAut (onNodes (Rel.star N ε)) >>= λ ε*. again (firsts w d x) >>= λ ts. onAut (starList N L x ε* ts))
           (bind (on-aut (epsilon-longer N c _ (first-below c (r .aut) l Op.star e))) (λ ε. bind (on-aut (on-nodes (star-longer N N ε))) (λ ε*. bind (h _ (first-below c (r .aut) l Op.star e)) (λ ts. on-aut (starList-longer x ε* ts))))) σ τ r)
           (λ _. follows-if (λ d. eqb (kinds w d x) DUP) (on-aut dupList-longer σ τ r)
-          (follows-if (λ d. eqb (kinds w d x) NEXT) (reading (λ b. on-aut (st-singleton-longer o (Rel.topAt N) b)) (λ d. firsts w d x) σ τ r)
+          (follows-if (λ d. eqb (kinds w d x) NEXT) (reading (λ b. on-aut (st-singleton-related o (Rel.topAt N) b)) (λ d. firsts w d x) σ τ r)
           (follows-case (λ d. eqb (kinds w d x) UNTIL)
           (λ e. along (λ d. again (firsts w d x) >>= λ ts. again (seconds w d x) >>= λ us. onAut (untilList N L (firsts w d x) (seconds w d x) ts us))
           (bind (h _ (first-below c (r .aut) l Op.until e)) (λ ts. bind (h _ (second-below c (r .aut) l Op.until₂ e)) (λ us. on-aut (untilList-longer _ _ ts us)))) σ τ r)

@@ -599,14 +599,14 @@ module _ {n : ℕ} {𝓞 : Operations} (𝓡 : Readings n 𝓞) where
 
         -- ---- st_difference: the differences where labels meet, and the union of what is met
 
-        pub record Subtracted (A : Language n) (Met : Packet n → Packet n → Type 0) (σ σ′ : 𝓞 .Store) (s : ListSteps.Summed 𝓞) : Type 0 where
+        pub record Subtracted (A : Language n) (Met : Packet n → Packet n → Type 0) (σ σ′ : 𝓞 .Store) (s : ListSteps.Summed) : Type 0 where
           pub later : Later 𝓡 σ σ′
           pub met : Relation n
           pub is : IsLabel σ′ (s .sum) met
           pub pairs : (a h : Packet n) → T (met a h) ↔ Met a h
           pub list : IsList 𝓡 A σ′ (s .result)
 
-        row-true : (s : State) (l : Label) (q : Relation n) → Known σ₀ s → IsLabel σ₀ l q → (us : List Edge) {list : List (Transition State n)} {σ : 𝓞 .Store} {S : ListSteps.Summed 𝓞} {A : Language n} {c : Relation n} →
+        row-true : (s : State) (l : Label) (q : Relation n) → Known σ₀ s → IsLabel σ₀ l q → (us : List Edge) {list : List (Transition State n)} {σ : 𝓞 .Store} {S : ListSteps.Summed} {A : Language n} {c : Relation n} →
             Are 𝓡 σ₀ us list → Later 𝓡 σ₀ σ → IsLabel σ (S .sum) c → IsList 𝓡 A σ (S .result) →
             Gives (Subtracted (Either A (Through (λ u. q ∩ʳ u .label) (λ u v. Holds σ₀ s v × ¬ Own u v) list)) (λ a h. T (c a h) ⊎ (T (q a h) × T (covers list a h))) σ) (ListSteps.subtractRow 𝓞 (edge s l) us S σ)
         unfolding ListSteps.subtractRow
@@ -661,7 +661,7 @@ module _ {n : ℕ} {𝓞 : Operations} (𝓡 : Readings n 𝓞) where
             back a h (inl x) = inl (or-left (c a h) (q a h && q′ a h) x)
             back a h (inr x) = second a h (x .0) (either (q′ a h) (covers rest a h) (x .1))
 
-        pub rows-true : (ts us : List Edge) {list list′ : List (Transition State n)} {σ : 𝓞 .Store} {S : ListSteps.Summed 𝓞} {A : Language n} {c : Relation n} →
+        pub rows-true : (ts us : List Edge) {list list′ : List (Transition State n)} {σ : 𝓞 .Store} {S : ListSteps.Summed} {A : Language n} {c : Relation n} →
             Are 𝓡 σ₀ ts list → Are 𝓡 σ₀ us list′ → Later 𝓡 σ₀ σ → IsLabel σ (S .sum) c → IsList 𝓡 A σ (S .result) →
             Gives (Subtracted (Either A (ThroughPair (λ t u. t .label ∩ʳ u .label) (λ t u v. Own t v × ¬ Own u v) list list′)) (λ a h. T (c a h) ⊎ (T (covers list a h) × T (covers list′ a h))) σ)
             (ListSteps.subtractRows 𝓞 ts us S σ)

@@ -47,6 +47,11 @@ pub record Operations : Type 1 where
 
 -- ---- the list operations
 
+-- st_difference on its way: the union of the labels' meets, and the list so far
+pub record Summed : Type 0 where
+  pub sum : Label
+  pub result : List Edge
+
 module _ (𝓞 : Operations) where
   open Operations 𝓞 using (Store, zero, union, intersect, difference, sequence, complement, mkUnion, mkIntersect, mkDifference, mkSequence, mkComplement, mkTop, mkZero, limit)
 
@@ -127,11 +132,7 @@ module _ (𝓞 : Operations) where
   unfoldable pub st-intersect : List Edge → List Edge → Step Store (List Edge)
   st-intersect ts us = insertPairs meetOf ts us []
 
-  -- st_difference: `sum` is the union of the labels' meets
-  pub record Summed : Type 0 where
-    pub sum : Label
-    pub result : List Edge
-
+  -- st_difference
   unfoldable pub subtractRow : Edge → List Edge → Summed → Step Store Summed
   subtractRow t [] s = return s
   subtractRow t (u ∷ us) s = do
