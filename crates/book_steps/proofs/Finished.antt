@@ -11,7 +11,7 @@ use Rattle.book_steps.specs.Reader.{Header, header}
 use Rattle.book_steps.specs.Run.{Lent, Setting, RunState, Ran, answered, stopped, run, begin, settingOf, started, headed, opened, refusal, finish, outcome, failed, cameOf, startedBook, headedBook, openedBook, ranBook, finished}
 
 module _ (lent : Lent) where
-  finished-run : (S : Setting) (r : Ran S) → finished lent (cameOf S r) ≡ finish lent r
+  pub finished-run : (S : Setting) (r : Ran S) → finished lent (cameOf S r) ≡ finish lent r
   finished-run S (answered p) = refl
   finished-run S (stopped e k out) = refl
 

@@ -13,6 +13,7 @@ pub mod Printed  -- what an answer's bytes tell
 pub mod Lines  -- a line
 pub mod Runs  -- a run
 pub mod Finished  -- run, then finished, is the outcome
+pub mod LineNumbers  -- the text line of a refusal is at most 2,050
 pub mod Claim  -- a book, and the public entry
 pub mod Netcheck  -- the program
 pub mod Examples  -- lines read, computed

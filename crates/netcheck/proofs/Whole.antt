@@ -21,7 +21,8 @@ use Rattle.book_writer.specs.declared.Answered.{Answered}
 use Rattle.book_writer.specs.declared.Answered.the-variants as answered
 use Rattle.book_writer.proofs.Rights.{most-digits}
 use Rattle.book_writer.proofs.Lines.{length-three}
-use Rattle.netcheck_entry.specs.Outcome.{lentIn, Entered}
+use Rattle.book_run.specs.Contracts.{lentOf}
+use Rattle.netcheck_entry.specs.Outcome.{Entered}
 use Rattle.netcheck_entry.specs.declared.Outcome.{Outcome}
 use Rattle.netcheck.specs.Output.{refusedLine, closing, tooLong, writes, Stands, Prepared}
 use Rattle.book_steps.specs.Claim.{netcheckLent, report, netcheckOutput}
@@ -63,7 +64,7 @@ written-take {bs} {s} {s′} w =
     (λ i l. let m : i < length bs = omega (arith, length-take-le (length bs) s′ (omega (arith, w .fits, w .len))) in getD-take (length bs) s′ i 0 m ∙ w .is i m)
 
 -- what is lent is what the slices have
-pub lent-is : {l : Lent} {m : Slices} → Lends l m → lentIn m ≡ l
+pub lent-is : {l : Lent} {m : Slices} → Lends l m → lentOf m ≡ l
 lent-is {l} {m} e = rw (e .sp, e .spp, e .states, e .members, e .transitions, e .pending, e .scratch, e .output)
 
 -- ---- what is to be written
@@ -86,14 +87,14 @@ writes-told {over} {book} {s} {m} {m′} r {n} o l e t = record {
   is = both ∙ ap (λ (k : Lent). report (outcome k book)) (lent-is l) ∙ simp o;
 }
   where
-    start : take (r .length) (m′ .output) ≡ outcome (lentIn m) book .output
+    start : take (r .length) (m′ .output) ≡ outcome (lentOf m) book .output
     start = ap (λ (k : ℕ). take k (m′ .output)) (e .refines .length-is) ∙ written-take (e .refines .output-is)
 
-    end : take n s ≡ closing (outcome (lentIn m) book .number) (outcome (lentIn m) book .line)
-    end = t .is ∙ ap (λ (k : ℕ). closing k (r .line)) (e .refines .number-is) ∙ ap (λ (k : ℕ). closing (outcome (lentIn m) book .number) k) (e .refines .line-is)
+    end : take n s ≡ closing (outcome (lentOf m) book .number) (outcome (lentOf m) book .line)
+    end = t .is ∙ ap (λ (k : ℕ). closing k (r .line)) (e .refines .number-is) ∙ ap (λ (k : ℕ). closing (outcome (lentOf m) book .number) k) (e .refines .line-is)
 
-    both : take (r .length) (m′ .output) ++ take n s ≡ report (outcome (lentIn m) book)
-    both = ap (λ (a : List ℕ). a ++ take n s) start ∙ ap (λ (a : List ℕ). outcome (lentIn m) book .output ++ a) end ∙ report-is (outcome (lentIn m) book)
+    both : take (r .length) (m′ .output) ++ take n s ≡ report (outcome (lentOf m) book)
+    both = ap (λ (a : List ℕ). a ++ take n s) start ∙ ap (λ (a : List ℕ). outcome (lentOf m) book .output ++ a) end ∙ report-is (outcome (lentOf m) book)
 
 -- The book is all of standard input, or its first 4,096 bytes: what is written is what 01 says of the whole.
 pub whole-short : (book : List ℕ) → length book ≤ 4096 → writes false book ≡ netcheckOutput book

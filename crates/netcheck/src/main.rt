@@ -6,7 +6,7 @@ ghost use Prim.Native.Nat.{_≤_};
 ghost use lib.ListN.{length};
 ghost use Rattle.book_steps.specs.Claim.{Lends, netcheckLent};
 ghost use Rattle.book_writer.specs.Contracts.{Put};
-ghost use Rattle.netcheck_entry.specs.Outcome.{slices};
+ghost use Rattle.book_run.specs.Contracts.{slices};
 ghost use Rattle.netcheck.specs.Output.{refusedLine, closing as Output·closing, tooLong, Stands, Prepared};
 
 // how many bytes of the output and of the closing line are written

@@ -1,72 +1,27 @@
--- The text line of a refusal is at most 2,050: the header is line 1, and there are at most 2,048 instructions.
+-- The text line of a refusal fits into the struct; and what holds of the number, line and length that a run returns holds of the struct's.
 use mathlib.Core.Path.{_≡_, sym, subst}
-use mathlib.Core.Bool.{Bool, true, false}
-use mathlib.Core.List.{List, [], _∷_}
-use mathlib.Core.Option.{Option, none, some}
-use Prim.Native.Nat.{ℕ, zero, suc, _+_, _≤_}
+use mathlib.Core.List.{List}
+use Prim.Native.Nat.{ℕ, _≤_}
 use native.Mathlib.Omega.{arith}
-use lib.Dec.{ltb}
-use Rattle.common.specs.Outcome.{Outcome, refused, given, if_then_else_}
-use Rattle.book_steps.specs.Text.{Cut, line, unended, cut, words}
-use Rattle.book_steps.specs.Reader.{Header, header, parse}
-use Rattle.book_steps.specs.Run.{Lent, Setting, RunState, Ran, onward, with-line, step, run, settingOf, begin, finish, refusal, started, headed, opened, outcome}
+use Rattle.book_steps.specs.Run.{Lent}
 use Rattle.book_steps.specs.Claim.{Slices, EntrySpec}
-use Rattle.book_run.specs.Contracts.{numberOf, textLineOf, lengthOf}
+use Rattle.book_steps.proofs.LineNumbers.{outcome-line}
+use Rattle.book_run.specs.Contracts.{numberOf, textLineOf, lengthOf, lentOf}
 use Rattle.book_run.specs.declared.Ran as Code
 use Rattle.book_run.specs.declared.Ran.the-variants.{Answered, Refused}
 use Rattle.netcheck_entry.specs.declared.Outcome as Struct
-use Rattle.netcheck_entry.specs.Outcome.{outcomeOf, lentIn, Entered}
-
-module _ (lent : Lent) (S : Setting) where
-  -- the text line where a run ends, at most m
-  abbrev Ends : ℕ → Ran S → Type 0
-  Ends m r = finish lent r .line ≤ m
-
-  module _ (go : List ℕ → ℕ → RunState → Ran S) (k left : ℕ) (p : RunState) (after : (rest : List ℕ) (q : RunState) → Ends (suc k + left) (go rest (suc k) q)) where
-    by-step : (rest : List ℕ) (o : Outcome RunState ℕ) → Ends (k + suc left) (onward S (go rest) k p o)
-    by-step rest (refused e) = omega arith
-    by-step rest (given q x) = omega (arith, after rest q)
-
-    by-cut : (c : Cut) → Ends (k + suc left) (with-line S go k p c)
-    by-cut unended = omega arith
-    by-cut (line l rest) = by-step rest (step S (parse (words l)) p)
-
-  run-line : (left : ℕ) (text : List ℕ) (k : ℕ) (p : RunState) → Ends (k + left) (run S left text k p)
-  unfolding run
-  run-line zero [] k p = omega arith
-  run-line zero (b ∷ text) k p = omega arith
-  run-line (suc left) [] k p = omega arith
-  run-line (suc left) (b ∷ text) k p = by-cut (run S left) k left p (λ rest q. run-line left rest (suc k) q) (cut (b ∷ text))
-
-module _ (lent : Lent) where
-  started-line : (h : Header) (text : List ℕ) (o : Outcome RunState ℕ) → started lent h text o .line ≤ 2050
-  started-line h text (refused e) = omega arith
-  started-line h text (given p x) = run-line lent (settingOf lent h) 2048 text 2 p
-
-  headed-line : (h : Option Header) (text : List ℕ) → headed lent h text .line ≤ 2050
-  headed-line none text = omega arith
-  headed-line (some h) text = started-line h text (begin lent h)
-
-  opened-line : (c : Cut) → opened lent c .line ≤ 2050
-  opened-line unended = omega arith
-  opened-line (line l rest) = headed-line (header (words l)) rest
-
-  pub outcome-line : (book : List ℕ) → outcome lent book .line ≤ 2050
-  unfolding outcome
-  outcome-line book = by-scratch (ltb (lent .scratch) 6144)
-    where
-      by-scratch : (b : Bool) → (if b then refusal lent 26 0 [] else opened lent (cut book)) .line ≤ 2050
-      by-scratch true = omega arith
-      by-scratch false = opened-line (cut book)
-
--- ---- what the entry hands on
+use Rattle.netcheck_entry.specs.Outcome.{outcomeOf, Entered}
 
 pub entry-line : {lent : Lent} {book : List ℕ} {m n : Slices} {number line len : ℕ} → EntrySpec lent book m number line len n → line ≤ 2050
 entry-line {lent} {book} e = omega (arith, e .refines .line-is, outcome-line lent book)
 
-by-case : (book : List ℕ) (m n : Slices) (ran : Code.Ran) → EntrySpec (lentIn m) book m (numberOf ran) (textLineOf ran) (lengthOf ran) n → Entered book m (outcomeOf ran) n
-by-case book m n (Answered k) e = e
-by-case book m n (Refused number k l) e = e
+module _ (P : (number line len : ℕ) → Type 0) where
+  by-case : (ran : Code.Ran) → P (numberOf ran) (textLineOf ran) (lengthOf ran) → P (outcomeOf ran .number) (outcomeOf ran .line) (outcomeOf ran .length)
+  by-case (Answered k) h = h
+  by-case (Refused number k l) h = h
 
-pub entered : (book : List ℕ) (m n : Slices) (ran : Code.Ran) {r : Struct.Outcome} → r ≡ outcomeOf ran → EntrySpec (lentIn m) book m (numberOf ran) (textLineOf ran) (lengthOf ran) n → Entered book m r n
-entered book m n ran q e = subst (λ (s : Struct.Outcome). Entered book m s n) (sym q) (by-case book m n ran e)
+  pub of-fields : (ran : Code.Ran) {r : Struct.Outcome} → r ≡ outcomeOf ran → P (numberOf ran) (textLineOf ran) (lengthOf ran) → P (r .number) (r .line) (r .length)
+  of-fields ran q h = subst (λ (s : Struct.Outcome). P (s .number) (s .line) (s .length)) (sym q) (by-case ran h)
+
+pub entered : (book : List ℕ) (m n : Slices) (ran : Code.Ran) {r : Struct.Outcome} → r ≡ outcomeOf ran → EntrySpec (lentOf m) book m (numberOf ran) (textLineOf ran) (lengthOf ran) n → Entered book m r n
+entered book m n = of-fields (λ (number line len : ℕ). EntrySpec (lentOf m) book m number line len n)

@@ -3,8 +3,8 @@
 use book_run::Ran;
 ghost use mathlib.Core.Path.{_≡_};
 ghost use Prim.Native.Nat.{_≤_};
-ghost use Rattle.book_run.specs.Contracts.{textLineOf};
-ghost use Rattle.netcheck_entry.specs.Outcome.{outcomeOf, slices, Entered};
+ghost use Rattle.book_run.specs.Contracts.{textLineOf, slices};
+ghost use Rattle.netcheck_entry.specs.Outcome.{outcomeOf, Entered};
 
 // 01's number (0: answered), the text line, and how many bytes of the output are written
 #[repr(C)]
@@ -14,7 +14,7 @@ pub struct Outcome {
     pub length: usize,
 }
 
-fn outcome_of(ran: Ran) -> Outcome
+pub fn outcome_of(ran: Ran) -> Outcome
     requires { ⌜ textLineOf ran ≤ 2050 ⌝ }
     ensures { λ r. ⌜ r ≡ outcomeOf ran ⌝ }
 {
