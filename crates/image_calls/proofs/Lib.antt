@@ -1,3 +1,2 @@
--- what the proofs of several functions use
-pub mod Keeping  -- the image of a run's last place, or 27
+-- What the proofs of several functions use.
 pub mod Whole  -- going on from an image, and the calls

@@ -37,8 +37,9 @@ use Rattle.image_calls.specs.Entries.{ImagesSpec, ResumeEntry, SavedAs, 
 use Rattle.image_read.specs.declared.Placed.{Placed}
 use Rattle.image_read.specs.declared.Placed.the-variants as placed
 use Rattle.image_read.specs.Contracts.{settingAt, readBy, PreRead, Reads, ReadsBy, PostRead}
-use Rattle.image_calls.specs.declared.Saved.{Saved}
-use Rattle.image_calls.specs.Contracts.{ImageBy, Keeps, savedOf, PostSeal, PostOn, numberOf, textLineOf, lengthOf, imageLengthOf}
+use Rattle.image_keep.specs.declared.Saved.{Saved}
+use Rattle.image_keep.specs.Contracts.{ImageBy, Keeps, savedOf, PostSeal, numberOf, textLineOf, lengthOf, imageLengthOf}
+use Rattle.image_calls.specs.Contracts.{PostOn}
 
 -- what holds of all images
 images : ImagesSpec

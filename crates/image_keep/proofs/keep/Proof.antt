@@ -1,8 +1,8 @@
 use native.Mathlib.Omega.{arith}
-use Rattle.image_calls.proofs.Keeping as its
+use Rattle.image_keep.proofs.Keeping as its
 use borrow.Author.Needs.{needs}
-use Rattle.image_calls.proofs.keep.Statement.{statement}
-use Rattle.image_calls.proofs.keep.Tie as tie
+use Rattle.image_keep.proofs.keep.Statement.{statement}
+use Rattle.image_keep.proofs.keep.Tie as tie
 
 enum-known-went : tie.Need-enum-known-went
 enum-known-went c = search needs

@@ -1,9 +1,9 @@
 use mathlib.Core.Path.{sym, ap}
 use Rattle.book_run.specs.declared.Ran.{Ran}
-use Rattle.image_calls.specs.Contracts.{savedOf}
+use Rattle.image_keep.specs.Contracts.{savedOf}
 use borrow.Author.Needs.{needs}
-use Rattle.image_calls.proofs.saved_of.Statement.{statement}
-use Rattle.image_calls.proofs.saved_of.Tie as tie
+use Rattle.image_keep.proofs.saved_of.Statement.{statement}
+use Rattle.image_keep.proofs.saved_of.Tie as tie
 
 enum-known-ran : tie.Need-enum-known-ran
 enum-known-ran c = search needs

@@ -23,7 +23,7 @@ use Rattle.image_save.proofs.Whole as saves
 use Rattle.image_steps.specs.Image.{headOf, blocksOf, saved}
 use Rattle.image_steps.specs.Calls.{Saved, saving}
 use Rattle.image_steps.proofs.Calls.{saved-length}
-use Rattle.image_calls.specs.Contracts.{PreKeep, PostKeep}
+use Rattle.image_keep.specs.Contracts.{PreKeep, PostKeep}
 
 -- ---- bytes
 
