@@ -1,0 +1,2 @@
+-- What the proofs of the entries use.
+pub mod Lines

@@ -1,0 +1,2 @@
+-- The entries for C of images: their answers as structs.
+pub mod Outcome
