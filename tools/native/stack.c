@@ -1,25 +1,21 @@
-/* How much stack a book takes: the library runs on a thread whose stack is filled with a pattern first, with a page below it that may not be touched.
- * Standard input: cases as `outcome` reads them. For each: number, text line, bytes of stack (what an empty call takes is taken off). */
+/* How much stack a call takes: the library runs on a thread whose stack is filled with a pattern first, with a page below it that may not be touched.
+ * Standard input: cases of call.h. For each: number, text line, bytes of stack (what an empty call takes is taken off). An image that is written is
+ * then read, and the more of both counts. */
 #define _GNU_SOURCE
-#include "netcheck.h"
+#include "call.h"
 #include <pthread.h>
-#include <stdio.h>
-#include <stdlib.h>
-#include <string.h>
 #include <sys/mman.h>
 
 #define STACK (4u << 20)
 #define PAGE 4096u
 #define PATTERN 0x5Au
 
-struct work { int empty; size_t len[7], output_len, book_len; uint8_t *book, *output; uint32_t *t[7]; struct netcheck_outcome r; };
+struct work { int empty; struct call c; };
 
 static void *run(void *p)
 {
     struct work *w = p;
-    if (!w->empty)
-        w->r = netcheck_run(w->book, w->book_len, w->t[0], w->len[0], w->t[1], w->len[1], w->t[2], w->len[2], w->t[3], w->len[3], w->t[4], w->len[4],
-                            w->t[5], w->len[5], w->t[6], w->len[6], w->output, w->output_len);
+    if (!w->empty) call_enter(&w->c);
     return NULL;
 }
 
@@ -43,20 +39,31 @@ static size_t measure(struct work *w, int empty)
     return STACK - i;
 }
 
+/* the stack of reading the image that w has written, with no book line */
+static size_t measure_read(const struct work *w)
+{
+    struct work reader = *w;
+    reader.c.entry = RESUME;
+    reader.c.book_len = reader.c.room = 0;
+    reader.c.image = w->c.next;
+    reader.c.image_len = w->c.r.image_length;
+    call_lend(&reader.c);
+    size_t all = measure(&reader, 0);
+    if (reader.c.r.number) call_fail("an image that was written is not read");
+    call_free(&reader.c);
+    return all;
+}
+
 int main(void)
 {
     struct work w;
-    while (scanf("%zu %zu %zu %zu %zu %zu %zu %zu %zu", &w.len[0], &w.len[1], &w.len[2], &w.len[3], &w.len[4], &w.len[5], &w.len[6], &w.output_len, &w.book_len) == 9) {
-        if (getchar() != '\n') return 1;
-        w.book = malloc(w.book_len + 1);
-        w.output = malloc(w.output_len + 1);
-        if (fread(w.book, 1, w.book_len, stdin) != w.book_len) return 1;
-        for (int k = 0; k < 7; k++) w.t[k] = malloc(w.len[k] * 4 + 4);
-        size_t none = measure(&w, 1), all = measure(&w, 0);
-        printf("%u %u %zu\n", (unsigned)w.r.number, (unsigned)w.r.line, all - none);
-        for (int k = 0; k < 7; k++) free(w.t[k]);
-        free(w.book);
-        free(w.output);
+    while (call_read(&w.c)) {
+        call_lend(&w.c);
+        size_t none = measure(&w, 1), all = measure(&w, 0), again = w.c.r.image_length ? measure_read(&w) : 0;
+        printf("%u %u %zu\n", (unsigned)w.c.r.number, (unsigned)w.c.r.line, (again > all ? again : all) - none);
+        call_free(&w.c);
+        free((void *)w.c.book);
+        free((void *)w.c.image);
     }
     return 0;
 }
