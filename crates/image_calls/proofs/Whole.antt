@@ -33,7 +33,8 @@ use Rattle.image_steps.specs.Calls.{saving, goesOn, ranOn}
 use Rattle.image_steps.specs.Claims as Claims
 use Rattle.image_steps.proofs.Claims.{reads-right, unread, damage-refused, resume-claim, save-claim, resume-save-claim, own-read}
 use Rattle.image_continued.proofs.Answers.{answers-kept}
-use Rattle.image_calls.specs.Entries.{ImagesSpec, ResumeEntry, SavedAs, SaveEntry, ResumeSaveEntry}
+use Rattle.book_steps.proofs.Claim.{claim as claim-of}
+use Rattle.image_calls.specs.Entries.{ImagesSpec, LinesSpec, ResumeEntry, SavedAs, SaveEntry, ResumeSaveEntry}
 use Rattle.image_read.specs.declared.Placed.{Placed}
 use Rattle.image_read.specs.declared.Placed.the-variants as placed
 use Rattle.image_read.specs.Contracts.{settingAt, readBy, PreRead, Reads, ReadsBy, PostRead}
@@ -44,6 +45,10 @@ use Rattle.image_calls.specs.Contracts.{PostOn}
 -- what holds of all images
 images : ImagesSpec
 images = record { reads = reads-right; unread = unread; own = own-read; damage = damage-refused; answers = answers-kept }
+
+-- .. and of the lines of every book
+lines-spec : (lent : Lent) (book : List ℕ) → LinesSpec
+lines-spec lent book = record { reads = claim-of lent book .reads; printed = claim-of lent book .printed; conditions = claim-of lent book .conditions }
 
 -- ---- going on
 
@@ -168,6 +173,7 @@ module _ (m m₁ m₂ m₃ : Memory) (w : Went) (u : m₁ .output ≡ m .output)
   saves {book} {image} O P = record {
     saved = seals (λ (l : Lent). ranBook l book) m m₁ m₂ m₃ w u (O .is) (O .wrote) s₁ s₂ s₃ o P;
     claim = save-claim (lengthsOf m) (length image) book;
+    book-claim = claim-of (lengthsOf m) book;
     images = images;
   }
 
@@ -180,6 +186,7 @@ module _ (m m₁ m₂ m₃ : Memory) (w : Went) (u : m₁ .output ≡ m .output)
       refines = finishes (λ (l : Lent). ranOn l image book) m m₁ m₂ m₃ w u (O .is) (O .wrote) s₁ s₂ s₃ o F;
       leaves = leaves (λ (l : Lent). ranOn l image book) m m₁ m₂ m₃ w u (O .is) (O .wrote) s₁ s₂ s₃ o;
       claim = resume-claim (lengthsOf m) image book b;
+      lines = lines-spec (lengthsOf m) book;
       images = images;
     }
 
@@ -189,5 +196,7 @@ module _ (m m₁ m₂ m₃ : Memory) (w : Went) (u : m₁ .output ≡ m .output)
     resume-saves {next} P = record {
       saved = seals (λ (l : Lent). ranOn l image book) m m₁ m₂ m₃ w u (O .is) (O .wrote) s₁ s₂ s₃ o P;
       claim = resume-save-claim (lengthsOf m) (length next) image book b;
+      resume-claim = resume-claim (lengthsOf m) image book b;
+      lines = lines-spec (lengthsOf m) book;
       images = images;
     }
