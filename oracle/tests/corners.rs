@@ -232,7 +232,11 @@ fn example_with_other_budgets() {
 #[test]
 fn shares() {
     use katch2_ordered::machine::share;
-    assert_eq!(share(1, 4), 63);
+    assert_eq!(share(1, 4), 62);
+    assert_eq!(share(3, 4), 188);
+    assert_eq!(share(3, 5), 94);
+    assert_eq!(share(5, 4), 312);
+    assert_eq!(share(7, 4), 438);
     assert_eq!(share(1, 5), 31);
     assert_eq!(share(0, 31), 0);
     assert_eq!(share(1 << 31, 31), 1000);

@@ -16,6 +16,7 @@ use Rattle.book_steps.specs.Text.{bytes, Cut, line, before, cut, onFirst
 use Rattle.book_steps.proofs.TextLaws.{decimal-read}
 use Rattle.book_steps.specs.Answers.{say, verdictWord, share, nameOf, emptyAnswer, liveAnswer, bitsOf, packetWord, byWords, sentence, whyAnswer}
 use Rattle.book_steps.specs.RunSpec.{PrintedSpec}
+use Rattle.book_steps.proofs.AnswersLaws.{share-nearest, nearest-one}
 
 -- neither byte 10 nor a space
 abbrev Plain : List ℕ → Type 0
@@ -260,4 +261,4 @@ module _ (n : ℕ) where
   why-one (some v) (some w) e = ap (λ (u : Str n). some u) (str-one v w (later-words (say-words (bytes "from") (bytes "from") (strWords v) (strWords w) (sentence-plain v) (sentence-plain w) e)))
 
 pub printed : PrintedSpec
-printed = record { empty = empty-one; live = live-one; why = why-one }
+printed = record { empty = empty-one; live = live-one; why = why-one; nearest = share-nearest; no-other = λ count total s l a. nearest-one l a (share-nearest count total l) }

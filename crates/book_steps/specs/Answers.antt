@@ -1,9 +1,12 @@
 -- 01, "The book and its answers": the lines of an answer. `fields`: N. `empty`: the line named, verdict (yes, no, spent), pairs taken. `live`: line, live packets, and their
--- share of 2^N in thousandths, the half rounded up. `pruned`: line, number of transitions; each `pair`: target state number, packet pairs in the label.
+-- share of 2^N in thousandths. `pruned`: line, number of transitions; each `pair`: target state number, packet pairs in the label.
 -- 02 (i): "A query `why a` prints a string of the state in words: `from 01 by 01 10 to 10`, bits with field 0 first, `-` for a packet without fields; without hops, `by` is left out; an empty state prints `none`."
+-- 02 (iii): "Halves go to the even thousandth. One of 16 now shares 62, three of 16 share 188. The half is decided over whole numbers, for every count and total."
+use mathlib.Core.Path.{_≡_}
 use mathlib.Core.List.{List, [], _∷_, _++_, map}
 use mathlib.Core.Option.{Option, none, some}
-use Prim.Native.Nat.{ℕ, zero, suc, _+_, _*_, _/_, _^_}
+use Prim.Native.Nat.{ℕ, zero, suc, _+_, _*_, _-_, _/_, _%_, _^_, _≤_}
+use lib.Dec.{ltb}
 use lib.ListN.{length}
 use Rattle.common.specs.Packets.{Packet, end, bit}
 use Rattle.common.specs.Outcome.{if_then_else_}
@@ -22,9 +25,21 @@ verdictWord yes = bytes "yes"
 verdictWord no = bytes "no"
 verdictWord spent = bytes "spent"
 
--- thousandths, the half rounded up
+-- between two thousandths, `rest` of `total` above the lower one: the nearer of them, or the even one where it is half way
+abbrev pub nearer : (lower rest total : ℕ) → ℕ
+nearer lower rest total = if ltb (2 * rest) total then lower else if ltb total (2 * rest) then lower + 1 else lower + lower % 2
+
+-- a count's thousandths of a total
 unfoldable pub share : ℕ → ℕ → ℕ
-share count total = (2000 * count + total) / (2 * total)
+share count total = nearer ((1000 * count) / total) ((1000 * count) % total) total
+
+abbrev pub distance : ℕ → ℕ → ℕ
+distance a b = (a - b) + (b - a)
+
+-- What a share is, without division: s thousandths of the total lie at most half a thousandth of it from the count, and s is even where they lie just that far.
+pub record Nearest (count total s : ℕ) : Type 0 where
+  pub near : 2 * distance (1000 * count) (s * total) ≤ total
+  pub even : 2 * distance (1000 * count) (s * total) ≡ total → s % 2 ≡ 0
 
 abbrev pub fieldsAnswer : ℕ → List ℕ
 fieldsAnswer N = say (bytes "fields" ∷ decimal N ∷ [])

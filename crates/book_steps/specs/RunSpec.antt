@@ -26,7 +26,7 @@ use Rattle.aut_why_steps.specs.Why as Why
 use Rattle.book_steps.specs.Text.{line, unended, cut, words}
 use Rattle.book_steps.specs.Reader as Reader
 use Rattle.book_steps.specs.Reader.{Query, Instruction, parse, makes, asks, resolve}
-use Rattle.book_steps.specs.Answers.{nameOf, emptyAnswer, liveAnswer, Pairs, prunedAnswer, whyAnswer}
+use Rattle.book_steps.specs.Answers.{share, Nearest, nameOf, emptyAnswer, liveAnswer, Pairs, prunedAnswer, whyAnswer}
 use Rattle.book_steps.specs.Meaning.{Same}
 use Rattle.book_steps.specs.Conditions.{Misnamed, OutOfRange}
 use Rattle.book_steps.specs.Demands.{SearchSpec, LiveSpec, PrunedSpec, WhySpec, TablesSpec, InOrder}
@@ -177,7 +177,7 @@ module _ (S : Setting) where
       pub linear : (d e : Point) → Steps c d → Steps c e → Steps d e ⊎ Steps e d
       pub alike : (d e : Point) → Steps c d → Steps c e → Alike d e
 
--- The bytes printed say which line, which verdict and which numbers it was.
+-- The bytes printed say which line, which verdict and which numbers it was; and the share is the one number that 02 (iii) asks for.
 pub record PrintedSpec : Type 0 where
   pub empty : (a b c d : ℕ) (v w : Verdict) → a < 2 ^ 64 → b < 2 ^ 64 → c < 2 ^ 64 → d < 2 ^ 64
       → emptyAnswer (nameOf a) v c ≡ emptyAnswer (nameOf b) w d → (a ≡ b) × (v ≡ w) × (c ≡ d)
@@ -185,3 +185,6 @@ pub record PrintedSpec : Type 0 where
       → liveAnswer N (nameOf a) c ≡ liveAnswer N (nameOf b) d → (a ≡ b) × (c ≡ d)
   -- 02 (i): "No two strings may print alike."
   pub why : (n : ℕ) (v w : Option (Str n)) → whyAnswer n v ≡ whyAnswer n w → v ≡ w
+  -- 02 (iii): "Halves go to the even thousandth", "for every count and total"
+  pub nearest : (count total : ℕ) → 0 < total → Nearest count total (share count total)
+  pub no-other : (count total s : ℕ) → 0 < total → Nearest count total s → s ≡ share count total

@@ -1,11 +1,14 @@
 -- Lines of two, three and four words: how long they are, and what stands in the output when their parts are written; and the share.
-use mathlib.Core.Path.{_≡_, refl, _∙_, ap}
+use mathlib.Core.Path.{_≡_, refl, sym, _∙_, ap}
+use mathlib.Core.Bool.{Bool, true, false}
 use mathlib.Core.List.{List, [], _∷_, _++_}
 use Prim.Native.Nat.{ℕ, _+_, _*_, _/_, _%_, _^_, _≤_, _<_}
 use native.Mathlib.Omega.{arith}
 use lib.ListN.{length, set, length-append}
 use lib.Pow.{pow-mono, pow-pos}
 use native.Mathlib.Nat.{mod-eq-of-lt}
+use borrow.Author.Tests.{lt-ltb, le-ltb}
+use Rattle.common.specs.Outcome.{if_then_else_}
 use Rattle.book_steps.specs.Answers.{say, share}
 use Rattle.book_writer.specs.Contracts.{Put}
 use Rattle.book_writer.proofs.Contracts.{put-append, put-one}
@@ -49,9 +52,31 @@ module _ {at x : ℕ} {s₀ s₁ : List ℕ} (t : List ℕ) (a : Put at t x s₀
 
 -- ---- the share, and the total that it is of
 
-pub share-by : (count total : ℕ) → (2000 * count + total) / (2 * total) ≡ share count total
-unfolding share
-share-by count total = refl
+test-holds : {b : Bool} (x y : ℕ) → b ≡ true → x ≡ (if b then x else y)
+test-holds x y e = sym (ap (λ (t : Bool). if t then x else y) e)
+
+test-fails : {b : Bool} (x y : ℕ) → b ≡ false → y ≡ (if b then x else y)
+test-fails x y e = sym (ap (λ (t : Bool). if t then x else y) e)
+
+module _ (count total : ℕ) where
+  abbrev lower : ℕ
+  lower = (1000 * count) / total
+
+  abbrev twice : ℕ
+  twice = 2 * ((1000 * count) % total)
+
+  pub share-lower : twice < total → lower ≡ share count total
+  unfolding share
+  share-lower l = test-holds lower _ (lt-ltb twice total l)
+
+  module _ (l : total ≤ twice) where
+    pub share-upper : total < twice → lower + 1 ≡ share count total
+    unfolding share
+    share-upper m = test-holds (lower + 1) (lower + lower % 2) (lt-ltb total twice m) ∙ test-fails lower _ (le-ltb twice total l)
+
+    pub share-half : twice ≤ total → lower + lower % 2 ≡ share count total
+    unfolding share
+    share-half m = test-fails (lower + 1) (lower + lower % 2) (le-ltb total twice m) ∙ test-fails lower _ (le-ltb twice total l)
 
 module _ (d : ℕ) (l : d ≤ 31) where
   pub total-most : 2 ^ d ≤ 2147483648

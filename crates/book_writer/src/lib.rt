@@ -184,12 +184,20 @@ fn line_with_word(
     Answered::At(e)
 }
 
-// thousandths of a total, the half rounded up; up to 2^53 nothing overflows
+// thousandths of a total, the nearest, the half to the even one; up to 2^53 nothing overflows
 pub fn share(count: u64, total: u64) -> u64
     requires { ⌜ (0 < total) × (count ≤ total) × (total ≤ 2 ^ 53) ⌝ }
     ensures { λ r. ⌜ r ≡ Told.share count total ⌝ }
 {
-    (2000 * count + total) / (2 * total)
+    let lower = 1000 * count / total;
+    let rest = 1000 * count % total;
+    if 2 * rest < total {
+        return lower;
+    }
+    if total < 2 * rest {
+        return lower + 1;
+    }
+    lower + lower % 2
 }
 
 pub fn fields_answer(out: &mut [u8], at: usize, fields: u32) -> Answered
