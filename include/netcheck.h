@@ -19,7 +19,7 @@
  *  - no two of the eight lent slices overlap each other, the book or an image, and an image that is written overlaps nothing else;
  *  - a slice of length 0 may have any pointer, also NULL;
  *  - enough stack: NETCHECK_STACK_BYTES. Measured, not proved: 27,912 bytes for `netcheck_run` on the deepest books (nesting 256, 31 fields;
- *    tools/deep), 28,616 with saving or reading. It follows the number of fields; it does not grow with the nesting of a rule or the book's length.
+ *    tools/deep), 28,584 with saving or reading. It follows the number of fields; it does not grow with the nesting of a rule or the book's length.
  *
  * What a caller gets: one book with one set of lent lengths has one outcome. Every table is zeroed first; answered, pending and scratch are zero at
  * the end; refused, all tables are. Output bytes past the length are as they were. Nothing is kept between calls, and no memory but the lent is
