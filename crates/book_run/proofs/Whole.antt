@@ -34,11 +34,12 @@ use Rattle.book_begin.specs.declared.Begun.the-variants as begun
 use Rattle.book_begin.specs.Contracts.{TablesZeroed, WorkZeroed, headerOf, settingFor, PreBegin, fresh, begunOf, Wrote, BeginsBy as StartedBy, PostBegin}
 use Rattle.book_begin.proofs.Zero.{zeroed-own}
 use Rattle.book_steps.specs.Run.{came, failed, cameOf, startedBook, headedBook, openedBook, ranBook, finished}
-use Rattle.book_run.specs.declared.Went.{Went}
-use Rattle.book_run.specs.declared.Went.the-variants as went
-use Rattle.book_run.specs.declared.Ran.{Ran}
-use Rattle.book_run.specs.declared.Ran.the-variants as ran
-use Rattle.book_run.specs.Contracts.{lengthsOf, lending, PreGo, wentOf, writtenBy, EndsWith, PostGo, Empty, cameBy, PreStarted, PostStarted, PostOpen, ranOf, SameTables, TablesBy, PostFinish, numberOf, textLineOf, lengthOf, slices}
+use Rattle.book_finish.specs.declared.Went.{Went}
+use Rattle.book_finish.specs.declared.Went.the-variants as went
+use Rattle.book_finish.specs.declared.Ran.{Ran}
+use Rattle.book_finish.specs.declared.Ran.the-variants as ran
+use Rattle.book_finish.specs.Contracts.{writtenBy, cameBy, ranOf, SameTables, TablesBy, PostFinish, numberOf, textLineOf, lengthOf}
+use Rattle.book_run.specs.Contracts.{lengthsOf, lending, PreGo, wentOf, EndsWith, PostGo, Empty, PreStarted, PostStarted, PostOpen, slices}
 use Rattle.book_run.proofs.Contracts.{SameLengths}
 use Rattle.book_run.proofs.Lines.{same-on}
 use Rattle.book_steps.proofs.Finished.{book-finished}
@@ -256,20 +257,3 @@ module _ {book : List ℕ} (m m₁ m₂ m₃ : Memory) {w : Went} {r : Ran} (Z :
 
   pub runs : EntrySpec (lengthsOf m) book (slicesOf m) (numberOf r) (textLineOf r) (lengthOf r) (slicesOf m₃)
   runs = Claim.entry (lends-own m) (left-is m m₂ m₃ bytes (same-on s₁ s₂) F o outcome-is)
-
--- ---- the end
-
-module _ {m : Memory} {p₁ s₁ : List ℕ} (w : Went) (W : WorkZeroed (m .pending) (m .scratch) p₁ s₁) where
-  pub finish-end : {S : Setting} {q : Place} → w ≡ went.End S q → PostFinish w (ran.Answered (q .output)) m (memory (m .sp) (m .nodes) (m .states) (m .members) (m .transitions) p₁ s₁ (m .output))
-  finish-end e = record {
-    is = sym (ap ranOf e);
-    work = W;
-    tables = subst (λ (v : Went). TablesBy v m (memory (m .sp) (m .nodes) (m .states) (m .members) (m .transitions) p₁ s₁ (m .output))) (sym e) (record { sp = refl; nodes = refl; states = refl; members = refl; transitions = refl });
-  }
-
-  pub finish-stopped : {e k n : ℕ} {a b c d f : List ℕ} → w ≡ went.Stopped e k n → TablesZeroed (m .sp) (m .nodes) (m .states) (m .members) (m .transitions) a b c d f → PostFinish w (ran.Refused e k n) m (memory a b c d f p₁ s₁ (m .output))
-  finish-stopped {a = a} {b = b} {c = c} {d = d} {f = f} q T = record {
-    is = sym (ap ranOf q);
-    work = W;
-    tables = subst (λ (v : Went). TablesBy v m (memory a b c d f p₁ s₁ (m .output))) (sym q) T;
-  }

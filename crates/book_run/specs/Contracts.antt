@@ -1,5 +1,4 @@
--- 01, promise 1, in code: a book and what is lent come to the defined outcome (book_steps, `outcome`). What each part of a run asks and promises: a line, the lines from any place in order, a whole book that is not yet finished, and the end (its beginning: book_begin);
--- and the number, line and length of what is returned.
+-- 01, promise 1, in code: a book and what is lent come to the defined outcome (book_steps, `outcome`). What each part of a run asks and promises: a line, the lines from any place in order, and a whole book that is not yet finished (its beginning: book_begin, its end: book_finish).
 use mathlib.Core.Path.{_≡_}
 use mathlib.Core.List.{List}
 use Prim.Native.Nat.{ℕ, suc, _+_, _/_, _≤_, _<_}
@@ -11,16 +10,15 @@ use Rattle.book_steps.specs.Claim.{Slices}
 use Rattle.book_place.specs.Contracts.{settingOf}
 use Rattle.book_place.specs.declared.Setting.{Setting}
 use Rattle.book_place.specs.declared.Place.{Place}
-use Rattle.book_place.specs.Contracts.{LINES, WORK, Memory, placeOf, settingIn, Standing}
+use Rattle.book_place.specs.Contracts.{LINES, WORK, Memory, placeOf, Standing}
 use Rattle.book_begin.specs.declared.Header.{Header}
 use Rattle.book_begin.specs.Contracts.{TablesZeroed, WorkZeroed, headerOf, Wrote}
-use Rattle.book_steps.specs.Run.{Came, came, failed, startedBook, ranBook}
+use Rattle.book_steps.specs.Run.{startedBook, ranBook}
+use Rattle.book_finish.specs.Contracts.{cameBy, writtenBy, EndsBy}
 use Rattle.book_run.specs.declared.Turned.{Turned}
 use Rattle.book_run.specs.declared.Turned.the-variants as turned
-use Rattle.book_run.specs.declared.Went.{Went}
-use Rattle.book_run.specs.declared.Went.the-variants as went
-use Rattle.book_run.specs.declared.Ran.{Ran}
-use Rattle.book_run.specs.declared.Ran.the-variants as ran
+use Rattle.book_finish.specs.declared.Went.{Went}
+use Rattle.book_finish.specs.declared.Went.the-variants as went
 
 -- ---- what is lent
 
@@ -79,16 +77,6 @@ abbrev pub wentOf : {S : Run.Setting} → Went → Memory → Run.Ran S
 wentOf (went.End S q) m = answered (placeOf m q)
 wentOf (went.Stopped e k n) m = stopped e k (take n (m .output))
 
--- the length of what is written
-abbrev pub writtenBy : Went → ℕ
-writtenBy (went.End S q) = q .output
-writtenBy (went.Stopped e k n) = n
-
--- the last place is in order
-abbrev pub EndsBy : Went → Memory → Type 0
-EndsBy (went.End S q) m = Standing S m q
-EndsBy (went.Stopped e k n) m = Unit
-
 -- its setting is S
 abbrev pub EndsWith : Setting → Went → Type 0
 EndsWith S (went.End T q) = T ≡ S
@@ -107,11 +95,6 @@ pub record PostGo (book : List ℕ) (S : Setting) (m : Memory) (p : Place) (from
 pub record Empty (m : Memory) : Type 0 where
   pub tables : TablesZeroed (m .sp) (m .nodes) (m .states) (m .members) (m .transitions) (m .sp) (m .nodes) (m .states) (m .members) (m .transitions)
   pub work : WorkZeroed (m .pending) (m .scratch) (m .pending) (m .scratch)
-
--- what the run came to, not yet finished
-abbrev pub cameBy : Went → Memory → Came
-cameBy (went.End S q) m = came (settingIn S m) (placeOf m q)
-cameBy (went.Stopped e k n) m = failed e k (take n (m .output))
 
 pub record PreStarted (book : List ℕ) (m : Memory) (h : Header) (from : ℕ) : Type 0 where
   pub empty : Empty m
@@ -132,42 +115,7 @@ pub record PostOpen (book : List ℕ) (m : Memory) (r : Went) (m′ : Memory) : 
   pub ends : EndsBy r m′
   pub wrote : Wrote (writtenBy r) (m .output) (m′ .output)
 
--- ---- the end
-
-abbrev pub ranOf : Went → Ran
-ranOf (went.End S q) = ran.Answered (q .output)
-ranOf (went.Stopped e k n) = ran.Refused e k n
-
-pub record SameTables (m m′ : Memory) : Type 0 where
-  pub sp : m′ .sp ≡ m .sp
-  pub nodes : m′ .nodes ≡ m .nodes
-  pub states : m′ .states ≡ m .states
-  pub members : m′ .members ≡ m .members
-  pub transitions : m′ .transitions ≡ m .transitions
-
-abbrev pub TablesBy : Went → Memory → Memory → Type 0
-TablesBy (went.End S q) m m′ = SameTables m m′
-TablesBy (went.Stopped e k n) m m′ = TablesZeroed (m .sp) (m .nodes) (m .states) (m .members) (m .transitions) (m′ .sp) (m′ .nodes) (m′ .states) (m′ .members) (m′ .transitions)
-
-pub record PostFinish (w : Went) (r : Ran) (m m′ : Memory) : Type 0 where
-  pub is : r ≡ ranOf w
-  pub work : WorkZeroed (m .pending) (m .scratch) (m′ .pending) (m′ .scratch)
-  pub tables : TablesBy w m m′
-
 -- ---- the public entry
-
--- "Each returns its number, the text line counted from 1 (0 for 26), and the output length of the lines before. Success returns 0 and line 0."
-abbrev pub numberOf : Ran → ℕ
-numberOf (ran.Answered n) = 0
-numberOf (ran.Refused e k n) = e
-
-abbrev pub textLineOf : Ran → ℕ
-textLineOf (ran.Answered n) = 0
-textLineOf (ran.Refused e k n) = k
-
-abbrev pub lengthOf : Ran → ℕ
-lengthOf (ran.Answered n) = n
-lengthOf (ran.Refused e k n) = n
 
 abbrev pub slices : (sp spp states members transitions pending scratch output : List ℕ) → Slices
 slices a b c d e f g h = record { sp = a; spp = b; states = c; members = d; transitions = e; pending = f; scratch = g; output = h }

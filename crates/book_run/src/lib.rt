@@ -1,16 +1,18 @@
 // A book: its header, the constants, then line by line; and the public entry over what is lent.
 use book_begin::Begun;
 use book_begin::Header;
+use book_finish::Ran;
+use book_finish::Went;
 use book_line::Obeyed;
 use book_place::Place;
 use book_place::Setting;
 use book_reader::Cut;
 use book_reader::Heading;
-ghost use mathlib.Core.List.{[]};
 ghost use Rattle.book_place.specs.Contracts.{memory};
 ghost use Rattle.book_steps.specs.Claim.{EntrySpec};
 ghost use Rattle.book_run.specs.Contracts as Its;
-ghost use Rattle.book_run.specs.Contracts.{numberOf, textLineOf, lengthOf, slices, lentOf};
+ghost use Rattle.book_finish.specs.Contracts.{numberOf, textLineOf, lengthOf};
+ghost use Rattle.book_run.specs.Contracts.{slices, lentOf};
 
 // the words of scratch that a book needs
 pub const SCRATCH: usize = 6144;
@@ -22,18 +24,6 @@ pub const INSTRUCTIONS: usize = 2048;
 pub enum Turned {
     Next(Place, usize),
     Refused(u32),
-}
-
-// the place at the end, with its setting; or 01's number, the text line, and the output's length of the lines before
-pub enum Went {
-    End(Setting, Place),
-    Stopped(u32, usize, usize),
-}
-
-// the output's length; or 01's number, the text line, and the output's length of the lines before
-pub enum Ran {
-    Answered(usize),
-    Refused(u32, usize, usize),
 }
 
 // ---- the instructions
@@ -247,33 +237,6 @@ pub fn open(
     )
 }
 
-// pending and scratch are zeroed, and after a refusal every table
-pub fn finish(
-    sp: &mut [u32],
-    nodes: &mut [u32],
-    states: &mut [u32],
-    members: &mut [u32],
-    transitions: &mut [u32],
-    pending: &mut [u32],
-    scratch: &mut [u32],
-    went: Went,
-) -> Ran
-    ensures { λ r. ⌜ Its.PostFinish went r
-        (memory (now (sp .entry)) (now (nodes .entry)) (now (states .entry)) (now (members .entry))
-        (now (transitions .entry)) (now (pending .entry)) (now (scratch .entry)) [])
-        (memory (now (sp .exit)) (now (nodes .exit)) (now (states .exit)) (now (members .exit))
-        (now (transitions .exit)) (now (pending .exit)) (now (scratch .exit)) []) ⌝ }
-{
-    book_begin::clear_work(pending, scratch);
-    match went {
-        Went::End(_, place) => Ran::Answered(place.output),
-        Went::Stopped(number, line, length) => {
-            book_begin::clear_tables(sp, nodes, states, members, transitions);
-            Ran::Refused(number, line, length)
-        }
-    }
-}
-
 // One book with one set of lent lengths has one outcome. It asks nothing of what is in the slices.
 pub fn run(
     book: &[u8],
@@ -310,7 +273,7 @@ pub fn run(
         scratch,
         output,
     );
-    finish(
+    book_finish::finish(
         sp,
         spp,
         states,

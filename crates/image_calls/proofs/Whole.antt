@@ -17,12 +17,13 @@ use Rattle.book_place.specs.declared.Place.{Place}
 use Rattle.book_place.specs.Contracts.{Memory, memory, placeOf, Standing}
 use Rattle.book_place.proofs.Scratch.{lines-length}
 use Rattle.book_begin.specs.Contracts.{Wrote}
-use Rattle.book_run.specs.declared.Went.{Went}
-use Rattle.book_run.specs.declared.Went.the-variants as went
-use Rattle.book_run.specs.declared.Ran.{Ran}
-use Rattle.book_run.specs.declared.Ran.the-variants as ran
-use Rattle.book_run.specs.Contracts as Book
-use Rattle.book_run.specs.Contracts.{lengthsOf, PreGo, PostGo, writtenBy, Empty, cameBy, PostOpen, ranOf, PostFinish}
+use Rattle.book_finish.specs.declared.Went.{Went}
+use Rattle.book_finish.specs.declared.Went.the-variants as went
+use Rattle.book_finish.specs.declared.Ran.{Ran}
+use Rattle.book_finish.specs.declared.Ran.the-variants as ran
+use Rattle.book_finish.specs.Contracts as Book
+use Rattle.book_finish.specs.Contracts.{writtenBy, cameBy, ranOf, PostFinish}
+use Rattle.book_run.specs.Contracts.{lengthsOf, PreGo, PostGo, Empty, PostOpen}
 use Rattle.book_run.proofs.Contracts.{SameLengths}
 use Rattle.book_run.proofs.Lines.{same-on}
 use Rattle.book_run.proofs.Whole.{came-of, lent-same, slicesOf, bare, left-is, lends-own}

@@ -5,8 +5,9 @@ use Prim.Native.Nat.{ℕ}
 use Rattle.book_steps.specs.Run.{Came}
 use Rattle.book_place.specs.Contracts.{Memory}
 use Rattle.book_begin.specs.Contracts.{Wrote}
-use Rattle.book_run.specs.Contracts.{lengthsOf, writtenBy, EndsBy, cameBy}
-use Rattle.book_run.specs.declared.Went.{Went}
+use Rattle.book_finish.specs.Contracts.{writtenBy, EndsBy, cameBy}
+use Rattle.book_run.specs.Contracts.{lengthsOf}
+use Rattle.book_finish.specs.declared.Went.{Went}
 use Rattle.image_steps.specs.Calls.{ranOn}
 
 -- the run came to c

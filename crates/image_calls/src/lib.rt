@@ -1,9 +1,10 @@
 // Images of a book's tables: a book is run and its image written; an image is read, and a book goes on from it.
-use book_run::Ran;
-use book_run::Went;
+use book_finish::Ran;
+use book_finish::Went;
 use image_keep::Saved;
 use image_read::Placed;
 ghost use Rattle.book_place.specs.Contracts.{memory};
+ghost use Rattle.book_finish.specs.Contracts as End;
 ghost use Rattle.book_run.specs.Contracts as Run;
 ghost use Rattle.book_run.specs.Contracts.{slices, lentOf};
 ghost use Rattle.image_keep.specs.Contracts.{numberOf, textLineOf, lengthOf, imageLengthOf};
@@ -135,7 +136,7 @@ pub fn resume(
         (now (image .entry)) (now (book .entry))
         (slices (now (sp .entry)) (now (spp .entry)) (now (states .entry)) (now (members .entry))
         (now (transitions .entry)) (now (pending .entry)) (now (scratch .entry)) (now (output .entry)))
-        (Run.numberOf r) (Run.textLineOf r) (Run.lengthOf r)
+        (End.numberOf r) (End.textLineOf r) (End.lengthOf r)
         (slices (now (sp .exit)) (now (spp .exit)) (now (states .exit)) (now (members .exit))
         (now (transitions .exit)) (now (pending .exit)) (now (scratch .exit)) (now (output .exit))) ⌝ }
 {
@@ -153,7 +154,7 @@ pub fn resume(
         scratch,
         output,
     );
-    book_run::finish(
+    book_finish::finish(
         sp,
         spp,
         states,

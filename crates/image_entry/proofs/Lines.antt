@@ -12,9 +12,9 @@ use Rattle.book_steps.specs.Run.{Lent, Setting, RunState, run, settingOf, Resul
 use Rattle.book_steps.specs.Claim.{Slices}
 use Rattle.book_steps.proofs.Finished.{finished-run, book-finished}
 use Rattle.book_steps.proofs.LineNumbers.{run-line, outcome-line}
-use Rattle.book_run.specs.Contracts as Run
+use Rattle.book_finish.specs.Contracts as Run
 use Rattle.book_run.specs.Contracts.{lentOf}
-use Rattle.book_run.specs.declared.Ran.{Ran}
+use Rattle.book_finish.specs.declared.Ran.{Ran}
 use Rattle.netcheck_entry.specs.Outcome.{outcomeOf}
 use Rattle.netcheck_entry.specs.declared.Outcome as Struct
 use Rattle.netcheck_entry.proofs.Lines.{of-fields}

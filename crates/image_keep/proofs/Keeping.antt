@@ -15,9 +15,9 @@ use Rattle.book_steps.specs.Claim.{WritesOnly}
 use Rattle.book_place.specs.declared.Setting.{Setting}
 use Rattle.book_place.specs.declared.Place.{Place}
 use Rattle.book_place.specs.Contracts.{Memory, memory, settingIn, placeOf}
-use Rattle.book_run.specs.declared.Went.{Went}
-use Rattle.book_run.specs.declared.Went.the-variants as went
-use Rattle.book_run.specs.Contracts.{EndsBy}
+use Rattle.book_finish.specs.declared.Went.{Went}
+use Rattle.book_finish.specs.declared.Went.the-variants as went
+use Rattle.book_finish.specs.Contracts.{EndsBy}
 use Rattle.image_save.specs.Contracts.{kept, Present, BlocksAre, PreWrite, PostWrite}
 use Rattle.image_save.proofs.Whole as saves
 use Rattle.image_steps.specs.Image.{headOf, blocksOf, saved}

@@ -6,11 +6,11 @@ use lib.ListN.{length}
 use Rattle.book_steps.specs.Run.{Lent, finished}
 use Rattle.book_steps.specs.Claim.{WritesOnly}
 use Rattle.book_place.specs.Contracts.{Memory, memory}
-use Rattle.book_run.specs.Contracts.{writtenBy, cameBy, PostFinish}
-use Rattle.book_run.specs.declared.Went.{Went}
-use Rattle.book_run.specs.declared.Went.the-variants as went
-use Rattle.book_run.specs.declared.Ran.{Ran}
-use Rattle.book_run.specs.declared.Ran.the-variants as ran
+use Rattle.book_finish.specs.Contracts.{writtenBy, cameBy, PostFinish}
+use Rattle.book_finish.specs.declared.Went.{Went}
+use Rattle.book_finish.specs.declared.Went.the-variants as went
+use Rattle.book_finish.specs.declared.Ran.{Ran}
+use Rattle.book_finish.specs.declared.Ran.the-variants as ran
 use Rattle.image_save.specs.Contracts.{kept, Present}
 use Rattle.image_steps.specs.Calls.{saving}
 use Rattle.image_keep.specs.declared.Kept.{Kept}

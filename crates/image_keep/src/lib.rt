@@ -1,6 +1,6 @@
 // The last place of a run is kept as its image, or meets 27.
-use book_run::Ran;
-use book_run::Went;
+use book_finish::Ran;
+use book_finish::Went;
 use image_block::BLOCK;
 ghost use mathlib.Core.Path.{_≡_};
 ghost use mathlib.Core.List.{[]};
@@ -90,7 +90,7 @@ pub fn seal(
 {
     let kept = keep(image, sp, nodes, states, members, scratch, went);
     let came = kept.went;
-    let ran = book_run::finish(
+    let ran = book_finish::finish(
         sp,
         nodes,
         states,

@@ -6,9 +6,10 @@ use native.Mathlib.Omega.{arith}
 use Rattle.book_steps.specs.Run.{Lent}
 use Rattle.book_steps.specs.Claim.{Slices, EntrySpec}
 use Rattle.book_steps.proofs.LineNumbers.{outcome-line}
-use Rattle.book_run.specs.Contracts.{numberOf, textLineOf, lengthOf, lentOf}
-use Rattle.book_run.specs.declared.Ran as Code
-use Rattle.book_run.specs.declared.Ran.the-variants.{Answered, Refused}
+use Rattle.book_finish.specs.Contracts.{numberOf, textLineOf, lengthOf}
+use Rattle.book_run.specs.Contracts.{lentOf}
+use Rattle.book_finish.specs.declared.Ran as Code
+use Rattle.book_finish.specs.declared.Ran.the-variants.{Answered, Refused}
 use Rattle.netcheck_entry.specs.declared.Outcome as Struct
 use Rattle.netcheck_entry.specs.Outcome.{outcomeOf, Entered}
 

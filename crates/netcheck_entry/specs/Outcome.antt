@@ -3,8 +3,8 @@ use mathlib.Core.List.{List}
 use Prim.Native.Nat.{ℕ}
 use Rattle.book_steps.specs.Claim.{Slices, EntrySpec}
 use Rattle.book_run.specs.Contracts.{lentOf}
-use Rattle.book_run.specs.declared.Ran.{Ran}
-use Rattle.book_run.specs.declared.Ran.the-variants.{Answered, Refused}
+use Rattle.book_finish.specs.declared.Ran.{Ran}
+use Rattle.book_finish.specs.declared.Ran.the-variants.{Answered, Refused}
 use Rattle.netcheck_entry.specs.declared.Outcome.{Outcome}
 
 -- the answer for each case

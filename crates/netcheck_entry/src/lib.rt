@@ -1,9 +1,10 @@
 // For C: a book is run in lent tables. It asks nothing of a caller but what the types say: each pointer leads to as many words or bytes as its
 // length, and no two of the slices overlap. include/netcheck.h is its header.
-use book_run::Ran;
+use book_finish::Ran;
 ghost use mathlib.Core.Path.{_≡_};
 ghost use Prim.Native.Nat.{_≤_};
-ghost use Rattle.book_run.specs.Contracts.{textLineOf, slices};
+ghost use Rattle.book_finish.specs.Contracts.{textLineOf};
+ghost use Rattle.book_run.specs.Contracts.{slices};
 ghost use Rattle.netcheck_entry.specs.Outcome.{outcomeOf, Entered};
 
 // 01's number (0: answered), the text line, and how many bytes of the output are written

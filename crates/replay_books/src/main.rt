@@ -2,7 +2,7 @@
 // `SP SPP STATES MEMBERS TRANSITIONS PENDING SCRATCH OUTPUT BYTES` (words lent of each table, bytes of output and book), then the book's bytes.
 // Printed for it: a line `NUMBER LINE LENGTH`; the output; and for each table a line with its name and its words up to the last that is not 0.
 // The tables are those that the case before left.
-use book_run::Ran;
+use book_finish::Ran;
 use libc::STDOUT_FILENO;
 ghost use Prim.Native.Nat.{_≤_};
 ghost use lib.ListN.{length};

@@ -1,5 +1,5 @@
 use mathlib.Core.Path.{sym, ap}
-use Rattle.book_run.specs.declared.Ran.{Ran}
+use Rattle.book_finish.specs.declared.Ran.{Ran}
 use Rattle.image_keep.specs.Contracts.{savedOf}
 use borrow.Author.Needs.{needs}
 use Rattle.image_keep.proofs.saved_of.Statement.{statement}

@@ -1,8 +1,8 @@
 use mathlib.Core.Path.{sym, ap, subst}
 use Prim.Native.Nat.{_≤_}
 use native.Mathlib.Omega.{arith}
-use Rattle.book_run.specs.Contracts.{textLineOf}
-use Rattle.book_run.specs.declared.Ran.{Ran}
+use Rattle.book_finish.specs.Contracts.{textLineOf}
+use Rattle.book_finish.specs.declared.Ran.{Ran}
 use Rattle.netcheck_entry.specs.Outcome.{outcomeOf}
 use borrow.Author.Needs.{needs}
 use Rattle.netcheck_entry.proofs.outcome_of.Statement.{statement}

@@ -1,0 +1,2 @@
+-- The two ends of a run.
+pub mod Finishing
