@@ -8,9 +8,9 @@ use lib.ListN.{length, getD}
 use Rattle.common.specs.Outcome.{Outcome, refused, given, Step, return, _>>=_, if_then_else_}
 use Rattle.common.specs.Runs.{Table, placed}
 use Rattle.aut_steps.specs.Relations as Rel
-use Rattle.aut_steps.specs.Tables.{SPP, UNION, INTERSECT, XOR, DIFFERENCE, COMPLEMENT, SEQUENCE, STAR, DUP, UNTIL, TOP, words, Limits, Exprs, exprs, Aut, putNodes, putStates, putExprs, onNodes, onStates, onExprs, onStatesOf}
+use Rattle.aut_steps.specs.Tables.{SPP, UNION, INTERSECT, XOR, DIFFERENCE, COMPLEMENT, SEQUENCE, STAR, DUP, NEXT, UNTIL, TOP, words, Limits, Exprs, exprs, Aut, putNodes, putStates, putExprs, onNodes, onStates, onExprs, onStatesOf}
 use Rattle.aut_steps.specs.Lists.{sorted}
-use Rattle.aut_steps.specs.Constructors.{Within, within, beyond, thenWithin, opened, extend, openAll, Opened, list, top, long, thenOpen, openUnion, each, countOne, countAll, product, mk-spp, mk-dup, mk-top, mk-until, spp-of, relations, is-relation, Parts, parts, Met, met, addLast, uniteOne, addRelation, meetOne, finish, unite, uniteOpened, mk-union-n, mk-union, meetFinish, meet, meetOpened, mk-intersect-n-base, base, bases, distribute, intersectOpened, mk-intersect-n, mk-intersect, mk-xor, mk-difference, mk-complement, sequence-with, sequence-by, mk-sequence, mk-star}
+use Rattle.aut_steps.specs.Constructors.{Within, within, beyond, thenWithin, opened, extend, openAll, Opened, list, top, long, thenOpen, openUnion, each, countOne, countAll, product, mk-spp, mk-dup, mk-top, mk-next, mk-until, spp-of, relations, is-relation, Parts, parts, Met, met, addLast, uniteOne, addRelation, meetOne, finish, unite, uniteOpened, mk-union-n, mk-union, meetFinish, meet, meetOpened, mk-intersect-n-base, base, bases, distribute, intersectOpened, mk-intersect-n, mk-intersect, mk-xor, mk-difference, mk-complement, sequence-with, sequence-by, mk-sequence, mk-star}
 use Rattle.book_construct_steps.specs.Lines as Lines
 use Rattle.book_construct_steps.specs.Lines.{Constant, Single, Pair, Listed, Line, constant, bit, single, pair, listed, constantOf, bitOf, singleOf, pairOf, listedOf, make}
 use Rattle.aut_free.proofs.Alike.{AlikeRuns, stops, comes, Respects}
@@ -87,6 +87,10 @@ module _ {f g : List ℕ} where
   pub mk-top-free : Respects (TwinStates f g) mk-top
   unfolding mk-top
   mk-top-free = intern0-free TOP 0
+
+  pub mk-next-free : (L : Limits) (x : ℕ) → Respects (TwinStates f g) (mk-next L x)
+  unfolding mk-next
+  mk-next-free L x = intern1-free L NEXT x
 
   pub mk-until-free : (L : Limits) (x y : ℕ) → Respects (TwinStates f g) (mk-until L x y)
   unfolding mk-until
@@ -271,6 +275,7 @@ module _ {f g : List ℕ} where
       single-free : (w : Single) (x : ℕ) → Respects (TwinAut f g) (singleOf N L w x)
       single-free Lines.not x = on-states (mk-complement-free x)
       single-free Lines.star x = mk-star-free x
+      single-free Lines.next x = on-states (mk-next-free L x)
 
       pair-free : (w : Pair) (x y : ℕ) → Respects (TwinAut f g) (pairOf N L w x y)
       pair-free Lines.or x y = mk-union-free x y

@@ -9,10 +9,10 @@ use lib.ListN.{length, getD}
 use Rattle.common.specs.Outcome.{Outcome, refused, given, Gives}
 use Rattle.common.proofs.Follow.{given-of}
 use Rattle.common.specs.Runs.{Table, table}
-use Rattle.netkat.specs.Rules.{Rule, xor, difference, complement, sequence, star, until}
+use Rattle.netkat.specs.Rules.{Rule, xor, difference, complement, sequence, star, next, until}
 use Rattle.spp_steps.specs.Wf.{Wf, Ext, ValidAt}
 use Rattle.spp_steps.proofs.Laws.{at-ext}
-use Rattle.aut_steps.specs.Tables.{SPP, UNION, INTERSECT, XOR, DIFFERENCE, COMPLEMENT, SEQUENCE, STAR, UNTIL, kindOf, op1, op2, words, Limits, Aut, stateCap}
+use Rattle.aut_steps.specs.Tables.{SPP, UNION, INTERSECT, XOR, DIFFERENCE, COMPLEMENT, SEQUENCE, STAR, NEXT, UNTIL, kindOf, op1, op2, words, Limits, Aut, stateCap}
 use Rattle.aut_steps.specs.Kinds.{Form, one, two, form}
 use Rattle.aut_steps.specs.Ascending.{All}
 use Rattle.aut_steps.proofs.ListLaws.{all-map}
@@ -90,6 +90,10 @@ module _ {N : ℕ} {L : Limits} {σ : Aut} (g : WfAut N L σ) where
   pub ready-star : {x : ℕ} → x < states σ → Ready1 st (states σ) STAR x
   unfolding form
   ready-star l = one-ready STAR star refl l
+
+  pub ready-next : {x : ℕ} → x < states σ → Ready1 st (states σ) NEXT x
+  unfolding form
+  ready-next l = one-ready NEXT next refl l
 
   pub ready-xor : {x y : ℕ} → x < states σ → y < states σ → Ready2 st (states σ) XOR x y
   unfolding form

@@ -18,10 +18,10 @@ use Rattle.spp_steps.proofs.Apply.{apply-exact}
 use Rattle.spp_steps.proofs.Sequence.{sequence-exact}
 use Rattle.spp_steps.proofs.Star.{star-exact}
 use Rattle.aut_steps.specs.Relations as Rel
-use Rattle.aut_steps.specs.Tables.{SPP, UNION, INTERSECT, XOR, DIFFERENCE, COMPLEMENT, SEQUENCE, STAR, DUP, UNTIL, TOP, kindOf, op1, Limits, Exprs, exprs, Aut, putStates, putExprs, onNodes, onStates, onExprs}
+use Rattle.aut_steps.specs.Tables.{SPP, UNION, INTERSECT, XOR, DIFFERENCE, COMPLEMENT, SEQUENCE, STAR, DUP, NEXT, UNTIL, TOP, kindOf, op1, Limits, Exprs, exprs, Aut, putStates, putExprs, onNodes, onStates, onExprs}
 use Rattle.aut_steps.specs.Intern.{intern1, internL}
 use Rattle.aut_steps.specs.Lists.{sorted}
-use Rattle.aut_steps.specs.Constructors.{Within, within, beyond, openAll, Opened, list, top, long, openUnion, each, countAll, product, mk-spp, mk-dup, mk-top, mk-until, spp-of, relations, is-relation, Parts, parts, Met, met, addLast, uniteOne, addRelation, meetOne, finish, unite, uniteOpened, mk-union-n, mk-union, meetFinish, meet, meetOpened, mk-intersect-n-base, base, bases, distribute, intersectOpened, mk-intersect-n, mk-intersect, mk-xor, mk-difference, mk-complement, sequence-with, sequence-by, mk-sequence, mk-star}
+use Rattle.aut_steps.specs.Constructors.{Within, within, beyond, openAll, Opened, list, top, long, openUnion, each, countAll, product, mk-spp, mk-dup, mk-top, mk-next, mk-until, spp-of, relations, is-relation, Parts, parts, Met, met, addLast, uniteOne, addRelation, meetOne, finish, unite, uniteOpened, mk-union-n, mk-union, meetFinish, meet, meetOpened, mk-intersect-n-base, base, bases, distribute, intersectOpened, mk-intersect-n, mk-intersect, mk-xor, mk-difference, mk-complement, sequence-with, sequence-by, mk-sequence, mk-star}
 use Rattle.netkat.specs.Rules.{union, intersection}
 use Rattle.aut_steps.specs.Kinds.{form}
 use Rattle.aut_steps.specs.Ascending.{All}
@@ -29,7 +29,7 @@ use Rattle.aut_steps.proofs.ListLaws.{all-map, all-append}
 use Rattle.aut_steps.specs.Wf.{states, kind, first, second, nesting, Two, WfAut}
 use Rattle.aut_steps.proofs.Wf.{nesting-grown, state-grown, states-grown, ok-as}
 use Rattle.aut_steps.proofs.StepSpec.{goes-map}
-use Rattle.aut_steps.proofs.StateLaws.{handle, both-spp, mk-spp-goes, mk-dup-goes, mk-top-goes, mk-until-goes, mk-xor-goes, mk-difference-goes, mk-complement-goes, mk-star-goes}
+use Rattle.aut_steps.proofs.StateLaws.{handle, both-spp, mk-spp-goes, mk-dup-goes, mk-top-goes, mk-next-goes, mk-until-goes, mk-xor-goes, mk-difference-goes, mk-complement-goes, mk-star-goes}
 use Rattle.aut_steps.proofs.UnionLaws.{mk-union-n-goes}
 use Rattle.aut_steps.proofs.SequenceLaws.{sequence-by-goes}
 use Rattle.aut_steps.proofs.IntersectLaws.{mk-intersect-n-base-goes, mk-intersect-n-goes}
@@ -83,6 +83,10 @@ module _ {N : ℕ} {L L′ : Limits} {σ : Aut} (g : WfAut N L σ) where
 
   pub zero-replay : Replays N L′ (In N L State) (onStates (mk-spp (Rel.zeroAt N))) σ (onStates (mk-spp (Rel.zeroAt N)) σ)
   zero-replay = mk-spp-replay (zero-label g)
+
+  pub mk-next-replay : {x : ℕ} → State σ x → Replays N L′ (In N L State) (onStates (mk-next L′ x)) σ (onStates (mk-next L x) σ)
+  unfolding mk-next form
+  mk-next-replay {x} l = replays-goes (goes-map (mk-next-goes g l) (λ τ z w v i. i .state)) (intern1-replays g NEXT x)
 
   pub mk-until-replay : {x y : ℕ} → State σ x → State σ y → Replays N L′ (In N L State) (onStates (mk-until L′ x y)) σ (onStates (mk-until L x y) σ)
   unfolding mk-until form

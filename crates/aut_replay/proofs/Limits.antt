@@ -16,7 +16,7 @@ use Rattle.aut_steps.specs.Tables.{SPP, UNION, INTERSECT, XOR, DIFFERENCE, COMP
 use Rattle.aut_steps.specs.Intern.{seek, same2, sameL, nestL, intern1, intern2, internL}
 use Rattle.aut_steps.specs.Lists.{sorted}
 use Rattle.aut_steps.specs.Constructors as Make
-use Rattle.aut_steps.specs.Constructors.{Within, within, beyond, thenWithin, opened, extend, openAll, Opened, thenOpen, openUnion, countOne, countAll, product, each, mk-spp, mk-top, mk-until, relations, is-relation, Met, addLast, parts, met, uniteOne, meetOne, addRelation, finish, uniteOpened, mk-union-n, mk-union, meetFinish, meet, meetOpened, mk-intersect-n-base, base, bases, distribute, intersectOpened, mk-intersect-n, mk-intersect, mk-xor, mk-difference, mk-complement, sequence-with, sequence-by, mk-sequence, mk-star}
+use Rattle.aut_steps.specs.Constructors.{Within, within, beyond, thenWithin, opened, extend, openAll, Opened, thenOpen, openUnion, countOne, countAll, product, each, mk-spp, mk-top, mk-next, mk-until, relations, is-relation, Met, addLast, parts, met, uniteOne, meetOne, addRelation, finish, uniteOpened, mk-union-n, mk-union, meetFinish, meet, meetOpened, mk-intersect-n-base, base, bases, distribute, intersectOpened, mk-intersect-n, mk-intersect, mk-xor, mk-difference, mk-complement, sequence-with, sequence-by, mk-sequence, mk-star}
 use Rattle.aut_st_steps.specs.Operations.{ops}
 use Rattle.aut_delta_steps.specs.Epsilon.{eachOf, epsilon}
 use Rattle.aut_delta_steps.specs.Delta.{countOf, Store, putAut, onAut, keepList, unionAll, intersectAll, intersectFirst, sequenceList, starList, untilList, dupList, topList, delta-by-kind, delta-with, delta-by, delta}
@@ -154,6 +154,10 @@ module _ (N : ℕ) {L L′ : Limits} (wide : Wider L L′) where
       carry-if (ltb (seek (sameL (s .states .words) (s .members .words) k xs) 0 (s .states .count)) (s .states .count)) same
       (carry-limit 8 Of.nesting (ltb (L .nesting) e) (ltb (L′ .nesting) e) (ltb-less (L .nesting) (L′ .nesting) e (wide .nesting)) same)
 
+  mk-next-carry : (x : ℕ) → Carried (mk-next L x) (mk-next L′ x)
+  unfolding mk-next
+  mk-next-carry x = intern1-carry NEXT x
+
   mk-until-carry : (x y : ℕ) → Carried (mk-until L x y) (mk-until L′ x y)
   unfolding mk-until
   mk-until-carry x y = intern2-carry UNTIL x y
@@ -271,6 +275,7 @@ module _ (N : ℕ) {L L′ : Limits} (wide : Wider L L′) where
   call-carry (Replay.spp h) = carry-same _
   call-carry Replay.dup = carry-same _
   call-carry Replay.top = carry-same _
+  call-carry (Replay.next x) = on-states (mk-next-carry x)
   call-carry (Replay.until x y) = on-states (mk-until-carry x y)
   call-carry (Replay.union x y) = mk-union-carry x y
   call-carry (Replay.union-n xs) = mk-union-n-carry xs

@@ -2,7 +2,7 @@
 use Rattle.aut_st_steps.specs.ListSpec.{ListAt, State}
 use Rattle.aut_replay.specs.Replay as Replay
 use Rattle.aut_replay.specs.Replay.{Call, called, CallAt, DoneAgain, ConstructorsAgain, ListCall, listed, ListCallAt, ListsAgain}
-use Rattle.aut_replay.proofs.Constructors.{mk-spp-replay, mk-dup-replay, mk-top-replay, mk-until-replay, mk-union-n-replay, mk-union-replay, mk-intersect-n-base-replay, mk-intersect-n-replay, mk-intersect-replay, mk-xor-replay, mk-difference-replay, mk-complement-replay, mk-sequence-replay, mk-star-replay}
+use Rattle.aut_replay.proofs.Constructors.{mk-spp-replay, mk-dup-replay, mk-top-replay, mk-next-replay, mk-until-replay, mk-union-n-replay, mk-union-replay, mk-intersect-n-base-replay, mk-intersect-n-replay, mk-intersect-replay, mk-xor-replay, mk-difference-replay, mk-complement-replay, mk-sequence-replay, mk-star-replay}
 use Rattle.aut_replay.proofs.Lists.{insert-replay, st-singleton-replay, st-union-replay, st-intersect-replay, st-difference-replay, st-xor-replay, st-complement-replay, st-postcompose-replay, st-precompose-replay, st-intersect-expr-replay}
 
 pub constructors-again : ConstructorsAgain
@@ -12,6 +12,7 @@ constructors-again N L L′ wide c σ g a = go c a
     go (Replay.spp h) a = mk-spp-replay g a
     go Replay.dup a = mk-dup-replay g
     go Replay.top a = mk-top-replay g
+    go (Replay.next x) l = mk-next-replay g l
     go (Replay.until x y) (l, m) = mk-until-replay g l m
     go (Replay.union x y) (l, m) = mk-union-replay wide g l m
     go (Replay.union-n xs) a = mk-union-n-replay wide g xs a

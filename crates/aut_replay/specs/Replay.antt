@@ -69,6 +69,7 @@ pub data Call : Type 0 where
   spp : ℕ → Call
   dup : Call
   top : Call
+  next : ℕ → Call
   until : ℕ → ℕ → Call
   union : ℕ → ℕ → Call
   union-n : List ℕ → Call
@@ -85,6 +86,7 @@ abbrev pub called : ℕ → Call → Limits → Step Aut ℕ
 called N (spp h) L = onStates (Make.mk-spp h)
 called N dup L = onStates Make.mk-dup
 called N top L = onStates Make.mk-top
+called N (next x) L = onStates (Make.mk-next L x)
 called N (until x y) L = onStates (Make.mk-until L x y)
 called N (union x y) L = Make.mk-union N L x y
 called N (union-n xs) L = Make.mk-union-n N L xs
@@ -102,6 +104,7 @@ abbrev pub CallAt : ℕ → Aut → Call → Type 0
 CallAt N σ (spp h) = Label N σ h
 CallAt N σ dup = Unit {0}
 CallAt N σ top = Unit {0}
+CallAt N σ (next x) = State σ x
 CallAt N σ (until x y) = State σ x × State σ y
 CallAt N σ (union x y) = State σ x × State σ y
 CallAt N σ (union-n xs) = All (State σ) xs

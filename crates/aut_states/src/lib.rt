@@ -10,7 +10,7 @@ ghost use Prim.Native.Nat.{ℕ, _+_, _*_, _≤_, _<_, max};
 ghost use lib.ListN.{length, getD};
 ghost use lib.Seq.{sets};
 ghost use Rattle.common.specs.Runs.{table};
-ghost use Rattle.aut_steps.specs.Tables.{COMPLEMENT, UNTIL, exprs, words, nest};
+ghost use Rattle.aut_steps.specs.Tables.{COMPLEMENT, NEXT, UNTIL, exprs, words, nest};
 ghost use Rattle.aut_steps.specs.Intern as M;
 ghost use Rattle.aut_steps.specs.Constructors as C;
 ghost use Rattle.aut_states.specs.Contracts.{seenPut, Interned, limitsOf, Fits, From, Ready1, Ready2, ListIn, Below, AddReady, ListReady, aboveL};
@@ -367,6 +367,14 @@ pub fn mk_top(states: &mut [u32], count: usize) -> Put
     ensures { λ r. ⌜ C.mk-top (table (now (states .entry)) count) ≡ seenPut r (now (states .exit)) ⌝ }
 {
     intern0(states, count, kind::TOP, 0)
+}
+
+pub fn mk_next(states: &mut [u32], count: usize, limits: Limits, x: u32) -> Put
+    requires { ⌜ Ready1 (now states) count NEXT x ⌝ }
+    ensures { λ r. ⌜ C.mk-next (limitsOf limits) x (table (now (states .entry)) count) ≡ seenPut r
+        (now (states .exit)) ⌝ }
+{
+    intern1(states, count, limits, kind::NEXT, x)
 }
 
 pub fn mk_until(states: &mut [u32], count: usize, limits: Limits, x: u32, y: u32) -> Put

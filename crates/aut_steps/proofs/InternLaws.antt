@@ -2,7 +2,6 @@
 use mathlib.Core.Path.{_≡_, refl, sym, _∙_, ap, ap₂, subst}
 use mathlib.Core.Bool.{Bool, true, false}
 use mathlib.Core.List.{List, [], _∷_}
-use mathlib.Core.Logic.{_≢_}
 use Prim.Native.Nat.{ℕ, _+_, _*_, _≤_, _<_, max}
 use native.Mathlib.Omega.{arith}
 use lib.Dec.{eqb, ltb}
@@ -14,7 +13,7 @@ use Rattle.common.specs.Runs.{Table, table, placed}
 use Rattle.spp_steps.specs.Wf.{ValidAt}
 use Rattle.spp_steps.proofs.Laws.{by-test}
 use Rattle.netkat.specs.Rules.{Rule, Rules}
-use Rattle.aut_steps.specs.Tables.{UNION, INTERSECT, STAR, NEXT, op1, op2, words, Limits, roomS, roomM, put4, exprs, Aut, putStates, putExprs, onStates, onExprs, kindOf, memberCap}
+use Rattle.aut_steps.specs.Tables.{UNION, INTERSECT, STAR, op1, op2, words, Limits, roomS, roomM, put4, exprs, Aut, putStates, putExprs, onStates, onExprs, kindOf, memberCap}
 use Rattle.aut_steps.specs.Intern.{seek, same2, sameL, put, intern0, intern1, intern2, nestL, store, putL, internL}
 use Rattle.aut_steps.specs.Kinds.{Form, leaf, constant, one, two, many, nothing, form, operandsBy}
 use Rattle.aut_steps.specs.Ascending.{All}
@@ -169,7 +168,7 @@ module _ {N : ℕ} {L : Limits} {σ : Aut} (g : WfAut N L σ) where
       go true q = stops-here g (too-deep xs a (omega (arith, ltb-true (L .nesting) e q)))
       go false q = f (ltb-false (L .nesting) e q)
 
-  pub intern0-goes : (k x : ℕ) → (UNION ≤ k → (STAR < k) × (k ≢ NEXT)) → Fit (form {N = N} k) σ x 0 0 → StepSpec N L (State2 k x 0) σ (onStates (intern0 k x) σ)
+  pub intern0-goes : (k x : ℕ) → (UNION ≤ k → STAR < k) → Fit (form {N = N} k) σ x 0 0 → StepSpec N L (State2 k x 0) σ (onStates (intern0 k x) σ)
   unfolding intern0
   intern0-goes k x f v = find k x 0 (put k x 0 0 (σ .states)) (put-goes k x 0 0 v (λ xs. made-given f) (omega arith))
 

@@ -8,7 +8,7 @@ use lib.Dec.{T, T-not, not-T}
 use Rattle.common.specs.Packets.{Packet, Relation}
 use Rattle.common.proofs.PacketLaws.{both, each, either, or-left, or-right}
 use Rattle.netkat.specs.Strings.{Str, str}
-use Rattle.netkat.specs.Rules.{Language, Join, Joins, Star, Until}
+use Rattle.netkat.specs.Rules.{Language, Join, Joins, Star, Next, Until}
 use Rattle.common.proofs.RelationLaws.{seq-of, seq-to, same-refl, same-eq}
 use Rattle.spp_steps.specs.Relations.{compose, equal}
 use Rattle.aut_steps.specs.Languages.{_≈_}
@@ -116,6 +116,12 @@ module _ {N : ℕ} where
 
   until-map : {A A′ B B′ : Language N} → A ⊆ A′ → B ⊆ B′ → Until A B ⊆ Until A′ B′
   until-map f g w u = record { number = u .number; within = u .within; some-tail = g _ (u .some-tail); every-longer = λ j l. f _ (u .every-longer j l) }
+
+  next-map : {A A′ : Language N} → A ⊆ A′ → Next A ⊆ Next A′
+  next-map f w n = record { hop = n .hop; its-tail = f _ (n .its-tail) }
+
+  pub next-same : {A A′ : Language N} → A ≈ A′ → Next A ≈ Next A′
+  next-same f w = (next-map (λ v. f v .0) w, next-map (λ v. f v .1) w)
 
   pub until-same : {A A′ B B′ : Language N} → A ≈ A′ → B ≈ B′ → Until A B ≈ Until A′ B′
   until-same f g w = (until-map (λ v. f v .0) (λ v. g v .0) w, until-map (λ v. f v .1) (λ v. g v .1) w)

@@ -9,7 +9,7 @@ use lib.Dec.{eqb}
 use borrow.Author.Tests.{eqb-true, eqb-false}
 use Rattle.common.specs.Outcome.{if_then_else_}
 use Rattle.spp_steps.proofs.Laws.{by-test}
-use Rattle.aut_steps.specs.Tables.{SPP, UNION, INTERSECT, XOR, DIFFERENCE, COMPLEMENT, SEQUENCE, STAR, NEXT, TOP, kindOf, Limits, Aut}
+use Rattle.aut_steps.specs.Tables.{SPP, UNION, INTERSECT, XOR, DIFFERENCE, COMPLEMENT, SEQUENCE, STAR, TOP, kindOf, Limits, Aut}
 use Rattle.aut_steps.specs.Kinds.{Form, leaf, constant, one, two, many, nothing, form}
 use Rattle.aut_steps.specs.Ascending.{All}
 use Rattle.aut_steps.proofs.ListLaws.{all-map, all-with}
@@ -21,16 +21,15 @@ use Rattle.aut_steps.proofs.Wf.{kind-grown, first-grown, second-grown, 
 
 module _ {N : ℕ} {st : List ℕ} {x y : ℕ} {xs : List ℕ} where
   -- a kind that is interned as it is given
-  pub made-given : {k : ℕ} → (UNION ≤ k → (STAR < k) × (k ≢ NEXT)) → MadeOf N st k x y xs
+  pub made-given : {k : ℕ} → (UNION ≤ k → STAR < k) → MadeOf N st k x y xs
   made-given f = record {
-    union = λ e. absurd (omega (arith, f (omega arith) .0));
-    intersect = λ e. absurd (omega (arith, f (omega arith) .0));
-    xor = λ e. absurd (omega (arith, f (omega arith) .0));
-    difference = λ e. absurd (omega (arith, f (omega arith) .0));
-    complement = λ e. absurd (omega (arith, f (omega arith) .0));
-    sequence = λ e. absurd (omega (arith, f (omega arith) .0));
-    star = λ e. absurd (omega (arith, f (omega arith) .0));
-    no-next = λ e. f (omega arith) .1 e;
+    union = λ e. absurd (omega (arith, f (omega arith)));
+    intersect = λ e. absurd (omega (arith, f (omega arith)));
+    xor = λ e. absurd (omega (arith, f (omega arith)));
+    difference = λ e. absurd (omega (arith, f (omega arith)));
+    complement = λ e. absurd (omega (arith, f (omega arith)));
+    sequence = λ e. absurd (omega (arith, f (omega arith)));
+    star = λ e. absurd (omega (arith, f (omega arith)));
   }
 
   pub made-union : Summands N st xs → MadeOf N st UNION x y xs
@@ -42,7 +41,6 @@ module _ {N : ℕ} {st : List ℕ} {x y : ℕ} {xs : List ℕ} where
     complement = λ e. absurd (omega arith);
     sequence = λ e. absurd (omega arith);
     star = λ e. absurd (omega arith);
-    no-next = λ e. omega arith;
   }
 
   pub made-intersect : All (Part N st INTERSECT) xs → MadeOf N st INTERSECT x y xs
@@ -54,7 +52,6 @@ module _ {N : ℕ} {st : List ℕ} {x y : ℕ} {xs : List ℕ} where
     complement = λ e. absurd (omega arith);
     sequence = λ e. absurd (omega arith);
     star = λ e. absurd (omega arith);
-    no-next = λ e. omega arith;
   }
 
   pub made-xor : x < y → NotBoth st SPP x y → MadeOf N st XOR x y xs
@@ -66,7 +63,6 @@ module _ {N : ℕ} {st : List ℕ} {x y : ℕ} {xs : List ℕ} where
     complement = λ e. absurd (omega arith);
     sequence = λ e. absurd (omega arith);
     star = λ e. absurd (omega arith);
-    no-next = λ e. omega arith;
   }
 
   pub made-difference : x ≢ y → NotBoth st SPP x y → MadeOf N st DIFFERENCE x y xs
@@ -78,7 +74,6 @@ module _ {N : ℕ} {st : List ℕ} {x y : ℕ} {xs : List ℕ} where
     complement = λ e. absurd (omega arith);
     sequence = λ e. absurd (omega arith);
     star = λ e. absurd (omega arith);
-    no-next = λ e. omega arith;
   }
 
   pub made-complement : kindOf st x ≢ COMPLEMENT → kindOf st x ≢ TOP → MadeOf N st COMPLEMENT x y xs
@@ -90,7 +85,6 @@ module _ {N : ℕ} {st : List ℕ} {x y : ℕ} {xs : List ℕ} where
     complement = λ _. (a, b);
     sequence = λ e. absurd (omega arith);
     star = λ e. absurd (omega arith);
-    no-next = λ e. omega arith;
   }
 
   pub made-sequence : Sequenced N st x y → MadeOf N st SEQUENCE x y xs
@@ -102,7 +96,6 @@ module _ {N : ℕ} {st : List ℕ} {x y : ℕ} {xs : List ℕ} where
     complement = λ e. absurd (omega arith);
     sequence = λ _. m;
     star = λ e. absurd (omega arith);
-    no-next = λ e. omega arith;
   }
 
   pub made-star : kindOf st x ≢ STAR → kindOf st x ≢ SPP → kindOf st x ≢ TOP → MadeOf N st STAR x y xs
@@ -114,7 +107,6 @@ module _ {N : ℕ} {st : List ℕ} {x y : ℕ} {xs : List ℕ} where
     complement = λ e. absurd (omega arith);
     sequence = λ e. absurd (omega arith);
     star = λ _. (a, b, c);
-    no-next = λ e. omega arith;
   }
 
   -- the list matters only to kinds that have one
@@ -127,7 +119,6 @@ module _ {N : ℕ} {st : List ℕ} {x y : ℕ} {xs : List ℕ} where
     complement = m .complement;
     sequence = m .sequence;
     star = m .star;
-    no-next = m .no-next;
   }
 
   pub made-at : {j k u v : ℕ} → j ≡ k → u ≡ x → v ≡ y → MadeOf N st k x y xs → MadeOf N st j u v xs
@@ -189,7 +180,6 @@ module _ {σ τ : Aut} (w : ExtAut σ τ) where
       tops = λ a b. s .tops (was i a) (was j b);
     };
     star = λ e. let (p, q, r) = m .star e in let i = below {j = STAR} e in (λ a. p (was i a), λ a. q (was i a), λ a. r (was i a));
-    no-next = m .no-next;
   }
     where
       below : {j : ℕ} → k ≡ j → Below (form {N = N} j) (states σ) x y xs

@@ -10,13 +10,13 @@ use borrow.Author.Tests.{eqb-true, eqb-false, eq-eqb, ltb-true, ltb-false}
 use Rattle.common.specs.Packets.{Relation}
 use Rattle.common.specs.Outcome.{Outcome, Step}
 use Rattle.common.specs.Runs.{Table, placed}
-use Rattle.netkat.specs.Rules.{Rule, In, Star, Until, dup, complement, star, xor, difference, until}
+use Rattle.netkat.specs.Rules.{Rule, In, Star, Next, Until, dup, complement, star, xor, difference, next, until}
 use Rattle.spp_steps.specs.Wf.{ValidAt, Denotes}
 use Rattle.spp_steps.proofs.Laws.{den-ext, den-zero}
 use Rattle.aut_steps.specs.Relations as Spp
-use Rattle.aut_steps.specs.Tables.{SPP, XOR, DIFFERENCE, COMPLEMENT, STAR, DUP, UNTIL, TOP, Limits, Aut, putStates, putNodes, onStates}
+use Rattle.aut_steps.specs.Tables.{SPP, XOR, DIFFERENCE, COMPLEMENT, STAR, DUP, NEXT, UNTIL, TOP, Limits, Aut, putStates, putNodes, onStates}
 use Rattle.aut_steps.specs.Intern.{intern1, intern2}
-use Rattle.aut_steps.specs.Constructors.{mk-spp, mk-dup, mk-top, spp-of, relations, mk-xor, mk-difference, mk-complement, mk-star, mk-until}
+use Rattle.aut_steps.specs.Constructors.{mk-spp, mk-dup, mk-top, spp-of, relations, mk-xor, mk-difference, mk-complement, mk-star, mk-next, mk-until}
 use Rattle.aut_steps.specs.Kinds.{Form, one, two, form}
 use Rattle.aut_steps.specs.Languages.{_≈_}
 use Rattle.aut_steps.proofs.Languages.{≈-sym, _then_, Rel, None, Whole, Differ, Minus, Not, rel-same, rel-none, differ-rel, minus-rel, differ-same, minus-same, not-same, star-same, star-rel, star-star, star-whole}
@@ -113,6 +113,10 @@ module _ {N : ℕ} {L : Limits} {σ : Aut} (g : WfAut N L σ) where
         (λ q. let s : Holds N σ x ≈ Whole = holds-top g l (eqb-true (kind σ x) TOP q) in
         goes-map (zero-goes g) (λ τ z w v i. is-same (λ u. (λ a. absurd a, λ n. n (s u .1 tt))) i))
         (λ n′. one-goes COMPLEMENT complement refl l (λ xs. made-complement (eqb-false (kind σ x) COMPLEMENT n) (eqb-false (kind σ x) TOP n′))))
+
+    pub mk-next-goes : StepSpec N L (Is N (Next (Holds N σ x))) σ (onStates (mk-next L x) σ)
+    unfolding mk-next form In
+    mk-next-goes = one-goes NEXT next refl l (λ xs. made-given (λ u. omega arith))
 
     pub mk-star-goes : StepSpec N L (Is N (Star (Holds N σ x))) σ (mk-star N L x σ)
     unfolding mk-star form In

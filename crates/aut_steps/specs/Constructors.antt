@@ -8,7 +8,7 @@ use lib.ListN.{length, getD}
 use Rattle.common.specs.Outcome.{refused, given, Step, return, _>>=_, if_then_else_}
 use Rattle.common.specs.Runs.{Table}
 use Rattle.aut_steps.specs.Relations as Rel
-use Rattle.aut_steps.specs.Tables.{SPP, UNION, INTERSECT, XOR, DIFFERENCE, COMPLEMENT, SEQUENCE, STAR, DUP, UNTIL, TOP, kindOf, op1, op2, nest, listOf, Limits, Exprs, Aut, onNodes, onStates, onExprs, onStatesOf}
+use Rattle.aut_steps.specs.Tables.{SPP, UNION, INTERSECT, XOR, DIFFERENCE, COMPLEMENT, SEQUENCE, STAR, DUP, NEXT, UNTIL, TOP, kindOf, op1, op2, nest, listOf, Limits, Exprs, Aut, onNodes, onStates, onExprs, onStatesOf}
 use Rattle.aut_steps.specs.Intern.{intern0, intern1, intern2, internL}
 use Rattle.aut_steps.specs.Lists.{sorted}
 
@@ -94,6 +94,10 @@ mk-dup = intern0 DUP 0
 
 unfoldable pub mk-top : Step Table ℕ
 mk-top = intern0 TOP 0
+
+-- 02 (iv): kind 10 is never simplified
+unfoldable pub mk-next : Limits → ℕ → Step Table ℕ
+mk-next L x = intern1 L NEXT x
 
 unfoldable pub mk-until : Limits → ℕ → ℕ → Step Table ℕ
 mk-until L x y = intern2 L UNTIL x y

@@ -1,11 +1,11 @@
 -- aut.rs, the smart constructors: what each has seen to of its operands before it interns a state, as the words of the states tell. Order and length of lists
--- stand apart (Wf: United, Meeting, short). A kind that is not named here (SPP, Dup, Until, Top) is interned as it is given.
+-- stand apart (Wf: United, Meeting, short). A kind that is not named here (SPP, Dup, LtlNext, Until, Top) is interned as it is given.
 use mathlib.Core.Path.{_≡_}
 use mathlib.Core.List.{List}
 use mathlib.Core.Logic.{_≢_}
 use Prim.Native.Nat.{ℕ, _<_}
 use Rattle.aut_steps.specs.Relations as Rel
-use Rattle.aut_steps.specs.Tables.{SPP, UNION, INTERSECT, XOR, DIFFERENCE, COMPLEMENT, SEQUENCE, STAR, NEXT, TOP, kindOf, op1}
+use Rattle.aut_steps.specs.Tables.{SPP, UNION, INTERSECT, XOR, DIFFERENCE, COMPLEMENT, SEQUENCE, STAR, TOP, kindOf, op1}
 use Rattle.aut_steps.specs.Ascending.{All}
 
 -- state x is the relation h
@@ -47,4 +47,3 @@ pub record MadeOf (N : ℕ) (st : List ℕ) (k x y : ℕ) (xs : List ℕ) : Type
   pub complement : k ≡ COMPLEMENT → (kindOf st x ≢ COMPLEMENT) × (kindOf st x ≢ TOP)
   pub sequence : k ≡ SEQUENCE → Sequenced N st x y
   pub star : k ≡ STAR → (kindOf st x ≢ STAR) × (kindOf st x ≢ SPP) × (kindOf st x ≢ TOP)
-  pub no-next : k ≢ NEXT  -- no constructor gives it: 01, "Left out: .. `LtlNext`'s constructor"

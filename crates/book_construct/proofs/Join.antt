@@ -7,7 +7,7 @@ use lib.ListN.{length}
 use Rattle.common.specs.Outcome.{Outcome, Step}
 use Rattle.common.specs.Runs.{Table, table}
 use Rattle.spp.specs.Contracts.{FieldAsked}
-use Rattle.aut_steps.specs.Tables.{COMPLEMENT, UNTIL, Aut, onStates}
+use Rattle.aut_steps.specs.Tables.{COMPLEMENT, NEXT, UNTIL, Aut, onStates}
 use Rattle.aut_steps.specs.Constructors.{spp-of, mk-spp}
 use Rattle.aut_steps.proofs.StepSpec.{StepSpec, came}
 use Rattle.netkat.specs.Rules.{In}
@@ -24,7 +24,7 @@ use Rattle.aut_relations.specs.Behind.{LISTS}
 use Rattle.aut_relations.proofs.Behind.{left-refl, left-any, left-wide}
 use Rattle.aut_relations.specs.Contracts.{autOf, seenAut, ModifiesBy, Ready, Does, DoesSpp}
 use Rattle.aut_relations.proofs.Join.{same-left}
-use Rattle.aut_relations.proofs.Order.{fits, ready-complement, ready-until, ready-after}
+use Rattle.aut_relations.proofs.Order.{fits, ready-complement, ready-next, ready-until, ready-after}
 use Rattle.aut_sequence.specs.Contracts.{Enters, Makes, Asks}
 use Rattle.aut_union.specs.Contracts.{ListAt, PairAt}
 use Rattle.book_words.specs.declared.Constant.{Constant}
@@ -70,6 +70,9 @@ module _ {N : ℕ} {l : Limits} {t st mem s : List ℕ} (c : Counts) (R : Ready 
 
 pub not-ready : {N : ℕ} {l : Limits} {t st s : List ℕ} {c : Counts} {x : ℕ} → Asks N l t st s c (x ∷ []) → Ready1 st (c .states) COMPLEMENT x × (N ≤ 31)
 not-ready a = (ready-complement (a .ready .good) (a .has .0), a .ready .few)
+
+pub next-ready : {N : ℕ} {l : Limits} {t st s : List ℕ} {c : Counts} {x : ℕ} → Asks N l t st s c (x ∷ []) → Ready1 st (c .states) NEXT x
+next-ready a = ready-next (a .ready .good) (a .has .0)
 
 -- ---- answers
 

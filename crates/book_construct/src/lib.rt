@@ -112,6 +112,10 @@ fn make_single(
             aut_relations::placed(put, c)
         }
         Single::Star => aut_sequence::mk_star(nodes, states, scratch, c, config, x),
+        Single::Next => {
+            let put = aut_states::mk_next(states, c.states, config.limits, x);
+            aut_relations::placed(put, c)
+        }
     }
 }
 

@@ -16,11 +16,11 @@ use Rattle.aut_steps.proofs.StepSpec.{StepSpec, goes-map}
 use Rattle.aut_steps.specs.Meaning.{rule}
 use Rattle.aut_steps.proofs.Meaning.{Is, is-same}
 use Rattle.aut_steps.proofs.RelationLaws.{made}
-use Rattle.aut_steps.proofs.StateLaws.{mk-spp-goes, mk-dup-goes, mk-top-goes, spp-of-goes, mk-complement-goes, mk-star-goes, mk-until-goes, mk-xor-goes, mk-difference-goes}
+use Rattle.aut_steps.proofs.StateLaws.{mk-spp-goes, mk-dup-goes, mk-top-goes, spp-of-goes, mk-complement-goes, mk-star-goes, mk-next-goes, mk-until-goes, mk-xor-goes, mk-difference-goes}
 use Rattle.aut_steps.proofs.UnionLaws.{mk-union-goes, mk-union-n-goes}
 use Rattle.aut_steps.proofs.IntersectLaws.{mk-intersect-goes, mk-intersect-n-goes}
 use Rattle.aut_steps.proofs.SequenceLaws.{mk-sequence-goes}
-use Rattle.book_construct_steps.specs.Lines.{Line, constant, bit, single, pair, listed, zero, one, all, dup, top, test, set, or, and, xor, minus, seq, until, union, inter, not, star, each, means, Asked, make}
+use Rattle.book_construct_steps.specs.Lines.{Line, constant, bit, single, pair, listed, zero, one, all, dup, top, test, set, or, and, xor, minus, seq, until, union, inter, not, star, next, each, means, Asked, make}
 
 module _ {N : ℕ} where
   some-of : (r : ℕ → Rule N) (xs : List ℕ) → (λ w. Some (λ x. In (r x) w) xs) ≈ InSome (each r xs)
@@ -45,6 +45,7 @@ module _ {N : ℕ} where
     make-goes (bit set f v) a = spp-of-goes g (Spp.assign N N f v) (made N (assign-exact N v N f (omega arith) (a .field) (σ .nodes) (g .nodes)))
     make-goes (single not x) a = mk-complement-goes g (a .states .0)
     make-goes (single star x) a = mk-star-goes g (a .states .0)
+    make-goes (single next x) a = mk-next-goes g (a .states .0)
     make-goes (pair or x y) a = goes-map (mk-union-goes g (a .states .0) (a .states .1 .0)) (λ τ z w v i. is-same (λ u. sum-same same (back sum-none)) i)
     make-goes (pair and x y) a = goes-map (mk-intersect-goes g (a .states .0) (a .states .1 .0)) (λ τ z w v i. is-same (λ u. (λ (p, q). (p, (q, tt)), λ (p, q). (p, q .0))) i)
     make-goes (pair xor x y) a = mk-xor-goes g (a .states .0) (a .states .1 .0)

@@ -1,4 +1,4 @@
--- 01, "The book and its answers": the constructor lines. What a line means (a rule, from the rules of the lines that it names), and the constructor that
+-- 01, "The book and its answers", and 02 (iv): the constructor lines. What a line means (a rule, from the rules of the lines that it names), and the constructor that
 -- makes its state (from their states).
 use mathlib.Core.Bool.{Bool}
 use mathlib.Core.List.{List, [], _∷_}
@@ -23,7 +23,7 @@ pub data Bit : Type 0 where
   test set : Bit
 
 pub data Single : Type 0 where
-  not star : Single
+  not star next : Single
 
 pub data Pair : Type 0 where
   or and xor minus seq until : Pair
@@ -74,6 +74,7 @@ module _ {N : ℕ} {A : Type 0} (r : A → Rule N) where
   means (bit set f v) = Rules.relation (assigning f v)
   means (single not a) = Rules.complement (r a)
   means (single star a) = Rules.star (r a)
+  means (single next a) = Rules.next (r a)
   means (pair or a b) = Rules.union (each (a ∷ b ∷ []))
   means (pair and a b) = Rules.intersection (each (a ∷ b ∷ []))
   means (pair xor a b) = Rules.xor (r a) (r b)
@@ -106,6 +107,7 @@ module _ (N : ℕ) where
     abbrev pub singleOf : Single → ℕ → Step Aut ℕ
     singleOf not x = onStates (C.mk-complement N L x)
     singleOf star x = C.mk-star N L x
+    singleOf next x = onStates (C.mk-next L x)
 
     abbrev pub pairOf : Pair → ℕ → ℕ → Step Aut ℕ
     pairOf or x y = C.mk-union N L x y

@@ -9,9 +9,9 @@ use Rattle.common.specs.Outcome.{Step, return, _>>=_, if_then_else_}
 use Rattle.common.specs.Runs.{Table}
 use Rattle.spp_steps.specs.Model as Spp
 use Rattle.aut_steps.specs.Relations as Rel
-use Rattle.aut_steps.specs.Tables.{SPP, UNION, INTERSECT, XOR, DIFFERENCE, COMPLEMENT, SEQUENCE, STAR, DUP, UNTIL, TOP, kindOf, op1, words, Limits, Exprs, exprs, Aut, putNodes, putStates, putExprs, onNodes, onStates, onExprs, onStatesOf}
+use Rattle.aut_steps.specs.Tables.{SPP, UNION, INTERSECT, XOR, DIFFERENCE, COMPLEMENT, SEQUENCE, STAR, DUP, NEXT, UNTIL, TOP, kindOf, op1, words, Limits, Exprs, exprs, Aut, putNodes, putStates, putExprs, onNodes, onStates, onExprs, onStatesOf}
 use Rattle.aut_steps.specs.Lists.{sorted}
-use Rattle.aut_steps.specs.Constructors.{Within, within, beyond, thenWithin, opened, extend, openAll, Opened, list, top, long, thenOpen, openUnion, each, countOne, countAll, product, mk-spp, mk-dup, mk-top, mk-until, spp-of, relations, is-relation, Parts, parts, Met, met, addLast, uniteOne, addRelation, meetOne, finish, unite, uniteOpened, mk-union-n, mk-union, meetFinish, meet, meetOpened, mk-intersect-n-base, base, bases, distribute, intersectOpened, mk-intersect-n, mk-intersect, mk-xor, mk-difference, mk-complement, sequence-with, sequence-by, mk-sequence, mk-star}
+use Rattle.aut_steps.specs.Constructors.{Within, within, beyond, thenWithin, opened, extend, openAll, Opened, list, top, long, thenOpen, openUnion, each, countOne, countAll, product, mk-spp, mk-dup, mk-top, mk-next, mk-until, spp-of, relations, is-relation, Parts, parts, Met, met, addLast, uniteOne, addRelation, meetOne, finish, unite, uniteOpened, mk-union-n, mk-union, meetFinish, meet, meetOpened, mk-intersect-n-base, base, bases, distribute, intersectOpened, mk-intersect-n, mk-intersect, mk-xor, mk-difference, mk-complement, sequence-with, sequence-by, mk-sequence, mk-star}
 use Rattle.book_construct_steps.specs.Lines as Lines
 use Rattle.book_construct_steps.specs.Lines.{Constant, Bit, Single, Pair, Listed, Line, constant, bit, single, pair, listed, constantOf, bitOf, singleOf, pairOf, listedOf, make}
 use Rattle.book_longer.specs.Longer.{LongerWords, Longer, Follows, same-refusal, goes, Respects, ConstructorsLonger, MakeLonger}
@@ -129,6 +129,10 @@ module _ {a : Anchor} where
   pub mk-top-longer : Respects (States a) mk-top
   unfolding mk-top
   mk-top-longer = intern0-longer TOP 0
+
+  pub mk-next-longer : (L : Limits) (x : ℕ) → Respects (States a) (mk-next L x)
+  unfolding mk-next
+  mk-next-longer L x = intern1-longer L NEXT x
 
   pub mk-until-longer : (L : Limits) (x y : ℕ) → Respects (States a) (mk-until L x y)
   unfolding mk-until
@@ -300,6 +304,7 @@ module _ {a : Anchor} where
       single-longer : (w : Single) (x : ℕ) → Respects (InAut a) (singleOf N L w x)
       single-longer Lines.not x = on-states (mk-complement-longer x)
       single-longer Lines.star x = mk-star-longer x
+      single-longer Lines.next x = on-states (mk-next-longer L x)
 
       pair-longer : (w : Pair) (x y : ℕ) → Respects (InAut a) (pairOf N L w x y)
       pair-longer Lines.or x y = mk-union-longer x y
@@ -334,6 +339,7 @@ constructors-longer N L = record {
   spp = λ h. states-plain (mk-spp-longer h);
   dup = states-plain mk-dup-longer;
   top = states-plain mk-top-longer;
+  next = λ x. states-plain (mk-next-longer L x);
   until = λ x y. states-plain (mk-until-longer L x y);
   union-n = λ xs. aut-plain (mk-union-n-longer N L xs);
   union = λ x y. aut-plain (mk-union-longer N L x y);

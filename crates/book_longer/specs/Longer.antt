@@ -138,6 +138,7 @@ module _ (N : ℕ) (L : Limits) where
     pub spp : (h : ℕ) → Respects Longer (Make.mk-spp h)
     pub dup : Respects Longer Make.mk-dup
     pub top : Respects Longer Make.mk-top
+    pub next : (x : ℕ) → Respects Longer (Make.mk-next L x)
     pub until : (x y : ℕ) → Respects Longer (Make.mk-until L x y)
     pub union-n : (xs : List ℕ) → Respects LongerAut (Make.mk-union-n N L xs)
     pub union : (x y : ℕ) → Respects LongerAut (Make.mk-union N L x y)

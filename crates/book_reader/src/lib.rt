@@ -335,6 +335,9 @@ fn single_named(book: &[u8], from: usize, to: usize) -> FoundSingle
     if same(book, from, to, b"star") {
         return FoundSingle::Is(Single::Star);
     }
+    if same(book, from, to, b"next") {
+        return FoundSingle::Is(Single::Next);
+    }
     FoundSingle::Nothing
 }
 

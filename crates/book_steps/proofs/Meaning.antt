@@ -12,7 +12,7 @@ use Rattle.netkat.specs.Rules.{Rule, In, InSome, InEach}
 use Rattle.aut_steps.specs.Tables.{Limits, Aut}
 use Rattle.aut_steps.specs.Ascending.{All}
 use Rattle.aut_steps.specs.Languages.{_≈_}
-use Rattle.aut_steps.proofs.Languages.{_then_, either-same, both-same, join-same, star-same, until-same, not-same, minus-same, differ-same}
+use Rattle.aut_steps.proofs.Languages.{_then_, either-same, both-same, join-same, star-same, next-same, until-same, not-same, minus-same, differ-same}
 use Rattle.aut_steps.specs.Wf.{states, ExtAut, WfAut}
 use Rattle.aut_steps.proofs.Wf.{state-grown}
 use Rattle.aut_steps.specs.Meaning.{rule, Holds}
@@ -125,6 +125,7 @@ module _ {N : ℕ} {σ : Aut} where
   unfolding means In
   single-same Lines.not s = not-same (s .strings)
   single-same Lines.star s = star-same (s .strings)
+  single-same Lines.next s = next-same (s .strings)
 
   pair-same : (w : Pair) {x y : ℕ} {r u : Rule N} → Same N σ x r → Same N σ y u → In (means (rule N σ) (Lines.pair w x y)) ≈ In (means (λ r. r) (Lines.pair w r u))
   unfolding means In

@@ -270,7 +270,7 @@ module _ (P : ℕ → Type 0) (m8 : P 8) (m21 : P 21) (m22 : P 22) (m23 : P 23) 
           mk-star-only x σ = if-only (eqb (kindOf (σ .states .words) x) STAR) comes (if-only (eqb (kindOf (σ .states .words) x) SPP) (spp-of-only (Rel.star N (op1 (σ .states .words) x)) (λ σ. star-only N N _ σ) σ) (if-only (eqb (kindOf (σ .states .words) x) TOP) (placed-only putStates σ (top-only (σ .states))) (placed-only putStates σ (intern1-only L STAR x (σ .states)))))
 
           make-only : (l : Line ℕ) (σ : Aut) → Only (make N L l σ)
-          unfolding C.mk-dup Spp.test Spp.assign C.mk-until
+          unfolding C.mk-dup Spp.test Spp.assign C.mk-next C.mk-until
           make-only (Lines.constant Lines.zero) σ = placed-only putStates σ (spp-only (Rel.zeroAt N) (σ .states))
           make-only (Lines.constant Lines.one) σ = placed-only putStates σ (spp-only (Rel.oneAt N) (σ .states))
           make-only (Lines.constant Lines.all) σ = placed-only putStates σ (spp-only (Rel.topAt N) (σ .states))
@@ -280,6 +280,7 @@ module _ (P : ℕ → Type 0) (m8 : P 8) (m21 : P 21) (m22 : P 22) (m23 : P 23) 
           make-only (Lines.bit Lines.set f v) σ = spp-of-only (Spp.assign N N f v) (λ σ. field-only N _ N f σ) σ
           make-only (Lines.single Lines.not x) σ = placed-only putStates σ (complement-only x (σ .states))
           make-only (Lines.single Lines.star x) σ = mk-star-only x σ
+          make-only (Lines.single Lines.next x) σ = placed-only putStates σ (intern1-only L _ x (σ .states))
           make-only (Lines.pair Lines.or x y) σ = union-only x y σ
           make-only (Lines.pair Lines.and x y) σ = intersect-only x y σ
           make-only (Lines.pair Lines.xor x y) σ = xor-only x y σ

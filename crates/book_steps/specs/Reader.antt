@@ -1,4 +1,4 @@
--- 01, "The book and its answers": the first line is `fields N budget B`; then instructions. What a line says, if it is of its form (else refusal 1 or 3), and then, by what the
+-- 01, "The book and its answers", with `why` of 02 (i) and `next` of (iv): the first line is `fields N budget B`; then instructions. What a line says, if it is of its form (else refusal 1 or 3), and then, by what the
 -- lines before it are, refusal 4 (a named line is not an earlier constructor line) or 5 (f is N or more, or v above 1).
 use mathlib.Core.Bool.{_&&_}
 use mathlib.Core.List.{List, [], _∷_}
@@ -9,7 +9,7 @@ use lib.Dec.{eqb, ltb}
 use lib.ListN.{getD}
 use Rattle.common.specs.Outcome.{if_then_else_}
 use Rattle.book_construct_steps.specs.Lines as Lines
-use Rattle.book_construct_steps.specs.Lines.{Line, Constant, Bit, Single, Pair, Listed, zero, one, all, dup, top, test, set, or, and, xor, minus, seq, until, union, inter, not, star}
+use Rattle.book_construct_steps.specs.Lines.{Line, Constant, Bit, Single, Pair, Listed, zero, one, all, dup, top, test, set, or, and, xor, minus, seq, until, union, inter, not, star, next}
 use Rattle.book_steps.specs.Text.{bytes, same, number}
 
 -- ---- the first line
@@ -59,7 +59,7 @@ abbrev pub bits : List (Named Bit)
 bits = named "test" test ∷ named "set" set ∷ []
 
 abbrev pub singles : List (Named Single)
-singles = named "not" not ∷ named "star" star ∷ []
+singles = named "not" not ∷ named "star" star ∷ named "next" next ∷ []
 
 abbrev pub pairs : List (Named Pair)
 pairs = named "or" or ∷ named "and" and ∷ named "xor" xor ∷ named "minus" minus ∷ named "seq" seq ∷ named "until" until ∷ []

@@ -1,3 +1,3 @@
 -- Books with their whole outcomes.
 pub mod Vectors  -- 64 books, computed
-pub mod WhyVectors  -- nine with `why`
+pub mod ChangeVectors  -- nine with `why`, three with `next`

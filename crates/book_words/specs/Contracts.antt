@@ -1,4 +1,4 @@
--- 01, "The book and its answers", constructor lines: the words in code as the words of the steps.
+-- 01, "The book and its answers", and 02 (iv), constructor lines: the words in code as the words of the steps.
 use Rattle.book_construct_steps.specs.Lines as M
 use Rattle.book_words.specs.declared.Constant.{Constant}
 use Rattle.book_words.specs.declared.Constant.the-variants as constant
@@ -25,6 +25,7 @@ bitOf bit.Set = M.set
 abbrev pub singleOf : Single → M.Single
 singleOf single.Not = M.not
 singleOf single.Star = M.star
+singleOf single.Next = M.next
 
 abbrev pub pairOf : Pair → M.Pair
 pairOf pair.Or = M.or

@@ -15,6 +15,7 @@ pub enum Bit {
 pub enum Single {
     Not,
     Star,
+    Next,
 }
 
 pub enum Pair {

@@ -137,7 +137,8 @@ saved-at lent size book n = go (ranBook lent book) refl (save lent size book) n 
   where
     go : (c : Came) → ranBook lent book ≡ c → (s : Saved lent) → s .result .number ≡ 0 → SaveSpec lent size c s → SavedAt lent book s
     go c e s n (SaveSpec.stopped z i) = absurd (omega (arith, number-is z, n, failed-number lent book e))
-    go c e s n (SaveSpec.no-room a z i) = absurd (omega (arith, number-is z, n))
+    go c e s n (SaveSpec.unknown-kind a z i) = absurd (omega (arith, number-is z, n))
+    go c e s n (SaveSpec.no-room k a z i) = absurd (omega (arith, number-is z, n))
     go c e s n (SaveSpec.written a b z i l o) = record { setting = _; at = _; comes = e; own = o; image = i; result = z }
 
 -- ---- the two runs

@@ -21,7 +21,7 @@ use Rattle.netcheck_entry.proofs.Lines.{of-fields}
 use Rattle.image_steps.specs.Image.{headOf, blocksOf, saved}
 use Rattle.image_steps.specs.Read.{read}
 use Rattle.image_steps.specs.Calls as Calls
-use Rattle.image_steps.specs.Calls.{headerAt, goesOn, ranOn, saving}
+use Rattle.image_steps.specs.Calls.{hasNext, headerAt, goesOn, ranOn, saving}
 use Rattle.image_keep.specs.Contracts.{numberOf, textLineOf, lengthOf, imageLengthOf}
 use Rattle.image_calls.specs.Entries.{SaveEntry, ResumeEntry, ResumeSaveEntry}
 use Rattle.image_keep.specs.declared.Saved.{Saved}
@@ -44,14 +44,18 @@ module _ (lent : Lent) where
       by-scratch true = omega arith
       by-scratch false = goes-on-line (settingOf lent (headerAt lent image)) book (read lent limits01 image)
 
-  -- an image that has no room is refused with line 0
+  -- an image that is not written is refused with line 0
   saving-line : (size : ℕ) (c : Came) → finished lent c .line ≤ 2050 → saving lent size c .result .line ≤ 2050
   saving-line size (failed e k out) l = l
-  saving-line size (came S p) l = by-room (ltb 65536 (blocksOf (headOf S p)) || ltb size (512 * blocksOf (headOf S p)))
+  saving-line size (came S p) l =
+      by-tests (hasNext (p .tables .base .aut .states .words) (p .tables .base .aut .states .count)) (ltb 65536 (blocksOf (headOf S p)) || ltb size (512 * blocksOf (headOf S p)))
     where
-      by-room : (b : Bool) → if_then_else_ {A = Calls.Saved lent} b (record { result = refusal lent 27 0 (p .output); image = [] }) (record { result = success lent p; image = saved S p }) .result .line ≤ 2050
-      by-room true = omega arith
-      by-room false = omega arith
+      by-tests : (a b : Bool)
+          → if_then_else_ {A = Calls.Saved lent} a (record { result = refusal lent 33 0 (p .output); image = [] })
+          (if_then_else_ {A = Calls.Saved lent} b (record { result = refusal lent 27 0 (p .output); image = [] }) (record { result = success lent p; image = saved S p })) .result .line ≤ 2050
+      by-tests true b = omega arith
+      by-tests false true = omega arith
+      by-tests false false = omega arith
 
   save-line : (size : ℕ) (book : List ℕ) → Calls.save lent size book .result .line ≤ 2050
   unfolding Calls.save

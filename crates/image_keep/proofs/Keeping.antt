@@ -1,6 +1,6 @@
--- 02 (ii): "An image above 65,536 blocks, or longer than its output, meets 27, line 0, before any byte". The last place of a run is kept as its image, or the run is refused.
+-- 02 (ii): "An image above 65,536 blocks, or longer than its output, meets 27, line 0, before any byte"; 02 (iv): 33 before it. The last place of a run is kept as its image, or the run is refused.
 use mathlib.Core.Path.{_≡_, refl, sym, _∙_, ap, ap₂, subst}
-use mathlib.Core.Bool.{Bool, _||_}
+use mathlib.Core.Bool.{Bool, true, false, _||_}
 use mathlib.Core.List.{List, [], _++_}
 use Prim.Native.Nat.{ℕ, _+_, _*_, _-_, _/_, _≤_, _<_}
 use native.Mathlib.Omega.{arith}
@@ -21,7 +21,7 @@ use Rattle.book_finish.specs.Contracts.{EndsBy}
 use Rattle.image_save.specs.Contracts.{kept, Present, BlocksAre, PreWrite, PostWrite}
 use Rattle.image_save.proofs.Whole as saves
 use Rattle.image_steps.specs.Image.{headOf, blocksOf, saved}
-use Rattle.image_steps.specs.Calls.{Saved, saving}
+use Rattle.image_steps.specs.Calls.{hasNext, Saved, saving}
 use Rattle.image_steps.proofs.Calls.{saved-length}
 use Rattle.image_keep.specs.Contracts.{PreKeep, PostKeep}
 
@@ -45,29 +45,38 @@ sets-only xs image l =
           ∙ ap (λ (j : ℕ). getD image j 0) {x = 0 + length xs + (i - length xs)} {y = i} (omega arith);
     }
 
--- ---- the two tests
+-- ---- the three tests
 
 module _ (lent : Lent) (size : ℕ) (S : Run.Setting) (p : RunState) where
   abbrev count : ℕ
   count = blocksOf (headOf S p)
 
-  abbrev none : Saved lent
-  none = record { result = refusal lent 27 0 (p .output); image = [] }
+  abbrev none : (number : ℕ) → Saved lent
+  none number = record { result = refusal lent number 0 (p .output); image = [] }
 
   abbrev whole : Saved lent
   whole = record { result = success lent p; image = saved S p }
 
-  by-tests : {a b : Bool} → ltb 65536 count ≡ a → ltb size (512 * count) ≡ b → saving lent size (came S p) ≡ (if a || b then none else whole)
-  by-tests e f = ap₂ (λ (x y : Bool). if x || y then none else whole) e f
+  abbrev marked : Bool
+  marked = hasNext (p .tables .base .aut .states .words) (p .tables .base .aut .states .count)
 
-  saving-many : 65536 < count → saving lent size (came S p) ≡ none
-  saving-many l = by-tests {b = ltb size (512 * count)} (lt-ltb 65536 count l) refl
+  by-kinds : {b : Bool} → marked ≡ b → saving lent size (came S p) ≡ (if b then none 33 else if ltb 65536 count || ltb size (512 * count) then none 27 else whole)
+  by-kinds e = ap (λ (x : Bool). if x then none 33 else if ltb 65536 count || ltb size (512 * count) then none 27 else whole) e
 
-  saving-long : count ≤ 65536 → size < 512 * count → saving lent size (came S p) ≡ none
-  saving-long l k = by-tests (le-ltb 65536 count l) (lt-ltb size (512 * count) k)
+  by-tests : {a b : Bool} → marked ≡ false → ltb 65536 count ≡ a → ltb size (512 * count) ≡ b → saving lent size (came S p) ≡ (if a || b then none 27 else whole)
+  by-tests k e f = by-kinds k ∙ ap₂ (λ (x y : Bool). if x || y then none 27 else whole) e f
 
-  saving-fits : count ≤ 65536 → 512 * count ≤ size → saving lent size (came S p) ≡ whole
-  saving-fits l k = by-tests (le-ltb 65536 count l) (le-ltb size (512 * count) k)
+  saving-unknown : marked ≡ true → saving lent size (came S p) ≡ none 33
+  saving-unknown k = by-kinds k
+
+  saving-many : marked ≡ false → 65536 < count → saving lent size (came S p) ≡ none 27
+  saving-many k l = by-tests {b = ltb size (512 * count)} k (lt-ltb 65536 count l) refl
+
+  saving-long : marked ≡ false → count ≤ 65536 → size < 512 * count → saving lent size (came S p) ≡ none 27
+  saving-long m l k = by-tests m (le-ltb 65536 count l) (lt-ltb size (512 * count) k)
+
+  saving-fits : marked ≡ false → count ≤ 65536 → 512 * count ≤ size → saving lent size (came S p) ≡ whole
+  saving-fits m l k = by-tests m (le-ltb 65536 count l) (le-ltb size (512 * count) k)
 
 -- ---- what is kept
 
@@ -100,28 +109,31 @@ module _ (m : Memory) (image : List ℕ) where
     pub keep-present : PreKeep w m → Present m (q .counts) (q .lines)
     keep-present P = subst (λ (v : Went). PreKeep v m) f P
 
-    module _ (n : ℕ) (blocks-are : BlocksAre (q .counts) (q .lines) n) where
+    refused : (number : ℕ) → ((lent : Lent) (t p o : List ℕ) → saving lent (length image) (came (last-setting t p o) (last-place t p o)) ≡ none lent (length image) (last-setting t p o) (last-place t p o) number)
+        → PostKeep w m (record { went = went.Stopped number 0 (q .output); image = 0 }) image image
+    refused number g = subst (λ (v : Went). PostKeep v m (record { went = went.Stopped number 0 (q .output); image = 0 }) image image) (sym f) (record {
+      keeps = λ lent t p o. record {
+        result = ap (λ (s : Saved lent). s .result) (g lent t p o);
+        len = ap (λ (s : Saved lent). length (s .image)) (sym (g lent t p o));
+        is = subst (λ (s : Saved lent). WritesOnly (s .image) image image) (sym (g lent t p o)) (unwritten image);
+      };
+      bytes = refl;
+      none = refl;
+    })
+
+    pub keep-unknown : {b : Bool} → hasNext (m .states) (q .counts .states) ≡ b → b ≡ true → PostKeep w m (record { went = went.Stopped 33 0 (q .output); image = 0 }) image image
+    keep-unknown e k = refused 33 (λ lent t p o. saving-unknown lent (length image) (last-setting t p o) (last-place t p o) (e ∙ k))
+
+    module _ {b : Bool} (kinds : hasNext (m .states) (q .counts .states) ≡ b) (known : b ≡ false) (n : ℕ) (blocks-are : BlocksAre (q .counts) (q .lines) n) where
       count-is : (t p o : List ℕ) → n ≡ blocksOf (headOf (last-setting t p o) (last-place t p o))
       count-is t p o = blocks-are (last-setting t p o) (whole-of t p o) (q .output)
 
-      refused : ((lent : Lent) (t p o : List ℕ) → saving lent (length image) (came (last-setting t p o) (last-place t p o)) ≡ none lent (length image) (last-setting t p o) (last-place t p o))
-          → PostKeep w m (record { went = went.Stopped 27 0 (q .output); image = 0 }) image image
-      refused g = subst (λ (v : Went). PostKeep v m (record { went = went.Stopped 27 0 (q .output); image = 0 }) image image) (sym f) (record {
-        keeps = λ lent t p o. record {
-          result = ap (λ (s : Saved lent). s .result) (g lent t p o);
-          len = ap (λ (s : Saved lent). length (s .image)) (sym (g lent t p o));
-          is = subst (λ (s : Saved lent). WritesOnly (s .image) image image) (sym (g lent t p o)) (unwritten image);
-        };
-        bytes = refl;
-        none = refl;
-      })
-
       pub keep-many : 65536 < n → PostKeep w m (record { went = went.Stopped 27 0 (q .output); image = 0 }) image image
-      keep-many l = refused (λ lent t p o. saving-many lent (length image) (last-setting t p o) (last-place t p o) (omega (arith, count-is t p o)))
+      keep-many l = refused 27 (λ lent t p o. saving-many lent (length image) (last-setting t p o) (last-place t p o) (kinds ∙ known) (omega (arith, count-is t p o)))
 
       module _ (few : n ≤ 65536) where
         pub keep-long : length image < 512 * n → PostKeep w m (record { went = went.Stopped 27 0 (q .output); image = 0 }) image image
-        keep-long l = refused (λ lent t p o. saving-long lent (length image) (last-setting t p o) (last-place t p o) (omega (arith, count-is t p o)) (omega (arith, count-is t p o)))
+        keep-long l = refused 27 (λ lent t p o. saving-long lent (length image) (last-setting t p o) (last-place t p o) (kinds ∙ known) (omega (arith, count-is t p o)) (omega (arith, count-is t p o)))
 
         module _ (room : 512 * n ≤ length image) where
           pub keep-writes : Present m (q .counts) (q .lines) → PreWrite m q image
@@ -135,7 +147,7 @@ module _ (m : Memory) (image : List ℕ) where
           keep-written {image′} W = subst (λ (v : Went). PostKeep v m (record { went = went.End S q; image = 512 * n }) image image′) (sym f) (record {
             keeps = λ lent t p o.
                 let g : saving lent (length image) (came (last-setting t p o) (last-place t p o)) ≡ whole lent (length image) (last-setting t p o) (last-place t p o)
-                = saving-fits lent (length image) (last-setting t p o) (last-place t p o) (omega (arith, count-is t p o)) (omega (arith, count-is t p o)) in
+                = saving-fits lent (length image) (last-setting t p o) (last-place t p o) (kinds ∙ known) (omega (arith, count-is t p o)) (omega (arith, count-is t p o)) in
                 let k : length (saved (last-setting t p o) (last-place t p o)) ≡ 512 * n = saved-length (last-setting t p o) (last-place t p o) ∙ ap (λ (b : ℕ). 512 * b) (sym (count-is t p o)) in
                 record {
                   result = ap (λ (s : Saved lent). s .result) g;

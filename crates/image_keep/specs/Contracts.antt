@@ -1,4 +1,4 @@
--- 02 (ii), saving in code: "An image above 65,536 blocks, or longer than its output, meets 27, line 0, before any byte". A run that came to its last place is kept as an image, or refused (image_steps, `saving`), and then finished; and the number, line and lengths of what is returned.
+-- 02 (ii), saving in code: "An image above 65,536 blocks, or longer than its output, meets 27, line 0, before any byte"; 02 (iv): "33, line 0, before 27, when one is wanted of tables that hold this kind". A run that came to its last place is kept as an image, or refused (image_steps, `saving`), and then finished; and the number, line and lengths of what is returned.
 use mathlib.Core.Path.{_≡_}
 use mathlib.Core.List.{List}
 use Prim.Native.Nat.{ℕ}

@@ -1,4 +1,4 @@
--- 02 (ii), the other way: a state of tables in order fits the tables that have the states before it. So 32 is not given to a record that its constructor gives.
+-- 02 (ii), the other way: a state of tables in order fits the tables that have the states before it. So 32 is not given to a record that its constructor gives, unless it is of kind 10.
 use mathlib.Core.Path.{_≡_, refl, sym, _∙_, ap, ap₂, subst}
 use mathlib.Core.Bool.{Bool, true, false}
 use mathlib.Core.List.{List, [], _∷_}
@@ -39,41 +39,43 @@ pub record Before (N : ℕ) (τ : Aut) (n : ℕ) (σ : Aut) : Type 0 where
   pub words : (z w : ℕ) → z < n → w < 4 → getD (σ .states .words) (12 * z + w) 0 ≡ getD (τ .states .words) (12 * z + w) 0
   pub members : σ .members .count ≡ membersBefore τ n
 
--- the kinds that images know
-pub data Known (k : ℕ) : Type 0 where
-  spp : k ≡ SPP → Known k
-  union : k ≡ UNION → Known k
-  intersect : k ≡ INTERSECT → Known k
-  xor : k ≡ XOR → Known k
-  difference : k ≡ DIFFERENCE → Known k
-  complement : k ≡ COMPLEMENT → Known k
-  sequence : k ≡ SEQUENCE → Known k
-  star : k ≡ STAR → Known k
-  dup : k ≡ DUP → Known k
-  until : k ≡ UNTIL → Known k
-  top : k ≡ TOP → Known k
+-- the kinds of states
+pub data AnyKind (k : ℕ) : Type 0 where
+  spp : k ≡ SPP → AnyKind k
+  union : k ≡ UNION → AnyKind k
+  intersect : k ≡ INTERSECT → AnyKind k
+  xor : k ≡ XOR → AnyKind k
+  difference : k ≡ DIFFERENCE → AnyKind k
+  complement : k ≡ COMPLEMENT → AnyKind k
+  sequence : k ≡ SEQUENCE → AnyKind k
+  star : k ≡ STAR → AnyKind k
+  dup : k ≡ DUP → AnyKind k
+  next : k ≡ NEXT → AnyKind k
+  until : k ≡ UNTIL → AnyKind k
+  top : k ≡ TOP → AnyKind k
 
 -- none is above 12
-pub known-low : {k : ℕ} → Known k → k ≤ 12
-known-low (spp e) = omega arith
-known-low (union e) = omega arith
-known-low (intersect e) = omega arith
-known-low (xor e) = omega arith
-known-low (difference e) = omega arith
-known-low (complement e) = omega arith
-known-low (sequence e) = omega arith
-known-low (star e) = omega arith
-known-low (dup e) = omega arith
-known-low (until e) = omega arith
-known-low (top e) = omega arith
+pub kind-low : {k : ℕ} → AnyKind k → k ≤ 12
+kind-low (spp e) = omega arith
+kind-low (union e) = omega arith
+kind-low (intersect e) = omega arith
+kind-low (xor e) = omega arith
+kind-low (difference e) = omega arith
+kind-low (complement e) = omega arith
+kind-low (sequence e) = omega arith
+kind-low (star e) = omega arith
+kind-low (dup e) = omega arith
+kind-low (next e) = omega arith
+kind-low (until e) = omega arith
+kind-low (top e) = omega arith
 
 arm : {N : ℕ} {A : Type 0} (τ : Aut) (n : ℕ) (b : Bool) (f g : Form N) → (b ≡ true → A) → (b ≡ false → Ok g τ n → A) → Ok (if b then f else g) τ n → A
 arm τ n true f g p q o = p refl
 arm τ n false f g p q o = q refl o
 
-by-form : (N : ℕ) (τ : Aut) (n k : ℕ) → Ok (form {N = N} k) τ n → k ≢ NEXT → Known k
+by-form : (N : ℕ) (τ : Aut) (n k : ℕ) → Ok (form {N = N} k) τ n → AnyKind k
 unfolding form
-by-form N τ n k o d =
+by-form N τ n k o =
     arm τ n (eqb k SPP) _ _ (λ q. spp (eqb-true k SPP q))
     (λ _ o. arm τ n (eqb k UNION) _ _ (λ q. union (eqb-true k UNION q))
     (λ _ o. arm τ n (eqb k INTERSECT) _ _ (λ q. intersect (eqb-true k INTERSECT q))
@@ -83,14 +85,13 @@ by-form N τ n k o d =
     (λ _ o. arm τ n (eqb k SEQUENCE) _ _ (λ q. sequence (eqb-true k SEQUENCE q))
     (λ _ o. arm τ n (eqb k STAR) _ _ (λ q. star (eqb-true k STAR q))
     (λ _ o. arm τ n (eqb k DUP) _ _ (λ q. dup (eqb-true k DUP q))
-    (λ _ o. arm τ n (eqb k NEXT) _ _ (λ q. absurd (d (eqb-true k NEXT q)))
+    (λ _ o. arm τ n (eqb k NEXT) _ _ (λ q. next (eqb-true k NEXT q))
     (λ _ o. arm τ n (eqb k UNTIL) _ _ (λ q. until (eqb-true k UNTIL q))
     (λ _ o. arm τ n (eqb k TOP) _ _ (λ q. top (eqb-true k TOP q)) (λ _ o. absurd o)
     o) o) o) o) o) o) o) o) o) o) o) o
 
--- of tables in order: no constructor makes kind 10
-pub known : {N : ℕ} {L : Limits} {τ : Aut} → WfAut N L τ → (n : ℕ) → n < states τ → Known (kind τ n)
-known {N} {τ = τ} g n l = by-form N τ n (kind τ n) (g .ok n l) (g .made n l .no-next)
+pub any-kind : {N : ℕ} {L : Limits} {τ : Aut} → WfAut N L τ → (n : ℕ) → n < states τ → AnyKind (kind τ n)
+any-kind {N} {τ = τ} g n l = by-form N τ n (kind τ n) (g .ok n l)
 
 module _ {N : ℕ} {L : Limits} {τ σ : Aut} {n : ℕ} (g : WfAut N L τ) (l : n < states τ) (b : Before N τ n σ) where
   -- ---- what σ has of a state before n
@@ -168,10 +169,10 @@ module _ {N : ℕ} {L : Limits} {τ σ : Aut} {n : ℕ} (g : WfAut N L τ) (l : 
 
   -- ---- by kind
 
-  -- xs are its members, if it has any
-  pub state-fits : (xs : List ℕ) → (UNION ≤ kind τ n → kind τ n ≤ INTERSECT → members τ n ≡ xs) → stateFits N L σ xs (kind τ n) (first τ n) (second τ n) (nesting τ n) ≡ true
+  -- xs are its members, if it has any; images do not know kind 10
+  pub state-fits : kind τ n ≢ NEXT → (xs : List ℕ) → (UNION ≤ kind τ n → kind τ n ≤ INTERSECT → members τ n ≡ xs) → stateFits N L σ xs (kind τ n) (first τ n) (second τ n) (nesting τ n) ≡ true
   unfolding stateFits form
-  state-fits xs f = go (known g n l)
+  state-fits d xs f = go (any-kind g n l)
     where
       x : ℕ
       x = first τ n
@@ -189,7 +190,7 @@ module _ {N : ℕ} {L : Limits} {τ σ : Aut} {n : ℕ} (g : WfAut N L τ) (l : 
       with-own : {j : ℕ} → UNION ≤ j → j ≤ INTERSECT → kind τ n ≡ j → stateFits N L σ (members τ n) j x y e ≡ true → stateFits N L σ xs (kind τ n) x y e ≡ true
       with-own {j} p q k s = at k (subst (λ (ys : List ℕ). stateFits N L σ ys j x y e ≡ true) (f (omega arith) (omega arith)) s)
 
-      go : Known (kind τ n) → stateFits N L σ xs (kind τ n) x y e ≡ true
+      go : AnyKind (kind τ n) → stateFits N L σ xs (kind τ n) x y e ≡ true
       go (spp k) = at k (leaf-fits N L σ x y e (leaf-was (ok-as g SPP l k)))
       go (union k) =
           let o : Many τ n = ok-as g UNION l k in
@@ -238,6 +239,7 @@ module _ {N : ℕ} {L : Limits} {τ σ : Aut} {n : ℕ} (g : WfAut N L τ) (l : 
           let (p, q, r) = g .made n l .star k in
           at k (both (one-fits N L σ x y e (one-was o)) (star-fits N L (σ .states .words) x (λ c. p (was (o .earlier) c), λ c. q (was (o .earlier) c), λ c. r (was (o .earlier) c))))
       go (dup k) = at k (constant-fits N L σ x y e (constant-was (ok-as g DUP l k)))
+      go (next k) = absurd (d k)
       go (until k) = at k (two-fits N L σ x y e (two-was (ok-as g UNTIL l k)))
       go (top k) = at k (constant-fits N L σ x y e (constant-was (ok-as g TOP l k)))
 
@@ -252,23 +254,23 @@ grown-before {N} {σ = σ} g w e = record {
   members = g .counted ∙ sym (before-grown w (states σ) (omega arith));
 }
 
-pub constructor-fits : (N : ℕ) (L : Limits) (σ : Aut) → WfAut N L σ → (xs : List ℕ) (k x y e : ℕ) → CallAt N σ (callOf xs k x y)
+pub constructor-fits : (N : ℕ) (L : Limits) (σ : Aut) → WfAut N L σ → (xs : List ℕ) (k x y e : ℕ) → k ≢ NEXT → CallAt N σ (callOf xs k x y)
     → (τ : Aut) → called N (callOf xs k x y) L σ ≡ given τ (states σ) → τ .nodes ≡ σ .nodes
     → kind τ (states σ) ≡ k → first τ (states σ) ≡ x → second τ (states σ) ≡ y → nesting τ (states σ) ≡ e → (UNION ≤ k → k ≤ INTERSECT → members τ (states σ) ≡ xs)
     → stateFits N L σ xs k x y e ≡ true
-constructor-fits N L σ g xs k x y e a τ c nodes p1 p2 p3 p4 f =
+constructor-fits N L σ g xs k x y e d a τ c nodes p1 p2 p3 p4 f =
     let w = replay-came (subst (Replays N L (In N L State) (called N (callOf xs k x y) L) σ) c (constructors-again N L L (wider-refl L) (callOf xs k x y) σ g a)) in
     (λ i. stateFits N L σ xs (sym p1 i) (sym p2 i) (sym p3 i) (sym p4 i))
-    ∙ state-fits (w .2 .0) (w .2 .1) (grown-before g (w .0) nodes) xs (λ u v. f (omega (arith, p1)) (omega (arith, p1)))
+    ∙ state-fits (w .2 .0) (w .2 .1) (grown-before g (w .0) nodes) (λ q. d (sym p1 ∙ q)) xs (λ u v. f (omega (arith, p1)) (omega (arith, p1)))
 
 -- "wants the same number": what the constructor gives as a new state, with these words and members and with nothing else made, the record gives
-pub constructor-made : (N : ℕ) (L : Limits) (σ : Aut) → WfAut N L σ → (xs : List ℕ) (k x y e : ℕ) → CallAt N σ (callOf xs k x y)
+pub constructor-made : (N : ℕ) (L : Limits) (σ : Aut) → WfAut N L σ → (xs : List ℕ) (k x y e : ℕ) → k ≢ NEXT → CallAt N σ (callOf xs k x y)
     → (τ : Aut) → called N (callOf xs k x y) L σ ≡ given τ (states σ) → τ .nodes ≡ σ .nodes
     → kind τ (states σ) ≡ k → first τ (states σ) ≡ x → second τ (states σ) ≡ y → nesting τ (states σ) ≡ e → (UNION ≤ k → k ≤ INTERSECT → members τ (states σ) ≡ xs)
     → Records.state N L xs k x y e σ ≡ given τ (states σ)
 unfolding Records.state
-constructor-made N L σ g xs k x y e a τ c nodes p1 p2 p3 p4 f =
-    let t : stateFits N L σ xs k x y e ≡ true = constructor-fits N L σ g xs k x y e a τ c nodes p1 p2 p3 p4 f in
+constructor-made N L σ g xs k x y e d a τ c nodes p1 p2 p3 p4 f =
+    let t : stateFits N L σ xs k x y e ≡ true = constructor-fits N L σ g xs k x y e d a τ c nodes p1 p2 p3 p4 f in
     ap (λ (b : Bool). if b then wanted N L (states σ) (interned N L xs k x y σ) else refused 32) t
     ∙ ap (wanted N L (states σ)) (sym (record-by-constructor N L σ g xs k x y e t) ∙ c)
     ∙ ap (λ (b : Bool). if b then given τ (states σ) else refused 32) (eq-eqb (states σ) (states σ) refl)
@@ -334,11 +336,11 @@ module _ {N : ℕ} {L : Limits} {τ σ : Aut} {n : ℕ} (g : WfAut N L τ) (l : 
       omega arith
 
   -- its record is made again behind those before it, where there is room
-  pub state-again : (xs : List ℕ) → (UNION ≤ kind τ n → kind τ n ≤ INTERSECT → members τ n ≡ xs)
+  pub state-again : kind τ n ≢ NEXT → (xs : List ℕ) → (UNION ≤ kind τ n → kind τ n ≤ INTERSECT → members τ n ≡ xs)
       → roomS (σ .states) ≡ true → (UNION ≤ kind τ n → kind τ n ≤ INTERSECT → roomM (σ .members) (length xs) ≡ true)
       → Records.state N L xs (kind τ n) (first τ n) (second τ n) (nesting τ n) σ ≡ given (withState σ xs (kind τ n) (first τ n) (second τ n) (nesting τ n)) (states σ)
   unfolding Records.state
-  state-again xs f r s =
+  state-again d xs f r s =
       ap (λ (c : Bool). if c then wanted N L (states σ) (interned N L xs k x y σ) else refused 32) fits
       ∙ at (record-interns N L σ xs k x y e fits)
     where
@@ -355,7 +357,7 @@ module _ {N : ℕ} {L : Limits} {τ σ : Aut} {n : ℕ} (g : WfAut N L τ) (l : 
       e = nesting τ n
 
       fits : stateFits N L σ xs k x y e ≡ true
-      fits = state-fits g l b xs f
+      fits = state-fits g l b d xs f
 
       at : {o : Outcome Aut ℕ} → Interns σ xs k x y e (membersWith k xs (σ .members)) o → wanted N L (states σ) o ≡ given (withState σ xs k x y e) (states σ)
       at (stands {i} m h) = absurd (no-equal xs f i (omega (arith, b .count)) h)

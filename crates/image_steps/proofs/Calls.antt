@@ -2,13 +2,13 @@
 use mathlib.Core.Path.{_≡_, refl, sym, _∙_, ap, subst}
 use mathlib.Core.Bool.{Bool, true, false, _||_}
 use mathlib.Core.List.{List, [], _∷_}
-use mathlib.Core.Logic.{inl, inr}
+use mathlib.Core.Logic.{inl, inr, ⊎-elim}
 use mathlib.Core.Option.{Option, none, some}
 use Prim.Native.Nat.{ℕ, zero, suc, _+_, _*_, _-_, _^_, _≤_, _<_}
 use native.Mathlib.Omega.{arith}
-use lib.Dec.{ltb, leb}
+use lib.Dec.{eqb, ltb, leb}
 use lib.ListN.{length, length-append}
-use borrow.Author.Tests.{ltb-true, ltb-false, leb-true, lt-ltb, le-ltb}
+use borrow.Author.Tests.{eqb-true, eqb-false, ltb-true, ltb-false, leb-true, lt-ltb, le-ltb}
 use Rattle.common.specs.Outcome.{Outcome, refused, given, if_then_else_}
 use Rattle.common.proofs.Follow.{refused≢given}
 use Rattle.common.specs.Runs.{Table, table}
@@ -16,7 +16,8 @@ use Rattle.netkat.specs.Rules.{Rule}
 use Rattle.sp_steps.specs.Model as Sp
 use Rattle.spp_steps.specs.Model as Spp
 use Rattle.sp_steps.proofs.Make.{by-test}
-use Rattle.aut_steps.specs.Tables.{limits01, aut}
+use Rattle.spp_steps.proofs.Laws.{false-true}
+use Rattle.aut_steps.specs.Tables.{NEXT, kindOf, limits01, aut}
 use Rattle.aut_delta_steps.specs.Delta.{store}
 use Rattle.aut_delta_steps.proofs.EpsilonReads.{given-store}
 use Rattle.aut_query_steps.specs.Tables.{tables}
@@ -40,8 +41,9 @@ use Rattle.book_steps.proofs.Claim.{begun-in-order}
 use Rattle.image_steps.specs.Image.{headOf, blocksOf, wordOf, bodyOf, imageOf, saved}
 use Rattle.image_steps.specs.Read.{read}
 use Rattle.book_steps.specs.Run.{Came, came, failed, cameOf, startedBook, headedBook, openedBook, ranBook, finished}
-use Rattle.image_steps.specs.Calls.{goesOn, ranOn, saving, save, resume, resumeSave}
-use Rattle.image_steps.specs.Claims.{settingAt, ReadsRight, OwnPlace, onFrom, ResumeSpec, ResumeClaim, SaveSpec, SaveClaim, ResumeSaveClaim}
+use Rattle.image_steps.specs.Calls.{hasNext, goesOn, ranOn, saving, save, resume, resumeSave}
+use Rattle.image_steps.specs.Claims.{settingAt, ReadsRight, NoNext, OwnPlace, onFrom, ResumeSpec, ResumeClaim, SaveSpec, SaveClaim, ResumeSaveClaim}
+use Rattle.image_steps.proofs.Lists.{split}
 use Rattle.image_steps.proofs.Reading.{read-in-order}
 use Rattle.image_steps.proofs.Same.{saved-again}
 
@@ -100,29 +102,63 @@ module _ (S : Setting) (lent : Lent) where
       at-cut f unended e = halts
       at-cut f (line m rest) e = at-said rest m e (f rest) (parse (words m)) refl
 
+-- ---- kind 10
+
+or-false : (a b : Bool) → (a || b) ≡ false → (a ≡ false) × (b ≡ false)
+or-false false b e = (refl, e)
+or-false true b e = absurd (false-true (sym e))
+
+pub next-none : (st : List ℕ) (n : ℕ) → hasNext st n ≡ false → (x : ℕ) → (x < n) × (kindOf st x ≡ NEXT) → ⊥
+unfolding hasNext
+next-none st zero e x (l, k) = omega arith
+next-none st (suc n) e x (l, k) =
+    let (p, q) = or-false (eqb (kindOf st n) NEXT) (hasNext st n) e in
+    ⊎-elim
+    (λ m. next-none st n q x (m, k))
+    (λ m. eqb-false (kindOf st n) NEXT p (ap (kindOf st) {x = n} {y = x} (omega arith) ∙ k))
+    (split x n)
+
+pub next-some : (st : List ℕ) (n : ℕ) → hasNext st n ≡ true → (x : ℕ) × ((x < n) × (kindOf st x ≡ NEXT))
+unfolding hasNext
+next-some st zero e = absurd (false-true e)
+next-some st (suc n) e = go (eqb (kindOf st n) NEXT) refl (next-some st n) e
+  where
+    go : (b : Bool) → eqb (kindOf st n) NEXT ≡ b → (hasNext st n ≡ true → (x : ℕ) × ((x < n) × (kindOf st x ≡ NEXT))) → (b || hasNext st n) ≡ true → (x : ℕ) × ((x < suc n) × (kindOf st x ≡ NEXT))
+    go true q f e = (n, (omega arith, eqb-true (kindOf st n) NEXT q))
+    go false q f e = let (x, (l, k)) = f e in (x, (omega arith, k))
+
+pub next-found : (st : List ℕ) (n x : ℕ) → x < n → kindOf st x ≡ NEXT → hasNext st n ≡ true
+next-found st n x l k = by-test (hasNext st n) (λ e. e) (λ e. absurd (next-none st n e x (l, k)))
+
 -- ---- an image is written
 
 -- what a run comes to is a number, or a place of a book
 pub data Owned (lent : Lent) : Came → Type 0 where
-  own : {S : Setting} {p : RunState} → (blocksOf (headOf S p) ≤ 65536 → OwnPlace S lent p) → Owned lent (came S p)
+  own : {S : Setting} {p : RunState} → (NoNext p → blocksOf (headOf S p) ≤ 65536 → OwnPlace S lent p) → Owned lent (came S p)
   fails : {number k : ℕ} {out : List ℕ} → Owned lent (failed number k out)
 
 pub saving-spec : (lent : Lent) (size : ℕ) (c : Came) → Owned lent c → SaveSpec lent size c (saving lent size c)
 saving-spec lent size c fails = SaveSpec.stopped refl refl
-saving-spec lent size c (own {S} {p} o) = go (ltb 65536 n) (ltb size (512 * n)) refl refl
+saving-spec lent size c (own {S} {p} o) = known (hasNext (p .tables .base .aut .states .words) (p .tables .base .aut .states .count)) refl
   where
     n : ℕ
     n = blocksOf (headOf S p)
 
-    go : (a b : Bool) → ltb 65536 n ≡ a → ltb size (512 * n) ≡ b
+    go : NoNext p → (a b : Bool) → ltb 65536 n ≡ a → ltb size (512 * n) ≡ b
         → SaveSpec lent size (came S p) (if a || b then record { result = refusal lent 27 0 (p .output); image = [] } else record { result = success lent p; image = saved S p })
-    go true b e f = SaveSpec.no-room (inl (ltb-true 65536 n e)) refl refl
-    go false true e f = SaveSpec.no-room (inr (ltb-true size (512 * n) f)) refl refl
-    go false false e f = SaveSpec.written (ltb-false 65536 n e) (ltb-false size (512 * n) f) refl refl (saved-length S p) (o (ltb-false 65536 n e))
+    go k true b e f = SaveSpec.no-room k (inl (ltb-true 65536 n e)) refl refl
+    go k false true e f = SaveSpec.no-room k (inr (ltb-true size (512 * n) f)) refl refl
+    go k false false e f = SaveSpec.written (ltb-false 65536 n e) (ltb-false size (512 * n) f) refl refl (saved-length S p) (o k (ltb-false 65536 n e))
+
+    known : (b : Bool) → hasNext (p .tables .base .aut .states .words) (p .tables .base .aut .states .count) ≡ b
+        → SaveSpec lent size (came S p) (if b then record { result = refusal lent 33 0 (p .output); image = [] }
+        else if ltb 65536 n || ltb size (512 * n) then record { result = refusal lent 27 0 (p .output); image = [] } else record { result = success lent p; image = saved S p })
+    known true e = SaveSpec.unknown-kind (next-some _ _ e .1) refl refl
+    known false e = go (next-none _ _ e) (ltb 65536 n) (ltb size (512 * n)) refl refl
 
 -- what a run of 01's limits leaves
 run-owned : (lent : Lent) (S : Setting) → S .limits ≡ limits01 → S .fields ≤ 31 → S .budget < 2 ^ 64 → {r : Ran S} → Leaves S lent 2048 r → Owned lent (cameOf S r)
-run-owned lent S a b c (answers z) = own (λ few. record { rules = z .rules; in-order = z .in-order; limits = a; fields = b; budget = c; lines = z .lines; few = few })
+run-owned lent S a b c (answers z) = own (λ k few. record { rules = z .rules; in-order = z .in-order; limits = a; fields = b; budget = c; lines = z .lines; no-next = k; few = few })
 run-owned lent S a b c halts = fails
 
 finished-run : (lent : Lent) (S : Setting) (r : Ran S) → finished lent (cameOf S r) ≡ finish lent r

@@ -13,7 +13,7 @@ use Rattle.common.specs.Runs.{Table, placed}
 use Rattle.spp_steps.specs.Model as Spp
 use Rattle.spp_steps.specs.Model.{Exit, out, exit, follow}
 use Rattle.aut_steps.specs.Relations as Rel
-use Rattle.aut_steps.specs.Tables.{SPP, UNION, INTERSECT, XOR, DIFFERENCE, COMPLEMENT, SEQUENCE, STAR, DUP, UNTIL, TOP, kindOf, op1, nest, listOf, Limits, Exprs, Aut, putNodes, putStates, onStates, onExprs, onStatesOf}
+use Rattle.aut_steps.specs.Tables.{SPP, UNION, INTERSECT, XOR, DIFFERENCE, COMPLEMENT, SEQUENCE, STAR, DUP, NEXT, UNTIL, TOP, kindOf, op1, nest, listOf, Limits, Exprs, Aut, putNodes, putStates, onStates, onExprs, onStatesOf}
 use Rattle.aut_steps.specs.Intern.{intern0, intern1, intern2, internL}
 use Rattle.aut_steps.specs.Lists.{sorted}
 use Rattle.aut_steps.specs.Constructors as Make
@@ -46,6 +46,7 @@ callOf xs k x y =
     if eqb k SEQUENCE then Replay.sequence x y else
     if eqb k STAR then Replay.star x else
     if eqb k DUP then Replay.dup else
+    if eqb k NEXT then Replay.next x else
     if eqb k UNTIL then Replay.until x y else
     Replay.top
 

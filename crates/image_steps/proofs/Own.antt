@@ -186,7 +186,7 @@ module _ (S : Setting) (lent lent′ : Lent) (p : RunState) (own : OwnPlace S le
   unfolding stateAt
   state-at i l =
       ap (λ (c : Bool). (if c then (λ σ. refused 32) else Records.state N L xs (kind σ i) (first σ i) (second σ i) (nesting σ i)) τ) (whole (eqb (kind σ i) UNION || eqb (kind σ i) INTERSECT) refl)
-      ∙ state-made σ (good S lent p own) (lent′ .spp) (lent′ .states) (lent′ .members) (room .spp) (room .states) (room .members) i l xs
+      ∙ state-made σ (good S lent p own) (lent′ .spp) (lent′ .states) (lent′ .members) (room .spp) (room .states) (room .members) i l (λ k. own .no-next i (l, k)) xs
       (λ a b. let c = is-list (kind σ i) a b in
       list-read (first σ i) (second σ i) (list-end i l c) ∙ sym (ap (λ (c : Bool). if c then wordsFrom image h L (start 2 + first σ i) (second σ i) else []) c))
     where

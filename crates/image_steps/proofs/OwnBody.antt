@@ -21,7 +21,7 @@ use Rattle.aut_steps.proofs.Facts.{words-length, some-word}
 use Rattle.book_steps.specs.Meaning.{Matched, done, asked, made}
 use Rattle.book_steps.specs.Run.{RunState, Setting}
 use Rattle.image_steps.specs.Image.{startOf, layout, total, headOf, stateWords, lineWord, lineWords, bodyOf}
-use Rattle.image_steps.proofs.Before.{known, known-low, list-ok}
+use Rattle.image_steps.proofs.Before.{any-kind, kind-low, list-ok}
 use Rattle.image_steps.proofs.States.{if-list, as-list, as-other}
 use Rattle.image_steps.proofs.Lists.{split, getD-behind, words-at}
 use Rattle.image_steps.proofs.Nodes.{kid-word, kidR-word}
@@ -93,7 +93,7 @@ state-word {N} {L} {σ} g d x l i =
     low = operand-low g (form (kind σ x)) x l (g .ok x l)
 
     go : (j : ℕ) → j < 4 → getD (σ .states .words) (12 * x + j) 0 < WORD
-    go zero m = omega (arith, known-low (known g x l), ap (λ (k : ℕ). getD (σ .states .words) k 0) {x = 12 * x + 0} {y = 12 * x} (omega arith))
+    go zero m = omega (arith, kind-low (any-kind g x l), ap (λ (k : ℕ). getD (σ .states .words) k 0) {x = 12 * x + 0} {y = 12 * x} (omega arith))
     go (suc zero) m = low .0
     go (suc (suc zero)) m = low .1
     go (suc (suc (suc zero))) m = omega (arith, g .shallow x l)

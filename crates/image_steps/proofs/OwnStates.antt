@@ -2,6 +2,7 @@
 use mathlib.Core.Path.{_≡_, refl, sym, _∙_, ap, ap₂, subst}
 use mathlib.Core.Bool.{true, _&&_}
 use mathlib.Core.List.{List, [], _∷_, _++_, append-assoc}
+use mathlib.Core.Logic.{_≢_}
 use Prim.Native.Nat.{ℕ, _+_, _*_, _/_, _≤_, _<_}
 use native.Mathlib.Omega.{arith}
 use native.Mathlib.Nat.{le-trans}
@@ -12,7 +13,7 @@ use borrow.Author.Tests.{lt-ltb, le-leb}
 use Rattle.common.specs.Outcome.{given}
 use Rattle.common.specs.Runs.{Table, table}
 use Rattle.spp_steps.proofs.Laws.{at-below}
-use Rattle.aut_steps.specs.Tables.{UNION, INTERSECT, kindOf, op1, op2, nest, words, Limits, stateCap, memberCap, roomS, roomM, put4, Aut, aut}
+use Rattle.aut_steps.specs.Tables.{UNION, INTERSECT, NEXT, kindOf, op1, op2, nest, words, Limits, stateCap, memberCap, roomS, roomM, put4, Aut, aut}
 use Rattle.aut_steps.specs.Intern.{store}
 use Rattle.aut_steps.specs.Wf.{states, kind, first, second, nesting, members, lengthAs, membersBefore, WfAut}
 use Rattle.aut_steps.proofs.Facts.{words-length}
@@ -155,7 +156,7 @@ module _ {N : ℕ} {L : Limits} (σ : Aut) (g : WfAut N L σ) (sizeR sizeS sizeM
 
     -- ---- a state's record
 
-    module _ (xs : List ℕ) (list : UNION ≤ kind σ i → kind σ i ≤ INTERSECT → members σ i ≡ xs) where
+    module _ (known : kind σ i ≢ NEXT) (xs : List ℕ) (list : UNION ≤ kind σ i → kind σ i ≤ INTERSECT → members σ i ≡ xs) where
       members-made : membersWith (kind σ i) xs (τ .members) ≡ membersTo sizeM σ (i + 1)
       members-made =
           if-list (kind σ i)
@@ -165,5 +166,5 @@ module _ {N : ℕ} {L : Limits} (σ : Aut) (g : WfAut N L σ) (sizeR sizeS sizeM
       -- state i, made after those before it
       pub state-made : state N L xs (kind σ i) (first σ i) (second σ i) (nesting σ i) τ ≡ given (at (i + 1)) i
       state-made =
-          state-again g l (before-at i (omega arith)) (member-at i) xs list room-state (λ lo hi. subst (λ (ys : List ℕ). roomM (τ .members) (length ys) ≡ true) (list lo hi) (room-members lo hi))
+          state-again g l (before-at i (omega arith)) (member-at i) known xs list room-state (λ lo hi. subst (λ (ys : List ℕ). roomM (τ .members) (length ys) ≡ true) (list lo hi) (room-members lo hi))
           ∙ ap₂ (λ (t : List ℕ) (m : Table). given (aut (τ .nodes) (table t (i + 1)) m) i) put4-made members-made

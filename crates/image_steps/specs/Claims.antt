@@ -9,7 +9,7 @@ use lib.ListN.{length, getD, set, take}
 use Rattle.common.specs.Outcome.{refused, given}
 use Rattle.common.specs.Runs.{table}
 use Rattle.netkat.specs.Rules.{Rule}
-use Rattle.aut_steps.specs.Tables.{Aut, aut, limits01, words}
+use Rattle.aut_steps.specs.Tables.{NEXT, kindOf, Aut, aut, limits01, words}
 use Rattle.aut_steps.specs.Meaning.{rule}
 use Rattle.aut_delta_steps.specs.Delta.{store}
 use Rattle.aut_query_steps.specs.Tables.{tables}
@@ -83,7 +83,14 @@ pub record RoomFor (lent : Lent) (p : RunState) : Type 0 where
   pub states : 12 * p .tables .base .aut .states .count ≤ lent .states
   pub members : p .tables .base .aut .members .count ≤ lent .members
 
--- a place of a book, as a run leaves it (InOrder), whose image has at most 65,536 blocks
+-- 02 (iv), "tables that hold this kind": state x is there, and is of kind 10
+abbrev pub NextAt : RunState → ℕ → Type 0
+NextAt p x = (x < p .tables .base .aut .states .count) × (kindOf (p .tables .base .aut .states .words) x ≡ NEXT)
+
+abbrev pub NoNext : RunState → Type 0
+NoNext p = (x : ℕ) → NextAt p x → ⊥
+
+-- a place of a book, as a run leaves it (InOrder), without kind 10, whose image has at most 65,536 blocks
 pub record OwnPlace (S : Setting) (lent : Lent) (p : RunState) : Type 0 where
   pub rules : List (Option (Rule (S .fields)))
   pub in-order : InOrder S lent p rules
@@ -91,6 +98,7 @@ pub record OwnPlace (S : Setting) (lent : Lent) (p : RunState) : Type 0 where
   pub fields : S .fields ≤ 31
   pub budget : S .budget < 2 ^ 64
   pub lines : length (p .lines) ≤ 2048
+  pub no-next : NoNext p
   pub few : blocksOf (headOf S p) ≤ 65536
 
 abbrev pub OwnIsRead : Type 0
@@ -137,11 +145,13 @@ pub record ResumeClaim (lent : Lent) (image book : List ℕ) : Type 0 where
   pub only : (r : Result) → ResumeSpec lent image book r → r ≡ resume lent image book
   pub runs : (p : RunState) (x : ℕ) → read lent limits01 image ≡ given p x → RunClaim (settingAt lent image) lent (onFrom lent image book p)
 
--- What `save` and `resume_save` come to, of a run that came to c: its own number where it is refused; 27 where the image has too many blocks or no room; else the image of its last place, and the tables as they are.
+-- What `save` and `resume_save` come to, of a run that came to c: its own number where it is refused; 33 where a state is of kind 10; else 27 where the image has too many blocks or no room; else the image of its last place, and the tables as they are.
 pub data SaveSpec (lent : Lent) (size : ℕ) : Came → Saved lent → Type 0 where
   stopped : {number line : ℕ} {output : List ℕ} {s : Saved lent} → Refused lent number line output (s .result) → s .image ≡ []
       → SaveSpec lent size (failed number line output) s
-  no-room : {S : Setting} {p : RunState} {s : Saved lent} → (65536 < blocksOf (headOf S p)) ⊎ (size < 512 * blocksOf (headOf S p))
+  unknown-kind : {S : Setting} {p : RunState} {s : Saved lent} {x : ℕ} → NextAt p x
+      → Refused lent 33 0 (p .output) (s .result) → s .image ≡ [] → SaveSpec lent size (came S p) s
+  no-room : {S : Setting} {p : RunState} {s : Saved lent} → NoNext p → (65536 < blocksOf (headOf S p)) ⊎ (size < 512 * blocksOf (headOf S p))
       → Refused lent 27 0 (p .output) (s .result) → s .image ≡ [] → SaveSpec lent size (came S p) s
   written : {S : Setting} {p : RunState} {s : Saved lent} → blocksOf (headOf S p) ≤ 65536 → 512 * blocksOf (headOf S p) ≤ size
       → Answered lent p (s .result) → s .image ≡ saved S p → length (s .image) ≡ 512 * blocksOf (headOf S p) → OwnPlace S lent p

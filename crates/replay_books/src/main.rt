@@ -254,7 +254,7 @@ fn replay_all(
 }
 
 fn main() {
-    let mut text = [0u8; 786432];
+    let mut text = [0u8; 1048576];
     let mut sp = [0u32; 32768];
     let mut spp = [0u32; 65536];
     let mut states = [0u32; 49152];

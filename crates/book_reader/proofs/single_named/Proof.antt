@@ -35,11 +35,25 @@ unfolding find
 returns-2 c =
     simp (sym (c .before .before .before .before .same .ensures) ∙ c .before .before .before .if1 .left, sym (c .before .same2 .ensures) ∙ c .if2 .taken)
 
--- src/lib.rt:327:1
+-- src/lib.rt:339:29
+slice-aggregate-same-3 : tie.Need-slice-aggregate-same-3
+slice-aggregate-same-3 c = search needs
+
+-- src/lib.rt:339:8
+same-requires-3 : tie.Need-same-requires-3
+same-requires-3 c κs = search needs
+
+-- src/lib.rt:340:9
 returns-3 : tie.Need-returns-3
 unfolding find
 returns-3 c =
-    simp (sym (c .before .before .before .before .same .ensures) ∙ c .before .before .before .if1 .left, sym (c .before .same2 .ensures) ∙ c .if2 .left)
+    simp (sym (c .before .before .before .before .before .before .before .same .ensures) ∙ c .before .before .before .before .before .before .if1 .left, sym (c .before .before .before .before .same2 .ensures) ∙ c .before .before .before .if2 .left, sym (c .before .same3 .ensures) ∙ c .if3 .taken)
+
+-- src/lib.rt:328:1
+returns-4 : tie.Need-returns-4
+unfolding find
+returns-4 c =
+    simp (sym (c .before .before .before .before .before .before .before .same .ensures) ∙ c .before .before .before .before .before .before .if1 .left, sym (c .before .before .before .before .same2 .ensures) ∙ c .before .before .before .if2 .left, sym (c .before .same3 .ensures) ∙ c .if3 .left)
 
 pub single-named-spec : {M : Type 1} → statement M
 single-named-spec =
@@ -51,4 +65,7 @@ single-named-spec =
     slice-aggregate-same-2
     same-requires-2
     returns-2
-    returns-3)
+    slice-aggregate-same-3
+    same-requires-3
+    returns-3
+    returns-4)

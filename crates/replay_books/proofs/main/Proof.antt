@@ -7,7 +7,7 @@ use Rattle.replay_books.proofs.main.Tie as tie
 
 slice-aggregate-read-full : tie.Need-slice-aggregate-read-full
 slice-aggregate-read-full c =
-    sym (length-replicate {A = ℕ} 786432 0)
+    sym (length-replicate {A = ℕ} 1048576 0)
 
 read-full-requires : tie.Need-read-full-requires
 read-full-requires c κs = search needs

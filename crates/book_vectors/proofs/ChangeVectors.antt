@@ -1,4 +1,4 @@
--- Books with `why`, their whole outcomes worked out beforehand as those of Vectors are: 02 (i), each a reading that is easily done otherwise. Computed.
+-- Books with `why` (02 (i)), their whole outcomes worked out beforehand as those of Vectors are, and with `next` (02 (iv)), by the ordered copy of the Rust; each a reading that is easily done otherwise. Computed.
 use mathlib.Core.Path.{refl}
 use mathlib.Core.List.{List, [], _∷_}
 use Rattle.common.specs.Rows.{Row, Hold}
@@ -12,7 +12,7 @@ use Rattle.spp_steps.specs.Model.{test}
 use Rattle.aut_steps.specs.Tables.{kindOf, op1, op2, nest, words, roomS, roomM, put4}
 use Rattle.aut_steps.specs.Intern.{intern0, intern1, intern2, internL, putL, put, seek, same2, sameAt, sameL, store as storeMembers, nestL}
 use Rattle.aut_steps.specs.Lists.{least, rise}
-use Rattle.aut_steps.specs.Constructors.{mk-spp, mk-dup, mk-top, mk-union, mk-union-n, mk-intersect-n, mk-intersect, mk-intersect-n-base, mk-complement, mk-sequence, sequence-by, sequence-with, mk-star, mk-until, unite, meet, openUnion, openAll, opened, extend, each, countAll, countOne, product, base, bases, finish, addRelation, uniteOne, meetOne, meetFinish, addLast, mk-difference, mk-xor}
+use Rattle.aut_steps.specs.Constructors.{mk-spp, mk-dup, mk-top, mk-union, mk-union-n, mk-intersect-n, mk-intersect, mk-intersect-n-base, mk-complement, mk-sequence, sequence-by, sequence-with, mk-star, mk-next, mk-until, unite, meet, openUnion, openAll, opened, extend, each, countAll, countOne, product, base, bases, finish, addRelation, uniteOne, meetOne, meetFinish, addLast, mk-difference, mk-xor}
 use Rattle.aut_delta_steps.specs.Epsilon.{epsilonOf, valueOf, setWord, keepEpsilon, eachOf, uniteAll, meetAll, epsilon-by-kind, epsilon-with, epsilon-by, epsilon}
 use Rattle.aut_st_steps.specs.Edges.{edges, flat}
 use Rattle.aut_delta_steps.specs.Delta.{startOf, countOf, roomT, append, listAt, keepList, unionAll, intersectAll, sequenceList, starList, untilList, dupList, topList, delta-by-kind, delta-with, delta-by, delta}
@@ -121,8 +121,38 @@ rows =
     (9 ∷ 0 ∷ 0 ∷ 0 ∷ 7 ∷ 0 ∷ 2 ∷ 12 ∷ 0 ∷ 0 ∷ 0 ∷ 0 ∷ 1 ∷ 17 ∷ 0 ∷ 0 ∷ 0 ∷ 1 ∷ 1 ∷ 24 ∷ 0 ∷ 0 ∷ 0 ∷ 0 ∷ 7 ∷ 0 ∷ 1 ∷ 1 ∷ 7 ∷ 1 ∷ 2 ∷ 0 ∷ 0 ∷ 0 ∷ 0 ∷ 0 ∷ 1 ∷ 18 ∷ 0 ∷ 0 ∷ 0 ∷ 2 ∷ 1 ∷ 0 ∷ 0 ∷ 0 ∷ 0 ∷ 0 ∷ 7 ∷ 0 ∷ 0 ∷ 1 ∷ 7 ∷ 2 ∷ 2 ∷ 0 ∷ 0 ∷ 0 ∷ 0 ∷ 0 ∷ 7 ∷ 3 ∷ 4 ∷ 2 ∷ 7 ∷ 3 ∷ 2 ∷ 0 ∷ 0 ∷ 0 ∷ 0 ∷ 0 ∷ 1 ∷ 23 ∷ 0 ∷ 0 ∷ 0 ∷ 4 ∷ 1 ∷ 0 ∷ 0 ∷ 0 ∷ 0 ∷ 0 ∷ 2 ∷ 0 ∷ 3 ∷ 3 ∷ 24 ∷ 4 ∷ 4 ∷ 12 ∷ 0 ∷ 0 ∷ 0 ∷ 0 ∷ 1 ∷ 11 ∷ 0 ∷ 0 ∷ 0 ∷ 8 ∷ 1 ∷ 12 ∷ 0 ∷ 0 ∷ 0 ∷ 0 ∷ 1 ∷ 6 ∷ 0 ∷ 0 ∷ 0 ∷ 0 ∷ 0 ∷ 0 ∷ 0 ∷ 0 ∷ 0 ∷ 0 ∷ 2 ∷ 3 ∷ 2 ∷ 1 ∷ 18 ∷ 7 ∷ 2 ∷ 12 ∷ [])
     (2 ∷ 5 ∷ 6 ∷ 0 ∷ 1 ∷ [])
     (8 ∷ 11 ∷ 1 ∷ 11 ∷ 0 ∷ 11 ∷ 0 ∷ 18 ∷ 0 ∷ 25 ∷ 1 ∷ 24 ∷ 10 ∷ 17 ∷ 8 ∷ 11 ∷ [])
+    -- `next` of a rule without strings that is not the zero state has a transition; pruned, it has none
+    ∷ book
+    (record { sp = 64; spp = 256; states = 360; members = 32; transitions = 64; pending = 64; scratch = 6144; output = 100 })
+    "fields 1 budget 9\nzero\ndup\nminus 0 1\nnext 2\npruned 3\nempty 3\n"
+    0 0 "fields 1\npruned 3 0\nempty 3 yes 2\n"
+    ([])
+    (0 ∷ 0 ∷ 0 ∷ 0 ∷ 1 ∷ 0 ∷ 0 ∷ 1 ∷ 1 ∷ 1 ∷ 1 ∷ 1 ∷ [])
+    (1 ∷ 2 ∷ 0 ∷ 0 ∷ 0 ∷ 1 ∷ 1 ∷ 0 ∷ 0 ∷ 0 ∷ 0 ∷ 0 ∷ 9 ∷ 0 ∷ 0 ∷ 0 ∷ 3 ∷ 1 ∷ 2 ∷ 0 ∷ 0 ∷ 0 ∷ 0 ∷ 0 ∷ 5 ∷ 0 ∷ 1 ∷ 1 ∷ 3 ∷ 2 ∷ 1 ∷ 3 ∷ 0 ∷ 0 ∷ 0 ∷ 0 ∷ 10 ∷ 2 ∷ 0 ∷ 2 ∷ 3 ∷ 0 ∷ 2 ∷ 3 ∷ 0 ∷ 0 ∷ 0 ∷ 0 ∷ 1 ∷ 3 ∷ [])
+    ([])
+    (2 ∷ 4 ∷ 4 ∷ 3 ∷ [])
+    -- a string of `next` starts anywhere and has a hop
+    ∷ book
+    (record { sp = 64; spp = 256; states = 360; members = 32; transitions = 64; pending = 64; scratch = 6144; output = 100 })
+    "fields 1 budget 10\ntest 0 1\nnext 0\nempty 1\nlive 1\nwhy 1\n"
+    0 0 "fields 1\nempty 1 no 2\nlive 1 2 1000\nfrom 0 by 1 to 1\n"
+    (0 ∷ 0 ∷ 0 ∷ 1 ∷ [])
+    (0 ∷ 0 ∷ 0 ∷ 0 ∷ 1 ∷ 0 ∷ 0 ∷ 1 ∷ 1 ∷ 1 ∷ 1 ∷ 1 ∷ 0 ∷ 0 ∷ 0 ∷ 1 ∷ [])
+    (1 ∷ 5 ∷ 0 ∷ 0 ∷ 0 ∷ 1 ∷ 1 ∷ 5 ∷ 0 ∷ 0 ∷ 0 ∷ 0 ∷ 10 ∷ 0 ∷ 0 ∷ 1 ∷ 3 ∷ 0 ∷ 2 ∷ 4 ∷ 0 ∷ 0 ∷ 0 ∷ 0 ∷ 1 ∷ 2 ∷ [])
+    ([])
+    (0 ∷ 4 ∷ [])
+    -- the zero state is made by delta, not by the line
+    ∷ book
+    (record { sp = 64; spp = 256; states = 24; members = 32; transitions = 64; pending = 64; scratch = 6144; output = 100 })
+    "fields 0 budget 9\ndup\nnext 0\nlive 1\n"
+    22 4 "fields 0\n"
+    ([])
+    ([])
+    ([])
+    ([])
+    ([])
     ∷ []
 
 pub all-come : Hold rows
-unfolding outcome run begin Text.cut Text.words Text.same Text.digits Text.reading Text.number Text.decimalBy Text.decimal Reader.header Reader.find Reader.numbers Reader.exact Reader.parse Reader.giving Reader.resolve Answers.say Answers.share Answers.pairLines Sp.size Spp.size Spp.assign is-empty Handles.search Handles.run Handles.turn Handles.expand Handles.walk flip Sp.kid Sp.child Sp.same Sp.seek Sp.room Sp.put Sp.intern Sp.mk Sp.exit Sp.join Sp.both Sp.apply Sp.union Sp.complement Sp.difference Sp.isZero Sp.isUniversal Images.fwdNode Images.fwd Images.ledExit Images.pushNode Images.push Images.hasExit Images.hasImage mk-spp mk-dup mk-top mk-union mk-union-n mk-intersect-n mk-intersect mk-intersect-n-base mk-complement mk-sequence sequence-by sequence-with mk-star mk-until unite meet openUnion openAll opened extend each countAll countOne product base bases finish addRelation uniteOne meetOne meetFinish addLast intern0 intern1 intern2 internL putL put seek same2 sameAt sameL storeMembers nestL roomS roomM put4 kindOf op1 op2 nest words least rise test Spp.field Spp.apply Spp.exit Spp.each Spp.complement Spp.sequence Spp.seqExit Spp.product Spp.star Spp.starExit Spp.blocks Spp.mk Spp.seek Spp.same Spp.kids Spp.kid Spp.room Spp.put Spp.zeroAt Spp.oneAt Spp.topAt ListSteps.unite ListSteps.enter ListSteps.enterIn ListSteps.place ListSteps.st-singleton ListSteps.split ListSteps.insert ListSteps.insertEach ListSteps.insertPairs ListSteps.st-union ListSteps.st-intersect ListSteps.coverAll ListSteps.st-complement ListSteps.st-postcompose ListSteps.st-precompose ListSteps.st-intersect-expr epsilonOf setWord keepEpsilon eachOf uniteAll meetAll epsilon-by-kind epsilon-with epsilon-by epsilon startOf countOf edges flat roomT append listAt keepList unionAll intersectAll sequenceList starList untilList dupList topList delta-by-kind delta-with delta-by delta Sp.constants Spp.constants Spp.zeros Spp.ones Spp.tops enqueue labelTo enlarge keepIn explore pullBack pullFrom pullAll settle live-anew live-sets live-packets liveOf viable prune delta-pruned Images.bwdNode Images.bwd Images.ifwdNode Images.ifwd Images.pullNode Images.pull mk-difference mk-xor ListSteps.subtractRow ListSteps.subtractRows ListSteps.st-difference ListSteps.st-xor valueOf Sp.mem Spp.mem Why.each Why.sameOn Why.ends Why.joins Why.turn Why.rounds Why.fewest Why.rounds-of Why.why-sets Why.why Pick.hop Pick.way Pick.pick Order.value Order.least Answers.bitsOf Answers.sentence
-all-come = (refl, (refl, (refl, (refl, (refl, (refl, (refl, (refl, (refl, tt)))))))))
+unfolding outcome run begin Text.cut Text.words Text.same Text.digits Text.reading Text.number Text.decimalBy Text.decimal Reader.header Reader.find Reader.numbers Reader.exact Reader.parse Reader.giving Reader.resolve Answers.say Answers.share Answers.pairLines Sp.size Spp.size Spp.assign is-empty Handles.search Handles.run Handles.turn Handles.expand Handles.walk flip Sp.kid Sp.child Sp.same Sp.seek Sp.room Sp.put Sp.intern Sp.mk Sp.exit Sp.join Sp.both Sp.apply Sp.union Sp.complement Sp.difference Sp.isZero Sp.isUniversal Images.fwdNode Images.fwd Images.ledExit Images.pushNode Images.push Images.hasExit Images.hasImage mk-spp mk-dup mk-top mk-union mk-union-n mk-intersect-n mk-intersect mk-intersect-n-base mk-complement mk-sequence sequence-by sequence-with mk-star mk-next mk-until unite meet openUnion openAll opened extend each countAll countOne product base bases finish addRelation uniteOne meetOne meetFinish addLast intern0 intern1 intern2 internL putL put seek same2 sameAt sameL storeMembers nestL roomS roomM put4 kindOf op1 op2 nest words least rise test Spp.field Spp.apply Spp.exit Spp.each Spp.complement Spp.sequence Spp.seqExit Spp.product Spp.star Spp.starExit Spp.blocks Spp.mk Spp.seek Spp.same Spp.kids Spp.kid Spp.room Spp.put Spp.zeroAt Spp.oneAt Spp.topAt ListSteps.unite ListSteps.enter ListSteps.enterIn ListSteps.place ListSteps.st-singleton ListSteps.split ListSteps.insert ListSteps.insertEach ListSteps.insertPairs ListSteps.st-union ListSteps.st-intersect ListSteps.coverAll ListSteps.st-complement ListSteps.st-postcompose ListSteps.st-precompose ListSteps.st-intersect-expr epsilonOf setWord keepEpsilon eachOf uniteAll meetAll epsilon-by-kind epsilon-with epsilon-by epsilon startOf countOf edges flat roomT append listAt keepList unionAll intersectAll sequenceList starList untilList dupList topList delta-by-kind delta-with delta-by delta Sp.constants Spp.constants Spp.zeros Spp.ones Spp.tops enqueue labelTo enlarge keepIn explore pullBack pullFrom pullAll settle live-anew live-sets live-packets liveOf viable prune delta-pruned Images.bwdNode Images.bwd Images.ifwdNode Images.ifwd Images.pullNode Images.pull mk-difference mk-xor ListSteps.subtractRow ListSteps.subtractRows ListSteps.st-difference ListSteps.st-xor valueOf Sp.mem Spp.mem Why.each Why.sameOn Why.ends Why.joins Why.turn Why.rounds Why.fewest Why.rounds-of Why.why-sets Why.why Pick.hop Pick.way Pick.pick Order.value Order.least Answers.bitsOf Answers.sentence
+all-come = (refl, (refl, (refl, (refl, (refl, (refl, (refl, (refl, (refl, (refl, (refl, (refl, tt))))))))))))
