@@ -36,7 +36,8 @@
  *  - Answered, `image_length` bytes of the image to be written are written; bytes past that are as they were.
  *  - Refused, all tables are zero, `image_length` is 0 and no byte of that image is written. Answers given before stand in the output.
  *  - An image to be read is looked at before any book line. What it meets is refused with line 0: 30, 31, 32, or 20 to 23 where a record has no room.
- *  - An image that cannot be written is refused with 27, line 0, after the book's answers. 26 comes before all. */
+ *  - An image that cannot be written is refused with line 0, after the book's answers: 33 where a rule is a `next`, which images do not know, else 27.
+ *    26 comes before all. */
 #ifndef NETCHECK_H
 #define NETCHECK_H
 #include <stddef.h>
@@ -92,7 +93,9 @@ enum {
     /* refusals that whoever hands over the image can cause; line 0, before any book line */
     NETCHECK_IMAGE_BLOCK = 30, /* its length is 0 or no multiple of 512, or a block has a wrong number */
     NETCHECK_IMAGE_CHECK = 31, /* a block has a wrong check */
-    NETCHECK_IMAGE_RECORD = 32 /* a record cannot be made again as it stands, or a header word, the length or an unused word is wrong */
+    NETCHECK_IMAGE_RECORD = 32, /* a record cannot be made again as it stands, or a header word, the length or an unused word is wrong */
+    /* a refusal that the book's author can cause where an image is wanted */
+    NETCHECK_IMAGE_KIND = 33 /* a rule is a `next`, which images do not know */
 };
 
 struct netcheck_outcome {

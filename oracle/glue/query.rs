@@ -31,6 +31,8 @@ impl Aut {
     pub fn q_complement(&mut self, a: State) -> State { self.mk_complement(a) }
     pub fn q_sequence(&mut self, a: State, b: State) -> State { self.mk_sequence(a, b) }
     pub fn q_star(&mut self, a: State) -> State { self.mk_star(a) }
+    /// The constructor that aut.rs has only inside its translation of expressions (02, (iv)).
+    pub fn q_next(&mut self, a: State) -> State { self.intern(AExpr::LtlNext(a)) }
     pub fn q_until(&mut self, a: State, b: State) -> State { self.mk_until(a, b) }
 
     /// `is_empty`, line for line, with 01's budget and count.

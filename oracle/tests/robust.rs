@@ -49,7 +49,8 @@ fn bad_books() {
     refused(b"fields 1 budget 0\n\n", 3, 2, "fields 1\n");
     refused(b"fields 1 budget 0\ndup\r\n", 3, 2, "fields 1\n");
     refused(b"fields 1 budget 0\nunion \n", 3, 2, "fields 1\n");
-    refused(b"fields 1 budget 0\nnext 0\n", 3, 2, "fields 1\n");
+    refused(b"fields 1 budget 0\nkeep 0\n", 3, 2, "fields 1\n");
+    refused(b"fields 1 budget 0\nnext 0\n", 4, 2, "fields 1\n");
     refused(b"fields 1 budget 0\nnot 0\n", 4, 2, "fields 1\n");
     refused(b"fields 1 budget 0\ndup\nempty 0 0\n", 3, 3, "fields 1\n");
     refused(b"fields 1 budget 0\ndup\nnot 4294967296\n", 4, 3, "fields 1\n");

@@ -61,6 +61,10 @@ impl Space {
         }
     }
 
+    fn next(&self, e: &Language) -> Language {
+        self.set(|s| s.len() > 2 && e[self.number[&s[1..].to_vec()]])
+    }
+
     fn until(&self, e1: &Language, e2: &Language) -> Language {
         self.set(|s| {
             let mut tail = s.to_vec();
@@ -102,6 +106,7 @@ fn language(space: &Space, fields: u32, lines: &[Option<Language>], i: &Instruct
         Not(a) => at(a).iter().map(|b| !b).collect(),
         Seq(a, b) => space.join(at(a), at(b)),
         Star(a) => space.star(at(a)),
+        Next(a) => space.next(at(a)),
         Until(a, b) => space.until(at(a), at(b)),
         Empty(_) | Live(_) | Pruned(_) | Why(_) => return None,
     })
@@ -134,7 +139,7 @@ fn random_book(r: &mut Random) -> String {
                 format!("{w} {} {}", r.below(i), r.below(i))
             }
             8 => {
-                let w = word(r, &["not", "star"]);
+                let w = word(r, &["not", "star", "next"]);
                 format!("{w} {}", r.below(i))
             }
             _ => {

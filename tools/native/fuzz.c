@@ -42,11 +42,13 @@ static int one_in(unsigned n)
 /* ---- books ---- */
 
 #define LINES 40
+#define NUMBERS 34 /* refusals are below */
 
 struct book {
     char text[4096];
     size_t len, at[LINES + 1]; /* at: where instruction i begins, and the end */
     unsigned fields, lines, named, name[LINES];
+    unsigned hops, next; /* it may have `next` lines; 1 + the first of them, 0 if there is none */
 };
 
 static void add(struct book *b, const char *form, ...)
@@ -80,7 +82,10 @@ static void line(struct book *b)
     else if (kind < 7) add(b, "%s %u %u\n", one_in(2) ? "test" : "set", below(b->fields), below(2));
     else if (kind < 15) add(b, "%s %u %u\n", two[below(7)], named(b), named(b));
     else if (kind == 15) add(b, "not %u\n", named(b));
-    else if (kind == 16) add(b, "star %u\n", named(b));
+    else if (kind == 16 && b->hops && one_in(2)) {
+        add(b, "next %u\n", named(b));
+        if (!b->next) b->next = b->lines + 1;
+    } else if (kind == 16) add(b, "star %u\n", named(b));
     else if (kind < 19) {
         add(b, one_in(2) ? "union" : "inter");
         for (unsigned n = below(6); n; n--) add(b, " %u", named(b));
@@ -97,7 +102,7 @@ static void make_book(struct book *b, int wild)
 {
     static const unsigned budgets[] = { 0, 1, 2, 5, 20, 1000 };
     unsigned lines = below(LINES + 1);
-    *b = (struct book){ .fields = below(5) };
+    *b = (struct book){ .fields = below(5), .hops = one_in(8) };
     add(b, "fields %u budget %u\n", b->fields, budgets[below(6)]);
     for (; b->lines < lines; b->lines++) {
         b->at[b->lines] = b->len;
@@ -326,10 +331,10 @@ static void forge_record(struct parts *p)
 }
 
 /* how often each number came */
-static void print_counts(const unsigned long came[33])
+static void print_counts(const unsigned long came[NUMBERS])
 {
     const char *between = " ";
-    for (int n = 0; n < 33; n++)
+    for (int n = 0; n < NUMBERS; n++)
         if (came[n]) {
             if (n) printf("%s%d: %lu", between, n, came[n]);
             else printf("%sanswered: %lu", between, came[n]);
@@ -343,7 +348,7 @@ static void print_counts(const unsigned long came[33])
 enum way { SAME, ALTERED, EXCHANGED, SEVERAL, NUMBER, FORGED_WORDS, FORGED_RECORDS, LENGTH, SHORT, RANDOM, WAYS };
 static const char *const way_names[WAYS] = { "as it is", "byte altered", "bytes exchanged", "several altered", "block number", "words forged",
                                              "records forged", "length", "short tables", "random" };
-static unsigned long counts[WAYS][33], books, unsaved;
+static unsigned long counts[WAYS][NUMBERS], books, unsaved;
 
 /* the number for a byte altered in a good image */
 static unsigned long long damaged(size_t at)
@@ -476,9 +481,10 @@ static void read_images(unsigned long long count)
         enter(&c, "save");
         books++;
         if (c.r.number) {
-            if (c.r.line == 0) violated(&c, "save", "refused with line 0");
+            if (c.r.number == NETCHECK_IMAGE_KIND ? c.r.line || !book.next : c.r.line == 0) violated(&c, "save", "refused with line 0");
             unsaved++;
         } else {
+            if (book.next) violated(&c, "save", "an image of a rule that images do not know");
             try_27(c.next, c.r.image_length);
             try_image(SAME, c.next, c.r.image_length);
             done++;
@@ -489,7 +495,7 @@ static void read_images(unsigned long long count)
     printf("%llu images of %lu books (%lu more were refused)\n", done, books - unsaved, unsaved);
     for (int w = 0; w < WAYS; w++) {
         unsigned long all = 0;
-        for (int n = 0; n < 33; n++) all += counts[w][n];
+        for (int n = 0; n < NUMBERS; n++) all += counts[w][n];
         printf("%-16s %8lu:", way_names[w], all);
         print_counts(counts[w]);
     }
@@ -498,7 +504,7 @@ static void read_images(unsigned long long count)
 /* ---- continued books ---- */
 
 enum { PIECES = 4 };
-static unsigned long alike, stopped, further, ends[33];
+static unsigned long alike, stopped, further, unknown, ends[NUMBERS];
 
 static int begins(const uint8_t *a, size_t n, const uint8_t *b, size_t m)
 {
@@ -544,6 +550,7 @@ static void try_book(void)
         memcpy(told + told_len, c.output, c.r.length);
         told_len += c.r.length;
         if (c.r.number || i + 1 == pieces) break;
+        if (book.next && book.next <= cut[i + 1]) differs(&c, &whole, "an image of a rule that images do not know");
         memcpy(image, c.next, image_len = c.r.image_length);
         call_free(&c);
     }
@@ -551,6 +558,14 @@ static void try_book(void)
     size_t answers_len = whole.r.length;
     unsigned n = c.r.number, w = whole.r.number, line_of_book = n ? c.r.line + (i ? 1 + (unsigned)cut[i] : 0) : 0;
     int same = n == w && line_of_book == whole.r.line && told_len == answers_len && !memcmp(told, answers, told_len);
+    if (n == NETCHECK_IMAGE_KIND && c.r.line == 0 && call_writes(&c) && book.next && book.next <= cut[i + 1]) {
+        if (!begins(told, told_len, answers, answers_len)) differs(&c, &whole, "other answers, before 33");
+        unknown++;
+        ends[n]++;
+        call_free(&c);
+        call_free(&whole);
+        return;
+    }
     if (n && c.r.line == 0) differs(&c, &whole, "its own image is refused");
     if (i == 0 && n && !same) differs(&c, &whole, "the first piece is refused otherwise than the whole book");
     if (n == 20 || n == 24) {
@@ -572,7 +587,7 @@ static void try_book(void)
 static void continue_books(unsigned long long count)
 {
     for (unsigned long long i = 0; i < count; i++) try_book();
-    printf("%llu books: %lu continued to the same end, %lu further, %lu to another 20 or 24\n", count, alike, further, stopped);
+    printf("%llu books: %lu continued to the same end, %lu further, %lu to another 20 or 24, %lu to 33\n", count, alike, further, stopped, unknown);
     fputs("continued:", stdout);
     print_counts(ends);
 }

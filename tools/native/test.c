@@ -119,6 +119,12 @@ static void images(void)
     /* no room for the image; no image of a refused book */
     assert(save(book, n - 1, NETCHECK_NO_OUTPUT, 0, answers) == 0);
     assert(save("fields 1 budget 10\ndup\nor 0 1\n", 4096, NETCHECK_NAMED, 3, "fields 1\n") == 0);
+    /* images do not know `next`: 33, also where there is no room; a continued book may have it */
+    const char *hop = "fields 0 budget 9\ndup\nnext 0\nempty 1\n";
+    assert(save(hop, 4096, NETCHECK_IMAGE_KIND, 0, "fields 0\nempty 1 no 3\n") == 0 && save(hop, 0, NETCHECK_IMAGE_KIND, 0, "fields 0\nempty 1 no 3\n") == 0);
+    n = save("fields 0 budget 9\ndup\n", 4096, NETCHECK_ANSWERED, 0, "fields 0\n");
+    resume(n, "next 0\nempty 1\n", NETCHECK_ANSWERED, 0, "empty 1 no 3\n");
+    assert(resume_save(n, "next 0\n", NETCHECK_IMAGE_KIND, 0, "") == 0);
     /* the image of a book without fields, budget and lines */
     assert(save("fields 0 budget 0\n", 512, NETCHECK_ANSWERED, 0, "fields 0\n") == 512);
     for (size_t i = 0; i < 512; i++) assert(image[8 + i] == 0);

@@ -29,6 +29,7 @@ pub enum Instruction {
     Not(usize),
     Seq(usize, usize),
     Star(usize),
+    Next(usize),
     Until(usize, usize),
     Empty(usize),
     Live(usize),
@@ -97,7 +98,7 @@ impl<'a> Reader<'a> {
         let any = |_: usize| true;
         let form: &dyn Fn(usize) -> bool = match words[0] {
             b"zero" | b"one" | b"all" | b"dup" | b"top" => &|n| n == 0,
-            b"not" | b"star" | b"empty" | b"live" | b"pruned" | b"why" => &|n| n == 1,
+            b"not" | b"star" | b"next" | b"empty" | b"live" | b"pruned" | b"why" => &|n| n == 1,
             b"test" | b"set" | b"or" | b"and" | b"xor" | b"minus" | b"seq" | b"until" => &|n| n == 2,
             b"union" | b"inter" => &any,
             _ => return Err(refuse(3)),
@@ -130,6 +131,7 @@ impl<'a> Reader<'a> {
             b"not" => Not(at(0)),
             b"seq" => Seq(at(0), at(1)),
             b"star" => Star(at(0)),
+            b"next" => Next(at(0)),
             b"until" => Until(at(0), at(1)),
             b"empty" => Empty(at(0)),
             b"live" => Live(at(0)),
