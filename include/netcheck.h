@@ -18,7 +18,7 @@
  *  - each pointer leads to as many elements as its length says, aligned for the element, and stays valid during the call;
  *  - no two of the eight lent slices overlap each other, the book or an image, and an image that is written overlaps nothing else;
  *  - a slice of length 0 may have any pointer, also NULL;
- *  - enough stack: NETCHECK_STACK_BYTES. Measured, not proved: 27,880 bytes for `netcheck_run` on the deepest books (nesting 256, 31 fields;
+ *  - enough stack: NETCHECK_STACK_BYTES. Measured, not proved: 28,056 bytes for `netcheck_run` on the deepest books (nesting 256, 31 fields;
  *    tools/deep), 28,584 with saving or reading. It follows the number of fields; it does not grow with the nesting of a rule or the book's length.
  *
  * What a caller gets: one book with one set of lent lengths has one outcome. Every table is zeroed first; answered, pending and scratch are zero at

@@ -559,7 +559,8 @@ static void try_book(void)
     unsigned n = c.r.number, w = whole.r.number, line_of_book = n ? c.r.line + (i ? 1 + (unsigned)cut[i] : 0) : 0;
     int same = n == w && line_of_book == whole.r.line && told_len == answers_len && !memcmp(told, answers, told_len);
     if (n == NETCHECK_IMAGE_KIND && c.r.line == 0 && call_writes(&c) && book.next && book.next <= cut[i + 1]) {
-        if (!begins(told, told_len, answers, answers_len)) differs(&c, &whole, "other answers, before 33");
+        if (!begins(told, told_len, answers, answers_len) && !begins(answers, answers_len, told, told_len))
+            differs(&c, &whole, "other answers, before 33");
         unknown++;
         ends[n]++;
         call_free(&c);
