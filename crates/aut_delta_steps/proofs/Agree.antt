@@ -1,10 +1,11 @@
 -- 01, "Forms that must change" (delta and epsilon call themselves on operands): two runs that come to the same: both refused with one number, and W is the reason for it; or both to one store and answer, of which Q holds. A step that calls
 -- itself on operands is followed once, for two ways to call: so its law, and that the depth of its calls does not matter, are one proof. Assumes nothing.
+use Rattle.std.specs.Prelude.{if◌then◌else◌}
 use mathlib.Core.Path.{◌≡◌, refl, ap₂, subst}
 use mathlib.Core.List.{List, [], ◌∷◌, map}
 use mathlib.Core.Bool.{Bool, true, false}
 use Prim.Native.Nat.{ℕ}
-use Rattle.common.specs.Outcome.{Outcome, refused, given, Step, after, Gives, refusal, gives, if◌then◌else◌}
+use Rattle.common.specs.Outcome.{Outcome, refused, given, Step, after, Gives, refusal, gives}
 use Rattle.common.specs.Runs.{placed}
 
 pub data Agree {S A : Type 0} (W : ℕ → Type 0) (Q : S → A → Type 0) : Outcome S A → Outcome S A → Type 0 where

@@ -1,4 +1,5 @@
 -- What holds of the definitions of specs/DeltaDown.
+use Rattle.std.specs.Prelude.{if◌then◌else◌}
 use mathlib.Core.Path.{◌≡◌, refl, sym, ◌∙◌, ap, ap₂, subst}
 use mathlib.Core.Bool.{Bool, true, false}
 use mathlib.Core.List.{List, [], ◌∷◌, map}
@@ -7,7 +8,7 @@ use native.Mathlib.Omega.{arith}
 use lib.Dec.{eqb}
 use lib.ListN.{length, get_or, take, drop}
 use borrow.Author.Tests.{eqb-true, eqb-false}
-use Rattle.common.specs.Outcome.{Outcome, refused, given, Step, after, if◌then◌else◌}
+use Rattle.common.specs.Outcome.{Outcome, refused, given, Step, after}
 use Rattle.common.proofs.Follow.{refused≢given}
 use Rattle.common.specs.Runs.{Table, placed}
 use Rattle.netkat.specs.Rules.{sequence, star, next}
@@ -328,6 +329,7 @@ module _ {N : ℕ} {L : Limits} where
   unfolding work_all
   work_stuck W (z ∷ ys) l (this p) d = ap (λ (o : Outcome Store (List Edge)). after o (λ es. work_all (delta N L) ys)) d
   work_stuck W (y ∷ ys) l (later h f) d = ap (λ (o : Outcome Store (List Edge)). after o (λ es. work_all (delta N L) ys)) (delta_stored W l.0 h) ∙ work_stuck W ys l.1 f d
+  work_stuck {σ = σ} W {z = z} {number = number} [] l x3 d = elim x3 [ ]
 
   work_same : {σ τ : Store} → WfStore N L σ → WfStore N L τ → ExtStore σ τ → {z : ℕ} (ys : List ℕ) → All (λ y. y < states σ.aut) ys → First (Has σ) (HasNot σ) z ys → delta N L z τ ≡ delta N L z σ
       → work_all (delta N L) ys τ ≡ work_all (delta N L) ys σ
@@ -337,6 +339,7 @@ module _ {N : ℕ} {L : Limits} where
       ap (λ (o : Outcome Store (List Edge)). after o (λ es. work_all (delta N L) ys)) (delta_stored B (state_grown w.grown l.0) (omega (arith, (w.lists y h).0)))
       ∙ work_same W B w ys l.1 f d
       ∙ ap (λ (o : Outcome Store (List Edge)). after o (λ es. work_all (delta N L) ys)) (sym (delta_stored W l.0 h))
+  work_same {σ = σ} {τ = τ} W B w {z = z} [] l x3 d = elim x3 [ ]
 
   -- ---- the law: enter the states of the way, work out the list at its end, and then the state's own
 

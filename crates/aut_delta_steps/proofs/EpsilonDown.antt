@@ -141,6 +141,7 @@ module _ {N : ℕ} {L : Limits} {σ : Aut} (r : Ready N L σ) {y : ℕ} {τ : Au
       ap (λ (p : Outcome Aut ℕ). after p (λ h. work_all (epsilon N) ys)) (epsilon_known ready (state_grown (noted_grown noted) l.0) (known_still l.0 k))
       ∙ work_same ys l.1 f d
       ∙ ap (λ (p : Outcome Aut ℕ). after p (λ h. work_all (epsilon N) ys)) (sym (epsilon_known r l.0 k))
+  work_same {z = z} [] l x3 d = elim x3 [ ]
 
   pub same_above : {x : ℕ} → x < states σ → Way σ.states.words σ.members.words y x → epsilon N x τ ≡ epsilon N x σ
   same_above l (bottom p b) = epsilon_known ready (state_grown (noted_grown noted) m) (known_of law.value) ∙ ap (given τ) (valued_reads law.value) ∙ sym e
@@ -160,6 +161,7 @@ module _ {N : ℕ} {L : Limits} {σ : Aut} (r : Ready N L σ) where
   unfolding work_all
   work_stuck (z ∷ ys) l (this p) d = ap (λ (p : Outcome Aut ℕ). after p (λ h. work_all (epsilon N) ys)) d
   work_stuck (x ∷ ys) l (later k f) d = ap (λ (p : Outcome Aut ℕ). after p (λ h. work_all (epsilon N) ys)) (epsilon_known r l.0 k) ∙ work_stuck ys l.1 f d
+  work_stuck {z = z} {number = number} [] l x3 d = elim x3 [ ]
 
   -- a refusal at the end of the way is the state's own
   pub stuck_above : {y x number : ℕ} → x < states σ → Way σ.states.words σ.members.words y x → epsilon N y σ ≡ refused number → epsilon N x σ ≡ refused number

@@ -1,11 +1,12 @@
 -- aut.rs and 01, "Forms that must change": the order of delta's steps, seen in the members that whole runs make: small books that tell other orders apart. A state to be looked at, then all that it leads to, each asked for epsilon and then for delta.
+use Rattle.std.specs.Prelude.{if◌then◌else◌}
 use mathlib.Core.Path.{refl}
 use mathlib.Core.List.{List, [], ◌∷◌, ◌++◌}
 use Prim.Native.Nat.{ℕ, zero, suc, ◌+◌}
 use lib.Dec.{eqb, ltb}
 use lib.ListN.{length, get_or, take, drop, replicate}
 use Rattle.common.specs.Packets.{any}
-use Rattle.common.specs.Outcome.{Outcome, refused, given, Step, return, ◌>>=◌, if◌then◌else◌}
+use Rattle.common.specs.Outcome.{Outcome, refused, given, Step, return, ◌>>=◌}
 use Rattle.common.specs.Runs.{table}
 use Rattle.common.specs.Rows.{Row, row, Hold}
 use Rattle.netkat_steps.specs.ListSteps as ListSteps

@@ -40,12 +40,12 @@ module _ {N : ℕ} {L : Limits} where
   kept W w W' = record { good = W'; known = λ s k. state_grown w k; same = λ s k. ≈-sym (holds_grown W.good w k) }
 
   epsilon_answer : (σ : Store) (s : State) → WfStore N L σ → s < states σ.aut → Gives (λ τ e. Kept (meaning N L) σ τ × IsEpsilon e (Holds N τ.aut s)) ((answers N L).epsilon s σ)
-  epsilon_answer σ s W l = at (on_aut (epsilon N s) σ) (epsilon_step W l)
+  epsilon_answer σ s W l = at (on_aut (epsilon N s) σ) (on_aut (epsilon N s) σ) (epsilon_step W l)
     where
-      at : (o : Outcome Store ℕ) → Agree (Halted N L σ) (Stepped N L (λ τ e. Means N τ.nodes e (Holds N σ.aut s)) σ) o o
+      at : (o p : Outcome Store ℕ) → Agree (Halted N L σ) (Stepped N L (λ τ e. Means N τ.nodes e (Holds N σ.aut s)) σ) o p
           → Gives (λ τ e. Kept (meaning N L) σ τ × IsEpsilon e (Holds N τ.aut s)) (after o (λ e τ. given τ (Rel.pairs N τ.aut.nodes e)))
-      at (refused number) a = refusal
-      at (given τ e) (come f) =
+      at (refused number) p a = refusal
+      at (given τ e) p (come f) =
           let m = means_same (≈-sym (holds_grown W.good f.went.grown l)) f.holds in
           gives (
             kept W f.went.grown f.worked,
@@ -60,12 +60,12 @@ module _ {N : ℕ} {L : Limits} where
   decodes (also {s} k d a) = ap₂ ◌∷◌ (ap₂ to {x = s} refl (fun_ext (λ p. fun_ext (λ q. d.means p q)))) (decodes a)
 
   delta_answer : (σ : Store) (s : State) → WfStore N L σ → s < states σ.aut → Gives (λ τ list. Kept (meaning N L) σ τ × DeltaOf (meaning N L) τ s list) ((answers N L).delta s σ)
-  delta_answer σ s W l = at (delta N L s σ) (delta_goes W l)
+  delta_answer σ s W l = at (delta N L s σ) (delta N L s σ) (delta_goes W l)
     where
-      at : (o : Outcome Store (List Edge)) → Agree (Halted N L σ) (Deltaed N L s σ) o o
+      at : (o p : Outcome Store (List Edge)) → Agree (Halted N L σ) (Deltaed N L s σ) o p
           → Gives (λ τ list. Kept (meaning N L) σ τ × DeltaOf (meaning N L) τ s list) (after o (λ es τ. given τ (map (decoded N τ.aut) es)))
-      at (refused number) a = refusal
-      at (given τ es) (come d) =
+      at (refused number) p a = refusal
+      at (given τ es) p (come d) =
           let o = delta_of W l d in
           gives (
             kept W d.listed.went.grown d.listed.worked,

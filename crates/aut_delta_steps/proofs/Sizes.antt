@@ -1,4 +1,5 @@
 -- 01, "Lent tables": a finished list is stored after those already there, so the transitions in use are those of the stored lists: their number is the sum of the lists' lengths.
+use Rattle.std.specs.Prelude.{if◌then◌else◌}
 use mathlib.Core.Path.{◌≡◌, refl, sym, ◌∙◌, ap, ap₂}
 use mathlib.Core.Bool.{Bool}
 use mathlib.Core.List.{List}
@@ -6,7 +7,6 @@ use Prim.Native.Nat.{ℕ, zero, suc, ◌+◌, ◌-◌, ◌≤◌, ◌<◌, min}
 use native.Mathlib.Omega.{arith}
 use lib.Dec.{eqb, leb, ltb}
 use borrow.Author.Tests.{eqb-true, eqb-false, leb-true, leb-false, ltb-true, ltb-false}
-use Rattle.common.specs.Outcome.{if◌then◌else◌}
 use Rattle.spp_steps.proofs.Laws.{by_test}
 use Rattle.aut_steps.specs.Tables.{Limits}
 use Rattle.aut_steps.specs.Wf.{states}

@@ -1,4 +1,5 @@
 -- What holds of the definitions of specs/Wf.
+use Rattle.std.specs.Prelude.{if◌then◌else◌}
 use mathlib.Core.Path.{◌≡◌, refl, sym, ◌∙◌, ap, subst}
 use mathlib.Core.List.{List, [], ◌∷◌}
 use mathlib.Core.Logic.{◌⊎◌, inl, inr, ⊎_elim}
@@ -7,7 +8,6 @@ use native.Mathlib.Omega.{arith}
 use lib.Dec.{leb, eqb}
 use lib.ListN.{length, get_or}
 use borrow.Author.Tests.{leb-true, leb-false, eqb-true}
-use Rattle.common.specs.Outcome.{if◌then◌else◌}
 use Rattle.common.specs.Runs.{Table}
 use Rattle.netkat.specs.Strings.{str}
 use Rattle.netkat.specs.Rules.{Language}

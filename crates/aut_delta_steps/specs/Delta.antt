@@ -1,9 +1,9 @@
 -- 01, "Lent tables": a transition is 2 words, target and label; state words 5 and 6 are transition start and count + 1, 0 while not worked out. A finished list
 -- is stored after those already there (25 if the whole list has no room); an empty one has as its start the number of transitions then stored.
 -- aut.rs's `delta` as a step in the Rust's order, but that of a union every member's list is worked out before the first join ("Forms that must change").
-use Rattle.std.specs.Prelude.{Bool, ◌&&◌, List, [], ◌∷◌, ℕ, zero, suc, ◌+◌, ◌*◌, ◌-◌, ◌/◌, eqb, ltb, leb, length, get_or}
+use Rattle.std.specs.Prelude.{Bool, ◌&&◌, List, [], ◌∷◌, ℕ, zero, suc, ◌+◌, ◌*◌, ◌-◌, ◌/◌, eqb, ltb, leb, length, get_or, if◌then◌else◌}
 use Rattle.std.proofs.lemmas.List.Edits.{sets}
-use Rattle.common.specs.Outcome.{refused, given, Step, return, ◌>>=◌, if◌then◌else◌}
+use Rattle.common.specs.Outcome.{refused, given, Step, return, ◌>>=◌}
 use Rattle.common.specs.Runs.{Table, table, placed}
 use Rattle.netkat_steps.specs.ListSteps.{Edge, st_singleton, st_union, st_intersect, st_difference, st_xor, st_complement, st_postcompose, st_precompose, st_intersect_expr}
 use Rattle.aut_steps.specs.Relations as Rel

@@ -1,7 +1,7 @@
 -- 01, "Lent tables": a finished list is stored, and words 5 and 6 of its state say where. So `delta` may enter a state (work out the epsilon of a Sequence's or a Star's first operand, and the star of it), have its
 -- operands' lists worked out one after another, keep none of the answers, and read them from the tables when it puts them together: the step that does so, and that it is `delta`.
-use Rattle.std.specs.Prelude.{List, [], ◌∷◌, map, ℕ, eqb}
-use Rattle.common.specs.Outcome.{given, Step, return, ◌>>=◌, if◌then◌else◌}
+use Rattle.std.specs.Prelude.{List, [], ◌∷◌, map, ℕ, eqb, if◌then◌else◌}
+use Rattle.common.specs.Outcome.{given, Step, return, ◌>>=◌}
 use Rattle.netkat.specs.Rules.{star}
 use Rattle.netkat_steps.specs.ListSteps.{Edge, st_singleton, st_xor, st_difference, st_complement}
 use Rattle.aut_steps.specs.Relations as Rel

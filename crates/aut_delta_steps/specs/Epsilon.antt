@@ -1,7 +1,7 @@
 -- 01, "Lent tables": state word 4 is epsilon + 1, 0 while not worked out; SPP keeps it at 0. aut.rs's `epsilon` as a step in the Rust's order: of a Union
 -- or an Intersect all members are worked out first, then combined from zero, or from the first. It calls itself on operands, whose nesting is lower.
-use Rattle.std.specs.Prelude.{List, [], ◌∷◌, ℕ, zero, suc, ◌+◌, ◌*◌, ◌-◌, eqb, ltb, get_or, set}
-use Rattle.common.specs.Outcome.{given, Step, return, ◌>>=◌, if◌then◌else◌}
+use Rattle.std.specs.Prelude.{List, [], ◌∷◌, ℕ, zero, suc, ◌+◌, ◌*◌, ◌-◌, eqb, ltb, get_or, set, if◌then◌else◌}
+use Rattle.common.specs.Outcome.{given, Step, return, ◌>>=◌}
 use Rattle.common.specs.Runs.{Table, table}
 use Rattle.aut_steps.specs.Relations as Rel
 use Rattle.aut_steps.specs.Tables.{SPP, UNION, INTERSECT, XOR, DIFFERENCE, COMPLEMENT, SEQUENCE, STAR, UNTIL, TOP, kind_of, op1, op2, nest, list_of, Aut, put_states, on_nodes}

@@ -1,7 +1,7 @@
 -- 01, "Lent tables": state word 4 is epsilon + 1. So `epsilon` may work its operands out one after another, keep none of the answers, and read them from the tables when it
 -- puts them together: the step that does so, and that it is `epsilon`.
-use Rattle.std.specs.Prelude.{List, [], ◌∷◌, ℕ, eqb}
-use Rattle.common.specs.Outcome.{given, Step, return, ◌>>=◌, if◌then◌else◌}
+use Rattle.std.specs.Prelude.{List, [], ◌∷◌, ℕ, eqb, if◌then◌else◌}
+use Rattle.common.specs.Outcome.{given, Step, return, ◌>>=◌}
 use Rattle.common.specs.Runs.{Table}
 use Rattle.netkat.specs.Rules.{union, xor, difference, complement, sequence, star}
 use Rattle.aut_steps.specs.Relations as Rel

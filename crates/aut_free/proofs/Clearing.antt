@@ -1,4 +1,5 @@
 -- `clear` by its words: what it keeps and what it zeroes; which writes it takes back, and with which it commutes. Each word of a table is a word of a state: j is 12 * (j / 12) + j % 12.
+use Rattle.std.specs.Prelude.{if◌then◌else◌}
 use mathlib.Core.Path.{◌≡◌, refl, sym, ◌∙◌, ap, subst}
 use mathlib.Core.Bool.{Bool, true, false}
 use mathlib.Core.List.{List, [], ◌∷◌}
@@ -8,7 +9,6 @@ use lib.Dec.{leb}
 use lib.ListN.{length, get_or, set, length-set}
 use lib.Seq.{ext_get_or, get_or-set_other}
 use borrow.Author.Tests.{le-leb, lt-leb, leb-true, leb-false}
-use Rattle.common.specs.Outcome.{if◌then◌else◌}
 use Rattle.spp_steps.proofs.Laws.{by_test}
 use Rattle.aut_free.specs.Clear.{rest_from, clear_from, clear}
 use Rattle.aut_free.proofs.Clear.{Beyond, writing, AtRest}

@@ -1,11 +1,12 @@
 -- `intern` (aut_steps' Intern) on tables that are twins.
+use Rattle.std.specs.Prelude.{if◌then◌else◌}
 use mathlib.Core.Path.{◌≡◌, refl, ap, ap₂, subst}
 use mathlib.Core.Bool.{false, ◌&&◌}
 use mathlib.Core.List.{List, [], ◌∷◌}
 use Prim.Native.Nat.{ℕ, ◌+◌, ◌/◌, max}
 use lib.Dec.{eqb, ltb}
 use lib.ListN.{length}
-use Rattle.common.specs.Outcome.{Outcome, given, if◌then◌else◌}
+use Rattle.common.specs.Outcome.{Outcome, given}
 use Rattle.common.specs.Runs.{Table, table}
 use Rattle.aut_steps.specs.Tables.{nest, Limits, state_cap, room_s, room_m, put4, Exprs, exprs}
 use Rattle.aut_steps.specs.Intern.{seek, same2, same_at, same_l, put, intern0, intern1, intern2, nest_l, store, put_l, intern_l}

@@ -1,9 +1,10 @@
 -- How to follow a step on two stores: past a `>>=`, into a test, on a part of the store. Assumes nothing.
+use Rattle.std.specs.Prelude.{if◌then◌else◌}
 use mathlib.Core.Path.{◌≡◌, subst}
 use mathlib.Core.Bool.{Bool, true, false}
 use mathlib.Core.List.{List, [], ◌∷◌}
 use Prim.Native.Nat.{ℕ}
-use Rattle.common.specs.Outcome.{Outcome, given, Step, return, after, ◌>>=◌, if◌then◌else◌}
+use Rattle.common.specs.Outcome.{Outcome, given, Step, return, after, ◌>>=◌}
 use Rattle.common.specs.Runs.{placed}
 use Rattle.aut_delta_steps.specs.Epsilon.{each_of}
 use Rattle.aut_free.proofs.Alike.{AlikeRuns, stops, comes, Respects}

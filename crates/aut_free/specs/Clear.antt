@@ -1,6 +1,5 @@
 -- 01, "Lent tables": words 8 to 11 of a state are zero between queries. Tables as they are at rest: with these words zero, all else as it is. And any change of words 7 to 11 alone.
-use Rattle.std.specs.Prelude.{List, [], ◌∷◌, ℕ, ◌+◌, ◌%◌, leb}
-use Rattle.common.specs.Outcome.{if◌then◌else◌}
+use Rattle.std.specs.Prelude.{List, [], ◌∷◌, ℕ, ◌+◌, ◌%◌, leb, if◌then◌else◌}
 use Rattle.common.specs.Runs.{table}
 use Rattle.aut_steps.specs.Tables.{Aut, put_states}
 use Rattle.aut_delta_steps.specs.Delta.{Store, put_aut}

@@ -1,4 +1,5 @@
 -- What holds of the definitions of specs/Explored.
+use Rattle.std.specs.Prelude.{if◌then◌else◌}
 use mathlib.Core.Path.{◌≡◌, refl, sym, ◌∙◌, ap, subst}
 use mathlib.Core.Logic.{◌⊎◌, inl, inr, ⊎_elim}
 use mathlib.Core.Bool.{Bool, true, ◌||◌}
@@ -12,7 +13,7 @@ use borrow.Author.Tests.{eqb-true, eqb-false, ltb-true, ltb-false}
 use Rattle.common.specs.Packets.{Packet, Relation, any}
 use Rattle.common.specs.Relations.{starts}
 use Rattle.common.proofs.RelationLaws.{starts_of, starts_to}
-use Rattle.common.specs.Outcome.{given, Gives, if◌then◌else◌}
+use Rattle.common.specs.Outcome.{given, Gives}
 use Rattle.common.specs.Runs.{Table}
 use Rattle.netkat.specs.Rules.{Rule, Language}
 use Rattle.netkat.specs.Derivatives as Derivatives

@@ -1,5 +1,6 @@
 -- 01, "Strings": live: the start packets of a state's strings. The law of `live_packets`: unless it is refused it gives a handle of the state's live set and keeps it in word 7, with those of all states
 -- reached; the tables are in order again, and what was worked out is as it was. So the search says `yes` exactly if the live set is empty.
+use Rattle.std.specs.Prelude.{if◌then◌else◌}
 use mathlib.Core.Path.{◌≡◌, refl, sym, ◌∙◌, ap, subst}
 use mathlib.Core.Logic.{◌↔◌, ◌≢◌, ◌⊎◌, inl, inr, ⊎_elim}
 use mathlib.Core.Bool.{Bool, true, false}
@@ -11,7 +12,7 @@ use lib.Dec.{T, eqb, ltb}
 use lib.ListN.{length, get_or}
 use borrow.Author.Tests.{eqb-true, eqb-false, ltb-true, ltb-false}
 use Rattle.common.specs.Packets.{inhabited}
-use Rattle.common.specs.Outcome.{given, Gives, if◌then◌else◌}
+use Rattle.common.specs.Outcome.{given, Gives}
 use Rattle.common.specs.Runs.{Table}
 use Rattle.netkat.specs.Rules.{Language}
 use Rattle.netkat.specs.Search.{Verdict, yes, spent}

@@ -1,5 +1,6 @@
 -- 01, "Strings": pruned: each delta label cut to pairs whose second packet is live in the target; empty ones go. The law of `delta_pruned`: unless it is refused it gives a list that is still a delta of
 -- the state, with ascending targets, each label with a pair, and each pair of it the beginning of a string; the tables are in order again, and what was worked out is as it was.
+use Rattle.std.specs.Prelude.{if◌then◌else◌}
 use mathlib.Core.Path.{◌≡◌, refl, sym, ◌∙◌, ap, subst}
 use mathlib.Core.Bool.{Bool, true, false, not, ◌&&◌}
 use mathlib.Core.List.{List, [], ◌∷◌, map, Memᴰ}
@@ -10,7 +11,7 @@ use borrow.Author.Tests.{eqb-true, eq-eqb, lt-ltb}
 use Rattle.common.specs.Packets.{Packet, Set, Relation}
 use Rattle.common.specs.Relations.{nonempty}
 use Rattle.common.proofs.RelationLaws.{nonempty_of, nonempty_to}
-use Rattle.common.specs.Outcome.{Outcome, given, after, ◌>>=◌, Gives, if◌then◌else◌}
+use Rattle.common.specs.Outcome.{Outcome, given, after, ◌>>=◌, Gives}
 use Rattle.common.specs.Runs.{Table}
 use Rattle.netkat.specs.Lists.{State, Transition, to, Ascending, IsDelta}
 use Rattle.netkat_steps.specs.ListSteps.{Edge, edge, Are, IsList}
@@ -89,7 +90,7 @@ module _ {N : ℕ} {L : Limits} {lent : ℕ} where
   prune_ends {σ} live [] o Are.none f = comes (record { gone = gone_refl σ; ordered = o; holds = Are.none })
   prune_ends {σ} live (e ∷ es) o (Are.also {s} {l} {r} {ts = ts} k d as') f =
       ends_call (viable_ends e o d (f e (Memᴰ.head refl))) (λ σ₁ v C.
-      ends_call (prune_ends live es C.ordered (are_gone o C.gone C.ordered as')
+      ends_call (prune_ends {σ = σ₁} live es C.ordered (are_gone o C.gone C.ordered as')
       (λ g m. subst (λ (x : ℕ). SpLaws.Denotes σ₁.sets N (x - 1) (live g.target)) (sym (live_word C.gone g.target)) (SpLawsProofs.den_ext C.gone.sets (f g (Memᴰ.tail m))))) (λ σ₂ fs P.
       let D : Denotes σ₂.base.aut.nodes N v (cut live (to s r)).label = den_ext P.gone.went.grown.nodes C.holds in
       comes (record {

@@ -1,4 +1,5 @@
 -- What holds of the definitions of specs/Pending.
+use Rattle.std.specs.Prelude.{if◌then◌else◌}
 use mathlib.Core.Path.{◌≡◌, refl, sym, subst}
 use mathlib.Core.Logic.{⊎_elim}
 use mathlib.Core.Bool.{Bool, true, false}
@@ -10,7 +11,7 @@ use lib.Dec.{eqb, ltb}
 use lib.ListN.{length, length-map}
 use borrow.Author.Tests.{ltb-false}
 use Rattle.common.specs.Packets.{image}
-use Rattle.common.specs.Outcome.{Outcome, return, Gives, gives, if◌then◌else◌}
+use Rattle.common.specs.Outcome.{Outcome, return, Gives, gives}
 use Rattle.netkat.specs.Lists.{State, Transition}
 use Rattle.netkat_steps.specs.ListSteps.{Edge, Are}
 use Rattle.netkat.specs.Search.{Verdict}

@@ -94,12 +94,12 @@ module _ (N : ℕ) (L : Limits) (lent : ℕ) (σ₀ : Tables) where
 
     epsilon_work : {s : State} → s < states σ.base.aut
         → Gives (λ σ' l. (τ' : Store) × (e : Relation N) × ((answers N L).epsilon s τ ≡ given τ' e) × Makes 𝓡 σ σ' τ' (Denotes σ'.base.aut.nodes N l e)) (on_base (on_aut (epsilon N s)) σ)
-    epsilon_work {s} k = go (on_aut (epsilon N s) σ.base) refl (epsilon_step a.ordered.worked k)
+    epsilon_work {s} k = go (on_aut (epsilon N s) σ.base) (on_aut (epsilon N s) σ.base) refl (epsilon_step a.ordered.worked k)
       where
-        go : (o : Outcome Store ℕ) → on_aut (epsilon N s) σ.base ≡ o → Agree (Halted N L σ.base) (Stepped N L (λ τ e. Means N τ.nodes e (Holds N σ.base.aut s)) σ.base) o o
+        go : (o p : Outcome Store ℕ) → on_aut (epsilon N s) σ.base ≡ o → Agree (Halted N L σ.base) (Stepped N L (λ τ e. Means N τ.nodes e (Holds N σ.base.aut s)) σ.base) o p
             → Gives (λ σ' l. (τ' : Store) × (e : Relation N) × ((answers N L).epsilon s τ ≡ given τ' e) × Makes 𝓡 σ σ' τ' (Denotes σ'.base.aut.nodes N l e)) (placed put_base σ o)
-        go (refused number) q x = refusal
-        go (given b l) q (come f) = gives (
+        go (refused number) p q x = refusal
+        go (given b l) p q (come f) = gives (
           b,
           Rel.pairs N b.aut.nodes l,
           ap (λ (t : Store). (answers N L).epsilon s t) (sym a.same) ∙ ap (λ (o : Outcome Store ℕ). after o (λ e τ. given τ (Rel.pairs N τ.aut.nodes e))) q,
@@ -113,13 +113,13 @@ module _ (N : ℕ) (L : Limits) (lent : ℕ) (σ₀ : Tables) where
 
     delta_work : {s : State} → s < states σ.base.aut
         → Gives (λ σ' ls. (τ' : Store) × (list : List (Transition State N)) × ((answers N L).delta s τ ≡ given τ' list) × Makes 𝓡 σ σ' τ' (Alike (IsLink 𝓡 σ') ls list)) ((machine N L lent).delta s σ)
-    delta_work {s} k = go (delta N L s σ.base) refl (delta_goes a.ordered.worked k)
+    delta_work {s} k = go (delta N L s σ.base) (delta N L s σ.base) refl (delta_goes a.ordered.worked k)
       where
-        go : (o : Outcome Store (List Edge)) → delta N L s σ.base ≡ o → Agree (Halted N L σ.base) (Deltaed N L s σ.base) o o
+        go : (o p : Outcome Store (List Edge)) → delta N L s σ.base ≡ o → Agree (Halted N L σ.base) (Deltaed N L s σ.base) o p
             → Gives (λ σ' ls. (τ' : Store) × (list : List (Transition State N)) × ((answers N L).delta s τ ≡ given τ' list) × Makes 𝓡 σ σ' τ' (Alike (IsLink 𝓡 σ') ls list))
             (after (placed put_base σ o) (λ es. return (map link es)))
-        go (refused number) q x = refusal
-        go (given b es) q (come d) = gives (
+        go (refused number) p q x = refusal
+        go (given b es) p q (come d) = gives (
           b,
           map (decoded N b.aut) es,
           ap (λ (t : Store). (answers N L).delta s t) (sym a.same) ∙ ap (λ (o : Outcome Store (List Edge)). after o (λ es τ. given τ (map (decoded N τ.aut) es))) q,

@@ -1,4 +1,5 @@
 -- `live_packets`, the work list: once it is empty the sets are the live sets of the states reached. It becomes empty: each time a state is put on it, a set has grown by a packet.
+use Rattle.std.specs.Prelude.{if◌then◌else◌}
 use mathlib.Core.Path.{◌≡◌, refl, sym, ◌∙◌, ap, ap₂, subst, fun_ext}
 use mathlib.Core.Logic.{◌↔◌, ◌⊎◌, inl, inr, ⊎_elim}
 use mathlib.Core.Bool.{Bool, true, false, ◌||◌}
@@ -13,7 +14,7 @@ use Rattle.common.specs.Packets.{Packet, Set, Relation, inhabited, ◌∖◌, �
 use Rattle.common.proofs.PacketLaws.{any_of, inhabited_to, either, or_left, or_right}
 use Rattle.common.specs.Relations.{starts, preimage}
 use Rattle.common.proofs.RelationLaws.{minus_of, minus_to}
-use Rattle.common.specs.Outcome.{given, return, ◌>>=◌, if◌then◌else◌}
+use Rattle.common.specs.Outcome.{given, return, ◌>>=◌}
 use Rattle.common.specs.Runs.{Table}
 use Rattle.netkat.specs.Lists.{State, Transition, to, Ascending, IsDelta}
 use Rattle.netkat_steps.specs.ListSteps.{Edge, edge, Are, IsList}

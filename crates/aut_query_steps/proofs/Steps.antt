@@ -1,11 +1,12 @@
 -- How to follow a query's steps. What they come to: it is refused only in later tables, with its reason ("Who can cause a refusal": 20, 24, and what epsilon and delta meet); or it gives tables that are in
 -- order and a value of which something holds. Then each step that queries take: on packet nodes (difference, union; bwd, push, pull), on relation nodes (ifwd), constructors, epsilon and delta.
+use Rattle.std.specs.Prelude.{if◌then◌else◌}
 use mathlib.Core.Path.{◌≡◌, refl}
 use mathlib.Core.Bool.{Bool, true, false}
 use mathlib.Core.List.{List, Memᴰ}
 use Prim.Native.Nat.{ℕ, ◌≤◌, ◌<◌}
 use lib.ListN.{length}
-use Rattle.common.specs.Outcome.{Outcome, refused, given, Step, after, Gives, refusal, gives, if◌then◌else◌}
+use Rattle.common.specs.Outcome.{Outcome, refused, given, Step, after, Gives, refusal, gives}
 use Rattle.common.specs.Runs as Runs
 use Rattle.common.specs.Runs.{Table, placed}
 use Rattle.common.proofs.Runs.{StableSpec}
@@ -242,7 +243,7 @@ module _ {N : ℕ} {L : Limits} {lent : ℕ} {σ : Tables} (o : WfTables N L σ)
     why = working h.why;
   }
 
-  pub base_step : {X : Type 0} {P : Aut → X → Type 0} {r : Outcome Store X} → Agree (Halted N L σ.base) (Stepped N L P σ.base) r r → Ends N L lent (Steps N L (λ τ v. P τ.base.aut v) σ) σ (placed put_base σ r)
+  pub base_step : {X : Type 0} {P : Aut → X → Type 0} {r p : Outcome Store X} → Agree (Halted N L σ.base) (Stepped N L P σ.base) r p → Ends N L lent (Steps N L (λ τ v. P τ.base.aut v) σ) σ (placed put_base σ r)
   base_step (stop h) = halts (halted h)
   base_step (come f) = comes (record { gone = gone_base f.went; ordered = ordered_base o f.went f.worked; holds = f.holds })
 
@@ -258,7 +259,7 @@ module _ {N : ℕ} {L : Limits} {lent : ℕ} {σ : Tables} (o : WfTables N L σ)
     pub delta_ends : Ends N L lent (Steps N L (λ τ es. Stored τ.base s es × IsList (readings N L) (Holds N σ.base.aut s) τ.base.aut es) σ) σ (on_base (delta N L s) σ)
     delta_ends = go (delta_goes o.worked k)
       where
-        go : {r : Outcome Store (List Edge)} → Agree (Halted N L σ.base) (Deltaed N L s σ.base) r r
+        go : {r p : Outcome Store (List Edge)} → Agree (Halted N L σ.base) (Deltaed N L s σ.base) r p
             → Ends N L lent (Steps N L (λ τ es. Stored τ.base s es × IsList (readings N L) (Holds N σ.base.aut s) τ.base.aut es) σ) σ (placed put_base σ r)
         go (stop h) = halts (halted h)
         go (come d) = comes (record {

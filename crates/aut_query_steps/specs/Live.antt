@@ -1,8 +1,8 @@
 -- 01, "Strings": live: the start packets of a state's strings; "Lent tables": state word 7 is live + 1, 0 while not worked out; the pending table holds `states` and then `todo`, one entry a member.
 -- aut.rs's `live_packets` as a step in the Rust's order. A set that is kept for the state is given at once; those of other states are worked out again from nothing.
-use Rattle.std.specs.Prelude.{List, [], ◌∷◌, ◌++◌, reverse, ℕ, zero, suc, ◌+◌, ◌*◌, ◌-◌, ◌^◌, eqb, ltb, length}
+use Rattle.std.specs.Prelude.{List, [], ◌∷◌, ◌++◌, reverse, ℕ, zero, suc, ◌+◌, ◌*◌, ◌-◌, ◌^◌, eqb, ltb, length, if◌then◌else◌}
 use Rattle.common.specs.Packets.{any}
-use Rattle.common.specs.Outcome.{refused, given, Step, return, ◌>>=◌, if◌then◌else◌}
+use Rattle.common.specs.Outcome.{refused, given, Step, return, ◌>>=◌}
 use Rattle.common.specs.Runs.{Table}
 use Rattle.netkat_steps.specs.ListSteps.{Edge}
 use Rattle.sp_steps.specs.Model as Sp

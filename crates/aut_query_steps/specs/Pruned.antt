@@ -1,7 +1,7 @@
 -- 01, "Strings": pruned: each delta label cut to pairs whose second packet is live in the target; empty ones go. aut.rs's `delta_pruned` as a step in the Rust's order: the live sets, delta, and
 -- for each transition ifwd (21) and intersect (21). These run at every query, also with live sets that are kept.
-use Rattle.std.specs.Prelude.{List, [], ◌∷◌, ℕ, ◌-◌, eqb}
-use Rattle.common.specs.Outcome.{Step, return, ◌>>=◌, if◌then◌else◌}
+use Rattle.std.specs.Prelude.{List, [], ◌∷◌, ℕ, ◌-◌, eqb, if◌then◌else◌}
+use Rattle.common.specs.Outcome.{Step, return, ◌>>=◌}
 use Rattle.netkat_steps.specs.ListSteps.{Edge, edge}
 use Rattle.spp_steps.specs.ImageModel as Images
 use Rattle.aut_steps.specs.Relations as Rel

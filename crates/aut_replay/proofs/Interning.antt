@@ -1,4 +1,5 @@
 -- Interning again finds the state that stands: no two states are equal, so the search ends at this very one.
+use Rattle.std.specs.Prelude.{if◌then◌else◌}
 use mathlib.Core.Path.{◌≡◌, refl, sym, ◌∙◌, ap, ap₂, subst}
 use mathlib.Core.Bool.{Bool, true, false}
 use mathlib.Core.List.{List, [], ◌∷◌}
@@ -8,7 +9,7 @@ use lib.Dec.{ltb}
 use lib.ListN.{length}
 use lib.Seq.{length-sets}
 use borrow.Author.Tests.{ltb-true, ltb-false, lt-ltb}
-use Rattle.common.specs.Outcome.{Outcome, refused, given, Step, if◌then◌else◌}
+use Rattle.common.specs.Outcome.{Outcome, refused, given, Step}
 use Rattle.common.specs.Runs.{Table, table, placed}
 use Rattle.netkat.specs.Rules.{Rule, Rules}
 use Rattle.spp_steps.proofs.Laws.{by_test}

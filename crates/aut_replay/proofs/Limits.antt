@@ -1,4 +1,5 @@
 -- The law of specs/Limits: each step followed under two limits.
+use Rattle.std.specs.Prelude.{if◌then◌else◌}
 use mathlib.Core.Path.{◌≡◌, refl, sym, subst}
 use mathlib.Core.Bool.{Bool, true, false, ◌&&◌}
 use mathlib.Core.List.{List, [], ◌∷◌, ◌++◌}
@@ -7,7 +8,7 @@ use native.Mathlib.Omega.{arith}
 use lib.Dec.{eqb, ltb, leb}
 use lib.ListN.{length}
 use borrow.Author.Tests.{ltb-true, lt-ltb, leb-true, le-leb}
-use Rattle.common.specs.Outcome.{Outcome, refused, given, Step, return, after, ◌>>=◌, if◌then◌else◌}
+use Rattle.common.specs.Outcome.{Outcome, refused, given, Step, return, after, ◌>>=◌}
 use Rattle.common.specs.Runs.{Table, placed}
 use Rattle.netkat_steps.specs.ListSteps.{Edge, enter, enter_in}
 use Rattle.netkat_steps.proofs.Related.{Related, insert_related, st_singleton_related, st_union_related, st_intersect_related, st_difference_related, st_xor_related, st_complement_related, st_postcompose_related, st_precompose_related, st_intersect_expr_related}

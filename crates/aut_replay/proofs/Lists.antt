@@ -1,4 +1,5 @@
 -- The operations on transition lists (netkat's ListSteps, on the tables) replay.
+use Rattle.std.specs.Prelude.{if◌then◌else◌}
 use mathlib.Core.Path.{◌≡◌, refl, ◌∙◌, ap}
 use mathlib.Core.Bool.{Bool, true, false}
 use mathlib.Core.List.{List, [], ◌∷◌}
@@ -7,7 +8,7 @@ use native.Mathlib.Omega.{arith}
 use lib.Dec.{eqb, ltb}
 use lib.ListN.{length}
 use borrow.Author.Tests.{ltb-true, lt-ltb}
-use Rattle.common.specs.Outcome.{refused, given, Step, return, if◌then◌else◌}
+use Rattle.common.specs.Outcome.{refused, given, Step, return}
 use Rattle.netkat_steps.specs.ListSteps as St
 use Rattle.netkat_steps.specs.ListSteps.{Edge, edge, leads_to, unite, enter, enter_in, place, st_singleton, split, insert, insert_each, insert_pairs, st_union, meet_of, st_intersect, Summed, subtract_row, subtract_rows, rest_of, st_difference, st_xor, complement_of, cover_all, st_complement, followed_by, st_postcompose, st_precompose, met_with, st_intersect_expr}
 use Rattle.spp_steps.specs.Model as Spp

@@ -1,4 +1,5 @@
 -- What constructors read of lists: opened again in later tables they are the same, and what is within a limit is within a larger one.
+use Rattle.std.specs.Prelude.{if◌then◌else◌}
 use mathlib.Core.Path.{◌≡◌, refl, sym, ◌∙◌, ap, ap₂, subst}
 use mathlib.Core.Bool.{Bool, true, false}
 use mathlib.Core.List.{List, [], ◌∷◌, ◌++◌}
@@ -8,7 +9,6 @@ use native.Mathlib.Nat.{mod-lt}
 use lib.Dec.{eqb, leb}
 use lib.ListN.{length, get_or}
 use borrow.Author.Tests.{eqb-true, leb-true, le-leb}
-use Rattle.common.specs.Outcome.{if◌then◌else◌}
 use Rattle.netkat.specs.Rules.{Rule, Rules, union, intersection}
 use Rattle.aut_steps.specs.Tables.{UNION, INTERSECT, TOP, words, Limits, Aut}
 use Rattle.aut_steps.specs.Constructors.{Within, within, beyond, then_within, opened, extend, open_all, Opened, list, top, long, then_open, open_union, count_one, count_all, product}

@@ -1,11 +1,12 @@
 -- How two runs are followed: past a `>>=`, into a test, on a part of the tables. The relation is closed under each.
+use Rattle.std.specs.Prelude.{if◌then◌else◌}
 use mathlib.Core.Path.{◌≡◌, refl, sym, ◌∙◌, ap, ap₂, subst}
 use mathlib.Core.Bool.{Bool, true, false}
 use Prim.Native.Nat.{ℕ, ◌+◌, ◌*◌, ◌≤◌, ◌<◌}
 use native.Mathlib.Omega.{arith}
 use native.Mathlib.Nat.{le_trans}
 use lib.ListN.{get_or}
-use Rattle.common.specs.Outcome.{Outcome, refused, given, Step, return, after, ◌>>=◌, Gives, gives, refusal, if◌then◌else◌}
+use Rattle.common.specs.Outcome.{Outcome, refused, given, Step, return, after, ◌>>=◌, Gives, gives, refusal}
 use Rattle.common.specs.Runs as Runs
 use Rattle.common.proofs.Runs as RunsLaws
 use Rattle.common.specs.Runs.{Table, placed}

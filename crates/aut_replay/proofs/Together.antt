@@ -1,4 +1,5 @@
 -- What delta puts together: it replays, depends on the operands' lists alone, and is the same by what later tables have.
+use Rattle.std.specs.Prelude.{if◌then◌else◌}
 use mathlib.Core.Path.{◌≡◌, refl, ◌∙◌, ap, ap₂}
 use mathlib.Core.Bool.{Bool, true, false}
 use mathlib.Core.List.{List, [], ◌∷◌, map}
@@ -6,7 +7,7 @@ use Prim.Native.Nat.{ℕ, ◌≤◌, ◌<◌}
 use native.Mathlib.Omega.{arith}
 use lib.Dec.{eqb}
 use borrow.Author.Tests.{eqb-true}
-use Rattle.common.specs.Outcome.{Step, ◌>>=◌, if◌then◌else◌}
+use Rattle.common.specs.Outcome.{Step, ◌>>=◌}
 use Rattle.netkat.specs.Rules.{union, intersection}
 use Rattle.netkat_steps.specs.ListSteps.{Edge, st_xor, st_difference, st_complement}
 use Rattle.spp_steps.proofs.Laws.{den_one, den_top}

@@ -1,4 +1,5 @@
 -- What epsilon puts together: it depends on the operands' values alone, is stable, and is the same by what later tables have.
+use Rattle.std.specs.Prelude.{if◌then◌else◌}
 use mathlib.Core.Path.{◌≡◌, refl, ◌∙◌, ap, ap₂}
 use mathlib.Core.Bool.{Bool, true, false}
 use mathlib.Core.List.{List, [], ◌∷◌}
@@ -6,7 +7,7 @@ use Prim.Native.Nat.{ℕ, ◌<◌}
 use native.Mathlib.Omega.{arith}
 use lib.Dec.{eqb}
 use borrow.Author.Tests.{eqb-true}
-use Rattle.common.specs.Outcome.{given, Step, ◌>>=◌, if◌then◌else◌}
+use Rattle.common.specs.Outcome.{given, Step, ◌>>=◌}
 use Rattle.common.proofs.Runs as Runs
 use Rattle.common.specs.Runs.{Table, placed}
 use Rattle.common.proofs.Runs.{runs_bind, runs_return, runs_map}

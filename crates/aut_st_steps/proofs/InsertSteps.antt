@@ -1,10 +1,11 @@
 -- What holds of the definitions of specs/InsertSteps.
+use Rattle.std.specs.Prelude.{if◌then◌else◌}
 use mathlib.Core.Path.{◌≡◌, refl}
 use mathlib.Core.Bool.{Bool, true, false}
 use mathlib.Core.List.{List, [], ◌∷◌}
 use Prim.Native.Nat.{ℕ}
 use lib.Dec.{eqb}
-use Rattle.common.specs.Outcome.{Outcome, refused, given, Step, return, after, ◌>>=◌, if◌then◌else◌}
+use Rattle.common.specs.Outcome.{Outcome, refused, given, Step, return, after, ◌>>=◌}
 use Rattle.netkat_steps.specs.ListSteps.{Edge, leads_to, unite, enter_in, place, split, insert}
 use Rattle.aut_steps.specs.Tables.{Limits, Aut, on_nodes, on_states}
 use Rattle.aut_steps.specs.Relations as Rel

@@ -1,4 +1,5 @@
 -- What holds of the definitions of specs/ListSpec.
+use Rattle.std.specs.Prelude.{if◌then◌else◌}
 use mathlib.Core.Path.{◌≡◌, refl, ap}
 use mathlib.Core.Bool.{Bool, true, false}
 use mathlib.Core.List.{List, [], ◌∷◌}
@@ -8,7 +9,7 @@ use lib.Dec.{eqb, ltb}
 use lib.ListN.{length}
 use borrow.Author.Tests.{ltb-true, ltb-false}
 use Rattle.common.specs.Packets.{Relation}
-use Rattle.common.specs.Outcome.{Step, return, after, if◌then◌else◌}
+use Rattle.common.specs.Outcome.{Step, return, after}
 use Rattle.common.specs.Runs.{Table}
 use Rattle.netkat_steps.specs.ListSteps as St
 use Rattle.netkat_steps.specs.ListSteps.{Edge, edge, leads_to, unite, enter, enter_in, place, st_singleton, split, insert, insert_each, insert_pairs, st_union, meet_of, st_intersect, Summed, subtract_row, subtract_rows, rest_of, st_difference, st_xor, complement_of, cover_all, st_complement, followed_by, st_postcompose, st_precompose, met_with, st_intersect_expr}

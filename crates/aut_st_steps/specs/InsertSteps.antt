@@ -1,7 +1,7 @@
 -- 01, port order, step 3 (ST operations): st_insert in the parts in which the code makes it. A transition of the list gives two to the new list, first what it
 -- meets the inserted one in, then its rest; after the last comes the rest of the inserted one. The parts together are netkat's `place`, `split`, `insert`.
-use Rattle.std.specs.Prelude.{List, [], ◌∷◌, ℕ}
-use Rattle.common.specs.Outcome.{Step, return, ◌>>=◌, if◌then◌else◌}
+use Rattle.std.specs.Prelude.{List, [], ◌∷◌, ℕ, if◌then◌else◌}
+use Rattle.common.specs.Outcome.{Step, return, ◌>>=◌}
 use Rattle.netkat_steps.specs.ListSteps.{Edge, leads_to, unite, enter_in, place}
 use Rattle.aut_steps.specs.Tables.{Limits, Aut, on_nodes}
 use Rattle.aut_steps.specs.Relations as Rel

@@ -267,4 +267,4 @@ module _ {N : ℕ} where
     each_dec (also r rs) w = both_dec (in_dec r w) (each_dec rs w)
 
   pub not_not : (r : Rule N) → Not (Not (In r)) ≈ In r
-  not_not r w = Dec.not_not (in_dec r w)
+  not_not r w = Dec.not-not (in_dec r w)

@@ -1,4 +1,5 @@
 -- What the steps on words do: lists among the members, a search, a new state's words.
+use Rattle.std.specs.Prelude.{if◌then◌else◌}
 use mathlib.Core.Path.{◌≡◌, refl, sym, ◌∙◌, ap, ap₂, subst}
 use mathlib.Core.Bool.{Bool, true, false, ◌&&◌}
 use mathlib.Core.List.{List, [], ◌∷◌}
@@ -9,7 +10,6 @@ use lib.Dec.{eqb, ltb, leb}
 use lib.ListN.{length, get_or, set, length-set}
 use lib.Seq.{sets, get_or-set_same, get_or-set_other}
 use borrow.Author.Tests.{eqb-true, eq-eqb, ltb-true, leb-true, eqb-false}
-use Rattle.common.specs.Outcome.{if◌then◌else◌}
 use Rattle.common.specs.Runs.{Table}
 use Rattle.aut_steps.specs.Tables.{kind_of, op1, op2, nest, words, state_cap, member_cap, room_s, room_m, put4}
 use Rattle.aut_steps.specs.Intern.{seek, same2, same_at, same_l}

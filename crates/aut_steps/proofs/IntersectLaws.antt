@@ -1,4 +1,5 @@
 -- mk_intersect_n_base, mk_intersect_n and mk_intersect: the state holds the strings of all those that are given (01, "Strings").
+use Rattle.std.specs.Prelude.{if◌then◌else◌}
 use mathlib.Core.Path.{◌≡◌, refl, sym, ◌∙◌, ap, subst}
 use mathlib.Core.Bool.{Bool, true, false, ◌&&◌}
 use mathlib.Core.List.{List, [], ◌∷◌, ◌++◌, append-nil}
@@ -10,7 +11,7 @@ use lib.Dec.{T, eqb, ltb, leb}
 use lib.ListN.{length, get_or, length-append}
 use borrow.Author.Tests.{eqb-true, eqb-false, eq-eqb, ltb-true, leb-true, leb-false}
 use Rattle.common.specs.Packets.{Packet, Relation}
-use Rattle.common.specs.Outcome.{return, ◌>>=◌, if◌then◌else◌}
+use Rattle.common.specs.Outcome.{return, ◌>>=◌}
 use Rattle.common.specs.Runs.{placed}
 use Rattle.netkat.specs.Strings.{Str}
 use Rattle.netkat.specs.Rules.{Language, intersection}

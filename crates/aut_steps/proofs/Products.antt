@@ -1,4 +1,5 @@
 -- The products of a list with Union members: how many there are, and that a string is in every member exactly if it is in every member of some product.
+use Rattle.std.specs.Prelude.{if◌then◌else◌}
 use mathlib.Core.Path.{◌≡◌, refl, sym, ◌∙◌, ap, ap₂, subst}
 use mathlib.Core.Bool.{Bool, true, false}
 use mathlib.Core.List.{List, [], ◌∷◌}
@@ -9,7 +10,6 @@ use native.Mathlib.Nat.{mul-le-mul, mul_assoc, mul_comm, mul-one, one-mul, zero-
 use lib.Dec.{eqb, leb}
 use lib.ListN.{get_or}
 use borrow.Author.Tests.{eqb-true, leb-false}
-use Rattle.common.specs.Outcome.{if◌then◌else◌}
 use Rattle.netkat.specs.Strings.{Str}
 use Rattle.aut_steps.specs.Tables.{UNION, kind_of, op2, words, Limits, Aut}
 use Rattle.aut_steps.specs.Constructors.{size, sizes, within, beyond, then_within, count_one, count_all, product}

@@ -50,9 +50,9 @@ module _ (N : ℕ) where
       at (given t' h) (gives g) s = makes (record { ext = g.ext; wf = g.wf; den = g.holds })
 
   -- any number of steps
-  way_steps : {R : Relation N} {p q : Packet N} → Way R p q → (k : ℕ) × Steps R k p q
-  way_steps here = (zero, refl)
-  way_steps (step {b = m} e w) = let (k, s) = way_steps w in (suc k, (m, e, s))
+  way_steps : (R : Relation N) {p q : Packet N} → Way R p q → (k : ℕ) × Steps R k p q
+  way_steps R here = (zero, refl)
+  way_steps R (step {b = m} e w) = let (k, s) = way_steps R w in (suc k, (m, e, s))
 
   steps_way : (R : Relation N) (k : ℕ) (p q : Packet N) → Steps R k p q → Way R p q
   steps_way R zero p q e = subst (Way R p) e here
@@ -82,4 +82,4 @@ module _ (N : ℕ) where
       sequence_made = made (sequence_exact N N (omega arith) t a b (pairs N t a) (pairs N t b) w (den_mem x) (den_mem y))
 
   pub closure_steps : (R : Relation N) (p q : Packet N) → T (closure R p q) ↔ ((k : ℕ) × Steps R k p q)
-  closure_steps R p q = (λ c. way_steps ((closure_paths R p q).0 c), λ (k, s). (closure_paths R p q).1 (steps_way R k p q s))
+  closure_steps R p q = (λ c. way_steps R ((closure_paths R p q).0 c), λ (k, s). (closure_paths R p q).1 (steps_way R k p q s))

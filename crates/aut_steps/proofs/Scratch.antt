@@ -1,4 +1,5 @@
 -- What holds of the definitions of specs/Scratch.
+use Rattle.std.specs.Prelude.{if◌then◌else◌}
 use mathlib.Core.Path.{◌≡◌, refl, ◌∙◌, ap, ap₂, subst}
 use mathlib.Core.Bool.{Bool, true, false}
 use mathlib.Core.List.{List, [], ◌∷◌, ◌++◌}
@@ -6,7 +7,6 @@ use Prim.Native.Nat.{ℕ, zero, suc, ◌+◌, ◌-◌, ◌≤◌, ◌<◌}
 use native.Mathlib.Omega.{arith}
 use lib.ListN.{length, get_or}
 use lib.Seq.{sets}
-use Rattle.common.specs.Outcome.{if◌then◌else◌}
 use Rattle.aut_steps.specs.Tables.{words}
 use Rattle.aut_steps.specs.Intern.{seek}
 use Rattle.aut_steps.specs.Ascending.{All}

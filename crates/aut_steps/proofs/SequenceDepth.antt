@@ -1,5 +1,6 @@
 -- mk_sequence is at most two deep, however its operands are nested. The first operand of a Sequence is none (Made), so a call on it makes no call; and second operands, which may be
 -- Sequences, are a chain that is walked: its end is joined to y, and then the first operands from the last to the first, each by a step that calls nothing.
+use Rattle.std.specs.Prelude.{if◌then◌else◌}
 use mathlib.Core.Path.{◌≡◌, refl, sym, ◌∙◌, ap, subst}
 use mathlib.Core.Bool.{Bool, true, false, ◌&&◌}
 use mathlib.Core.Logic.{◌≢◌}
@@ -7,7 +8,7 @@ use Prim.Native.Nat.{ℕ, zero, suc, ◌≤◌, ◌<◌}
 use native.Mathlib.Omega.{arith}
 use lib.Dec.{eqb}
 use borrow.Author.Tests.{eqb-true, eqb-false, ne_eqb}
-use Rattle.common.specs.Outcome.{Outcome, refused, given, Step, return, after, ◌>>=◌, if◌then◌else◌}
+use Rattle.common.specs.Outcome.{Outcome, refused, given, Step, return, after, ◌>>=◌}
 use Rattle.netkat.specs.Rules.{Join}
 use Rattle.aut_steps.specs.Relations as Rel
 use Rattle.aut_steps.specs.Tables.{SEQUENCE, TOP, Limits, Aut, on_states}

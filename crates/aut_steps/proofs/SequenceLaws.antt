@@ -1,5 +1,6 @@
 -- mk_sequence: the state holds the joins of its operands' strings (01, "Strings"). The depth of its regrouping: any depth from the nesting of the first
 -- operand on does the same, so that mk_sequence is what the Rust writes, a function that calls itself.
+use Rattle.std.specs.Prelude.{if◌then◌else◌}
 use mathlib.Core.Path.{◌≡◌, refl, ◌∙◌, ap}
 use mathlib.Core.Bool.{Bool, true, false, ◌&&◌}
 use Prim.Native.Nat.{ℕ, zero, suc, ◌≤◌, ◌<◌}
@@ -7,7 +8,7 @@ use native.Mathlib.Omega.{arith}
 use lib.Dec.{eqb}
 use borrow.Author.Tests.{eqb-true, eqb-false, eq-eqb}
 use Rattle.common.specs.Packets.{Packet, Relation}
-use Rattle.common.specs.Outcome.{Outcome, refused, given, Step, return, after, if◌then◌else◌}
+use Rattle.common.specs.Outcome.{Outcome, refused, given, Step, return, after}
 use Rattle.netkat.specs.Rules.{In, Join, sequence}
 use Rattle.spp_steps.proofs.Laws.{den_zero, den_one}
 use Rattle.spp_steps.specs.Relations.{equal}

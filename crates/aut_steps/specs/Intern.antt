@@ -1,7 +1,7 @@
 -- `intern` of aut.rs: a state that stands already is returned; a new one meets 8, then 23 (lists), then 22 (01, "Order").
-use Rattle.std.specs.Prelude.{Bool, true, false, ◌&&◌, List, [], ◌∷◌, ℕ, zero, suc, ◌+◌, max, eqb, ltb, length, get_or}
+use Rattle.std.specs.Prelude.{Bool, true, false, ◌&&◌, List, [], ◌∷◌, ℕ, zero, suc, ◌+◌, max, eqb, ltb, length, get_or, if◌then◌else◌}
 use Rattle.std.proofs.lemmas.List.Edits.{sets}
-use Rattle.common.specs.Outcome.{refused, given, Step, if◌then◌else◌}
+use Rattle.common.specs.Outcome.{refused, given, Step}
 use Rattle.common.specs.Runs.{Table, table, placed}
 use Rattle.aut_steps.specs.Tables.{kind_of, op1, op2, nest, Limits, room_s, room_m, put4, Exprs, exprs}
 

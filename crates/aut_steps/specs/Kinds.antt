@@ -1,6 +1,5 @@
 -- AExpr's kinds, by number: what their operands are, and the rule that a state of the kind stands for.
-use Rattle.std.specs.Prelude.{List, [], ◌∷◌, ℕ, eqb}
-use Rattle.common.specs.Outcome.{if◌then◌else◌}
+use Rattle.std.specs.Prelude.{List, [], ◌∷◌, ℕ, eqb, if◌then◌else◌}
 use Rattle.netkat.specs.Rules.{Rule, Rules, union, intersection, xor, difference, complement, sequence, star, dup, next, until, top}
 use Rattle.aut_steps.specs.Tables.{SPP, UNION, INTERSECT, XOR, DIFFERENCE, COMPLEMENT, SEQUENCE, STAR, DUP, NEXT, UNTIL, TOP, op1, op2, list_of}
 

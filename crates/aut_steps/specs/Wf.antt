@@ -3,8 +3,7 @@
 -- each state is one that its constructor gives; members are without gaps: a list starts where the lists of the states before it end;
 -- no two states are equal; an SPP state's relation is valid at depth N. And when tables have grown: they have all that was there, as it was.
 -- Words 4 to 11 of a state may change later, so of them nothing is said.
-use Rattle.std.specs.Prelude.{◌≡◌, List, [], ◌∷◌, ◌++◌, ℕ, zero, suc, ◌+◌, ◌*◌, ◌≤◌, ◌<◌, max, eqb, length, get_or}
-use Rattle.common.specs.Outcome.{if◌then◌else◌}
+use Rattle.std.specs.Prelude.{◌≡◌, List, [], ◌∷◌, ◌++◌, ℕ, zero, suc, ◌+◌, ◌*◌, ◌≤◌, ◌<◌, max, eqb, length, get_or, if◌then◌else◌}
 use Rattle.common.specs.Runs.{Table}
 use Rattle.spp_steps.specs.Wf.{Wf, Ext, ValidAt}
 use Rattle.aut_steps.specs.Tables.{SPP, UNION, INTERSECT, kind_of, op1, op2, nest, list_of, Limits, state_cap, member_cap, Aut}

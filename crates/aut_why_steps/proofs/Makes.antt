@@ -1,8 +1,9 @@
 -- bwd, pull and union in any tables: they make packet nodes only, and are refused with 20 only.
+use Rattle.std.specs.Prelude.{if◌then◌else◌}
 use mathlib.Core.Path.{◌≡◌, refl, sym, ◌∙◌, subst}
 use mathlib.Core.Bool.{Bool, true, false}
 use Prim.Native.Nat.{ℕ, zero, suc}
-use Rattle.common.specs.Outcome.{Outcome, refused, given, Step, after, ◌>>=◌, if◌then◌else◌}
+use Rattle.common.specs.Outcome.{Outcome, refused, given, Step, after, ◌>>=◌}
 use Rattle.common.specs.Runs.{Table, placed}
 use Rattle.sp_steps.specs.Op.{Op}
 use Rattle.sp_steps.specs.Model as Sp

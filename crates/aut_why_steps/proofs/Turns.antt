@@ -1,5 +1,6 @@
 -- 02 (i): "states in `states` order get the starts of strings with at most k hops: `bwd` of epsilon, joined by ascending target with `pull` of the k - 1 sets". The laws of `ends`, `joins`, `turn` and `each`, in
 -- tables that are in order: unless they are refused (20) they make packet nodes only, what they give means just that, and run again in later tables they give the same and make nothing.
+use Rattle.std.specs.Prelude.{if◌then◌else◌}
 use mathlib.Core.Path.{◌≡◌, refl, sym, ◌∙◌, ap, ap₂, subst}
 use mathlib.Core.Logic.{◌↔◌, ◌⊎◌, inl, inr, ⊎_elim}
 use mathlib.Core.Bool.{Bool, false, ◌||◌}
@@ -12,7 +13,7 @@ use borrow.Author.Tests.{eq-eqb, ne_eqb}
 use Rattle.common.specs.Packets.{Packet, Set, Relation, any, ◌∪◌}
 use Rattle.common.proofs.PacketLaws.{any_of, either, or_left, or_right}
 use Rattle.common.specs.Relations.{starts, preimage}
-use Rattle.common.specs.Outcome.{Outcome, refused, given, Step, after, ◌>>=◌, Gives, gives, refusal, if◌then◌else◌}
+use Rattle.common.specs.Outcome.{Outcome, refused, given, Step, after, ◌>>=◌, Gives, gives, refusal}
 use Rattle.common.specs.Runs.{Table, Theory, StableResult, placed}
 use Rattle.common.proofs.Follow.{given_of}
 use Rattle.netkat.specs.Lists.{State, Transition}

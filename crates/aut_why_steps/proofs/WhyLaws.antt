@@ -1,5 +1,6 @@
 -- 02 (i): "It picks the fewest hops, then the smallest start, then the hops in order, then the end"; "an empty state prints `none`". The law of `why`: unless it is refused, with its reason, it gives the picked string of
 -- the state, or none where the state has no string; the tables are in order again, and what was worked out is as it was. It is refused with what the live sets are refused with, or with 20.
+use Rattle.std.specs.Prelude.{if◌then◌else◌}
 use mathlib.Core.Path.{◌≡◌, refl, sym, ◌∙◌, ap, subst}
 use mathlib.Core.Logic.{◌⊎◌, inl, inr}
 use mathlib.Core.Bool.{Bool, true, false}
@@ -11,7 +12,7 @@ use lib.Dec.{T}
 use lib.ListN.{length, length-append}
 use Rattle.common.specs.Packets.{Packet, Set, inhabited}
 use Rattle.common.proofs.PacketLaws.{inhabited_to}
-use Rattle.common.specs.Outcome.{Outcome, refused, given, Step, return, after, if◌then◌else◌}
+use Rattle.common.specs.Outcome.{Outcome, refused, given, Step, return, after}
 use Rattle.common.proofs.Follow.{if_given}
 use Rattle.netkat.specs.Strings.{Str}
 use Rattle.netkat.specs.Rules.{Language}

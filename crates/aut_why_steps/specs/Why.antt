@@ -1,9 +1,9 @@
 -- 02 (i): "After `live a`'s steps, as with no live set stored, k rising from 0 until none changes, states in `states` order get the starts of strings with at most k hops: `bwd` of epsilon, joined by ascending
 -- target with `pull` of the k - 1 sets. Picking makes no nodes."
-use Rattle.std.specs.Prelude.{◌≡◌, Bool, true, false, ◌&&◌, ℕ, zero, suc, ◌+◌, ◌*◌, ◌^◌, ◌<◌, eqb, length, get_or}
+use Rattle.std.specs.Prelude.{◌≡◌, Bool, true, false, ◌&&◌, ℕ, zero, suc, ◌+◌, ◌*◌, ◌^◌, ◌<◌, eqb, length, get_or, if◌then◌else◌}
 use mathlib.Core.List.{List, [], ◌∷◌, ◌++◌, map, Memᴰ}
 use Rattle.std.proofs.Math.Option.{Option, none, some}
-use Rattle.common.specs.Outcome.{given, Step, return, ◌>>=◌, if◌then◌else◌}
+use Rattle.common.specs.Outcome.{given, Step, return, ◌>>=◌}
 use Rattle.netkat.specs.Strings.{Str}
 use Rattle.netkat_steps.specs.ListSteps.{Edge}
 use Rattle.netkat_paths.specs.Pick.{pick}

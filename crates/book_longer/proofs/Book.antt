@@ -1,4 +1,5 @@
 -- The whole book (specs/Longer: BookLonger, AnsweredLonger): begun in zeroed tables, then run.
+use Rattle.std.specs.Prelude.{if◌then◌else◌}
 use mathlib.Core.Path.{◌≡◌, refl, sym, ◌∙◌}
 use mathlib.Core.Bool.{Bool, true, false}
 use mathlib.Core.List.{List, []}
@@ -8,7 +9,7 @@ use native.Mathlib.Omega.{arith}
 use lib.Dec.{ltb, leb}
 use lib.ListN.{length, get_or, length-replicate}
 use borrow.Author.Tests.{ltb-true, ltb-false, leb-true, le-leb}
-use Rattle.common.specs.Outcome.{Outcome, refused, given, Gives, gives, refusal, if◌then◌else◌}
+use Rattle.common.specs.Outcome.{Outcome, refused, given, Gives, gives, refusal}
 use Rattle.common.specs.Runs.{Table, table}
 use Rattle.spp_steps.proofs.Laws.{false_true}
 use Rattle.sp_steps.specs.Model as Sp

@@ -1,11 +1,12 @@
 -- The smart constructors (aut_steps' Constructors) on longer tables, and the constructor of a book's line. No table has to be in order.
+use Rattle.std.specs.Prelude.{if◌then◌else◌}
 use mathlib.Core.Path.{◌≡◌, refl}
 use mathlib.Core.Bool.{Bool, true, false, ◌&&◌}
 use mathlib.Core.List.{List, [], ◌∷◌, ◌++◌}
 use Prim.Native.Nat.{ℕ, zero, suc, ◌+◌, ◌*◌, ◌/◌, ◌%◌}
 use lib.Dec.{eqb, ltb, leb}
 use lib.ListN.{length, get_or}
-use Rattle.common.specs.Outcome.{Step, return, ◌>>=◌, if◌then◌else◌}
+use Rattle.common.specs.Outcome.{Step, return, ◌>>=◌}
 use Rattle.common.specs.Runs.{Table}
 use Rattle.spp_steps.specs.Model as Spp
 use Rattle.aut_steps.specs.Relations as Rel

@@ -1,8 +1,9 @@
 -- How to follow a step on two stores: past a `>>=`, into a test, on a part of the store, past a look at the room. Assumes nothing.
+use Rattle.std.specs.Prelude.{if◌then◌else◌}
 use mathlib.Core.Path.{◌≡◌, refl, subst}
 use mathlib.Core.Bool.{Bool, true, false}
 use Prim.Native.Nat.{ℕ}
-use Rattle.common.specs.Outcome.{Outcome, refused, given, Step, return, after, ◌>>=◌, Gives, gives, if◌then◌else◌}
+use Rattle.common.specs.Outcome.{Outcome, refused, given, Step, return, after, ◌>>=◌, Gives, gives}
 use Rattle.common.specs.Runs.{placed}
 use Rattle.spp_steps.proofs.Laws.{false_true}
 use Rattle.book_longer.specs.Longer.{OfRoom, Follows, lacked, same_refusal, goes, Respects}

@@ -1,4 +1,5 @@
 -- `intern` (aut_steps' Intern) on longer tables.
+use Rattle.std.specs.Prelude.{if◌then◌else◌}
 use mathlib.Core.Path.{◌≡◌, refl, sym, ◌∙◌, ap, ap₂, subst}
 use mathlib.Core.Bool.{true, false, ◌&&◌}
 use mathlib.Core.List.{List, [], ◌∷◌}
@@ -8,7 +9,7 @@ use lib.Dec.{eqb, ltb, leb}
 use lib.ListN.{length, get_or, set, length-set}
 use lib.Seq.{sets, get_or-set_other}
 use borrow.Author.Tests.{ltb-true, lt-ltb, leb-true, le-leb}
-use Rattle.common.specs.Outcome.{Outcome, given, if◌then◌else◌}
+use Rattle.common.specs.Outcome.{Outcome, given}
 use Rattle.common.specs.Runs.{Table, table}
 use Rattle.aut_steps.specs.Tables.{nest, Limits, state_cap, member_cap, room_s, room_m, put4, Exprs, exprs}
 use Rattle.aut_steps.specs.Intern.{seek, same2, same_at, same_l, put, intern0, intern1, intern2, nest_l, store, put_l, intern_l}

@@ -1,4 +1,5 @@
 -- `live_packets` (aut_query_steps' Live) on longer tables, with no fewer pending entries: from tables in order, of a state that is there. The walk makes at most as many visits as there are entries, so that more of them change nothing.
+use Rattle.std.specs.Prelude.{if◌then◌else◌}
 use mathlib.Core.Path.{◌≡◌, refl, subst}
 use mathlib.Core.Bool.{Bool, true, false}
 use mathlib.Core.List.{List, [], ◌∷◌, ◌++◌, reverse, Memᴰ}
@@ -8,7 +9,7 @@ use lib.Dec.{eqb, ltb}
 use lib.ListN.{length, length-append, length-set}
 use borrow.Author.Tests.{ltb-true}
 use Rattle.common.specs.Packets.{any}
-use Rattle.common.specs.Outcome.{refused, given, Step, return, ◌>>=◌, if◌then◌else◌}
+use Rattle.common.specs.Outcome.{refused, given, Step, return, ◌>>=◌}
 use Rattle.common.specs.Runs.{Table}
 use Rattle.spp_steps.proofs.Laws.{false_true}
 use Rattle.netkat_steps.specs.ListSteps.{Edge}

@@ -1,4 +1,5 @@
 -- The lines of a book on longer tables (specs/Longer: QueryLonger, RunLonger): a line, then a run from any two places of which the first is in order.
+use Rattle.std.specs.Prelude.{if◌then◌else◌}
 use mathlib.Core.Path.{◌≡◌, refl, sym, ◌∙◌, ap, subst}
 use mathlib.Core.Bool.{Bool, true, false}
 use mathlib.Core.List.{List, [], ◌∷◌, ◌++◌, map, append-nil, append_assoc}
@@ -8,7 +9,7 @@ use native.Mathlib.Omega.{arith}
 use lib.Dec.{leb}
 use lib.ListN.{length}
 use borrow.Author.Tests.{leb-true, le-leb}
-use Rattle.common.specs.Outcome.{Outcome, refused, given, Gives, gives, refusal, if◌then◌else◌}
+use Rattle.common.specs.Outcome.{Outcome, refused, given, Gives, gives, refusal}
 use Rattle.spp_steps.proofs.Laws.{false_true}
 use Rattle.netkat.specs.Rules.{Rule}
 use Rattle.netkat_steps.specs.ListSteps.{Edge}

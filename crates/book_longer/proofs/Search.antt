@@ -1,4 +1,5 @@
 -- `is_empty` (aut_query_steps' Search, netkat's search over handles) on longer tables, with no fewer pending entries: from tables in order, of a state that is there.
+use Rattle.std.specs.Prelude.{if◌then◌else◌}
 use mathlib.Core.Path.{◌≡◌, refl}
 use mathlib.Core.Bool.{Bool, true, false}
 use mathlib.Core.List.{List, [], ◌∷◌, map, Memᴰ}
@@ -7,7 +8,7 @@ use native.Mathlib.Omega.{arith}
 use lib.Dec.{ltb}
 use lib.ListN.{length}
 use borrow.Author.Tests.{ltb-true, lt-ltb}
-use Rattle.common.specs.Outcome.{Outcome, refused, return, after, Gives, gives, refusal, if◌then◌else◌}
+use Rattle.common.specs.Outcome.{Outcome, refused, return, after, Gives, gives, refusal}
 use Rattle.spp_steps.proofs.Laws.{false_true}
 use Rattle.netkat.specs.Lists.{State}
 use Rattle.netkat_steps.specs.ListSteps.{Edge}

@@ -1,4 +1,5 @@
 -- `why` (aut_why_steps' Why) on longer tables, with no fewer pending entries: from tables in order, of a state that is there. The rounds read what the walk has worked out; the pick reads the last tables.
+use Rattle.std.specs.Prelude.{if◌then◌else◌}
 use mathlib.Core.Path.{◌≡◌, refl, fun_ext}
 use mathlib.Core.List.{List, [], ◌∷◌, ◌++◌, map}
 use mathlib.Core.Option.{Option, none, some}
@@ -6,7 +7,7 @@ use Prim.Native.Nat.{ℕ, zero, suc, ◌-◌, ◌≤◌, ◌<◌}
 use native.Mathlib.Omega.{arith}
 use lib.Dec.{eqb}
 use Rattle.common.specs.Packets.{Set, Relation}
-use Rattle.common.specs.Outcome.{Step, ◌>>=◌, if◌then◌else◌}
+use Rattle.common.specs.Outcome.{Step, ◌>>=◌}
 use Rattle.netkat.specs.Lists.{to}
 use Rattle.netkat_steps.specs.ListSteps.{Edge}
 use Rattle.netkat_paths.specs.Pick.{pick}

@@ -109,7 +109,7 @@ module _ (S : Setting) where
         same = t;
         list = d.whole;
         delta = d.whole_gives;
-        is = record { disjoint = d.whole-is.disjoint; allows = λ a b hs z. (λ w. (t.strings _).0 ((d.whole-is.allows a b hs z).0 w), λ w. (d.whole-is.allows a b hs z).1 ((t.strings _).1 w)) };
+        is = record { disjoint = d.whole_is.disjoint; allows = λ a b hs z. (λ w. (t.strings _).0 ((d.whole_is.allows a b hs z).0 w), λ w. (d.whole_is.allows a b hs z).1 ((t.strings _).1 w)) };
         ascending = d.whole_ascends;
         live = d.live;
         lives = d.lives;
@@ -147,12 +147,12 @@ asking_why (RefusalReason.long_list xs a l) = Memᴰ.head refl
 asking_why (RefusalReason.many_products xs a l) = Memᴰ.tail (Memᴰ.head refl)
 asking_why (RefusalReason.too_deep xs a l) = Memᴰ.tail (Memᴰ.tail (Memᴰ.head refl))
 asking_why (RefusalReason.full_list es l) = Memᴰ.tail (Memᴰ.tail (Memᴰ.tail (Memᴰ.head refl)))
-asking_why (RefusalReason.no_Node l) = past (Memᴰ.head l.number-is)
+asking_why (RefusalReason.no_node l) = past (Memᴰ.head l.number_is)
 asking_why (RefusalReason.no_state e) = past (Memᴰ.tail (Memᴰ.head refl))
 asking_why (RefusalReason.no_members xs a l e) = past (Memᴰ.tail (Memᴰ.tail (Memᴰ.head refl)))
 
 pub asking_number : {N : ℕ} {L : Limits} {entries : ℕ} {τ : Tables} {number : ℕ} → QueryReason N L entries τ number → Memᴰ number Asking
-asking_number (no_packet_node l) = Memᴰ.tail (Memᴰ.tail (Memᴰ.tail (Memᴰ.tail (Memᴰ.head l.number-is))))
+asking_number (no_packet_node l) = Memᴰ.tail (Memᴰ.tail (Memᴰ.tail (Memᴰ.tail (Memᴰ.head l.number_is))))
 asking_number (working (listing y)) = asking_why y
 asking_number (working (no_transitions es a e)) = past (Memᴰ.tail (Memᴰ.tail (Memᴰ.tail (Memᴰ.tail (Memᴰ.head refl)))))
 asking_number (no_entry l a b) = past (Memᴰ.tail (Memᴰ.tail (Memᴰ.tail (Memᴰ.head refl))))

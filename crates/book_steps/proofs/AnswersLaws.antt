@@ -1,4 +1,5 @@
 -- What holds of the definitions of specs/Answers. 02 (iii): "The half is decided over whole numbers, for every count and total."
+use Rattle.std.specs.Prelude.{if◌then◌else◌}
 use mathlib.Core.Path.{◌≡◌, refl, sym, subst}
 use mathlib.Core.Bool.{Bool, true, false}
 use Prim.Native.Nat.{ℕ, ◌+◌, ◌*◌, ◌-◌, ◌/◌, ◌%◌, ◌≤◌, ◌<◌}
@@ -6,7 +7,6 @@ use native.Mathlib.Nat.{div-add-mod', mod-lt, add-mul, mul-le-mul_right}
 use native.Mathlib.Omega.{arith}
 use lib.Dec.{eqb, ltb}
 use borrow.Author.Tests.{eqb-true, eqb-false, ltb-true, ltb-false}
-use Rattle.common.specs.Outcome.{if◌then◌else◌}
 use Rattle.sp_steps.proofs.Make.{by_test}
 use Rattle.spp_steps.proofs.Apply.{by_if}
 use Rattle.book_steps.specs.Answers.{nearer, share, distance, Nearest}

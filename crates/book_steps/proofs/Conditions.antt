@@ -1,4 +1,5 @@
 -- The conditions of specs/Conditions, place by place: refused there exactly if.
+use Rattle.std.specs.Prelude.{if◌then◌else◌}
 use mathlib.Core.Path.{◌≡◌, refl, sym, ◌∙◌, ap, ap₂, subst}
 use native.Mathlib.Omega.{arith}
 use native.Mathlib.Nat.{mul-le-mul, mul_assoc, mul-one, one-mul, mul-le-mul_left}
@@ -10,7 +11,7 @@ use lib.Dec.{eqb, ltb, leb}
 use lib.ListN.{length, get_or, length-append}
 use borrow.Author.Tests.{eqb-true, eqb-false, ltb-true, ltb-false, leb-true, leb-false, lt-ltb, le-leb, eq-eqb}
 use Rattle.common.specs.Packets.{any}
-use Rattle.common.specs.Outcome.{Outcome, refused, given, Step, return, ◌>>=◌, if◌then◌else◌}
+use Rattle.common.specs.Outcome.{Outcome, refused, given, Step, return, ◌>>=◌}
 use Rattle.common.specs.Runs.{Table, table, placed}
 use Rattle.netkat_steps.specs.ListSteps.{Edge, enter, enter_in}
 use Rattle.netkat_steps.specs.Handles as Handles

@@ -1,11 +1,12 @@
 -- A book that is run and then finished comes to its outcome.
+use Rattle.std.specs.Prelude.{if◌then◌else◌}
 use mathlib.Core.Path.{◌≡◌, refl}
 use mathlib.Core.Bool.{Bool, true, false}
 use mathlib.Core.List.{List, []}
 use mathlib.Core.Option.{Option, none, some}
 use Prim.Native.Nat.{ℕ}
 use lib.Dec.{ltb}
-use Rattle.common.specs.Outcome.{Outcome, refused, given, if◌then◌else◌}
+use Rattle.common.specs.Outcome.{Outcome, refused, given}
 use Rattle.book_steps.specs.Text.{Cut, line, unended, cut, words}
 use Rattle.book_steps.specs.Reader.{Header, header}
 use Rattle.book_steps.specs.Run.{Lent, Setting, RunState, Ran, answered, stopped, run, begin, setting_of, started, headed, opened, refusal, finish, outcome, failed, came_of, started_book, headed_book, opened_book, ran_book, finished}

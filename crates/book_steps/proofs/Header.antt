@@ -1,4 +1,5 @@
 -- A header's numbers are below 2^64: they are numbers by 01's form.
+use Rattle.std.specs.Prelude.{if◌then◌else◌}
 use mathlib.Core.Path.{◌≡◌, refl, sym, ◌∙◌, ap}
 use native.Mathlib.Omega.{arith}
 use mathlib.Core.Bool.{Bool, true, false, ◌&&◌}
@@ -7,7 +8,6 @@ use mathlib.Core.Option.{Option, none, some}
 use Prim.Native.Nat.{ℕ, ◌^◌, ◌<◌}
 use lib.Dec.{ltb}
 use borrow.Author.Tests.{ltb-true}
-use Rattle.common.specs.Outcome.{if◌then◌else◌}
 use Rattle.book_steps.specs.Text.{bytes, same, digits, reading, plain, number}
 use Rattle.book_steps.specs.Reader.{Header, header_of, header}
 use Rattle.book_steps.specs.Claim.{Headed}

@@ -1,11 +1,12 @@
 -- The text line of a refusal is at most 2,050: the header is line 1, and there are at most 2,048 instructions.
+use Rattle.std.specs.Prelude.{if◌then◌else◌}
 use mathlib.Core.Bool.{Bool, true, false}
 use mathlib.Core.List.{List, [], ◌∷◌}
 use mathlib.Core.Option.{Option, none, some}
 use Prim.Native.Nat.{ℕ, zero, suc, ◌+◌, ◌≤◌}
 use native.Mathlib.Omega.{arith}
 use lib.Dec.{ltb}
-use Rattle.common.specs.Outcome.{Outcome, refused, given, if◌then◌else◌}
+use Rattle.common.specs.Outcome.{Outcome, refused, given}
 use Rattle.book_steps.specs.Text.{Cut, line, unended, cut, words}
 use Rattle.book_steps.specs.Reader.{Header, header, parse}
 use Rattle.book_steps.specs.Run.{Lent, Setting, RunState, Ran, onward, with_line, step, run, setting_of, begin, finish, refusal, started, headed, opened, outcome}

@@ -1,4 +1,5 @@
 -- A line at a point in order: it is refused as specs/RunSpec says (LineRefusal), or it is done (LineSpec) and the tables are in order again.
+use Rattle.std.specs.Prelude.{if◌then◌else◌}
 use mathlib.Core.Path.{◌≡◌, refl, sym, ◌∙◌, ap, subst}
 use native.Mathlib.Omega.{arith}
 use mathlib.Core.Logic.{⊎_elim}
@@ -9,7 +10,7 @@ use Prim.Native.Nat.{ℕ, ◌+◌, ◌*◌, ◌≤◌, ◌<◌}
 use lib.Dec.{T, leb}
 use lib.ListN.{length, get_or}
 use borrow.Author.Tests.{leb-true, leb-false}
-use Rattle.common.specs.Outcome.{Outcome, refused, given, after, if◌then◌else◌}
+use Rattle.common.specs.Outcome.{Outcome, refused, given, after}
 use Rattle.common.specs.Runs.{Table, placed}
 use Rattle.netkat.specs.Rules.{Rule, In}
 use Rattle.netkat.specs.Lists.{State, Transition, Ascending, IsDelta}

@@ -1,11 +1,12 @@
 -- The numbers with which a constructor line can be refused: 6, 7, 8, 21, 22, 23, and no other. By the steps alone, on any tables: each number that can arise has the property P.
+use Rattle.std.specs.Prelude.{if◌then◌else◌}
 use mathlib.Core.Path.{◌≡◌, refl, subst}
 use mathlib.Core.Bool.{Bool, true, false, ◌&&◌}
 use mathlib.Core.List.{List, [], ◌∷◌, ◌++◌, Memᴰ}
 use Prim.Native.Nat.{ℕ, zero, suc, ◌+◌, max}
 use lib.Dec.{eqb, ltb}
 use lib.ListN.{length}
-use Rattle.common.specs.Outcome.{Outcome, refused, given, Step, after, if◌then◌else◌}
+use Rattle.common.specs.Outcome.{Outcome, refused, given, Step, after}
 use Rattle.common.specs.Runs.{Table, placed}
 use Rattle.spp_steps.specs.Model as Spp
 use Rattle.spp_steps.specs.Model.{Quad, Op, Exit, Early}

@@ -1,4 +1,5 @@
 -- The bytes of an answer determine its words, and its numbers below 2^64 (specs/RunSpec: PrintedSpec).
+use Rattle.std.specs.Prelude.{if◌then◌else◌}
 use mathlib.Core.Path.{◌≡◌, refl, sym, ◌∙◌, ap, ap₂}
 use native.Mathlib.Omega.{arith}
 use mathlib.Core.Bool.{Bool, true, false}
@@ -8,7 +9,6 @@ use Prim.Native.Nat.{ℕ, zero, suc, ◌+◌, ◌*◌, ◌/◌, ◌%◌, ◌^◌
 use lib.Dec.{eqb, ltb}
 use borrow.Author.Tests.{eqb-true}
 use Rattle.common.specs.Packets.{Packet, end, bit}
-use Rattle.common.specs.Outcome.{if◌then◌else◌}
 use Rattle.spp_steps.proofs.Laws.{by_test}
 use Rattle.netkat.specs.Strings.{Str, str}
 use Rattle.netkat.specs.Search.{Verdict, yes, no, spent}

@@ -1,4 +1,5 @@
 -- 4 and 5: a line is refused with one of them, when it is read, exactly if it meets the condition (specs/Conditions: ReadSpec).
+use Rattle.std.specs.Prelude.{if◌then◌else◌}
 use mathlib.Core.Path.{◌≡◌, refl, sym, ◌∙◌, ap}
 use native.Mathlib.Omega.{arith}
 use mathlib.Core.Logic.{◌⊎◌, inl, inr, ⊎_elim}
@@ -10,7 +11,6 @@ use Prim.Native.Nat.{ℕ}
 use lib.Dec.{eqb, ltb}
 use lib.ListN.{get_or}
 use borrow.Author.Tests.{ltb-true, ltb-false}
-use Rattle.common.specs.Outcome.{if◌then◌else◌}
 use Rattle.book_construct_steps.specs.Lines as Lines
 use Rattle.book_construct_steps.specs.Lines.{Line}
 use Rattle.book_steps.specs.Reader as Reader

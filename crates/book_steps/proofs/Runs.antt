@@ -1,4 +1,5 @@
 -- A run from any point in order is as specs/RunSpec says (RunClaim): its lines one after the other, no other result, one way only, `empty` and `live` alike.
+use Rattle.std.specs.Prelude.{if◌then◌else◌}
 use mathlib.Core.Path.{◌≡◌, refl, sym, ◌∙◌, ap, ap₂, subst}
 use native.Mathlib.Omega.{arith}
 use mathlib.Core.Logic.{◌↔◌, ◌⊎◌, inl, inr, ⊎_elim}
@@ -11,7 +12,7 @@ use lib.ListN.{length, get_or}
 use lib.Pow.{pow_mono}
 use borrow.Author.Tests.{leb-true, le-leb}
 use Rattle.common.specs.Packets.{packets, any, Set, inhabited}
-use Rattle.common.specs.Outcome.{Outcome, refused, given, after, if◌then◌else◌}
+use Rattle.common.specs.Outcome.{Outcome, refused, given, after}
 use Rattle.common.proofs.Follow.{given_of, given_same}
 use Rattle.common.specs.Runs.{placed}
 use Rattle.netkat.specs.Strings.{Str}

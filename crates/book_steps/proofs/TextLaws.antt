@@ -1,4 +1,5 @@
 -- A number below 2^64 that is written is read again as it was: its digits are a number by 01's form.
+use Rattle.std.specs.Prelude.{if◌then◌else◌}
 use mathlib.Core.Path.{◌≡◌, refl, sym, ◌∙◌, ap, subst}
 use mathlib.Core.Bool.{Bool, true, false, ◌&&◌}
 use mathlib.Core.List.{List, [], ◌∷◌, ◌++◌, append_assoc, append-nil}
@@ -7,7 +8,6 @@ use Prim.Native.Nat.{ℕ, zero, suc, ◌+◌, ◌*◌, ◌-◌, ◌/◌, ◌%◌
 use native.Mathlib.Omega.{arith}
 use lib.Dec.{leb, ltb}
 use borrow.Author.Tests.{lt-ltb, le-leb, ltb-true, ltb-false}
-use Rattle.common.specs.Outcome.{if◌then◌else◌}
 use Rattle.book_steps.specs.Text.{digit, digits, reading, plain, number, decimal_by, decimal}
 
 reading_append : (n : ℕ) (v w : List ℕ) → reading n (v ++ w) ≡ reading (reading n v) w

@@ -2,10 +2,9 @@
 -- share of 2^N in thousandths (01: "the half rounded up", 63 for 1 of 16; changed by (iii) below). `pruned`: line, number of transitions; each `pair`: target state number, packet pairs in the label.
 -- 02 (i): "A query `why a` prints a string of the state in words: `from 01 by 01 10 to 10`, bits with field 0 first, `-` for a packet without fields; without hops, `by` is left out; an empty state prints `none`."
 -- 02 (iii): "Halves go to the even thousandth. One of 16 now shares 62, three of 16 share 188. The half is decided over whole numbers, for every count and total."
-use Rattle.std.specs.Prelude.{◌≡◌, List, [], ◌∷◌, ◌++◌, map, ℕ, zero, suc, ◌+◌, ◌*◌, ◌-◌, ◌/◌, ◌%◌, ◌^◌, ◌≤◌, ltb, length}
+use Rattle.std.specs.Prelude.{◌≡◌, List, [], ◌∷◌, ◌++◌, map, ℕ, zero, suc, ◌+◌, ◌*◌, ◌-◌, ◌/◌, ◌%◌, ◌^◌, ◌≤◌, ltb, length, if◌then◌else◌}
 use Rattle.std.proofs.Math.Option.{Option, none, some}
 use Rattle.common.specs.Packets.{Packet, end, bit}
-use Rattle.common.specs.Outcome.{if◌then◌else◌}
 use Rattle.netkat.specs.Strings.{Str}
 use Rattle.netkat.specs.Search.{Verdict, yes, no, spent}
 use Rattle.book_steps.specs.Text.{bytes, decimal}

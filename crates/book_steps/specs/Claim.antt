@@ -2,9 +2,9 @@
 -- (the lines of a run), Demands (what answers and tables mean), Conditions (when each number is returned). Definitions
 -- and statements only; proofs/Claim proves them. Of the outcome's own definitions only `outcome` is named, and only to
 -- say that it comes to just this.
-use Rattle.std.specs.Prelude.{◌≡◌, List, [], ◌∷◌, ◌++◌, ℕ, ◌*◌, ◌/◌, ◌^◌, ◌≤◌, ◌<◌, eqb, ltb, length, get_or, replicate}
+use Rattle.std.specs.Prelude.{◌≡◌, List, [], ◌∷◌, ◌++◌, ℕ, ◌*◌, ◌/◌, ◌^◌, ◌≤◌, ◌<◌, eqb, ltb, length, get_or, replicate, if◌then◌else◌}
 use Rattle.std.proofs.Math.Option.{Option, none, some}
-use Rattle.common.specs.Outcome.{given, if◌then◌else◌}
+use Rattle.common.specs.Outcome.{given}
 use Rattle.common.specs.Runs.{Table, table}
 use Rattle.sp_steps.specs.Model as Sp
 use Rattle.spp_steps.specs.Model as Spp

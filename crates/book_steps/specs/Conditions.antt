@@ -1,11 +1,11 @@
 -- 01: "A number is returned under its condition and under no other." Its condition at every place of the steps where a
 -- number arises, in both directions. 4 and 5 are met when a line is read. (1, 2, 3, 26, 27, the header's 20 and 21:
 -- Claim.)
-use Rattle.std.specs.Prelude.{◌≡◌, ◌↔◌, ◌⊎◌, Bool, true, false, ℕ, ◌+◌, ◌*◌, ◌/◌, ◌%◌, max, min, ◌≤◌, ◌<◌, eqb, length, get_or}
+use Rattle.std.specs.Prelude.{◌≡◌, ◌↔◌, ◌⊎◌, Bool, true, false, ℕ, ◌+◌, ◌*◌, ◌/◌, ◌%◌, max, min, ◌≤◌, ◌<◌, eqb, length, get_or, if◌then◌else◌}
 use mathlib.Core.List.{List, [], ◌∷◌, ◌++◌, Memᴰ}
 use Rattle.std.proofs.Math.Option.{Option, none}
 use Rattle.common.specs.Packets.{any}
-use Rattle.common.specs.Outcome.{refused, given, return, ◌>>=◌, if◌then◌else◌}
+use Rattle.common.specs.Outcome.{refused, given, return, ◌>>=◌}
 use Rattle.common.specs.Runs.{Table}
 use Rattle.netkat_steps.specs.ListSteps.{Edge, enter_in}
 use Rattle.netkat_steps.specs.Handles as Handles

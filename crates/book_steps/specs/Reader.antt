@@ -1,9 +1,8 @@
 -- 01, "The book and its answers", with `why` of 02 (i) and `next` of (iv): the first line is `fields N budget B`; then instructions. What a line says, if it is of its form (else refusal 1 or 3), and then, by what the
 -- lines before it are, refusal 4 (a named line is not an earlier constructor line) or 5 (f is N or more, or v above 1).
-use Rattle.std.specs.Prelude.{◌&&◌, List, [], ◌∷◌, ℕ, eqb, ltb, get_or}
+use Rattle.std.specs.Prelude.{◌&&◌, List, [], ◌∷◌, ℕ, eqb, ltb, get_or, if◌then◌else◌}
 use Rattle.std.proofs.Math.Option.{Option, none, some}
 use Prim.Native.String.{String}
-use Rattle.common.specs.Outcome.{if◌then◌else◌}
 use Rattle.book_construct_steps.specs.Lines as Lines
 use Rattle.book_construct_steps.specs.Lines.{Line, Constant, Bit, Single, Pair, Listed, zero, one, all, dup, top, test, set, or, and, xor, minus, seq, until, union, inter, not, star, next}
 use Rattle.book_steps.specs.Text.{bytes, same, number}

@@ -1,8 +1,8 @@
 -- 01, promise 1: one book with one set of lent lengths has one outcome: number, line, output, each word of each table. This is it, as a function of the two: the book is read
 -- and run line by line, from zeroed tables. 01, "Who can cause a refusal", Order: 26; header 1, 2, 20, 21, 27; then by line 3, 4, 5, then whichever the steps meet first, 27 last.
-use Rattle.std.specs.Prelude.{List, [], ◌∷◌, ◌++◌, map, ℕ, zero, suc, ◌+◌, ◌/◌, ltb, leb, length, replicate}
+use Rattle.std.specs.Prelude.{List, [], ◌∷◌, ◌++◌, map, ℕ, zero, suc, ◌+◌, ◌/◌, ltb, leb, length, replicate, if◌then◌else◌}
 use Rattle.std.proofs.Math.Option.{Option, none, some}
-use Rattle.common.specs.Outcome.{Outcome, refused, given, Step, return, ◌>>=◌, if◌then◌else◌}
+use Rattle.common.specs.Outcome.{Outcome, refused, given, Step, return, ◌>>=◌}
 use Rattle.common.specs.Runs.{Table, table}
 use Rattle.netkat_steps.specs.ListSteps.{Edge}
 use Rattle.sp_steps.specs.Model as Sp

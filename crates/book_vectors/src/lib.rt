@@ -1,1 +1,2 @@
 // Books with their whole outcomes: no function of its own, only specs/.
+#![tactic(auto)]

@@ -1,9 +1,10 @@
 -- How to show something of what a step gives: follow its code. `step` and `call` go past a `>>=`, `branch` into an `if`. Assumes nothing.
+use Rattle.std.specs.Prelude.{if◌then◌else◌}
 use mathlib.Core.Path.{◌≡◌, refl, subst}
 use mathlib.Core.Bool.{Bool, true, false}
 use Prim.Native.Nat.{ℕ}
 use native.Mathlib.Omega.{arith}
-use Rattle.common.specs.Outcome.{Outcome, refused, given, Step, after, Gives, refusal, gives, if◌then◌else◌}
+use Rattle.common.specs.Outcome.{Outcome, refused, given, Step, after, Gives, refusal, gives}
 
 pub it_gives : {Store B : Type 0} {Q : Store → B → Type 0} {σ : Store} {b : B} → Gives Q (given σ b) → Q σ b
 it_gives (gives q) = q

@@ -26,8 +26,3 @@ module _ {Store A : Type 0} where
 pub data Gives {Store A : Type 0} (Q : Store → A → Type 0) : Outcome Store A → Type 0 where
   refusal : {number : ℕ} → Gives Q (refused number)
   gives : {σ : Store} {a : A} → Q σ a → Gives Q (given σ a)
-
-infix 3 if◌then◌else◌
-abbrev pub if◌then◌else◌ : {A : Type 0} → Bool → A → A → A
-if true then a else b = a
-if false then a else b = b

@@ -1,5 +1,6 @@
 -- The second run works out live sets that the first has stored. Each state that it reaches has its epsilon, list and live set stored in the first, so epsilon and delta go as before; it is refused only where it lacks a packet node
 -- (20) or a pending entry (24): "unless working out live sets again makes it meet 20 or 24".
+use Rattle.std.specs.Prelude.{if◌then◌else◌}
 use mathlib.Core.Path.{◌≡◌, refl, sym, ◌∙◌, ap, subst}
 use mathlib.Core.Logic.{⊎_elim}
 use mathlib.Core.Bool.{Bool, true, false}
@@ -11,7 +12,7 @@ use lib.Dec.{eqb, ltb}
 use lib.ListN.{length}
 use borrow.Author.Tests.{ltb-true}
 use Rattle.common.specs.Packets.{Set, Relation, any}
-use Rattle.common.specs.Outcome.{Outcome, refused, given, Step, return, ◌>>=◌, Gives, refusal, gives, if◌then◌else◌}
+use Rattle.common.specs.Outcome.{Outcome, refused, given, Step, return, ◌>>=◌, Gives, refusal, gives}
 use Rattle.common.specs.Runs as Runs
 use Rattle.common.specs.Runs.{Table, placed}
 use Rattle.netkat_steps.specs.ListSteps.{Edge}

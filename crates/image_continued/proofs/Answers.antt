@@ -1,4 +1,5 @@
 -- 02 (ii), in words of the calls: a book continued after a read gets every answer that the uninterrupted run gave, its lent lengths no smaller, unless working out live sets again makes it meet 20 or 24 (specs/Answers).
+use Rattle.std.specs.Prelude.{if◌then◌else◌}
 use mathlib.Core.Path.{◌≡◌, refl, sym, ◌∙◌, ap, subst}
 use mathlib.Core.Logic.{◌⊎◌, inl, inr}
 use mathlib.Core.Bool.{Bool, true, false}
@@ -8,7 +9,7 @@ use Prim.Native.Nat.{ℕ, zero, suc, ◌+◌, ◌*◌, ◌-◌, ◌<◌}
 use native.Mathlib.Omega.{arith}
 use lib.Dec.{ltb}
 use lib.ListN.{length}
-use Rattle.common.specs.Outcome.{Outcome, refused, given, if◌then◌else◌}
+use Rattle.common.specs.Outcome.{Outcome, refused, given}
 use Rattle.common.specs.Runs.{Table}
 use Rattle.aut_steps.specs.Tables.{limits01}
 use Rattle.aut_steps.specs.Ascending.{All}
@@ -42,6 +43,7 @@ use Rattle.image_continued.proofs.Lengths.{stripped_same, room_for, Lengthened, 
 positive : {n : ℕ} (xs : List ℕ) → All (λ v. 0 < v) xs → Memᴰ n xs → 0 < n
 positive (x ∷ xs) a (Memᴰ.head e) = omega (arith, a.0, e)
 positive (x ∷ xs) a (Memᴰ.tail m) = positive xs a.1 m
+positive {n = n} [] a x'' = elim x'' [ ]
 
 line_number : {S : Setting} {c : Point S} {number : ℕ} → LineRefusal S c number → 0 < number
 line_number (LineRefusal.too_many n e) = omega arith

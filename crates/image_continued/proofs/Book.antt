@@ -1,4 +1,5 @@
 -- A book begins in a place of a run, and its lines keep it one; the run of a text and of what follows it is one run. So specs/Continued's ContinuedClaim.
+use Rattle.std.specs.Prelude.{if◌then◌else◌}
 use mathlib.Core.Path.{◌≡◌, refl, sym, ◌∙◌, ap, subst}
 use mathlib.Core.Bool.{Bool, true, false}
 use mathlib.Core.List.{List, [], ◌∷◌, ◌++◌}
@@ -8,7 +9,7 @@ use native.Mathlib.Omega.{arith}
 use lib.Dec.{eqb, ltb, leb}
 use lib.ListN.{length, length-append}
 use borrow.Author.Tests.{ltb-false, leb-true}
-use Rattle.common.specs.Outcome.{Outcome, refused, given, Gives, refusal, gives, if◌then◌else◌}
+use Rattle.common.specs.Outcome.{Outcome, refused, given, Gives, refusal, gives}
 use Rattle.common.proofs.Follow.{refused≢given}
 use Rattle.common.specs.Runs.{Table, table}
 use Rattle.netkat.specs.Rules.{Rule}

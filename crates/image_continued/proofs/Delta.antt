@@ -1,4 +1,5 @@
 -- delta in two runs with the same records, of which the second has no more stored: where the first gives a list, the second gives the same one, with the same records again. It cannot meet 25: it has no more transitions.
+use Rattle.std.specs.Prelude.{if◌then◌else◌}
 use mathlib.Core.Path.{◌≡◌, refl, sym, ◌∙◌, ap, subst}
 use mathlib.Core.Bool.{Bool, true, false}
 use mathlib.Core.Logic.{◌⊎◌, inl, inr, ⊎_elim}
@@ -8,7 +9,7 @@ use native.Mathlib.Omega.{arith}
 use lib.Dec.{eqb, ltb}
 use lib.ListN.{length, get_or}
 use borrow.Author.Tests.{eqb-true, eqb-false, eq-eqb, ne_eqb, ltb-true, ltb-false}
-use Rattle.common.specs.Outcome.{Outcome, refused, given, Step, after, ◌>>=◌, Gives, refusal, if◌then◌else◌}
+use Rattle.common.specs.Outcome.{Outcome, refused, given, Step, after, ◌>>=◌, Gives, refusal}
 use Rattle.common.specs.Outcome as Outcomes
 use Rattle.common.proofs.Follow.{given_of, if_given, given_same, refused≢given}
 use Rattle.common.specs.Runs.{Table, placed}

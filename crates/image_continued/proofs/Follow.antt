@@ -1,8 +1,9 @@
 -- How to follow two runs side by side: past a `>>=`, into a test, on a part of the tables.
+use Rattle.std.specs.Prelude.{if◌then◌else◌}
 use mathlib.Core.Path.{◌≡◌, refl, sym, subst}
 use mathlib.Core.Bool.{Bool, true, false}
 use Prim.Native.Nat.{ℕ}
-use Rattle.common.specs.Outcome.{Outcome, given, Step, after, Gives, gives, if◌then◌else◌}
+use Rattle.common.specs.Outcome.{Outcome, given, Step, after, Gives, gives}
 use Rattle.common.specs.Runs.{placed}
 use Rattle.aut_free.proofs.Alike as Alike
 use Rattle.aut_free.proofs.Alike.{AlikeRuns}

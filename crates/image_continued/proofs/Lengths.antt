@@ -1,4 +1,5 @@
 -- 02 (ii), "its lent lengths no smaller": a book that comes to a place comes to the same place in longer tables (book_longer); without what was worked out, in tables of one length, the two are equal.
+use Rattle.std.specs.Prelude.{if◌then◌else◌}
 use mathlib.Core.Path.{◌≡◌, refl, sym, ◌∙◌, ap, ap₂, subst}
 use mathlib.Core.Bool.{Bool}
 use mathlib.Core.List.{List, [], ◌∷◌, ◌++◌}
@@ -7,7 +8,7 @@ use Prim.Native.Nat.{ℕ, zero, suc, ◌+◌, ◌*◌, ◌-◌, ◌≤◌}
 use native.Mathlib.Omega.{arith}
 use lib.ListN.{length, take}
 use borrow.Author.Tests.{ltb-false, le-ltb}
-use Rattle.common.specs.Outcome.{Outcome, given, if◌then◌else◌}
+use Rattle.common.specs.Outcome.{Outcome, given}
 use Rattle.common.specs.Runs.{Table, table}
 use Rattle.aut_steps.specs.Tables.{aut}
 use Rattle.aut_delta_steps.specs.Delta.{store}

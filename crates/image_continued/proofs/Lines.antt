@@ -1,4 +1,5 @@
 -- A line of the book in two runs (specs/Continued: LineContinued, ConstructorContinued).
+use Rattle.std.specs.Prelude.{if◌then◌else◌}
 use mathlib.Core.Path.{◌≡◌, refl, sym, ◌∙◌, ap, subst}
 use mathlib.Core.Bool.{Bool, true, false, ◌&&◌, not}
 use mathlib.Core.List.{List, [], ◌∷◌, ◌++◌, map, append_assoc}
@@ -8,7 +9,7 @@ use native.Mathlib.Omega.{arith}
 use lib.Dec.{leb, ltb}
 use lib.ListN.{length, length-append}
 use borrow.Author.Tests.{le-leb, leb-true, ltb-true, lt-ltb}
-use Rattle.common.specs.Outcome.{Outcome, refused, given, if◌then◌else◌}
+use Rattle.common.specs.Outcome.{Outcome, refused, given}
 use Rattle.common.specs.Runs.{placed}
 use Rattle.netkat.specs.Rules.{Rule, In}
 use Rattle.netkat_steps.specs.ListSteps.{Edge}
@@ -219,6 +220,7 @@ module _ (S : Setting) where
                 (matched_more (matched_grown t.right.worked.good d.onward.right.went.grown matched') (both (record { state = d.right.state; strings = d.right.strings then alike_means b }))))
                 (λ i. c.lines i ++ some (d.one i) ∷ []) c.output,
           )
+          go {o = o} (lacks {number = number} x3) = elim x3 [ ]
 
       -- a query
       asked_follow : (k : Query) (a x : ℕ) {r : Rule N} → Same N p.tables.base.aut x r → (InStep mode → reworks_query k (live_at p x) (live_at q x) ≡ false) → Follows (Allowed mode) (λ p' q' x y. (x ≡ y) × Continues S lent mode before p' q') (execute S (asks k a x) p) (execute S (asks k a x) q)
@@ -259,7 +261,7 @@ module _ (S : Setting) where
       resolved : {z : Resolved ℕ} {w : Resolved (Rule N)} → Meaning.Alike N p.tables.base.aut z w → Meaning.Alike N q.tables.base.aut z w → (InStep mode → reworks_resolved z p q ≡ false)
           → Follows (Allowed mode) (λ p' q' x y. (x ≡ y) × Continues S lent mode before p' q') (execute S z p) (execute S z q)
       resolved (Meaning.makes a) (Meaning.makes b) f = follows_never (made_follow a b)
-      resolved (Meaning.asks {q = k} {a} {x} s) (Meaning.asks s') f = asked_follow k a x s f
+      resolved (Meaning.asks {q = k} {a} {x} s) b f = asked_follow k a x s f
       resolved Meaning.refuses b f = stops
 
       same_lines : (s : Instruction) → resolve N q.lines s ≡ resolve N p.lines s

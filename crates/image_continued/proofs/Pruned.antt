@@ -1,11 +1,12 @@
 -- `delta_pruned` in two runs: after the live sets, the list is the same, and each label is cut by one set, so the same relation nodes are made and the same edges given.
+use Rattle.std.specs.Prelude.{if◌then◌else◌}
 use mathlib.Core.Path.{◌≡◌, refl, sym, ◌∙◌, ap, ap₂, subst}
 use mathlib.Core.Logic.{⊎_elim}
 use mathlib.Core.List.{List, [], ◌∷◌, Memᴰ}
 use Prim.Native.Nat.{ℕ, ◌-◌, ◌<◌}
 use native.Mathlib.Omega.{arith}
 use lib.Dec.{eqb}
-use Rattle.common.specs.Outcome.{Outcome, refused, given, Step, Gives, gives, if◌then◌else◌}
+use Rattle.common.specs.Outcome.{Outcome, refused, given, Step, Gives, gives}
 use Rattle.common.specs.Runs as Runs
 use Rattle.common.specs.Runs.{Table, placed}
 use Rattle.common.proofs.Runs.{StableSpec}

@@ -1,4 +1,5 @@
 -- The rest of the text in two runs (specs/Continued: RunContinued).
+use Rattle.std.specs.Prelude.{if◌then◌else◌}
 use mathlib.Core.Path.{◌≡◌, refl, sym, ◌∙◌, ap}
 use mathlib.Core.Logic.{◌⊎◌, inl, inr}
 use mathlib.Core.Bool.{Bool, true, false, ◌&&◌, not}
@@ -7,7 +8,7 @@ use mathlib.Core.Option.{Option, none, some}
 use Prim.Native.Nat.{ℕ, zero, suc}
 use lib.Dec.{leb, ltb}
 use lib.ListN.{length}
-use Rattle.common.specs.Outcome.{Outcome, refused, given, Gives, refusal, gives, if◌then◌else◌}
+use Rattle.common.specs.Outcome.{Outcome, refused, given, Gives, refusal, gives}
 use borrow.Author.Tests.{ltb-true, lt-ltb}
 use Rattle.spp_steps.proofs.Laws.{by_test, false_true}
 use Rattle.book_construct_steps.specs.Lines.{make}

@@ -1,11 +1,12 @@
 -- `is_empty` in two runs: the second takes the same pairs, state by state and set by set, and comes to the same verdict and count; or it lacks a packet node (20), where packet nodes do not go in step.
+use Rattle.std.specs.Prelude.{if◌then◌else◌}
 use mathlib.Core.Path.{◌≡◌, refl, sym, ◌∙◌, ap, subst}
 use mathlib.Core.Bool.{Bool, true, false}
 use mathlib.Core.List.{List, [], ◌∷◌, map}
 use Prim.Native.Nat.{ℕ, zero, suc, ◌<◌}
 use lib.Dec.{eqb, ltb}
 use lib.ListN.{length}
-use Rattle.common.specs.Outcome.{return, ◌>>=◌, if◌then◌else◌}
+use Rattle.common.specs.Outcome.{return, ◌>>=◌}
 use Rattle.netkat.specs.Lists.{State, Transition}
 use Rattle.netkat_steps.specs.ListSteps.{Edge, Are}
 use Rattle.netkat_steps.specs.Handles as Handles

@@ -1,4 +1,5 @@
 -- `live_packets`, the work list, in two runs: the sets of the states reached grow alike, so the same states are looked at again. The second may lack a packet node (20), where packet nodes do not go in step.
+use Rattle.std.specs.Prelude.{if◌then◌else◌}
 use mathlib.Core.Path.{◌≡◌, refl, sym, ◌∙◌, ap, subst}
 use mathlib.Core.Bool.{Bool, true, false}
 use mathlib.Core.List.{List, [], ◌∷◌, Memᴰ}
@@ -7,7 +8,7 @@ use native.Mathlib.Omega.{arith}
 use lib.Dec.{eqb, ltb}
 use lib.ListN.{length}
 use Rattle.common.specs.Packets.{Relation}
-use Rattle.common.specs.Outcome.{given, return, ◌>>=◌, if◌then◌else◌}
+use Rattle.common.specs.Outcome.{given, return, ◌>>=◌}
 use Rattle.netkat.specs.Lists.{State, Transition}
 use Rattle.netkat_steps.specs.ListSteps.{Edge, Are}
 use Rattle.spp_steps.specs.Wf.{Denotes}

@@ -1,5 +1,6 @@
 -- 02 (ii), "in blocks of 512 bytes": what is written as blocks is taken, and its words are read back; and an image whose blocks are taken is what
 -- is written of its words.
+use Rattle.std.specs.Prelude.{if◌then◌else◌}
 use mathlib.Core.Path.{◌≡◌, refl, sym, ap, ap₂, ◌∙◌}
 use mathlib.Core.List.{List, [], ◌∷◌, ◌++◌, append_assoc}
 use mathlib.Core.Bool.{Bool, true, false}
@@ -10,7 +11,6 @@ use borrow.Author.Tests.{eq-eqb}
 use lib.Dec.{T, eqb, eqb→eq}
 use lib.ListN.{length, get_or, take, drop, length-append, length-take, length-drop, take-append-drop, drop_of_length-le}
 use lib.Seq.{take_at, drop_at, get_or-take, get_or-drop, drop-drop, drop-cons, take-add, ext_get_or}
-use Rattle.common.specs.Outcome.{if◌then◌else◌}
 use Rattle.image_form.specs.Form.{half, wide, half_at, wide_at, check, wides, front, block, blocks, word_at, front_at, verify}
 use Rattle.image_form.specs.Damage.{Bytes}
 use Rattle.image_form.proofs.Bytes.{bytes_nil, bytes_append, half_bytes, wide_bytes, half_join, wide_join, half_high, half_low, wide_split, wide_small}

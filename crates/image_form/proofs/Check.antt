@@ -1,6 +1,7 @@
 -- 02 (ii): "One altered byte, or two unequal bytes exchanged within the first 510, is found." Of all 512 bytes of a block: the sum less the stored
 -- check then changes by u × m, with u from 1 to 255 and m from 1 to 766, and that is no multiple of 65,521. The only fact about this number that is
 -- computed: of 3 to 255 none divides its double.
+use Rattle.std.specs.Prelude.{if◌then◌else◌}
 use mathlib.Core.Path.{◌≡◌, refl, sym, ap, subst, ◌∙◌}
 use mathlib.Core.Logic.{◌⊎◌, inl, inr, ◌≢◌}
 use mathlib.Core.List.{List, [], ◌∷◌}
@@ -13,7 +14,6 @@ use borrow.Author.Tests.{ltb-true, ltb-false, eqb-true, eqb-false}
 use lib.Dec.{T, eqb, ltb}
 use lib.ListN.{length, get_or, set, take, drop, length-set, length-drop}
 use lib.Seq.{take-set-le, take-set-lt, drop-set-add, get_or-set_same, get_or-set_other, get_or-take, get_or-drop, length-take-le}
-use Rattle.common.specs.Outcome.{if◌then◌else◌}
 use Rattle.image_form.specs.Form.{half_at, weighed, check, front_at, verify}
 use Rattle.image_form.specs.Damage.{Bytes, Found, exchange, DamageIsFound}
 use Rattle.image_form.proofs.Blocks.{verify_check}

@@ -1,11 +1,11 @@
 -- Computed blocks: those of the two smallest images, which of their bytes are found altered, and checks of given bytes.
+use Rattle.std.specs.Prelude.{if◌then◌else◌}
 use mathlib.Core.Path.{refl}
 use mathlib.Core.List.{List, [], ◌∷◌}
 use mathlib.Core.Option.{none, some}
 use Prim.Native.Nat.{ℕ, zero, suc, ◌/◌, ◌%◌}
 use lib.Dec.{eqb}
 use lib.ListN.{set, replicate}
-use Rattle.common.specs.Outcome.{if◌then◌else◌}
 use Rattle.common.specs.Rows.{Row, row, Hold}
 use Rattle.image_form.specs.Form.{half_at, wide_at, weighed, check, wides, block, blocks, word_at, verify}
 use Rattle.image_form.specs.Damage.{exchange}

@@ -1,8 +1,7 @@
 -- 02 (ii): "an image in blocks of 512 bytes: block number from 0 (2 bytes), 127 words, then 2 bytes of check, all big-endian. The check is the sum of byte i × (i + 1) over bytes 0 to 509, modulo 65,521."
 -- Written as a block, and read back at a place of an image's bytes.
-use Rattle.std.specs.Prelude.{List, [], ◌∷◌, ◌++◌, ℕ, zero, suc, ◌+◌, ◌*◌, ◌/◌, ◌%◌, eqb, get_or, take, drop}
+use Rattle.std.specs.Prelude.{List, [], ◌∷◌, ◌++◌, ℕ, zero, suc, ◌+◌, ◌*◌, ◌/◌, ◌%◌, eqb, get_or, take, drop, if◌then◌else◌}
 use Rattle.std.proofs.Math.Option.{Option, none, some}
-use Rattle.common.specs.Outcome.{if◌then◌else◌}
 
 -- ---- numbers as bytes, the high byte first
 

@@ -1,4 +1,5 @@
 -- 02 (ii), "each record again by its constructor": of a record that fits, the constructor leaves the operands as they are and is just the interning.
+use Rattle.std.specs.Prelude.{if◌then◌else◌}
 use mathlib.Core.Path.{◌≡◌, refl, sym, ◌∙◌, ap, ap₂, subst}
 use mathlib.Core.Bool.{Bool, true, false, ◌&&◌, ◌||◌}
 use mathlib.Core.List.{List, [], ◌∷◌, ◌++◌, append-nil, append_assoc}
@@ -8,7 +9,7 @@ use native.Mathlib.Omega.{arith}
 use lib.Dec.{eqb}
 use lib.ListN.{length, get_or, length-append}
 use borrow.Author.Tests.{eqb-true, eqb-false, eq-eqb, ne_eqb, lt-ltb, le-ltb, le-leb}
-use Rattle.common.specs.Outcome.{Outcome, refused, given, Step, return, after, ◌>>=◌, if◌then◌else◌}
+use Rattle.common.specs.Outcome.{Outcome, refused, given, Step, return, after, ◌>>=◌}
 use Rattle.common.specs.Runs.{Table, placed}
 use Rattle.spp_steps.specs.Model as Spp
 use Rattle.spp_steps.specs.Model.{Exit, out, exit, follow}

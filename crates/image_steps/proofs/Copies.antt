@@ -1,4 +1,5 @@
 -- 02 (ii), "from block 1, without gaps, come those records in that order, states by words 0 to 3", "a member with its state": what the tables hold when some of the records are made: the image's words, one by one.
+use Rattle.std.specs.Prelude.{if◌then◌else◌}
 use mathlib.Core.Path.{◌≡◌, refl, sym, ◌∙◌, ap, ap₂, subst}
 use mathlib.Core.Bool.{Bool, true, false}
 use mathlib.Core.List.{List, [], ◌∷◌, ◌++◌}
@@ -10,7 +11,6 @@ use lib.Dec.{ltb}
 use lib.ListN.{length, get_or, take}
 use lib.Seq.{length-take-le, ext_get_or, get_or-take}
 use borrow.Author.Tests.{ltb-true, ltb-false}
-use Rattle.common.specs.Outcome.{if◌then◌else◌}
 use Rattle.common.specs.Runs.{Table}
 use Rattle.sp_steps.specs.Model as Sp
 use Rattle.sp_steps.proofs.Make.{by_test}

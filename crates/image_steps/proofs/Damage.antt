@@ -1,5 +1,6 @@
 -- 02 (ii): "One altered byte, or two unequal bytes exchanged within the first 510, is found": it refuses with 30 or 31. Two images that agree before block b are read alike up to there; if block b of the second is not taken, it is
 -- refused with that number.
+use Rattle.std.specs.Prelude.{if◌then◌else◌}
 use mathlib.Core.Path.{◌≡◌, refl, sym, ◌∙◌, ap, ap₂, subst}
 use mathlib.Core.Bool.{Bool, true, false, ◌&&◌, ◌||◌}
 use mathlib.Core.List.{List, [], ◌∷◌, ◌++◌}
@@ -11,7 +12,7 @@ use lib.Dec.{eqb, ltb, leb}
 use lib.ListN.{length, get_or, set, length-set}
 use lib.Seq.{get_or-set_other}
 use borrow.Author.Tests.{ltb-true, ltb-false}
-use Rattle.common.specs.Outcome.{Outcome, refused, given, Step, return, after, if◌then◌else◌}
+use Rattle.common.specs.Outcome.{Outcome, refused, given, Step, return, after}
 use Rattle.common.proofs.Follow.{refused≢given}
 use Rattle.sp_steps.proofs.Make.{by_test}
 use Rattle.sp_steps.specs.Model as Sp

@@ -1,11 +1,11 @@
 -- 02 (ii), "cannot be made of those before it": the depth that the reader finds by first children is the depth of the handle, in well-formed tables.
+use Rattle.std.specs.Prelude.{if◌then◌else◌}
 use mathlib.Core.Path.{◌≡◌, refl, sym, ◌∙◌, ap, subst}
 use mathlib.Core.Bool.{Bool, false}
 use Prim.Native.Nat.{ℕ, zero, suc, ◌+◌, ◌-◌, ◌/◌, ◌%◌, ◌≤◌, ◌<◌}
 use native.Mathlib.Omega.{arith}
 use lib.Dec.{ltb}
 use borrow.Author.Tests.{ltb-true, ltb-false, lt-ltb, le-ltb}
-use Rattle.common.specs.Outcome.{if◌then◌else◌}
 use Rattle.common.specs.Runs.{Table}
 use Rattle.sp_steps.proofs.Word.{flip_flip}
 use Rattle.sp_steps.specs.Model as Sp

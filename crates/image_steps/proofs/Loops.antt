@@ -1,5 +1,6 @@
 -- 02 (ii), "then block by block .. for a record ending there": how to follow the reading of an image. What a step comes to: a number with a reason, or a place of which something holds. What holds of each record's step holds of a run of records, and of the
 -- whole; and records each of which is made are made.
+use Rattle.std.specs.Prelude.{if◌then◌else◌}
 use mathlib.Core.Path.{◌≡◌, refl, sym, ◌∙◌, ap, ap₂, subst}
 use mathlib.Core.Bool.{Bool, true, false, ◌||◌, not}
 use mathlib.Core.List.{List}
@@ -11,7 +12,7 @@ use native.Mathlib.Nat.{eq-or-lt_of_le, mul-le-mul_left}
 use lib.Dec.{eqb, ltb}
 use lib.ListN.{length}
 use borrow.Author.Tests.{leb-true, eqb-true, eqb-false, eq-eqb, ne_eqb, ltb-true, ltb-false}
-use Rattle.common.specs.Outcome.{Outcome, refused, given, Step, after, if◌then◌else◌}
+use Rattle.common.specs.Outcome.{Outcome, refused, given, Step, after}
 use Rattle.aut_steps.specs.Tables.{Limits}
 use Rattle.aut_steps.proofs.Facts.{and_true}
 use Rattle.image_form.specs.Form.{verify, half_at, check, front_at}

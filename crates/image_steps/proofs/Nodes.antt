@@ -1,5 +1,6 @@
 -- 02 (ii): "each record again by its constructor .. and wants the same number", of packet nodes and relation nodes. A node's record that is taken leaves the table well formed, with all that was there, and node i has
 -- the children that the record says; it is new, or it was there. It is refused with 32, or with 20 (21) where it has no room.
+use Rattle.std.specs.Prelude.{if◌then◌else◌}
 use mathlib.Core.Path.{◌≡◌, refl, sym, ◌∙◌, ap, ap₂, subst}
 use mathlib.Core.Bool.{Bool, true, false, ◌&&◌}
 use mathlib.Core.List.{List}
@@ -9,7 +10,7 @@ use native.Mathlib.Omega.{arith}
 use lib.Dec.{eqb, ltb}
 use lib.ListN.{get_or}
 use borrow.Author.Tests.{eqb-true, eqb-false, ltb-true, ltb-false, leb-true}
-use Rattle.common.specs.Outcome.{Outcome, refused, given, if◌then◌else◌}
+use Rattle.common.specs.Outcome.{Outcome, refused, given}
 use Rattle.common.proofs.Follow.{given_of, given_same, refused≢given}
 use Rattle.common.specs.Runs.{Table}
 use Rattle.sp_steps.specs.Word.{flip}

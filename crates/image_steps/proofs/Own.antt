@@ -1,4 +1,5 @@
 -- 02 (ii), an own image is read back: a place in order, saved and read, is the same tables without what was worked out (specs/Claims: OwnIsRead).
+use Rattle.std.specs.Prelude.{if◌then◌else◌}
 use mathlib.Core.Path.{◌≡◌, refl, sym, ◌∙◌, ap, ap₂}
 use mathlib.Core.Bool.{Bool, true, false, ◌&&◌, ◌||◌}
 use mathlib.Core.List.{List, [], ◌∷◌, ◌++◌}
@@ -10,7 +11,7 @@ use lib.Dec.{eqb, ltb, leb}
 use lib.ListN.{length, get_or, take}
 use lib.Seq.{take-suc, take-length}
 use borrow.Author.Tests.{eqb-true, eq-eqb, le-ltb, le-leb}
-use Rattle.common.specs.Outcome.{refused, given, if◌then◌else◌}
+use Rattle.common.specs.Outcome.{refused, given}
 use Rattle.common.specs.Runs.{Table, table, placed}
 use Rattle.sp_steps.specs.Model as Sp
 use Rattle.spp_steps.specs.Model as Spp

@@ -1,4 +1,5 @@
 -- 02 (ii), the words of an own image, as they are read: block 0 is its head, the records have their words, every block passes its check, unused words are 0.
+use Rattle.std.specs.Prelude.{if◌then◌else◌}
 use mathlib.Core.Path.{◌≡◌, refl, ◌∙◌, ap, ap₂, subst}
 use mathlib.Core.Bool.{Bool, true, false, ◌&&◌}
 use mathlib.Core.List.{List, [], ◌∷◌}
@@ -8,7 +9,7 @@ use native.Mathlib.Omega.{arith}
 use lib.Dec.{eqb, ltb}
 use lib.ListN.{length, get_or, get_or-eq_default}
 use borrow.Author.Tests.{eqb-true, eqb-false, eq-eqb, le-leb}
-use Rattle.common.specs.Outcome.{given, return, if◌then◌else◌}
+use Rattle.common.specs.Outcome.{given, return}
 use Rattle.spp_steps.proofs.Laws.{by_test}
 use Rattle.aut_steps.specs.Tables.{Limits, limits01, Aut}
 use Rattle.aut_steps.specs.Ascending.{All}

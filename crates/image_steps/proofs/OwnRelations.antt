@@ -1,4 +1,5 @@
 -- 02 (ii), "each record again by its constructor", of relation nodes of an own image: the nodes of tables in order, made one after another from the constants on, are made as they were (as OwnNodes shows of packet nodes).
+use Rattle.std.specs.Prelude.{if◌then◌else◌}
 use mathlib.Core.Path.{◌≡◌, refl, sym, ◌∙◌, ap, ap₂, subst}
 use mathlib.Core.Bool.{Bool, true, false, ◌&&◌}
 use mathlib.Core.List.{List, [], ◌∷◌, ◌++◌}
@@ -10,7 +11,7 @@ use lib.Dec.{ltb}
 use lib.ListN.{length, get_or, take, length-replicate, get_or-eq_default}
 use lib.Seq.{get_or-take, length-take-le}
 use borrow.Author.Tests.{eq-eqb, lt-ltb, le-ltb, ltb-true, ltb-false}
-use Rattle.common.specs.Outcome.{Outcome, refused, given, if◌then◌else◌}
+use Rattle.common.specs.Outcome.{Outcome, refused, given}
 use Rattle.common.proofs.Follow.{given_of}
 use Rattle.common.specs.Runs.{Table, table}
 use Rattle.spp_steps.specs.Model.{Quad, quad, kid, kids, seek, cap, room, put, put_if, found_if, mk, Constants, constants}

@@ -1,4 +1,5 @@
 -- 02 (ii): what is read is in order, with the rules of its records and the image's words in its tables; and the numbers with which an image is refused.
+use Rattle.std.specs.Prelude.{if◌then◌else◌}
 use mathlib.Core.Path.{◌≡◌, refl, sym, ◌∙◌, ap, ap₂, subst}
 use mathlib.Core.Bool.{Bool, true, false, ◌&&◌, ◌||◌}
 use mathlib.Core.List.{List, [], ◌∷◌, ◌++◌, map, Memᴰ}
@@ -9,7 +10,7 @@ use native.Mathlib.Omega.{arith}
 use lib.Dec.{eqb, ltb, leb}
 use lib.ListN.{length}
 use borrow.Author.Tests.{leb-true, eqb-true}
-use Rattle.common.specs.Outcome.{Outcome, refused, given, Step, if◌then◌else◌}
+use Rattle.common.specs.Outcome.{Outcome, refused, given, Step}
 use Rattle.common.proofs.Follow.{given_of}
 use Rattle.common.specs.Runs.{Table, table, placed}
 use Rattle.sp_steps.specs.Model as Sp
@@ -77,6 +78,7 @@ r_state : {number : ℕ} → Memᴰ number (32 ∷ 23 ∷ 22 ∷ []) → Refusin
 r_state (Memᴰ.head e) = r32 e
 r_state (Memᴰ.tail (Memᴰ.head e)) = r23 e
 r_state (Memᴰ.tail (Memᴰ.tail (Memᴰ.head e))) = r22 e
+r_state {number = number} (mathlib.Core.List.Memᴰ.tail (mathlib.Core.List.Memᴰ.tail (mathlib.Core.List.Memᴰ.tail x12))) = elim x12 [ ]
 
 -- ---- lines
 

@@ -1,4 +1,5 @@
 -- 02 (ii), a state's record made again: unless it is refused, it is a new state with these very words and members, and the tables are in order; and with which numbers it is refused.
+use Rattle.std.specs.Prelude.{if◌then◌else◌}
 use mathlib.Core.Path.{◌≡◌, refl, sym, ◌∙◌, ap, ap₂, subst}
 use mathlib.Core.Bool.{Bool, true, false, ◌||◌}
 use mathlib.Core.List.{List, [], ◌∷◌, Memᴰ}
@@ -8,7 +9,7 @@ use lib.Dec.{eqb, ltb}
 use lib.ListN.{length, get_or}
 use lib.Seq.{length-sets}
 use borrow.Author.Tests.{eqb-true, eqb-false, eq-eqb, ne_eqb, ltb-true, le-ltb}
-use Rattle.common.specs.Outcome.{Outcome, refused, given, Step, if◌then◌else◌}
+use Rattle.common.specs.Outcome.{Outcome, refused, given, Step}
 use Rattle.common.proofs.Follow.{refused≢given}
 use Rattle.common.specs.Runs.{Table, table, placed}
 use Rattle.sp_steps.proofs.Make.{by_test, false_true}
@@ -220,10 +221,16 @@ wanted_is N L n (given υ j) {τ} {i} e = go (eqb j n) refl e
     go true q e = let s : j ≡ i = cc in (e, sym s ∙ eqb-true j n q)
     go false q e = absurd (refused≢given e)
 
+new_at : {σ : Aut} {xs : List ℕ} {k x y e : ℕ} {m' : Table} (o : Outcome Aut ℕ) → Interns σ xs k x y e m' o → (τ : Aut) (i : ℕ) → o ≡ given τ i → i ≡ states σ
+    → (τ ≡ aut σ.nodes (table (put4 σ.states.words (states σ) k x y e) (states σ + 1)) m') × (room_s σ.states ≡ true)
+new_at o (stands {i = j} l h) τ i p q = let s : j ≡ i = cc in absurd (omega arith)
+new_at o (no_members a b c) τ i p q = absurd (refused≢given p)
+new_at o (no_state a) τ i p q = absurd (refused≢given p)
+new_at o (new r) τ i p q = (cc, r)
+
 new_is : {σ τ : Aut} {xs : List ℕ} {k x y e i : ℕ} {m' : Table} → Interns σ xs k x y e m' (given τ i) → i ≡ states σ
     → (τ ≡ aut σ.nodes (table (put4 σ.states.words (states σ) k x y e) (states σ + 1)) m') × (room_s σ.states ≡ true)
-new_is (stands l h) q = absurd (omega arith)
-new_is (new r) q = (refl, r)
+new_is {τ} {i} r q = new_at (given τ i) r τ i refl q
 
 pub replay_came : {N : ℕ} {L : Limits} {A : Type 0} {P : Aut → A → Type 0} {step : Step Aut A} {σ τ : Aut} {a : A} → Replays N L P step σ (given τ a) → ExtAut σ τ × Memos σ τ × P τ a
 replay_came (comes g m p r) = (g, m, p)

@@ -1,8 +1,8 @@
 -- 02 (ii), the calls: `save` runs a book and writes its image; `resume` reads an image and runs a book that goes on from it; `resume_save` does both. "An image above 65,536 blocks, or longer than its output, meets 27, line 0,
 -- before any byte. The continued book has no header line, prints no `fields`, and its instructions count on." 26 comes first in each. 02 (iv): "Images of (ii) do not know kind 10: it refuses with 33, line 0, before 27, when one is wanted of tables that hold
 -- this kind."
-use Rattle.std.specs.Prelude.{Bool, false, ◌||◌, List, [], ℕ, zero, suc, ◌+◌, ◌*◌, ◌-◌, eqb, ltb, length}
-use Rattle.common.specs.Outcome.{Outcome, refused, given, if◌then◌else◌}
+use Rattle.std.specs.Prelude.{Bool, false, ◌||◌, List, [], ℕ, zero, suc, ◌+◌, ◌*◌, ◌-◌, eqb, ltb, length, if◌then◌else◌}
+use Rattle.common.specs.Outcome.{Outcome, refused, given}
 use Rattle.aut_steps.specs.Tables.{NEXT, kind_of, limits01}
 use Rattle.book_steps.specs.Reader.{Header}
 use Rattle.book_steps.specs.Run.{Lent, Setting, RunState, run, instructions, setting_of, Result, refusal, success, Came, came, failed, came_of, ran_book, finished}

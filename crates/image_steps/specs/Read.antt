@@ -1,9 +1,9 @@
 -- 02 (ii), how an image is read: "It refuses before any book line, with line 0: 30 for a length of 0 or no multiple of 512; then block by block 30 for a wrong number, 31 for a wrong check, 32 for a record ending there that
 -- cannot be made of those before it, comes out differently or meets 6 or 8 (20 to 23 where it has no room, constants last in block 0; a member with its state, a spare one in the last block), or a length (in block 0) not by
 -- its counts, fewer nodes than the constants, a header word out of range or unused word not 0."
-use Rattle.std.specs.Prelude.{Bool, true, false, ◌&&◌, ◌||◌, not, List, [], ◌∷◌, ◌++◌, ℕ, zero, suc, ◌+◌, ◌*◌, ◌-◌, ◌/◌, ◌%◌, eqb, ltb, leb, length}
+use Rattle.std.specs.Prelude.{Bool, true, false, ◌&&◌, ◌||◌, not, List, [], ◌∷◌, ◌++◌, ℕ, zero, suc, ◌+◌, ◌*◌, ◌-◌, ◌/◌, ◌%◌, eqb, ltb, leb, length, if◌then◌else◌}
 use Rattle.std.proofs.Math.Option.{Option, none, some}
-use Rattle.common.specs.Outcome.{Outcome, refused, given, Step, return, ◌>>=◌, if◌then◌else◌}
+use Rattle.common.specs.Outcome.{Outcome, refused, given, Step, return, ◌>>=◌}
 use Rattle.common.specs.Runs.{Table, table, placed}
 use Rattle.sp_steps.specs.Model as Sp
 use Rattle.spp_steps.specs.Model as Spp

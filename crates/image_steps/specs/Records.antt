@@ -1,8 +1,8 @@
 -- 02 (ii): "Reading makes a new book's constants, then each record again by its constructor (an intersection by `mk_intersect_n_base`) and wants the same number"; "32 for a record ending there that cannot be made of
 -- those before it, comes out differently or meets 6 or 8 (20 to 23 where it has no room ..)". A record is right if its constructor would leave its operands as they are and give this very record; then it is made: by `mk`, or by
 -- the interning that is the constructor's last step. proofs/Constructors shows that this is what the constructor does.
-use Rattle.std.specs.Prelude.{Bool, true, false, ◌&&◌, ◌||◌, not, List, [], ◌∷◌, ℕ, zero, suc, ◌+◌, ◌-◌, ◌/◌, ◌%◌, max, eqb, ltb, leb, length}
-use Rattle.common.specs.Outcome.{Outcome, refused, given, Step, if◌then◌else◌}
+use Rattle.std.specs.Prelude.{Bool, true, false, ◌&&◌, ◌||◌, not, List, [], ◌∷◌, ℕ, zero, suc, ◌+◌, ◌-◌, ◌/◌, ◌%◌, max, eqb, ltb, leb, length, if◌then◌else◌}
+use Rattle.common.specs.Outcome.{Outcome, refused, given, Step}
 use Rattle.common.specs.Runs.{Table}
 use Rattle.sp_steps.specs.Model as Sp
 use Rattle.spp_steps.specs.Model as Spp

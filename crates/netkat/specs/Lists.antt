@@ -1,11 +1,10 @@
 -- 01, "Strings": delta: a string a,[h,..],z is in a state exactly if some transition's label relates a to h and h,[..],z is in its target.
 -- A transition list as what it means, over any targets; and aut.rs's operations on such lists, over any operations on the targets. Demand 2:
 -- labels to distinct targets are disjoint. Laws/Lists.antt has the law of each operation.
-use Rattle.std.specs.Prelude.{◌≡◌, ◌↔◌, ◌⊎◌, Bool, not, ◌||◌, T, ℕ, ◌<◌}
+use Rattle.std.specs.Prelude.{◌≡◌, ◌↔◌, ◌⊎◌, Bool, not, ◌||◌, T, ℕ, ◌<◌, if◌then◌else◌}
 use mathlib.Core.List.{List, [], ◌∷◌, Memᴰ}
 use Rattle.common.specs.Packets.{Packet, Relation}
 use Rattle.common.specs.Relations.{noneʳ, ◌∪ʳ◌, ◌∩ʳ◌, ◌∖ʳ◌, ∁ʳ, ◌⨾◌, nonempty}
-use Rattle.common.specs.Outcome.{if◌then◌else◌}
 use Rattle.netkat.specs.Strings.{Str}
 use Rattle.netkat.specs.Rules.{Language, Join}
 use Rattle.netkat.specs.Hops.{SameHops, Hop}

@@ -1,10 +1,9 @@
 -- 01, "Strings": live: the start packets of a state's strings. Pruned: each delta label cut to pairs whose second packet is live in the target;
 -- empty ones go. And what a work list over the states reached computes (`live_packets`). Laws/Live.antt proves that it is just that.
-use Rattle.std.specs.Prelude.{◌≡◌, ◌↔◌, ◌⊎◌, ◌&&◌, T, ℕ}
+use Rattle.std.specs.Prelude.{◌≡◌, ◌↔◌, ◌⊎◌, ◌&&◌, T, ℕ, if◌then◌else◌}
 use mathlib.Core.List.{List, [], ◌∷◌, Memᴰ}
 use Rattle.common.specs.Packets.{Packet, Set, Relation}
 use Rattle.common.specs.Relations.{starts, preimage, nonempty}
-use Rattle.common.specs.Outcome.{if◌then◌else◌}
 use Rattle.netkat.specs.Strings.{str}
 use Rattle.netkat.specs.Rules.{Language}
 use Rattle.netkat.specs.Hops.{IsEpsilon}

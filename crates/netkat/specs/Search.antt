@@ -1,8 +1,8 @@
 -- 01, "The book and its answers": the plain search of demand 3. It is fed the state, B, and each state's epsilon and transition list with its
 -- targets' numbers: epsilon is asked for first, and the list only where epsilon did not end the search. It works on sets of packets.
-use Rattle.std.specs.Prelude.{not, List, [], ◌∷◌, length, eqb, ℕ, zero, suc, max}
+use Rattle.std.specs.Prelude.{not, List, [], ◌∷◌, length, eqb, ℕ, zero, suc, max, if◌then◌else◌}
 use Rattle.common.specs.Packets.{Set, Relation, any, all, nothing, ◌∖◌, ◌∪◌, inhabited, image, relates}
-use Rattle.common.specs.Outcome.{Step, return, ◌>>=◌, if◌then◌else◌}
+use Rattle.common.specs.Outcome.{Step, return, ◌>>=◌}
 use Rattle.netkat.specs.Lists.{State, Transition}
 
 -- Where the search asks. To work out a state's epsilon or its list may make new states in the store, and may be refused. The list is walked by

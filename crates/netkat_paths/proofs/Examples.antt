@@ -1,4 +1,5 @@
 -- Computed picks for N = 2, from the sets of four states, and which of two strings comes first.
+use Rattle.std.specs.Prelude.{if◌then◌else◌}
 use mathlib.Core.Path.{refl}
 use mathlib.Core.Bool.{true, false, ◌&&◌, ◌||◌}
 use mathlib.Core.List.{List, [], ◌∷◌}
@@ -7,7 +8,6 @@ use lib.Dec.{eqb}
 use Prim.Native.Nat.{ℕ, zero, suc}
 use native.Mathlib.Omega.{arith}
 use Rattle.common.specs.Packets.{Packet, end, bit, packets, any, Set, Relation, inhabited, all}
-use Rattle.common.specs.Outcome.{if◌then◌else◌}
 use Rattle.common.specs.Relations.{same, noneʳ, allʳ, ◌∪ʳ◌, starts, preimage}
 use Rattle.common.specs.Rows.{Row, row, Hold}
 use Rattle.netkat.specs.Strings.{str}

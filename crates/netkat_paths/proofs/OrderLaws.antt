@@ -1,5 +1,6 @@
 -- Packets as numbers: below 2 ^ n, and each number at most once. `least` finds the least packet of a set, if it has one. The order on strings
 -- is total, so a set of strings has at most one picked string.
+use Rattle.std.specs.Prelude.{if◌then◌else◌}
 use mathlib.Core.Path.{◌≡◌, refl, sym, ap, ap₂, subst}
 use mathlib.Core.Logic.{◌⊎◌, inl, inr}
 use mathlib.Core.Bool.{Bool, true, false}
@@ -10,7 +11,6 @@ use lib.Dec.{T, ltb, ltb→lt, nltb→le}
 use Prim.Native.Nat.{ℕ, zero, suc, ◌^◌, ◌≤◌, ◌<◌}
 use native.Mathlib.Omega.{arith}
 use Rattle.common.specs.Packets.{Packet, end, bit, Set}
-use Rattle.common.specs.Outcome.{if◌then◌else◌}
 use Rattle.common.proofs.RelationLaws.{by_test, not_of}
 use Rattle.netkat.specs.Strings.{Str, str}
 use Rattle.netkat.specs.Rules.{Language}

@@ -1,5 +1,6 @@
 -- The pick from the sets is the picked string: from each packet the least hop from which the rest can still be had, to the one target that its
 -- label leads to, since the labels of a delta are disjoint.
+use Rattle.std.specs.Prelude.{if◌then◌else◌}
 use mathlib.Core.Path.{◌≡◌, refl, sym, ◌∙◌, ap, subst}
 use mathlib.Core.Logic.{◌⊎◌, inl, inr, ⊎_elim}
 use mathlib.Core.Bool.{Bool, true, false, not, ◌&&◌}
@@ -11,7 +12,6 @@ use lib.Dec.{T, ltb, ltb→lt, nltb→le}
 use Prim.Native.Nat.{ℕ, zero, suc, ◌≤◌, ◌<◌}
 use native.Mathlib.Omega.{arith}
 use Rattle.common.specs.Packets.{Packet, Set, Relation}
-use Rattle.common.specs.Outcome.{if◌then◌else◌}
 use Rattle.common.proofs.PacketLaws.{both, each}
 use Rattle.netkat.specs.Strings.{Str, str}
 use Rattle.netkat.specs.Rules.{Language}

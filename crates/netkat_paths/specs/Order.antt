@@ -1,9 +1,8 @@
 -- 02 (i): "It picks the fewest hops, then the smallest start, then the hops in order, then the end, each read as a binary number." Packets
 -- as numbers, the least packet of a set, the order on strings, and when a string is the picked one of a set of strings.
-use Rattle.std.specs.Prelude.{◌≡◌, Bool, true, false, List, [], ◌∷◌, ◌++◌, ℕ, zero, suc, ◌+◌, ◌^◌, ◌<◌, length}
+use Rattle.std.specs.Prelude.{◌≡◌, Bool, true, false, List, [], ◌∷◌, ◌++◌, ℕ, zero, suc, ◌+◌, ◌^◌, ◌<◌, length, if◌then◌else◌}
 use Rattle.std.proofs.Math.Option.{Option, none, some}
 use Rattle.common.specs.Packets.{Packet, end, bit, Set}
-use Rattle.common.specs.Outcome.{if◌then◌else◌}
 use Rattle.netkat.specs.Strings.{Str}
 use Rattle.netkat.specs.Rules.{Language}
 

@@ -1,9 +1,8 @@
 -- 02 (i): "the starts of strings with at most k hops", and the pick from these sets: the least start, then hop by hop the least packet from which
 -- the rest can still be had, then the least end.
-use Rattle.std.specs.Prelude.{◌&&◌, List, [], ◌∷◌, ◌↔◌, ℕ, zero, suc, ◌≤◌, T, ltb, length}
+use Rattle.std.specs.Prelude.{◌&&◌, List, [], ◌∷◌, ◌↔◌, ℕ, zero, suc, ◌≤◌, T, ltb, length, if◌then◌else◌}
 use Rattle.std.proofs.Math.Option.{Option, none, some}
 use Rattle.common.specs.Packets.{Packet, Set, Relation}
-use Rattle.common.specs.Outcome.{if◌then◌else◌}
 use Rattle.netkat.specs.Strings.{Str, str}
 use Rattle.netkat.specs.Rules.{Language}
 use Rattle.netkat.specs.Lists.{State, Transition}

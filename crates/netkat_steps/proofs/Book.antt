@@ -1,6 +1,7 @@
 -- 01's book: what specs/ promises of it. `empty 2` says `no`, so the rule has a string; a work list over the states 2 and 3 computes the live sets,
 -- which have 1 packet of 2 at state 2 (`live 2 1 500`); the pruned list is one transition, to state 3, whose label has 1 pair (`pruned 2 1`,
 -- `pair 3 1`). So what Promise.antt and Live.antt ask can be had.
+use Rattle.std.specs.Prelude.{if◌then◌else◌}
 use mathlib.Core.Path.{◌≡◌, refl, sym, ap, subst}
 use mathlib.Core.Logic.{◌⊎◌, inl, inr}
 use mathlib.Core.Bool.{Bool, true, false, ◌||◌}
@@ -13,7 +14,7 @@ use native.Mathlib.Omega.{arith}
 use Rattle.common.specs.Packets.{Packet, packets, Set, Relation, inhabited}
 use Rattle.common.proofs.PacketLaws.{either, or_left, or_right}
 use Rattle.common.specs.Relations.{same, noneʳ, ◌⨾◌, starts, preimage, nonempty}
-use Rattle.common.specs.Outcome.{Outcome, refused, given, if◌then◌else◌}
+use Rattle.common.specs.Outcome.{Outcome, refused, given}
 use Rattle.common.proofs.Follow.{given_of}
 use Rattle.netkat.specs.Strings.{Str}
 use Rattle.netkat.specs.Rules.{Rule, relation, sequence, dup, Language, In}

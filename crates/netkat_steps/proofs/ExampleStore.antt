@@ -1,11 +1,12 @@
 -- A store for the list operations of ListSteps.antt: the list of the relations made and the list of the rules made. A label and a state are places
 -- in them, and each operation puts one more at the end. So what is asked of labels and states can be had (ExampleStoreLaws.antt).
+use Rattle.std.specs.Prelude.{if◌then◌else◌}
 use mathlib.Core.List.{List, [], ◌∷◌, ◌++◌}
 use lib.ListN.{length, get_or}
 use Prim.Native.Nat.{ℕ}
 use Rattle.common.specs.Packets.{Relation}
 use Rattle.common.specs.Relations.{noneʳ, ◌∪ʳ◌, ◌∩ʳ◌, ◌∖ʳ◌, ∁ʳ, ◌⨾◌, nonempty}
-use Rattle.common.specs.Outcome.{Step, given, if◌then◌else◌}
+use Rattle.common.specs.Outcome.{Step, given}
 use Rattle.netkat.specs.Rules.{Rule, relation, union, intersection, difference, sequence, complement, top, none, also}
 use Rattle.netkat.specs.Lists.{State}
 use Rattle.netkat_steps.specs.ListSteps.{Label, Operations}

@@ -1,4 +1,5 @@
 -- The store of ExampleStore.antt fits: what ListSteps.antt asks can be had.
+use Rattle.std.specs.Prelude.{if◌then◌else◌}
 use mathlib.Core.Path.{◌≡◌, refl, sym, ◌∙◌, ap, ap₂, subst, fun_ext}
 use mathlib.Core.Bool.{Bool, true, false}
 use mathlib.Core.Logic.{◌↔◌}
@@ -11,7 +12,7 @@ use native.Mathlib.Omega.{arith}
 use Rattle.common.specs.Packets.{Packet, Relation}
 use Rattle.common.specs.Relations.{noneʳ, ◌∪ʳ◌, ◌∩ʳ◌, ◌∖ʳ◌, ∁ʳ, ◌⨾◌, nonempty}
 use Rattle.common.proofs.RelationLaws.{nonempty_of}
-use Rattle.common.specs.Outcome.{given, Gives, gives, if◌then◌else◌}
+use Rattle.common.specs.Outcome.{given, Gives, gives}
 use Rattle.netkat.specs.Strings.{Str}
 use Rattle.netkat.specs.Rules.{Rule, relation, top, Language, In}
 use Rattle.netkat_steps.specs.ListSteps.{Label, Readings, Later, MadeLabel, MadeState, LawfulOps}

@@ -1,5 +1,6 @@
 -- 01's example, and a small one for each thing that is easily done otherwise: what the search, delta, the live set and the pruned list come to is
 -- computed.
+use Rattle.std.specs.Prelude.{if◌then◌else◌}
 use mathlib.Core.Path.{◌≡◌, refl}
 use mathlib.Core.Bool.{Bool, true, false, not, ◌&&◌}
 use mathlib.Core.List.{List, [], ◌∷◌}
@@ -7,7 +8,7 @@ use lib.Dec.{eqb}
 use Prim.Native.Nat.{ℕ, ◌+◌}
 use Rattle.common.specs.Packets.{Packet, end, bit, packets, Set, Relation, inhabited, image, relates}
 use Rattle.common.specs.Relations.{same, noneʳ, allʳ, ◌⨾◌, starts, preimage, nonempty}
-use Rattle.common.specs.Outcome.{Outcome, refused, given, return, if◌then◌else◌}
+use Rattle.common.specs.Outcome.{Outcome, refused, given, return}
 use Rattle.netkat.specs.Rules.{Rule, relation, union, intersection, sequence, complement, dup, top, none, also}
 use Rattle.netkat.specs.Lists.{State, Transition, to, place_in, place, st_singleton, split, insert, insert_each, insert_pairs, st_union, st_intersect, st_complement, st_postcompose, st_precompose}
 use Rattle.netkat.specs.Search.{Automaton, Log, Verdict, yes, no, spent, walk, turn, run, search}

@@ -1,5 +1,6 @@
 -- The laws of the list operations over a store: unless refused, each makes a list that is a delta of the right strings, with disjoint labels and
 -- ascending targets, and all that the store had means what it meant.
+use Rattle.std.specs.Prelude.{if◌then◌else◌}
 use mathlib.Core.Path.{◌≡◌, refl, sym, subst}
 use mathlib.Core.Logic.{◌↔◌, ◌⊎◌, inl, inr}
 use mathlib.Core.Bool.{Bool, true, false, ◌&&◌, ◌||◌}
@@ -14,7 +15,7 @@ use Rattle.common.specs.Packets.{Packet, Relation}
 use Rattle.common.proofs.PacketLaws.{both, each, either, or_left, or_right}
 use Rattle.common.proofs.RelationLaws.{not_of, not_to}
 use Rattle.common.specs.Relations.{allʳ, ◌∪ʳ◌, ◌∩ʳ◌, ◌∖ʳ◌, ∁ʳ, ◌⨾◌}
-use Rattle.common.specs.Outcome.{Outcome, given, Step, return, Gives, refusal, gives, if◌then◌else◌}
+use Rattle.common.specs.Outcome.{Outcome, given, Step, return, Gives, refusal, gives}
 use Rattle.common.proofs.Follow.{call, branch}
 use Rattle.netkat.specs.Strings.{Str, str}
 use Rattle.netkat.specs.Rules.{Language, Join}
@@ -630,7 +631,7 @@ module _ {n : ℕ} {𝓞 : Operations} (𝓡 : Readings n 𝓞) where
             call (fits.union_fits M.later.good (since.label _ c is) M.is) (λ σ₃ sum₃ U.
             let since₃ = later_trans since U.later in
             let x-since = later_trans M.later U.later in
-            call (insert_true x m U.later.good (x-since.known x X.known)
+            call (insert_true x m {B = λ v. Holds σ₀ s v × ¬ Holds σ₀ s' v} U.later.good (x-since.known x X.known)
             (λ w. (
               λ y. let (u, v) = (X.strings w).0 ((x-since.same x X.known w).1 y) in ((f.same s k w).1 u, λ t. v ((f.same s' k' w).0 t)),
               λ y. (x-since.same x X.known w).0 ((X.strings w).1 ((f.same s k w).0 y.0, λ t. y.1 ((f.same s' k' w).1 t))),

@@ -1,5 +1,6 @@
 -- A search over handles that is not refused reports the verdict and the count of the plain search. Each step of the machine is followed
 -- (`step`, `call`, `branch`) beside the plain search's, with the handles standing for the sets.
+use Rattle.std.specs.Prelude.{if◌then◌else◌}
 use mathlib.Core.Path.{◌≡◌, refl, sym, ◌∙◌, ap, subst}
 use mathlib.Core.Bool.{Bool, true, false, not}
 use mathlib.Core.List.{List, [], ◌∷◌}
@@ -7,7 +8,7 @@ use lib.Dec.{eqb, ltb}
 use lib.ListN.{length}
 use Prim.Native.Nat.{ℕ, zero, suc}
 use Rattle.common.specs.Packets.{Set, Relation, inhabited, image, relates}
-use Rattle.common.specs.Outcome.{refused, given, return, after, Gives, refusal, gives, if◌then◌else◌}
+use Rattle.common.specs.Outcome.{refused, given, return, after, Gives, refusal, gives}
 use Rattle.netkat.specs.Search
 use Rattle.netkat.specs.Lists.{State, Transition}
 use Rattle.netkat.specs.Search.{Automaton, Pair, Log, yes, no, spent, fresh_of, skip, expand, walked, seen_at}
@@ -93,6 +94,8 @@ module _ {n : ℕ} (𝓒 : Machine) (𝓐 : Automaton n) (𝓡 : Reading 𝓒 �
       call (put_sim Z.agrees l.target (g₂.known link.target l.known) (Z.grows.is next (image x t.label) P.right) (alike_map (entry_grows 𝓡 g₂) es) Z.right) (λ σ₃ entries₃ E.
       let g₃ = grows_trans 𝓡 g₂ E.grows in
       walk_sim links list σ₀ σ₃ τ h x entries₃ (Search.put t.target (image x t.label) pending) (grows_trans 𝓡 g g₃) E.agrees (g₃.is h x i) (alike_map (link_grows 𝓡 g₃) ls) E.right)))
+  walk_sim [] (t ∷ list) σ₀ σ τ h x entries pending g a i x13 es = elim x13 [ ]
+  walk_sim (link ∷ links) [] σ₀ σ τ h x entries pending g a i x10 es = elim x10 [ ]
 
   -- ---- a turn
 
@@ -195,6 +198,10 @@ module _ {n : ℕ} (𝓒 : Machine) (𝓐 : Automaton n) (𝓡 : Reading 𝓒 �
           let same : Search.run 𝓐 (suc left) (pair ∷ pending) log τ ≡ Search.run 𝓐 left pending₁ log₁ τ₁ = rw q in
           subst (λ o. Gives (Reports 𝓡 o) (Handles.run 𝓒 left entries₁ seen₁ (suc count) σ₁)) (sym same) (rec entries₁ pending₁ seen₁ log₁ τ₁ m₁ m₁.entries_are (c₁ ∙ ap suc c))
       after_turn σ₁ found (τ₁, log₁, q, c₁, a₁) rec = gives {a = (no, suc count)} (record { store = τ₁; log = log₁; came_to = rw q; counted = c₁ ∙ ap suc c; agrees = a₁ })
+  run_sim zero σ [] (pair ∷ pending) seen count log τ m x9 c = elim x9 [ ]
+  run_sim zero σ (entry ∷ rest) [] seen count log τ m x8 c = elim x8 [ ]
+  run_sim (suc left) σ [] (pair ∷ pending) seen count log τ m x6 c = elim x6 [ ]
+  run_sim (suc left) σ (entry ∷ rest) [] seen count log τ m x7 c = elim x7 [ ]
 
   -- ---- the promise
 

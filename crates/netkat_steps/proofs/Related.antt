@@ -1,10 +1,11 @@
 -- The operations on transition lists, followed in two runs: with what relates the steps that they call, they are related. Said once, for two stores, two sets of operations, and any relation P between steps that `return` and `>>=` keep.
+use Rattle.std.specs.Prelude.{if◌then◌else◌}
 use mathlib.Core.Path.{◌≡◌, subst}
 use mathlib.Core.Bool.{Bool, true, false}
 use mathlib.Core.List.{List, [], ◌∷◌}
 use Prim.Native.Nat.{ℕ}
 use lib.Dec.{eqb}
-use Rattle.common.specs.Outcome.{Step, return, ◌>>=◌, if◌then◌else◌}
+use Rattle.common.specs.Outcome.{Step, return, ◌>>=◌}
 use Rattle.netkat_steps.specs.ListSteps.{Edge, edge, Operations, leads_to, unite, enter_in, place, st_singleton, split, insert, insert_each, insert_pairs, st_union, meet_of, st_intersect, Summed, subtract_row, subtract_rows, rest_of, st_difference, st_xor, complement_of, cover_all, st_complement, followed_by, st_postcompose, st_precompose, met_with, st_intersect_expr}
 use Rattle.netkat_steps.specs.ListSteps as St
 

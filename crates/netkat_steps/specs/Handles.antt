@@ -2,9 +2,9 @@
 -- included; the first pair is pending before the budget is looked at. The search as a program does it: a packet set and a relation are handles
 -- into a store, each operation on them may make new nodes or be refused, and the pending list has a capacity (24). Its steps are those of
 -- `is_empty`, in its order. Laws/Refined.antt: where it is not refused, it reports the plain search's verdict and count.
-use Rattle.std.specs.Prelude.{◌≡◌, Bool, not, List, [], ◌∷◌, length, eqb, ltb, ℕ, zero, suc}
+use Rattle.std.specs.Prelude.{◌≡◌, Bool, not, List, [], ◌∷◌, length, eqb, ltb, ℕ, zero, suc, if◌then◌else◌}
 use Rattle.common.specs.Packets.{Set, Relation, all, nothing, ◌∖◌, ◌∪◌, inhabited, image, relates}
-use Rattle.common.specs.Outcome.{Outcome, refused, given, Step, return, ◌>>=◌, Gives, if◌then◌else◌}
+use Rattle.common.specs.Outcome.{Outcome, refused, given, Step, return, ◌>>=◌, Gives}
 use Rattle.netkat.specs.Lists.{State, Transition}
 use Rattle.netkat.specs.Search.{Automaton, Log, Verdict, yes, no, spent, search as plainSearch}
 

@@ -2,10 +2,10 @@
 -- operation on either may make new records or be refused. 01: a transition list, intermediate ones included, that passes its limit is refused
 -- (9); targets ascend. The order of steps is the Rust's. proofs/ListSteps.antt has the law of each: a layer above only has to say what its own
 -- operations on labels and states do (`LawfulOps`).
-use Rattle.std.specs.Prelude.{◌↔◌, ◌⊎◌, Bool, List, [], ◌∷◌, length, T, eqb, ltb, ℕ}
+use Rattle.std.specs.Prelude.{◌↔◌, ◌⊎◌, Bool, List, [], ◌∷◌, length, T, eqb, ltb, ℕ, if◌then◌else◌}
 use Rattle.common.specs.Packets.{Packet, Relation, any}
 use Rattle.common.specs.Relations.{noneʳ, ◌∪ʳ◌, ◌∩ʳ◌, ◌∖ʳ◌, ∁ʳ, ◌⨾◌}
-use Rattle.common.specs.Outcome.{refused, Step, return, ◌>>=◌, Gives, if◌then◌else◌}
+use Rattle.common.specs.Outcome.{refused, Step, return, ◌>>=◌, Gives}
 use Rattle.netkat.specs.Strings.{Str}
 use Rattle.netkat.specs.Rules.{Language, Join}
 use Rattle.netkat.specs.Lists.{State, Transition, to, IsDelta, Ascending}

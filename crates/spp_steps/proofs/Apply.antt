@@ -1,4 +1,5 @@
 -- 01, port order, step 2, boolean operations: each exit is right, at depth 0 there is always one, and so every operation means what it should. One law for all of them.
+use Rattle.std.specs.Prelude.{if◌then◌else◌}
 use mathlib.Core.Path.{◌≡◌, refl, sym, ap}
 use mathlib.Core.Bool.{Bool, true, false, not as flip, ◌&&◌, ◌||◌, or_self, or-true, or-false, or_comm, and_self, and-true, and-false, and_comm, and-not_self}
 use mathlib.Core.Logic.{◌⊎◌, ⊎_elim}
@@ -8,7 +9,7 @@ use native.Mathlib.Omega.{arith}
 use lib.Dec.{eqb, ltb}
 use borrow.Author.Tests.{eqb-true, ltb-true}
 use Rattle.common.specs.Packets.{Packet, end, Relation}
-use Rattle.common.specs.Outcome.{Step, return, if◌then◌else◌}
+use Rattle.common.specs.Outcome.{Step, return}
 use Rattle.common.specs.Runs.{Table}
 use Rattle.spp_steps.proofs.Exact.{Exact, exact_bind, exact_map, exact_read, exact_return}
 use Rattle.spp_steps.specs.Model.{Quad, quad, kids, mem, zero_at, top_at, Op, union, intersect, xor, difference, not, Exit, out, on, sorted, exit, follow, each, down, apply}

@@ -1,7 +1,7 @@
 -- 01, port order, step 2 (spp.rs): the steps between packet sets and relations, on a store of both. fwd, bwd, push and pull make packet nodes only (20),
 -- ifwd relation nodes only (21), has_image none.
-use Rattle.std.specs.Prelude.{Bool, true, false, ◌||◌, ℕ, zero, suc, eqb}
-use Rattle.common.specs.Outcome.{given, Step, return, ◌>>=◌, if◌then◌else◌}
+use Rattle.std.specs.Prelude.{Bool, true, false, ◌||◌, ℕ, zero, suc, eqb, if◌then◌else◌}
+use Rattle.common.specs.Outcome.{given, Step, return, ◌>>=◌}
 use Rattle.common.specs.Runs.{Table, placed}
 use Rattle.sp_steps.specs.Model as Sp
 use Rattle.spp_steps.specs.Model.{Quad, quad, kids, mk, zero_at, one_at, top_at}

@@ -1,9 +1,9 @@
 -- 01, port order, step 2 (spp.rs): the steps on the store of relations. A node has four words, the handles x00, x01, x10, x11; the first index is the
 -- bit of the first packet. Handle h of depth 1 or more is node h - 2; of depth 0 there are 0, nothing, and 1, the one pair. A step that needs a node
 -- for which the table has no room is refused with 21.
-use Rattle.std.specs.Prelude.{Bool, true, false, ◌&&◌, ◌||◌, List, ℕ, zero, suc, ◌+◌, ◌*◌, ◌-◌, ◌/◌, eqb, ltb, length, get_or, set}
+use Rattle.std.specs.Prelude.{Bool, true, false, ◌&&◌, ◌||◌, List, ℕ, zero, suc, ◌+◌, ◌*◌, ◌-◌, ◌/◌, eqb, ltb, length, get_or, set, if◌then◌else◌}
 use Rattle.common.specs.Packets.{Packet, end, bit}
-use Rattle.common.specs.Outcome.{refused, given, Step, return, ◌>>=◌, if◌then◌else◌}
+use Rattle.common.specs.Outcome.{refused, given, Step, return, ◌>>=◌}
 use Rattle.common.specs.Runs.{Table, table}
 
 -- ---- nodes

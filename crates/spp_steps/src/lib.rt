@@ -1,1 +1,2 @@
 // Relations on packets: their steps and laws. No function of its own, only specs/.
+#![tactic(auto)]

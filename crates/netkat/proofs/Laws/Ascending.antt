@@ -1,4 +1,5 @@
 -- Where targets are numbers, compared by number, every list that aut.rs's operations make has ascending targets.
+use Rattle.std.specs.Prelude.{if◌then◌else◌}
 use mathlib.Core.Path.{◌≡◌, refl, sym, subst}
 use mathlib.Core.Logic.{◌⊎◌, inl, inr}
 use mathlib.Core.Bool.{Bool, true, false}
@@ -10,7 +11,6 @@ use Prim.Native.Nat.{ℕ, ◌<◌}
 use native.Mathlib.Omega.{arith}
 use Rattle.common.specs.Packets.{Relation}
 use Rattle.common.specs.Relations.{noneʳ, ◌∪ʳ◌, ◌∩ʳ◌, ◌∖ʳ◌}
-use Rattle.common.specs.Outcome.{if◌then◌else◌}
 use Rattle.netkat.specs.Lists.{State, Transition, to, Above, Ascending, Targets, void, place_in, place, st_singleton, split, insert, insert_each, insert_pairs}
 
 -- Two targets are one if their numbers are, and stand by their numbers.

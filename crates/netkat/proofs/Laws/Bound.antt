@@ -1,5 +1,6 @@
 -- No search takes more than 1 + S × P × T pairs. Each pair taken or pending, but for the first, was put there by a transition of a list
 -- walked for a packet that was new at its state: the pairs are at pair_bound 1 + (packets seen, over the states expanded) × T.
+use Rattle.std.specs.Prelude.{if◌then◌else◌}
 use mathlib.Core.Path.{◌≡◌, refl}
 use mathlib.Core.Bool.{Bool, true, false}
 use mathlib.Core.List.{List, [], ◌∷◌}
@@ -9,7 +10,6 @@ use Prim.Native.Nat.{ℕ, suc, ◌+◌, ◌*◌, ◌^◌, max, ◌≤◌, ◌<�
 use native.Mathlib.Nat.{mul-le-mul, mul-le-mul_right, le-max_left, le-max_right, le_refl}
 use native.Mathlib.Omega.{arith}
 use Rattle.common.specs.Packets.{Set, packets, any, inhabited, image}
-use Rattle.common.specs.Outcome.{if◌then◌else◌}
 use Rattle.netkat.specs.Lists.{State, Transition}
 use Rattle.netkat.specs.Search.{Automaton, Pair, Log, found, noted, put, walk, fresh_of, expand}
 use Rattle.netkat.specs.Promise.{Distinct, pair_bound}

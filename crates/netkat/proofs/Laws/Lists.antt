@@ -6,6 +6,7 @@
 --      a loop of inserts, by what is still to be walked. `delta_kept`, `placed_kept`, `splitting_kept`: while the targets keep their strings.
 --   3. the laws of the operations of Lists.antt, from these two.
 -- Where targets and labels are handles into a store and steps may be refused, the first two groups are used as netkat_steps/proofs/ListSteps.antt uses them.
+use Rattle.std.specs.Prelude.{if◌then◌else◌}
 use mathlib.Core.Path.{◌≡◌, refl, sym, ◌∙◌, subst}
 use mathlib.Core.Logic.{◌↔◌, ◌⊎◌, inl, inr}
 use mathlib.Core.Bool.{Bool, true, false, not, ◌&&◌, ◌||◌}
@@ -17,7 +18,6 @@ use Rattle.common.specs.Packets.{Packet, Relation}
 use Rattle.common.proofs.PacketLaws.{both, each, either, or_left, or_right}
 use Rattle.common.specs.Relations.{noneʳ, allʳ, ◌∪ʳ◌, ◌∩ʳ◌, ◌∖ʳ◌, ∁ʳ, ◌⨾◌, nonempty}
 use Rattle.common.proofs.RelationLaws.{by_test, not_of, not_to, minus_of, minus_to, seq_of, seq_to, nonempty_of}
-use Rattle.common.specs.Outcome.{if◌then◌else◌}
 use Rattle.netkat.specs.Strings.{Str, str}
 use Rattle.netkat.specs.Rules.{Language, Join}
 use Rattle.netkat.specs.Hops.{SameHops, Either, Hop, Late, Early}

@@ -1,6 +1,7 @@
 -- The live sets that a work list computes are the starts of the states' strings; the pruned list; and `yes` exactly if the live set is empty.
 -- For a work list that is a list of states to look at again (`todo` of live_packets): `Working` holds between two targets taken from it and
 -- `Pulling` between two steps into the target taken, with a lemma for each thing that can happen.
+use Rattle.std.specs.Prelude.{if◌then◌else◌}
 use mathlib.Core.Path.{◌≡◌, refl, sym, ap, subst}
 use mathlib.Core.Logic.{◌↔◌, ◌⊎◌, inl, inr}
 use mathlib.Core.Bool.{Bool, true, false}
@@ -14,7 +15,6 @@ use Rattle.common.specs.Packets.{Packet, packets, any, Set, inhabited}
 use Rattle.common.proofs.PacketLaws.{packets_length, packet_listed, both, each, inhabited_of, inhabited_to}
 use Rattle.common.specs.Relations.{starts, nonempty}
 use Rattle.common.proofs.RelationLaws.{by_test, starts_of, starts_to, preimage_of, preimage_to, nonempty_of}
-use Rattle.common.specs.Outcome.{if◌then◌else◌}
 use Rattle.netkat.specs.Strings.{Str, str}
 use Rattle.netkat.specs.Rules.{Language}
 use Rattle.netkat.specs.Hops.{Hop}

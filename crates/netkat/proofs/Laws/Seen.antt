@@ -1,11 +1,11 @@
 -- What an expansion does to the packets seen: none is lost, the fresh ones are added, and nothing else.
+use Rattle.std.specs.Prelude.{if◌then◌else◌}
 use mathlib.Core.Path.{◌≡◌, refl, sym, subst}
 use mathlib.Core.Logic.{◌⊎◌, inl, inr}
 use mathlib.Core.Bool.{Bool, true, false, not}
 use lib.Dec.{T, T_not, eqb, eqb→eq, eqb_refl}
 use Prim.Native.Nat.{ℕ}
 use Rattle.common.specs.Packets.{Packet, Set, ◌∪◌}
-use Rattle.common.specs.Outcome.{if◌then◌else◌}
 use Rattle.netkat.specs.Lists.{State}
 use Rattle.netkat.specs.Search.{Pair, Log, seen_at, fresh_of, expand}
 use Rattle.common.proofs.PacketLaws.{both, each, either, or_left, or_right}

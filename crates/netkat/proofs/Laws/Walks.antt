@@ -1,4 +1,5 @@
 -- What is pending after a list is walked: what was, and for each transition that leads anywhere one pair.
+use Rattle.std.specs.Prelude.{if◌then◌else◌}
 use mathlib.Core.Path.{◌≡◌, refl}
 use mathlib.Core.Logic.{◌⊎◌, inl, inr}
 use mathlib.Core.Bool.{Bool, true, false}
@@ -7,7 +8,6 @@ use mathlib.Core.List.{List, [], ◌∷◌, Memᴰ}
 use lib.Dec.{T}
 use Prim.Native.Nat.{ℕ}
 use Rattle.common.specs.Packets.{Packet, Set, inhabited, image}
-use Rattle.common.specs.Outcome.{if◌then◌else◌}
 use Rattle.netkat.specs.Lists.{State, Transition}
 use Rattle.netkat.specs.Search.{Pair, put, walk}
 use Rattle.common.proofs.PacketLaws.{inhabited_of}
