@@ -1,6 +1,6 @@
 -- When a result in the cache is right: the operation gives it, with no change, now and in every later store.
-use Rattle.std.specs.Prelude.{ℕ, suc, eqb}
-use Rattle.common.specs.Outcome.{Step, if◌then◌else◌}
+use Rattle.std.specs.Prelude.{ℕ, suc, eqb, if◌then◌else◌}
+use Rattle.common.specs.Outcome.{Step}
 use Rattle.common.specs.Runs.{Table}
 use Rattle.cache.specs.Cache.{Valid}
 use Rattle.spp_steps.specs.Model.{Op, union, intersect, xor, difference, not, down, each, apply, sequence, star}

@@ -1,4 +1,6 @@
 // Relations on packets (spp.rs): nodes of four words on a lent table, the handles x00, x01, x10, x11.
+#![tactic(auto)]
+
 ghost use Rattle.std.specs.Prelude.{◌≡◌, true, false, [], ◌∷◌, ℕ, ◌+◌, ◌*◌, ◌≤◌, ◌<◌, length, get_or};
 ghost use Rattle.common.specs.Runs.{table};
 ghost use Rattle.spp_steps.specs.Model as M;
@@ -7,7 +9,7 @@ ghost use Rattle.spp.specs.Clauses.{seen, op_of, exit_of, quad_of, entry_of, col
 
 use cache::Looked;
 
-#[derive(Drop)]
+#[derive(Clone, Copy)]
 pub struct SPP(pub u32);
 
 impl SPP {
@@ -25,7 +27,7 @@ impl SPP {
     }
 }
 
-#[derive(Drop)]
+#[derive(Clone, Copy)]
 pub struct SPPnode {
     pub x00: SPP,
     pub x01: SPP,
@@ -33,13 +35,13 @@ pub struct SPPnode {
     pub x11: SPP,
 }
 
-#[derive(Drop)]
+#[derive(Clone, Copy)]
 pub enum Made {
     Node(SPP, usize),
     Full,
 }
 
-#[derive(Drop)]
+#[derive(Clone, Copy)]
 pub enum Op {
     Union,
     Intersect,
@@ -49,7 +51,7 @@ pub enum Op {
 }
 
 // A finished handle, or: go down with this operation on these two.
-#[derive(Drop)]
+#[derive(Clone, Copy)]
 pub enum Quick {
     Out(SPP),
     On(Op, SPP, SPP),
@@ -427,14 +429,14 @@ pub fn is_zero(depth: u32, spp: SPP) -> bool
 
 // ---- the store's start
 
-#[derive(Drop)]
+#[derive(Clone, Copy)]
 pub struct Constants {
     pub zero: SPP,
     pub one: SPP,
     pub top: SPP,
 }
 
-#[derive(Drop)]
+#[derive(Clone, Copy)]
 pub enum Started {
     Store(Constants, usize),
     Short,

@@ -1,8 +1,8 @@
 -- When a result in the cache is right: the operation gives it, with no change, now and in every later store; and a kept number is the number of pairs.
 -- Codes: 10 fwd, 11 bwd, 12 ifwd, 13 push, 14 pull, 15 has_image, with the set first and the relation second (fwd, bwd, ifwd: their operand twice);
 -- 17 the number of pairs.
-use Rattle.std.specs.Prelude.{◌≡◌, Bool, true, false, ◌⊎◌, ℕ, suc, eqb}
-use Rattle.common.specs.Outcome.{given, Step, if◌then◌else◌}
+use Rattle.std.specs.Prelude.{◌≡◌, Bool, true, false, ◌⊎◌, ℕ, suc, eqb, if◌then◌else◌}
+use Rattle.common.specs.Outcome.{given, Step}
 use Rattle.common.specs.Runs.{Table}
 use Rattle.cache.specs.Cache.{Valid, OnCodes, OnlyCodes}
 use Rattle.sp_steps.specs.Reuse.{wide, SpValid, SpNoted}

@@ -1,4 +1,6 @@
 // spp.rs, images: the image and the domain of a relation, the image of a set, and what a relation leads into a set. They make packet nodes only.
+#![tactic(auto)]
+
 ghost use Rattle.std.specs.Prelude.{◌≡◌, Bool, ◌≤◌};
 ghost use Rattle.common.specs.Runs.{table};
 ghost use Rattle.sp.specs.Clauses as sp_seen;
@@ -13,7 +15,7 @@ use sp::{Made, SP, SPnode};
 use spp::{SPP, SPPnode};
 
 // from the first packet to the second, or back
-#[derive(Drop)]
+#[derive(Clone, Copy)]
 pub enum Way {
     Forward,
     Backward,
@@ -172,7 +174,7 @@ pub fn bwd(
 }
 
 // A finished set; or the set has all packets; or: go down.
-#[derive(Drop)]
+#[derive(Clone, Copy)]
 pub enum Led {
     Done(SP),
     Whole,

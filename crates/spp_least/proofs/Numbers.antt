@@ -1,4 +1,5 @@
 -- Packets as numbers, and least packets as words.
+use Rattle.std.specs.Prelude.{if◌then◌else◌}
 use mathlib.Core.Path.{◌≡◌, refl, sym, ◌∙◌, ap}
 use mathlib.Core.Bool.{Bool, true, false}
 use mathlib.Core.Option.{Option, none, some}
@@ -7,7 +8,6 @@ use native.Mathlib.Omega.{arith}
 use native.Mathlib.Decide.{dec_lt}
 use lib.Dec.{eqb}
 use borrow.Author.Tests.{ne_eqb}
-use Rattle.common.specs.Outcome.{if◌then◌else◌}
 use Rattle.common.specs.Packets.{Packet, end, bit, Set}
 use Rattle.netkat_paths.specs.Order.{value, map, or_else, least}
 use Rattle.netkat_paths.proofs.OrderLaws.{value_small}

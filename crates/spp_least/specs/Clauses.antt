@@ -1,7 +1,6 @@
 -- 02 (i), "the smallest start, then the hops in order, then the end": the least packet of a set, and the least of a set to which a relation leads a packet, as words.
-use Rattle.std.specs.Prelude.{◌≡◌, Bool, true, false, ◌&&◌, List, ℕ, ◌+◌, ◌-◌, ◌^◌, ◌≤◌, ◌<◌, eqb}
+use Rattle.std.specs.Prelude.{◌≡◌, Bool, true, false, ◌&&◌, List, ℕ, ◌+◌, ◌-◌, ◌^◌, ◌≤◌, ◌<◌, eqb, if◌then◌else◌}
 use Rattle.std.proofs.Math.Option.{Option, none, some}
-use Rattle.common.specs.Outcome.{if◌then◌else◌}
 use Rattle.common.specs.Packets.{Packet, Set}
 use Rattle.common.specs.Runs.{Table}
 use Rattle.cache.specs.Cache.{Valid, OnCodes, OnlyCodes, Sound, WritesValid}

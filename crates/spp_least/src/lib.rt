@@ -1,5 +1,7 @@
 // The least packet of a set, and the least of a set to which a relation leads a packet, each as its number + 1, or 0 if there is none.
 // They make no node.
+#![tactic(auto)]
+
 ghost use Rattle.std.specs.Prelude.{◌≡◌, ◌+◌, ◌*◌, ◌-◌, ◌^◌, ◌≤◌, ◌<◌, length};
 ghost use Rattle.common.specs.Runs.{table};
 ghost use Rattle.netkat_paths.specs.Order.{least};
@@ -55,7 +57,7 @@ pub fn least(nodes: &[u32], count: usize, depth: u32, s: SP) -> u32
 }
 
 // where a node leads a packet, by the packet's first bit; and the number of its other bits
-#[derive(Drop)]
+#[derive(Clone, Copy)]
 struct Led {
     x0: SPP,
     x1: SPP,

@@ -1,4 +1,6 @@
 // Sequence and star of relations (spp.rs), as products and stars of matrices of two by two.
+#![tactic(auto)]
+
 ghost use Rattle.std.specs.Prelude.{◌≡◌, [], ◌∷◌, ◌≤◌};
 ghost use Rattle.common.specs.Runs.{table};
 ghost use Rattle.spp_steps.specs.Model as M;
@@ -10,21 +12,21 @@ use cache::Looked;
 use spp::{Made, SPP, SPPnode};
 
 // A finished handle, or: go down.
-#[derive(Drop)]
+#[derive(Clone, Copy)]
 pub enum Early {
     Done(SPP),
     More,
 }
 
 // four products
-#[derive(Drop)]
+#[derive(Clone, Copy)]
 pub enum Products {
     Four(SPPnode, usize),
     NoFour,
 }
 
 // two handles
-#[derive(Drop)]
+#[derive(Clone, Copy)]
 pub enum Two {
     Both(SPP, SPP, usize),
     NoTwo,

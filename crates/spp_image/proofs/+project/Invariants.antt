@@ -1,0 +1,5 @@
+use Prim.Native.Nat.{◌-◌}
+use Rattle.spp_image.proofs.+project.Given as goal
+
+abbrev pub decreases-project : goal.decreases-project
+decreases-project l = l.depth
