@@ -1,11 +1,12 @@
 -- finish: a state of which all operands have their lists is entered, its list put together and stored.
+use Rattle.std.specs.Prelude.{if◌then◌else◌}
 use mathlib.Core.Path.{◌≡◌, refl, sym, ◌∙◌, ap, subst}
 use mathlib.Core.Bool.{Bool, true, false}
 use mathlib.Core.List.{List, [], ◌∷◌}
 use Prim.Native.Nat.{ℕ, ◌+◌, ◌<◌}
 use native.Mathlib.Omega.{arith}
 use lib.ListN.{length}
-use Rattle.common.specs.Outcome.{Outcome, refused, given, after, if◌then◌else◌}
+use Rattle.common.specs.Outcome.{Outcome, refused, given, after}
 use Rattle.common.proofs.Follow.{refused≢given}
 use Rattle.common.specs.Runs.{Table}
 use Rattle.netkat_steps.specs.ListSteps.{Edge}

@@ -1,5 +1,7 @@
 // delta of aut.rs: a state's transition list, stored behind those already there; words 5 and 6 of the state say where. It calls itself on operands, which are nested lower; their lists
 // are read from the tables when they are put together, so nothing waits in scratch over a call, and nothing on the stack.
+#![tactic(auto)]
+
 ghost use Rattle.aut_relations.specs.Clauses.{aut_of};
 ghost use Rattle.aut_delta_stage.specs.OnStore.{store_of};
 ghost use Rattle.aut_delta.specs.Clauses.{PreDelta, PostDelta};
@@ -13,21 +15,21 @@ use aut_states::{Config, Counts};
 use spp::Made;
 
 // the list is in the tables; or 01's number
-#[derive(Drop)]
+#[derive(Clone, Copy)]
 pub enum Worked {
     Done(Counts),
     Refused(u32),
 }
 
 // the number of relation nodes, or no room for one
-#[derive(Drop)]
+#[derive(Clone, Copy)]
 pub enum Entered {
     Nodes(usize),
     Full,
 }
 
 // the state where the way down ends, the number of those above it, and the number of relation nodes
-#[derive(Drop)]
+#[derive(Clone, Copy)]
 pub enum Down {
     At(u32, usize, usize),
     Full,

@@ -1,4 +1,5 @@
 -- A list's words copied behind the transitions in use, then words 5 and 6 of its state: that is keep_list. Without room it is 25.
+use Rattle.std.specs.Prelude.{if◌then◌else◌}
 use mathlib.Core.Path.{◌≡◌, refl, ◌∙◌, ap, ap₂}
 use mathlib.Core.Bool.{Bool, true, false, ◌&&◌}
 use mathlib.Core.List.{List, ◌∷◌}
@@ -8,7 +9,7 @@ use lib.Dec.{leb}
 use lib.ListN.{length, get_or, set}
 use lib.Seq.{sets}
 use borrow.Author.Tests.{le-leb, lt-leb}
-use Rattle.common.specs.Outcome.{refused, given, if◌then◌else◌}
+use Rattle.common.specs.Outcome.{refused, given}
 use Rattle.common.specs.Runs.{table}
 use Rattle.netkat_steps.specs.ListSteps.{Edge}
 use Rattle.aut_steps.specs.Tables.{words, aut}

@@ -1,10 +1,12 @@
 // A finished list of delta (aut.rs) stored behind those already there.
+#![tactic(auto)]
+
 ghost use Rattle.aut_delta_keep.specs.Clauses.{PreKeep, PostKeep};
 
 use aut_states::Counts;
 
 // the counts afterwards, or 25
-#[derive(Drop)]
+#[derive(Clone, Copy)]
 pub enum Kept {
     Done(Counts),
     Refused(u32),

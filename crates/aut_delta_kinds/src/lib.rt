@@ -1,4 +1,6 @@
 // The list of a state by kind (delta of aut.rs), from the stored lists of its operands. It calls neither delta nor epsilon.
+#![tactic(auto)]
+
 ghost use Rattle.std.specs.Prelude.{◌≡◌, ◌+◌, ◌*◌, ◌≤◌, ◌<◌, length};
 ghost use Rattle.aut_steps.specs.Tables.{SEQUENCE, STAR, kind_of};
 ghost use Rattle.aut_delta_steps.specs.Epsilon.{value_of};
@@ -16,7 +18,7 @@ use aut_states::{Config, Counts};
 use spp::{Made, SPP};
 
 // a list among the transitions: its first record, and how many
-#[derive(Drop)]
+#[derive(Clone, Copy)]
 struct Span {
     start: usize,
     count: usize,

@@ -1,4 +1,5 @@
 -- Lists of at most one transition, from no list: st_singleton, and a state made and then st_singleton.
+use Rattle.std.specs.Prelude.{if◌then◌else◌}
 use mathlib.Core.Path.{◌≡◌, refl, sym, ◌∙◌, ap, subst}
 use mathlib.Core.Bool.{true, false}
 use mathlib.Core.List.{List, [], ◌∷◌}
@@ -6,7 +7,7 @@ use Prim.Native.Nat.{ℕ, ◌≤◌}
 use native.Mathlib.Omega.{arith}
 use lib.Dec.{eqb}
 use borrow.Author.Tests.{eq-eqb, ne_eqb}
-use Rattle.common.specs.Outcome.{given, Step, return, after, ◌>>=◌, if◌then◌else◌}
+use Rattle.common.specs.Outcome.{given, Step, return, after, ◌>>=◌}
 use Rattle.common.specs.Runs.{Table, table}
 use Rattle.netkat_steps.specs.ListSteps as St
 use Rattle.netkat_steps.specs.ListSteps.{Edge, edge}

@@ -1,4 +1,6 @@
 // The lists of delta (aut.rs) by kind, from stored lists of its operands, and the list operations that only they call. The result stands at RESULT.
+#![tactic(auto)]
+
 ghost use Rattle.netkat_steps.specs.ListSteps as St;
 ghost use Rattle.aut_steps.specs.Relations.{top_at};
 ghost use Rattle.aut_st_steps.specs.Operations.{ops};

@@ -1,5 +1,7 @@
 // The lists of a Union and of an Intersect (delta of aut.rs), joined when every member's list stands in the tables. The list so far stands at RESULT, and waits at
 // FIRST while the next one is joined to it; the result stands at RESULT.
+#![tactic(auto)]
+
 ghost use Rattle.std.specs.Prelude.{[]};
 ghost use Rattle.aut_st_steps.specs.Edges.{edges};
 ghost use Rattle.aut_delta_steps.specs.Delta.{list_at, union_all, intersect_first};
@@ -18,14 +20,14 @@ use aut_st_source::{Place, Source};
 use aut_states::{Config, Counts};
 
 // the operation that joins
-#[derive(Drop)]
+#[derive(Clone, Copy)]
 enum Join {
     Union,
     Intersect,
 }
 
 // a list among the transitions: its first record, and how many
-#[derive(Drop)]
+#[derive(Clone, Copy)]
 struct Span {
     start: usize,
     count: usize,

@@ -1,4 +1,5 @@
 -- The search: pairs are taken while there are any and the budget lasts, and at its end words and entries are cleared: the bodies of `search` and `is_empty`.
+use Rattle.std.specs.Prelude.{if◌then◌else◌}
 use mathlib.Core.Path.{◌≡◌, refl, sym, ◌∙◌, ap, subst}
 use mathlib.Core.Bool.{Bool, true, false, not}
 use mathlib.Core.List.Memᴰ
@@ -8,7 +9,7 @@ use native.Mathlib.Omega.{arith}
 use lib.Dec.{eqb, leb, ltb}
 use lib.ListN.{length, get_or, set, length-set}
 use borrow.Author.Tests.{eqb-true, eqb-false, leb-true, leb-false, lt-ltb, le-ltb}
-use Rattle.common.specs.Outcome.{refused, given, Step, return, after, if◌then◌else◌}
+use Rattle.common.specs.Outcome.{refused, given, Step, return, after}
 use Rattle.common.specs.Runs.{table}
 use Rattle.netkat.specs.Search as Plain
 use Rattle.netkat_steps.specs.Handles as Handles

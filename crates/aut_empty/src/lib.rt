@@ -1,4 +1,6 @@
 // is_empty of aut.rs: whether a state has no string, by a search with a budget of pairs.
+#![tactic(auto)]
+
 ghost use Rattle.aut_query_stage.specs.Layer.{tables_of, PreQuery};
 ghost use Rattle.aut_empty.specs.Clauses.{PostSearch};
 ghost use Rattle.aut_empty.specs.Parts.{PreSeek, PostSeek};
@@ -6,7 +8,7 @@ ghost use Rattle.aut_empty.specs.Parts.{PreSeek, PostSeek};
 use aut_empty_pair::Turned;
 use aut_states::{Config, Counts};
 
-#[derive(Drop)]
+#[derive(Clone, Copy)]
 pub enum Verdict {
     Yes,
     No,
@@ -14,14 +16,14 @@ pub enum Verdict {
 }
 
 // the verdict and the pairs taken; or 01's number
-#[derive(Drop)]
+#[derive(Clone, Copy)]
 pub enum Searched {
     Answer(Verdict, u64, Counts),
     Refused(u32),
 }
 
 // the verdict, the pairs taken, and the pending entries that are left; or 01's number
-#[derive(Drop)]
+#[derive(Clone, Copy)]
 pub enum Ended {
     At(Verdict, u64, Counts, usize),
     Refused(u32),

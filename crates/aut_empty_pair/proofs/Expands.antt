@@ -1,4 +1,5 @@
 -- Fresh packets at a state: the body of `expand`, by the rule for a run of calls (aut_stage).
+use Rattle.std.specs.Prelude.{if◌then◌else◌}
 use mathlib.Core.Path.{◌≡◌, sym, ◌∙◌, ap, subst}
 use mathlib.Core.Bool.{Bool, true, false}
 use mathlib.Core.List.{List}
@@ -7,7 +8,7 @@ use native.Mathlib.Omega.{arith}
 use lib.Dec.{eqb}
 use lib.ListN.{length, set}
 use lib.Seq.{get_or-set_other}
-use Rattle.common.specs.Outcome.{given, Step, return, after, if◌then◌else◌}
+use Rattle.common.specs.Outcome.{given, Step, return, after}
 use Rattle.common.specs.Runs.{table}
 use Rattle.netkat_steps.specs.Handles as Handles
 use Rattle.netkat_steps.specs.Handles.{Entry, goes, found}

@@ -1,4 +1,6 @@
 // A pair of is_empty of aut.rs: its fresh packets are seen, end a string, or go on.
+#![tactic(auto)]
+
 ghost use Rattle.aut_empty_pair.specs.Clauses.{PreExpand, PostExpand};
 
 use aut_empty_walk::Walked;
@@ -6,7 +8,7 @@ use aut_states::{Config, Counts};
 use sp::SP;
 
 // so many pending entries, or a string is found; or 01's number
-#[derive(Drop)]
+#[derive(Clone, Copy)]
 pub enum Turned {
     Goes(Counts, usize),
     Found(Counts),

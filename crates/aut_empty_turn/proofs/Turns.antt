@@ -1,11 +1,12 @@
 -- A pending pair taken: the body of `turn`, by the rule for a run of calls (aut_stage).
+use Rattle.std.specs.Prelude.{if◌then◌else◌}
 use mathlib.Core.Path.{◌≡◌, sym, ◌∙◌, ap, subst}
 use mathlib.Core.Bool.{Bool, true, false}
 use mathlib.Core.List.{List}
 use Prim.Native.Nat.{ℕ, ◌+◌, ◌*◌, ◌-◌, ◌/◌, ◌≤◌, ◌<◌}
 use native.Mathlib.Omega.{arith}
 use lib.ListN.{length, get_or, set}
-use Rattle.common.specs.Outcome.{given, Step, return, after, if◌then◌else◌}
+use Rattle.common.specs.Outcome.{given, Step, return, after}
 use Rattle.common.specs.Runs.{table}
 use Rattle.netkat_steps.specs.Handles as Handles
 use Rattle.netkat_steps.specs.Handles.{Entry, goes}

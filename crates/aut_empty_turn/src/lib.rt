@@ -1,4 +1,6 @@
 // A turn of is_empty of aut.rs: a pair is taken from the pending table, and what is fresh of it goes on.
+#![tactic(auto)]
+
 ghost use Rattle.aut_empty_turn.specs.Clauses.{PreTurn, PostTurn};
 
 use aut_empty_pair::Turned;

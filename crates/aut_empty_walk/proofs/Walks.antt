@@ -1,4 +1,5 @@
 -- The fresh packets of a state along one transition, and along its list: the bodies of `follow` and `walk`, by the rule for a run of calls (aut_stage).
+use Rattle.std.specs.Prelude.{if◌then◌else◌}
 use mathlib.Core.Path.{◌≡◌, refl, sym, ◌∙◌, ap, ap₂, subst}
 use mathlib.Core.Bool.{Bool, true, false}
 use mathlib.Core.List.{List, [], ◌∷◌, map, Memᴰ}
@@ -7,7 +8,7 @@ use native.Mathlib.Omega.{arith}
 use lib.Dec.{eqb, ltb}
 use lib.ListN.{length, get_or}
 use borrow.Author.Tests.{eqb-true, eqb-false, lt-ltb, le-ltb}
-use Rattle.common.specs.Outcome.{Outcome, refused, given, Step, return, after, if◌then◌else◌}
+use Rattle.common.specs.Outcome.{Outcome, refused, given, Step, return, after}
 use Rattle.common.specs.Runs.{table}
 use Rattle.netkat_steps.specs.ListSteps.{Edge, edge}
 use Rattle.netkat_steps.specs.Handles as Handles

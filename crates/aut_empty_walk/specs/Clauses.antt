@@ -1,6 +1,6 @@
 -- 01, `is_empty` (fresh packets go along the transitions of their state): what the walk in code asks and promises.
-use Rattle.std.specs.Prelude.{◌≡◌, List, map, ℕ, ◌+◌, ◌*◌, ◌/◌, ◌≤◌, ◌<◌, length, get_or}
-use Rattle.common.specs.Outcome.{Outcome, Step, return, ◌>>=◌, if◌then◌else◌}
+use Rattle.std.specs.Prelude.{◌≡◌, List, map, ℕ, ◌+◌, ◌*◌, ◌/◌, ◌≤◌, ◌<◌, length, get_or, if◌then◌else◌}
+use Rattle.common.specs.Outcome.{Outcome, Step, return, ◌>>=◌}
 use Rattle.common.specs.Runs.{table}
 use Rattle.netkat_steps.specs.Handles as Handles
 use Rattle.netkat_steps.specs.Handles.{Link, Entry}

@@ -1,4 +1,6 @@
 // A pair of is_empty of aut.rs: its fresh packets along the transitions of its state, onto the pending table.
+#![tactic(auto)]
+
 ghost use Rattle.aut_empty_walk.specs.Clauses.{PreFollow, Follows, PreWalk, Walks, PreSpread, PostSpread};
 
 use aut_states::{Config, Counts};
@@ -6,7 +8,7 @@ use sp::SP;
 use spp::SPP;
 
 // so many pending entries; or 01's number
-#[derive(Drop)]
+#[derive(Clone, Copy)]
 pub enum Walked {
     On(Counts, usize),
     Refused(u32),

@@ -1,5 +1,7 @@
 // How a search stands in words, as aut.rs keeps it in a stack and a map: entry i of the pending table is words 2i and 2i + 1, a state and a packet set; the set seen at a state stands in its
 // word SEEN, as handle + 1.
+#![tactic(auto)]
+
 ghost use Rattle.std.specs.Prelude.{◌≡◌, ◌+◌, ◌*◌, ◌≤◌, ◌<◌, length};
 ghost use Rattle.aut_empty_words.specs.Words.{seen_in, Puts, Rested, Emptied};
 

@@ -1,4 +1,5 @@
 -- Values put together: what the calls ask, what they come to, and that a relation is made.
+use Rattle.std.specs.Prelude.{if◌then◌else◌}
 use mathlib.Core.Path.{◌≡◌, refl, sym, ◌∙◌, ap, ap₂, subst}
 use mathlib.Core.Bool.{Bool, true, false}
 use mathlib.Core.List.{List, [], ◌∷◌}
@@ -8,7 +9,7 @@ use lib.Dec.{eqb}
 use lib.ListN.{length, get_or}
 use borrow.Author.Tests.{eq-eqb, ne_eqb}
 use Rattle.common.specs.Packets.{Relation}
-use Rattle.common.specs.Outcome.{Outcome, given, Step, after, Gives, refusal, gives, if◌then◌else◌}
+use Rattle.common.specs.Outcome.{Outcome, given, Step, after, Gives, refusal, gives}
 use Rattle.common.proofs.Follow.{given_of}
 use Rattle.common.specs.Runs.{Table}
 use Rattle.spp_steps.specs.Model as Spp

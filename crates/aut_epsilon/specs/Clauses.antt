@@ -1,6 +1,6 @@
 -- 01, "Lent tables": state word 4 is epsilon + 1. What the answers of epsilon's parts say in the words of its step, what is left of scratch, and what is asked.
-use Rattle.std.specs.Prelude.{◌≡◌, List, ℕ, ◌+◌, ◌*◌, ◌≤◌, ◌<◌, eqb, length, set}
-use Rattle.common.specs.Outcome.{Outcome, refused, given, Step, if◌then◌else◌}
+use Rattle.std.specs.Prelude.{◌≡◌, List, ℕ, ◌+◌, ◌*◌, ◌≤◌, ◌<◌, eqb, length, set, if◌then◌else◌}
+use Rattle.common.specs.Outcome.{Outcome, refused, given, Step}
 use Rattle.common.specs.Runs.{Table, table}
 use Rattle.spp_steps.specs.Wf.{ValidAt}
 use Rattle.spp.specs.Clauses.{seen}

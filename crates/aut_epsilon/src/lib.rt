@@ -1,5 +1,7 @@
 // epsilon of aut.rs: the relation of a state's strings without hops. What is worked out is kept in word 4 of the state. It calls itself on operands, which are nested
 // lower; their values are read from the tables when they are put together, so nothing waits in scratch over a call, and nothing on the stack.
+#![tactic(auto)]
+
 ghost use Rattle.std.specs.Prelude.{◌≡◌, [], ◌∷◌, ◌+◌, ◌*◌, ◌≤◌, ◌<◌, length};
 ghost use Rattle.common.specs.Runs.{table};
 ghost use Rattle.spp_steps.specs.Model as M;
@@ -18,7 +20,7 @@ use aut_states::Counts;
 use spp::{Made, Op, SPP};
 
 // what a state has: an SPP its handle, another what is kept
-#[derive(Drop)]
+#[derive(Clone, Copy)]
 pub enum Kept {
     Handle(SPP),
     Nothing,

@@ -1,4 +1,6 @@
 // mk_intersect_n and mk_intersect of aut.rs: products of a list with Union members are made one by one, never stored.
+#![tactic(auto)]
+
 ghost use Rattle.std.specs.Prelude.{◌≡◌, List, [], ◌∷◌, ℕ, ◌+◌, ◌*◌, ◌≤◌, ◌<◌};
 ghost use Rattle.aut_steps.specs.Tables.{words};
 ghost use Rattle.aut_steps.specs.Constructors as C;
@@ -12,7 +14,7 @@ use aut_states::{Config, Counts, State};
 use spp::Op;
 
 // the counts after all products
-#[derive(Drop)]
+#[derive(Clone, Copy)]
 pub enum Based {
     Done(Counts),
     Refused(u32),

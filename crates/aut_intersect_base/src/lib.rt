@@ -1,4 +1,6 @@
 // mk_intersect_n_base of aut.rs. A list is k words of scratch (the map of scratch is aut_lists').
+#![tactic(auto)]
+
 ghost use Rattle.std.specs.Prelude.{◌≡◌, true, false, List, [], ◌∷◌, ℕ, ◌+◌, ◌*◌, ◌≤◌, ◌<◌, length};
 ghost use Rattle.common.specs.Runs.{table};
 ghost use Rattle.aut_steps.specs.Tables.{words};
@@ -15,7 +17,7 @@ use aut_states::{Config, Counts, Limits, Put, State};
 use spp::{Made, Op, SPP};
 
 // whether there is a relation, the relation, the number of nodes, and how many other members there are
-#[derive(Drop)]
+#[derive(Clone, Copy)]
 pub enum Met {
     Rest(bool, SPP, usize, usize),
     Full,

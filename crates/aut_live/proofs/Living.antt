@@ -1,4 +1,5 @@
 -- live_sets and live_packets: the walk and then the work list, by the rule for a run of calls (aut_stage); words 7 are written, words 9 and the entries cleared.
+use Rattle.std.specs.Prelude.{if◌then◌else◌}
 use mathlib.Core.Path.{◌≡◌, refl, sym, ◌∙◌, ap, ap₂, subst, fun_ext}
 use mathlib.Core.Logic.{◌≢◌, ◌⊎◌, inl, inr}
 use mathlib.Core.Bool.{Bool}
@@ -10,7 +11,7 @@ use lib.Dec.{eqb, ltb}
 use lib.ListN.{length, get_or, set, length-set}
 use lib.Seq.{get_or-set_same, get_or-set_other, set_out}
 use borrow.Author.Tests.{eqb-true, eqb-false, ltb-true, ltb-false, lt-ltb, le-ltb}
-use Rattle.common.specs.Outcome.{Outcome, refused, given, Step, return, after, if◌then◌else◌}
+use Rattle.common.specs.Outcome.{Outcome, refused, given, Step, return, after}
 use Rattle.common.proofs.Follow.{given_of}
 use Rattle.common.specs.Runs.{Table, table}
 use Rattle.sp_steps.specs.Model as Sp
@@ -262,6 +263,7 @@ clear_members (y ∷ xs) st z m l = go (Memᴰ.cases_cons m) (λ k. clear_member
     go : (z ≡ y) ⊎ Memᴰ z xs → (Memᴰ z xs → get_or (clear_words xs (set st (12 * y + 9) 0)) (12 * z + 9) 0 ≡ 0) → get_or (clear_words xs (set st (12 * y + 9) 0)) (12 * z + 9) 0 ≡ 0
     go (inl q) f = clear_stays xs (set st (12 * y + 9) 0) z (ap (λ (i : ℕ). get_or (set st (12 * y + 9) 0) (12 * i + 9) 0) q ∙ get_or-set_same st (12 * y + 9) 0 0 (subst (λ (i : ℕ). 12 * i + 9 < length st) q l))
     go (inr k) f = f k
+clear_members [] st z m l = elim m [ ]
 
 -- ---- live_packets
 

@@ -1,4 +1,6 @@
 // live_packets of aut.rs: the start packets of a state's strings.
+#![tactic(auto)]
+
 ghost use Rattle.aut_query_stage.specs.Layer.{tables_of, PreQuery};
 ghost use Rattle.aut_live.specs.Clauses.{PostLive, PostSets};
 
@@ -7,7 +9,7 @@ use aut_states::{Config, Counts};
 use sp::SP;
 
 // the set; or 01's number
-#[derive(Drop)]
+#[derive(Clone, Copy)]
 pub enum Lived {
     Live(SP, Counts),
     Refused(u32),

@@ -1,4 +1,6 @@
 // live_packets of aut.rs: the sets of the states reached are pulled back along transitions until none grows.
+#![tactic(auto)]
+
 ghost use Rattle.aut_live_pull.specs.Clauses.{PrePull, PostPull, PrePullAll, PostPullAll, PreSettle, PostSettle};
 
 use aut_live_words::{Label, Room, Walked};

@@ -1,4 +1,6 @@
 // live_packets of aut.rs: the states reached from one, each with the packets that end a string there.
+#![tactic(auto)]
+
 ghost use Rattle.aut_query_stage.specs.Layer.{tables_of};
 ghost use Rattle.aut_live_reach.specs.Clauses.{PreVisit, PostVisit, PreExplore, PostExplore};
 

@@ -1,4 +1,5 @@
 -- How `Held` goes on: a word 9 is written, states are reached, a set grows, a call has run. And what the steps of the walk are in terms of entries.
+use Rattle.std.specs.Prelude.{if◌then◌else◌}
 use mathlib.Core.Path.{◌≡◌, refl, sym, ◌∙◌, ap, ap₂, subst}
 use mathlib.Core.Logic.{◌≢◌}
 use mathlib.Core.Bool.{Bool, true, false, ◌||◌}
@@ -11,7 +12,7 @@ use lib.Seq.{get_or-set_same, get_or-set_other}
 use borrow.Author.Tests.{eqb-true, eqb-false, ltb-true, ltb-false, lt-ltb, le-ltb}
 use Rattle.common.specs.Packets.{any}
 use Rattle.common.proofs.PacketLaws.{any_of}
-use Rattle.common.specs.Outcome.{refused, given, if◌then◌else◌}
+use Rattle.common.specs.Outcome.{refused, given}
 use Rattle.common.specs.Runs.{table}
 use Rattle.netkat_steps.specs.ListSteps.{Edge}
 use Rattle.sp_steps.specs.Model as Sp

@@ -1,4 +1,5 @@
 -- Entries of the pending table and words of states: what is written, and the loops over lists of states.
+use Rattle.std.specs.Prelude.{if◌then◌else◌}
 use mathlib.Core.Path.{◌≡◌, refl, sym, ◌∙◌, ap, ap₂, subst}
 use mathlib.Core.List.{List, [], ◌∷◌, ◌++◌, Memᴰ}
 use Prim.Native.Nat.{ℕ, zero, suc, ◌+◌, ◌*◌, ◌-◌, ◌/◌, ◌≤◌, ◌<◌}
@@ -20,7 +21,6 @@ use Rattle.aut_live_words.specs.declared.Room.TheVariants as room
 use Rattle.aut_live_words.specs.Work.{work_of, seconds, Reaches, there, new, full, Enqueues, none, one, over, keep_words, clear_words}
 use Rattle.aut_live_words.specs.Clauses.{PreReach, Listed, PreEnqueue, PostEnqueue, PostClear}
 use mathlib.Core.Bool.{Bool}
-use Rattle.common.specs.Outcome.{if◌then◌else◌}
 use Rattle.aut_query_steps.specs.Live as M
 use Rattle.aut_query_steps.specs.Live.{label_to}
 

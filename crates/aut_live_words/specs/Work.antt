@@ -1,8 +1,7 @@
 -- 01, "Lent tables": while live sets are worked out, word 9 of a state is its set + 1 if it is reached, and 0 if not; the pending table holds `states` in the second words of its entries, in the order of
 -- the visits, and `todo` in the first words, the last on top. What single functions write, in words.
-use Rattle.std.specs.Prelude.{◌≡◌, ◌≢◌, List, [], ◌∷◌, ℕ, zero, suc, ◌+◌, ◌*◌, ◌-◌, ◌/◌, ◌≤◌, ◌<◌, eqb, ltb, length, get_or, set}
+use Rattle.std.specs.Prelude.{◌≡◌, ◌≢◌, List, [], ◌∷◌, ℕ, zero, suc, ◌+◌, ◌*◌, ◌-◌, ◌/◌, ◌≤◌, ◌<◌, eqb, ltb, length, get_or, set, if◌then◌else◌}
 use Rattle.common.specs.Packets.{any}
-use Rattle.common.specs.Outcome.{if◌then◌else◌}
 use Rattle.netkat_steps.specs.ListSteps.{Edge}
 use Rattle.sp_steps.specs.Model as Sp
 use Rattle.sp_steps.specs.Wf as SpLaws

@@ -1,5 +1,7 @@
 // How live_packets of aut.rs stands in words while sets are worked out: word WORK of a state is its set + 1, or 0 if it is not reached. Entry i of the pending table: its second word is the
 // i-th state reached, its first word the i-th of the states to be looked at, the last on top.
+#![tactic(auto)]
+
 ghost use Rattle.std.specs.Prelude.{◌≡◌, ◌/◌, length};
 ghost use Rattle.aut_query_steps.specs.Search as M;
 ghost use Rattle.aut_live_words.specs.Work.{seconds, keep_words, Reaches, Enlarges};
@@ -10,21 +12,21 @@ use sp::SP;
 use spp::SPP;
 
 // so many entries are taken
-#[derive(Drop)]
+#[derive(Clone, Copy)]
 pub enum Room {
     At(usize),
     Full,
 }
 
 // counts, and a number of entries; or 01's number
-#[derive(Drop)]
+#[derive(Clone, Copy)]
 pub enum Walked {
     To(Counts, usize),
     Refused(u32),
 }
 
 // the label of a transition, if there is one
-#[derive(Drop)]
+#[derive(Clone, Copy)]
 pub enum Label {
     By(SPP),
     Nothing,

@@ -1,7 +1,6 @@
 -- 01, "Lent tables": words 1 and 2 of a state are its operands, or the start and the number of its members; word 4 is 0 while its epsilon is not worked out, word 6 while its list is not stored.
 -- What the readers of operands say in the words of the steps, and what is asked.
-use Rattle.std.specs.Prelude.{◌≡◌, Bool, true, false, List, ℕ, ◌+◌, ◌*◌, ◌≤◌, ◌<◌, eqb, length}
-use Rattle.common.specs.Outcome.{if◌then◌else◌}
+use Rattle.std.specs.Prelude.{◌≡◌, Bool, true, false, List, ℕ, ◌+◌, ◌*◌, ◌≤◌, ◌<◌, eqb, length, if◌then◌else◌}
 use Rattle.aut_steps.specs.Tables.{UNION, INTERSECT, XOR, DIFFERENCE, COMPLEMENT, SEQUENCE, STAR, UNTIL, kind_of, op1, op2, nest, words}
 use Rattle.aut_steps.specs.Ascending.{All}
 use Rattle.aut_delta_steps.specs.Delta.{count_of}

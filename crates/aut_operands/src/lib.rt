@@ -1,17 +1,19 @@
 // The operands of a state as they are read, and the way down to what is not worked out. epsilon and delta go down a rule by reading the tables, so nothing waits over a call.
+#![tactic(auto)]
+
 ghost use Rattle.std.specs.Prelude.{◌≡◌, List, ℕ, ◌+◌, ◌*◌, ◌<◌, length, get_or};
 ghost use Rattle.aut_delta_steps.specs.EpsilonDown.{Way};
 ghost use Rattle.aut_operands.specs.Clauses.{until_shape, shape_of, operands_of, Inside, Told, Looks, Next, Descends};
 
 // what is worked out of a state
-#[derive(Drop)]
+#[derive(Clone, Copy)]
 pub enum Part {
     Epsilon,
     Delta,
 }
 
 // where its operands stand
-#[derive(Drop)]
+#[derive(Clone, Copy)]
 pub enum Shape {
     Many,
     Both,

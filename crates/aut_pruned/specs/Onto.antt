@@ -1,6 +1,5 @@
 -- 01, "Strings" (pruned): the step that cuts the labels of a list, with the list of those kept so far, as a loop has it.
-use Rattle.std.specs.Prelude.{List, [], ◌∷◌, ◌++◌, ℕ, eqb}
-use Rattle.common.specs.Outcome.{if◌then◌else◌}
+use Rattle.std.specs.Prelude.{List, [], ◌∷◌, ◌++◌, ℕ, eqb, if◌then◌else◌}
 use Rattle.netkat_steps.specs.ListSteps.{Edge, edge}
 use Rattle.aut_steps.specs.Relations as Rel
 

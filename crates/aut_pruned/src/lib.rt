@@ -1,4 +1,6 @@
 // delta_pruned of aut.rs: a state's transitions, each cut to packets that lead somewhere. The list stands in scratch, at record RESULT of st.
+#![tactic(auto)]
+
 ghost use Rattle.aut_query_stage.specs.Layer.{tables_of, PreQuery};
 ghost use Rattle.aut_pruned.specs.Clauses.{PostPruned, PreViable, PostViable, PreKeep, PostKeep, PrePrune, PostPrune};
 
@@ -9,7 +11,7 @@ use sp::SP;
 use spp::{Made, Op, SPP};
 
 // so many transitions; or 01's number
-#[derive(Drop)]
+#[derive(Clone, Copy)]
 pub enum Pruned {
     List(Counts, usize),
     Refused(u32),

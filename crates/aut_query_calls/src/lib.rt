@@ -1,4 +1,6 @@
 // What the queries share: the capacity of the pending table; and, with no code, the calls that a query makes, as calls of its layer (specs/, proofs/).
+#![tactic(auto)]
+
 ghost use Rattle.std.specs.Prelude.{◌≡◌, ◌/◌};
 ghost use Rattle.aut_query_steps.specs.Search as M;
 

@@ -1,4 +1,6 @@
 // Operations on relations for the constructors: the cache that they take lies in scratch, behind the lists.
+#![tactic(auto)]
+
 ghost use Rattle.std.specs.Prelude.{◌≡◌, ℕ, ◌+◌, ◌*◌, ◌≤◌, ◌<◌, length, get_or};
 ghost use Rattle.common.specs.Runs.{table};
 ghost use Rattle.spp_steps.specs.Model as M;

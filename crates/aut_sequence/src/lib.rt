@@ -1,4 +1,6 @@
 // mk_xor, mk_difference, mk_star and mk_sequence of aut.rs. They write no members and no lists: scratch lends its cache.
+#![tactic(auto)]
+
 ghost use Rattle.std.specs.Prelude.{◌≡◌, [], ◌∷◌, ◌+◌, ◌*◌, ◌≤◌, ◌<◌, length, get_or};
 ghost use Rattle.common.specs.Runs.{table};
 ghost use Rattle.aut_steps.specs.Tables.{op1};
@@ -13,14 +15,14 @@ use aut_states::{Config, Counts, Limits, State};
 use spp::{Made, Op, SPP};
 
 // the operations on relations that are no pointwise ones; star has its operand twice
-#[derive(Drop)]
+#[derive(Clone, Copy)]
 pub enum Task {
     Sequence,
     Star,
 }
 
 // what x; y is
-#[derive(Drop)]
+#[derive(Clone, Copy)]
 pub enum Known {
     Relations,
     First,
@@ -31,7 +33,7 @@ pub enum Known {
 }
 
 // x is a Sequence, whose parts are joined one by one; or what x; y is
-#[derive(Drop)]
+#[derive(Clone, Copy)]
 pub enum Way {
     Regroup,
     Step(Known),

@@ -1,4 +1,6 @@
 // Packet sets and images for the queries: the cache that the operations take lies in scratch, behind the lists.
+#![tactic(auto)]
+
 ghost use Rattle.std.specs.Prelude.{◌≡◌, ℕ, ◌≤◌};
 ghost use Rattle.common.specs.Runs.{table};
 ghost use Rattle.sp_steps.specs.Model as Sp;

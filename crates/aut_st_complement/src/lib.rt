@@ -1,4 +1,6 @@
 // st_complement of aut.rs. The result stands at RESULT.
+#![tactic(auto)]
+
 ghost use Rattle.common.specs.Runs.{table};
 ghost use Rattle.netkat_steps.specs.ListSteps as St;
 ghost use Rattle.aut_steps.specs.Relations.{zero_at};

@@ -1,4 +1,6 @@
 // Loops over transition lists of aut.rs: something is made of each transition, and inserted into the list at RESULT.
+#![tactic(auto)]
+
 ghost use Rattle.std.specs.Prelude.{◌≡◌};
 ghost use Rattle.netkat_steps.specs.ListSteps as St;
 ghost use Rattle.netkat_steps.specs.ListSteps.{edge};
@@ -17,7 +19,7 @@ use aut_states::{Config, Counts, State};
 use spp::{Made, Op, SPP};
 
 // what is made of a transition
-#[derive(Drop)]
+#[derive(Clone, Copy)]
 pub enum Each {
     Same,
     Sequence(u32),
@@ -28,7 +30,7 @@ pub enum Each {
     Meet(u32, SPP),
 }
 
-#[derive(Drop)]
+#[derive(Clone, Copy)]
 pub enum Edged {
     Edge(Counts, Transition),
     Refused(u32),

@@ -4,6 +4,8 @@
 //     RESULT    the list in hand
 //     TAKEN     the list that it was, while an insertion makes the new one
 //     FIRST, SECOND   lists that an insertion leaves
+#![tactic(auto)]
+
 ghost use Rattle.std.specs.Prelude.{List, [], ℕ};
 ghost use Rattle.netkat_steps.specs.ListSteps as St;
 ghost use Rattle.netkat_steps.specs.ListSteps.{edge};
@@ -30,14 +32,14 @@ pub const FIRST: usize = 416;
 pub const SECOND: usize = 480;
 
 // the number of transitions at RESULT, or 01's number
-#[derive(Drop)]
+#[derive(Clone, Copy)]
 pub enum Listed {
     List(Counts, usize),
     Refused(u32),
 }
 
 // a label beside it
-#[derive(Drop)]
+#[derive(Clone, Copy)]
 enum Met {
     Next(Counts, SPP, usize),
     Refused(u32),

@@ -1,4 +1,6 @@
 // st_difference of aut.rs: where the labels of two lists meet, the difference of the targets; and the union of these labels.
+#![tactic(auto)]
+
 ghost use Rattle.netkat_steps.specs.ListSteps as St;
 ghost use Rattle.aut_st_steps.specs.Operations.{ops};
 ghost use Rattle.aut_st_steps.specs.EachSteps as M;
@@ -13,7 +15,7 @@ use aut_states::{Config, Counts, State};
 use spp::{Made, Op, SPP};
 
 // the labels met so far, and the number of transitions at RESULT
-#[derive(Drop)]
+#[derive(Clone, Copy)]
 pub enum Summed {
     Next(Counts, SPP, usize),
     Refused(u32),

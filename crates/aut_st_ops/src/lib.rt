@@ -1,4 +1,6 @@
 // st_union, st_intersect and st_difference of aut.rs. The result stands at RESULT.
+#![tactic(auto)]
+
 ghost use Rattle.netkat_steps.specs.ListSteps as St;
 ghost use Rattle.aut_st_steps.specs.Operations.{ops};
 ghost use Rattle.aut_states.specs.Clauses.{limits_of};

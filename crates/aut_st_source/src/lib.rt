@@ -1,4 +1,6 @@
 // A transition list that is walked: where it is, and its transitions one by one.
+#![tactic(auto)]
+
 ghost use Rattle.std.specs.Prelude.{◌≡◌, ◌+◌, ◌*◌, ◌<◌, length, get_or};
 ghost use Rattle.netkat_steps.specs.ListSteps.{edge};
 ghost use Rattle.aut_st_source.specs.Clauses.{edge_of, entry_of, EntryIn};
@@ -6,20 +8,20 @@ ghost use Rattle.aut_st_source.specs.Clauses.{edge_of, entry_of, EntryIn};
 use spp::SPP;
 
 // a list's first record: among the stored transitions, or in scratch, from record FIRST of st on
-#[derive(Drop)]
+#[derive(Clone, Copy)]
 pub enum Place {
     Stored(usize),
     Scratch(usize),
 }
 
 // a list that is walked
-#[derive(Drop)]
+#[derive(Clone, Copy)]
 pub struct Source {
     pub place: Place,
     pub length: usize,
 }
 
-#[derive(Drop)]
+#[derive(Clone, Copy)]
 pub struct Transition {
     pub target: u32,
     pub label: SPP,

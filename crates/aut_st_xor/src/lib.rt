@@ -1,4 +1,6 @@
 // st_xor of aut.rs, of stored lists. The result stands at RESULT; the two differences wait at FIRST and SECOND.
+#![tactic(auto)]
+
 ghost use Rattle.netkat_steps.specs.ListSteps as St;
 ghost use Rattle.aut_st_steps.specs.Operations.{ops};
 ghost use Rattle.aut_st_steps.specs.Edges.{edges};

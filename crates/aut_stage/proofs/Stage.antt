@@ -46,7 +46,7 @@ module _ (𝓛 : Layer) (a n : ℕ) {A : Type 0} {whole : Outcome 𝓛.Store A} 
           let v = p.then in
           record {
             ext = 𝓛.ext_trans σ τ (at e) g.ext v.ext;
-            beside = 𝓛.Beside-trans c d e g.beside v.beside;
+            beside = 𝓛.beside_trans c d e g.beside v.beside;
             frame = 𝓛.frame_trans a n τ (at e) s s' s'' v.ext g.frame (𝓛.frame_wide a n b m (at e) s' s'' i.from i.to v.frame);
             ready = v.ready;
             is = g.is ∙ ap (λ (z : Outcome 𝓛.Store B). after z k) p.is;
@@ -66,7 +66,7 @@ module _ (𝓛 : Layer) (a n : ℕ) {A : Type 0} {whole : Outcome 𝓛.Store A} 
           is = g.is ∙ p.is;
           then = record {
             ext = 𝓛.ext_trans σ τ (at e) g.ext v.ext;
-            beside = 𝓛.Beside-trans c d e g.beside v.beside;
+            beside = 𝓛.beside_trans c d e g.beside v.beside;
             frame = 𝓛.frame_trans a n τ (at e) s s' s'' v.ext g.frame (𝓛.frame_wide a n b m (at e) s' s'' i.from i.to v.frame);
             ready = v.ready;
             holds = v.holds;

@@ -1,4 +1,5 @@
 -- Interning: what each way through comes to.
+use Rattle.std.specs.Prelude.{if◌then◌else◌}
 use mathlib.Core.Path.{◌≡◌, refl, sym, ◌∙◌, ap, ap₂}
 use mathlib.Core.Bool.{Bool, true, false, ◌&&◌, and-false}
 use mathlib.Core.List.{List, [], ◌∷◌}
@@ -8,7 +9,7 @@ use lib.Dec.{eqb, ltb, leb}
 use lib.ListN.{length, get_or, set}
 use lib.Seq.{sets}
 use borrow.Author.Tests.{eq-eqb, ne_eqb, lt-ltb, le-ltb, le-leb, lt-leb}
-use Rattle.common.specs.Outcome.{Outcome, refused, given, Step, if◌then◌else◌}
+use Rattle.common.specs.Outcome.{Outcome, refused, given, Step}
 use Rattle.common.specs.Runs.{Table, table, placed}
 use Rattle.aut_steps.specs.Tables.{kind_of, op1, nest, words, state_cap, member_cap, room_s, room_m, put4, Exprs, exprs, Limits, COMPLEMENT, TOP, SPP}
 use Rattle.aut_steps.specs.Intern.{seek, same2, same_l, put, intern0, intern1, intern2, nest_l, store, put_l, intern_l}

@@ -1,4 +1,5 @@
 -- Searches and loops over a list: what one turn does.
+use Rattle.std.specs.Prelude.{if◌then◌else◌}
 use mathlib.Core.Path.{◌≡◌, refl, sym, ◌∙◌, ap, ap₂, subst}
 use mathlib.Core.Bool.{Bool, true, false, ◌&&◌}
 use mathlib.Core.List.{List, [], ◌∷◌}
@@ -8,7 +9,6 @@ use lib.Dec.{eqb, ltb, leb}
 use lib.ListN.{length, get_or, set}
 use lib.Seq.{sets}
 use borrow.Author.Tests.{eq-eqb, ne_eqb}
-use Rattle.common.specs.Outcome.{if◌then◌else◌}
 use Rattle.aut_steps.specs.Tables.{kind_of, op1, op2, nest, words}
 use Rattle.aut_steps.specs.Intern.{seek, same2, same_at, same_l, nest_l}
 use Rattle.aut_steps.specs.Ascending.{All}

@@ -1,5 +1,7 @@
 // States and members of aut.rs on lent tables, twelve words a state, one a member: interning by comparison, and the constructors
 // that need no relation operation. A list of states is given as k words of scratch at base.
+#![tactic(auto)]
+
 pub mod kind;
 pub mod refusal;
 pub mod word;
@@ -15,7 +17,7 @@ ghost use Rattle.aut_states.specs.Clauses.{seen_put, Interned, limits_of, Fits, 
 use spp::SPP;
 
 // records in use of each table
-#[derive(Drop)]
+#[derive(Clone, Copy)]
 pub struct Counts {
     pub sp: usize,
     pub spp: usize,
@@ -25,7 +27,7 @@ pub struct Counts {
 }
 
 // 01's limits 8, 6, 7, 9
-#[derive(Drop)]
+#[derive(Clone, Copy)]
 pub struct Limits {
     pub nesting: u32,
     pub list: usize,
@@ -34,7 +36,7 @@ pub struct Limits {
 }
 
 // what holds for the whole book
-#[derive(Drop)]
+#[derive(Clone, Copy)]
 pub struct Config {
     pub fields: u32,
     pub limits: Limits,
@@ -44,13 +46,13 @@ pub struct Config {
 pub const STATE: usize = 12;
 
 // a state and the number of states, or 01's number
-#[derive(Drop)]
+#[derive(Clone, Copy)]
 pub enum Put {
     At(u32, usize),
     Refused(u32),
 }
 
-#[derive(Drop)]
+#[derive(Clone, Copy)]
 pub enum State {
     Is(u32, Counts),
     Refused(u32),

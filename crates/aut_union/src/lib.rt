@@ -1,4 +1,6 @@
 // mk_union_n and mk_union of aut.rs. A list is k words of scratch (the map of scratch is aut_lists').
+#![tactic(auto)]
+
 ghost use Rattle.std.specs.Prelude.{◌≡◌, List, [], ◌∷◌, ℕ, ◌+◌, ◌*◌, ◌≤◌, ◌<◌, length};
 ghost use Rattle.common.specs.Runs.{table};
 ghost use Rattle.aut_steps.specs.Tables.{exprs, words, UNION};
@@ -14,14 +16,14 @@ use aut_states::{Config, Counts, Put, State};
 use spp::{Made, Op, SPP};
 
 // the united relation, the number of nodes, and how many other members there are
-#[derive(Drop)]
+#[derive(Clone, Copy)]
 pub enum Gathered {
     Rest(SPP, usize, usize),
     Full,
 }
 
 // how many words the list has, and the number of states
-#[derive(Drop)]
+#[derive(Clone, Copy)]
 pub enum Added {
     List(usize, usize),
     Refused(u32),

@@ -1,4 +1,5 @@
 -- Round after round: one more, the fewest hops, and the loop, whose bound is that of the steps.
+use Rattle.std.specs.Prelude.{if◌then◌else◌}
 use mathlib.Core.Path.{◌≡◌, refl, sym, ◌∙◌, ap, subst}
 use mathlib.Core.Bool.{Bool, true, false}
 use mathlib.Core.List.{List, [], ◌∷◌, ◌++◌, Memᴰ}
@@ -9,7 +10,7 @@ use native.Mathlib.Nat.{mul-le-mul}
 use lib.ListN.{length, length-append, get_or}
 use lib.Pow.{pow_mono}
 use borrow.Author.Tests.{lt-ltb, le-ltb}
-use Rattle.common.specs.Outcome.{Outcome, refused, given, Step, return, after, if◌then◌else◌}
+use Rattle.common.specs.Outcome.{Outcome, refused, given, Step, return, after}
 use Rattle.sp_steps.specs.Model as Sp
 use Rattle.spp_steps.proofs.Laws.{by_test}
 use Rattle.aut_query_steps.specs.Tables.{Tables}

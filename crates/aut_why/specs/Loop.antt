@@ -1,7 +1,7 @@
 -- 02 (i): "k rising from 0 until none changes": what one round more and the loop over rounds in code ask and promise.
-use Rattle.std.specs.Prelude.{◌≡◌, Bool, true, false, ℕ, ◌+◌, ◌*◌, ◌-◌, ◌≤◌, ◌<◌, ltb, length, get_or}
+use Rattle.std.specs.Prelude.{◌≡◌, Bool, true, false, ℕ, ◌+◌, ◌*◌, ◌-◌, ◌≤◌, ◌<◌, ltb, length, get_or, if◌then◌else◌}
 use mathlib.Core.List.{List, [], Memᴰ}
-use Rattle.common.specs.Outcome.{Outcome, refused, after, if◌then◌else◌}
+use Rattle.common.specs.Outcome.{Outcome, refused, after}
 use Rattle.sp_steps.specs.Model as Sp
 use Rattle.aut_query_steps.specs.Tables.{Tables}
 use Rattle.aut_why_steps.specs.Why.{Sets, same_on, round_zero, round, rounds, most_rounds, fewest}

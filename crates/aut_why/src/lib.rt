@@ -1,4 +1,6 @@
 // The rounds of `why a`: the live sets are worked out and kept first.
+#![tactic(auto)]
+
 ghost use Rattle.std.specs.Prelude.{◌≡◌, ◌+◌, ◌*◌, ◌-◌, false, get_or};
 ghost use Rattle.aut_query_stage.specs.Layer.{tables_of, PreQuery};
 ghost use Rattle.aut_why_rounds.specs.Clauses.{PreRound};
@@ -11,7 +13,7 @@ use aut_why_rounds::{Nodes, Whys};
 use sp::SP;
 
 // the number of packet nodes, by whether no set has changed
-#[derive(Drop)]
+#[derive(Clone, Copy)]
 pub enum Next {
     Same(usize),
     More(usize),

@@ -1,4 +1,5 @@
 -- From round to round, and to a round that is kept.
+use Rattle.std.specs.Prelude.{if◌then◌else◌}
 use mathlib.Core.Path.{◌≡◌, refl, sym, ◌∙◌, ap, subst}
 use mathlib.Core.Logic.{⊎_elim}
 use mathlib.Core.Bool.{Bool}
@@ -9,7 +10,6 @@ use native.Mathlib.Omega.{arith}
 use lib.Dec.{eqb, ltb}
 use lib.ListN.{get_or}
 use borrow.Author.Tests.{eqb-true, ltb-true, ltb-false}
-use Rattle.common.specs.Outcome.{if◌then◌else◌}
 use Rattle.spp_steps.proofs.Laws.{by_test}
 use Rattle.aut_query_steps.specs.Tables.{Tables}
 use Rattle.aut_query_stage.specs.Layer.{tables_of}

@@ -1,4 +1,6 @@
 // An earlier round of `why` is worked out again, which makes no node: the sets that a hop is picked from. Words 8 to 11 of the states are as in aut_why_marks.
+#![tactic(auto)]
+
 ghost use Rattle.aut_why_again.specs.Clauses.{PreTurnAgain, PostTurnAgain, PreStart, PostStart, PreTurns, PostTurns, PreForward, PostForward, PreRemake, PostRemake, PreSetsFor, PostFromMark, PostSetsFor};
 
 use aut_states::{Config, Counts};

@@ -1,4 +1,5 @@
 -- The choice of a hop, one transition at a time.
+use Rattle.std.specs.Prelude.{if◌then◌else◌}
 use mathlib.Core.Path.{◌≡◌, refl, sym, ◌∙◌, ap, subst}
 use mathlib.Core.Bool.{Bool, true, false, ◌&&◌, ◌||◌}
 use mathlib.Core.Logic.{◌⊎◌, inl, inr}
@@ -11,7 +12,6 @@ use lib.Dec.{eqb, ltb}
 use lib.ListN.{length, get_or}
 use borrow.Author.Tests.{eqb-true, eqb-false, ltb-true, ltb-false, lt-ltb, le-ltb}
 use Rattle.common.specs.Packets.{Packet}
-use Rattle.common.specs.Outcome.{if◌then◌else◌}
 use Rattle.cache.proofs.Cache.{notes_refl, notes_trans, sound_own}
 use Rattle.netkat.specs.Lists.{State, Transition}
 use Rattle.netkat_paths.specs.Order.{value, map, least}

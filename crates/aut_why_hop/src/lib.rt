@@ -1,4 +1,6 @@
 // One hop of the string that `why` prints: the least packet to which a transition of the state leads the packet, of those in the set of its target (word SEEN).
+#![tactic(auto)]
+
 ghost use Rattle.std.specs.Prelude.{◌≡◌, ◌*◌, ◌+◌, get_or};
 ghost use Rattle.common.specs.Runs.{table};
 ghost use Rattle.spp_steps.specs.ImageModel.{stores};
@@ -10,7 +12,7 @@ use sp::SP;
 use spp::SPP;
 
 // the packet, and the state that it leads to
-#[derive(Drop)]
+#[derive(Clone, Copy)]
 pub enum Hopped {
     To(u32, u32),
     Nothing,

@@ -1,4 +1,6 @@
 // Least packets for `why`: the cache that the search takes lies in scratch, behind the lists. A packet is told as its number + 1, or 0 if there is none.
+#![tactic(auto)]
+
 ghost use Rattle.std.specs.Prelude.{◌≡◌};
 ghost use Rattle.common.specs.Runs.{table};
 ghost use Rattle.netkat_paths.specs.Order.{least};

@@ -1,7 +1,6 @@
 -- 02 (i), 01, "Lent tables": what the functions on columns of words 8 to 11 ask and promise. The states are the second words of n pending entries.
-use Rattle.std.specs.Prelude.{◌≡◌, Bool, ℕ, ◌+◌, ◌*◌, ◌-◌, ◌<◌, eqb, ltb, length, get_or}
+use Rattle.std.specs.Prelude.{◌≡◌, Bool, ℕ, ◌+◌, ◌*◌, ◌-◌, ◌<◌, eqb, ltb, length, get_or, if◌then◌else◌}
 use mathlib.Core.List.{List, Memᴰ}
-use Rattle.common.specs.Outcome.{if◌then◌else◌}
 use Rattle.common.specs.Packets.{any}
 use Rattle.netkat_steps.specs.ListSteps.{Edge}
 use Rattle.aut_st_steps.specs.Edges.{edges}

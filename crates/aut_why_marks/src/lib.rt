@@ -1,4 +1,6 @@
 // Words 8 to 11 of the states that `why` works on. The states are the second words of n pending entries.
+#![tactic(auto)]
+
 pub mod word;
 
 ghost use Rattle.std.specs.Prelude.{◌≡◌, ◌+◌, ◌*◌, ◌<◌, length};

@@ -1,4 +1,5 @@
 -- The set of a state: bwd of its epsilon, joined with each transition, by the rule for a run of calls (aut_stage).
+use Rattle.std.specs.Prelude.{if◌then◌else◌}
 use mathlib.Core.Path.{◌≡◌, refl, sym, ◌∙◌, ap, ap₂, subst}
 use mathlib.Core.Logic.{⊎_elim}
 use mathlib.Core.List.Memᴰ
@@ -8,7 +9,7 @@ use native.Mathlib.Omega.{arith}
 use lib.Dec.{eqb}
 use lib.ListN.{length, get_or}
 use borrow.Author.Tests.{eqb-true, eqb-false}
-use Rattle.common.specs.Outcome.{Outcome, refused, given, Step, after, if◌then◌else◌}
+use Rattle.common.specs.Outcome.{Outcome, refused, given, Step, after}
 use Rattle.common.specs.Runs.{table}
 use Rattle.netkat.specs.Lists.{State, Transition}
 use Rattle.netkat_steps.specs.ListSteps.{Edge, Are}

@@ -1,4 +1,6 @@
 // The rounds of `why`: the starts of strings with at most k hops, k rising from 0 until none changes.
+#![tactic(auto)]
+
 ghost use Rattle.aut_why_rounds.specs.Clauses.{PreEnds, PostEnds, PreJoin, PostJoin, PreJoins, PostJoins, PreTurn, PostTurn, PreStep, PostStep, PreRound, PostRound};
 
 use aut_states::{Config, Counts};
@@ -6,14 +8,14 @@ use sp::SP;
 use spp::SPP;
 
 // counts, the number of states, and the fewest hops + 1 of a string, 0 if there is none; or 01's number
-#[derive(Drop)]
+#[derive(Clone, Copy)]
 pub enum Whys {
     To(Counts, usize, usize),
     Refused(u32),
 }
 
 // the number of packet nodes
-#[derive(Drop)]
+#[derive(Clone, Copy)]
 pub enum Nodes {
     At(usize),
     Full,

@@ -1,4 +1,5 @@
 -- How `Walk` and `HasSets` go on: sets are made, a word is written or copied, words 8 and 9 are compared; and the end, where words 8 to 11 and the entries are zero again.
+use Rattle.std.specs.Prelude.{if◌then◌else◌}
 use mathlib.Core.Path.{◌≡◌, refl, sym, ◌∙◌, ap, ap₂, subst}
 use mathlib.Core.Logic.{◌≢◌, ⊎_elim}
 use mathlib.Core.Bool.{Bool, true, false, ◌&&◌}
@@ -11,7 +12,6 @@ use lib.ListN.{length, get_or, set, length-set}
 use lib.Seq.{get_or-set_same, get_or-set_other, set_out}
 use borrow.Author.Tests.{eq-eqb, ne_eqb, eqb-true, eqb-false, ltb-true, ltb-false}
 use Rattle.common.specs.Packets.{any}
-use Rattle.common.specs.Outcome.{if◌then◌else◌}
 use Rattle.spp_steps.proofs.Laws.{by_test}
 use Rattle.aut_query_steps.specs.Explored.{Linked}
 use Rattle.aut_query_steps.proofs.ExploreLaws.{any_mem}
@@ -101,6 +101,7 @@ module _ (a b : ℕ) (less : b < 12) where
         (λ i. copy_here xs (set st (12 * y + b) (get_or st (12 * y + a) 0)) z k' i)
         (Memᴰ.cases_cons m)
         ∙ one_from st y z
+    copy_here [] st z k m = elim m [ ]
 
   -- words 8 to 11 may be copied
   module _ (sp t mem tr : List ℕ) (c : Counts) (low : 8 ≤ b) where
@@ -205,6 +206,7 @@ all_here (y ∷ xs) st z w a b k m =
     (λ q. all_stays xs (zero_words st y) (12 * z + w) (subst (λ (y : ℕ). get_or (zero_words st y) (12 * z + w) 0 ≡ 0) q (zeroed_here st z w a b k)))
     (λ i. all_here xs (zero_words st y) z w a b (subst (λ (m : ℕ). 12 * z + 11 < m) (sym (zero_length st y)) k) i)
     (Memᴰ.cases_cons m)
+all_here [] st z w a b k m = elim m [ ]
 
 -- no test holds and fails
 pub no_test : (b : Bool) → b ≡ true → b ≡ false → ⊥

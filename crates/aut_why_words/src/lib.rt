@@ -1,5 +1,7 @@
 // How the rounds of `why` stand in words: word 8 of a state is its set + 1 in the round before, word 9 in the round under work, word 10 in a round that is kept to go on from, word 11
 // is 1 where the last round changed the set. The states reached are the second words of the pending entries.
+#![tactic(auto)]
+
 ghost use Rattle.std.specs.Prelude.{◌≡◌, ◌+◌, ◌*◌, ◌<◌, length};
 ghost use Rattle.aut_delta_steps.specs.Epsilon.{value_of};
 ghost use Rattle.aut_delta_steps.specs.EpsilonDown.{Known};

@@ -1,0 +1,91 @@
+use mathlib.Core.Path.{◌∙◌}
+use native.Mathlib.Omega.{arith}
+use lib.ListN.{length-set}
+use Rattle.aut_live_reach.proofs.Visiting as visiting
+use Rattle.aut_live_reach.proofs.visit.Goals as goal
+
+pub epsilon-requires : goal.epsilon-requires
+epsilon-requires c = visiting.visit_epsilon c.requires
+
+pub returns-in_default : goal.returns-in_default
+returns-in_default c = visiting.visit_stuck_1 c.requires c.epsilon.ensures c.in_default.is
+
+pub set_bwd-requires : goal.set_bwd-requires
+set_bwd-requires c = visiting.visit_bwd c.requires c.epsilon.ensures c.in-Node.is c.epsilon.auto.scratch
+
+pub returns-in_default-set_bwd : goal.returns-in_default-set_bwd
+returns-in_default-set_bwd c =
+    visiting.visit_stuck_2 c.requires c.epsilon.ensures c.in-Node.is c.epsilon.auto.scratch c.set_bwd.ensures c.in_default-set_bwd.is
+
+pub overflow_cast-i : goal.overflow_cast-i
+overflow_cast-i c = omega (arith, visiting.visit_word c.requires)
+
+pub overflow_mul-i : goal.overflow_mul-i
+overflow_mul-i c = omega (arith, visiting.visit_word c.requires)
+
+pub overflow_add-i : goal.overflow_add-i
+overflow_add-i c = omega (arith, visiting.visit_word c.requires)
+
+pub overflow_add-states : goal.overflow_add-states
+overflow_add-states c =
+    omega (arith, visiting.visit_small c.requires c.epsilon.ensures c.in-Node.is c.epsilon.auto.scratch c.set_bwd.ensures c.in-Node-set_bwd.is c.set_bwd.auto.scratch)
+
+pub offset_bounds-states-i : goal.offset_bounds-states-i
+offset_bounds-states-i c = omega (arith, visiting.visit_word c.requires)
+
+pub bounds-states-i : goal.bounds-states-i
+bounds-states-i c =
+    omega (arith, visiting.visit_there c.requires c.epsilon.ensures c.in-Node.is c.epsilon.auto.scratch c.set_bwd.ensures c.in-Node-set_bwd.is c.set_bwd.auto.scratch)
+
+pub delta-worked-requires : goal.delta-worked-requires
+delta-worked-requires c =
+    visiting.visit_delta c.requires c.epsilon.ensures c.in-Node.is c.epsilon.auto.scratch c.set_bwd.ensures c.in-Node-set_bwd.is c.set_bwd.auto.scratch
+
+pub enqueue-requires : goal.enqueue-requires
+enqueue-requires c =
+    visiting.visit_enqueue c.requires c.epsilon.ensures c.in-Node.is c.epsilon.auto.scratch c.set_bwd.ensures c.in-Node-set_bwd.is c.set_bwd.auto.scratch c.delta-worked.ensures c.in-Done.is c.delta-worked.auto.scratch
+
+pub shape_of-sp-in_default-enqueue : goal.shape_of-sp-in_default-enqueue
+shape_of-sp-in_default-enqueue c = c.set_bwd.auto.sp
+
+pub shape_of-nodes-in_default-enqueue : goal.shape_of-nodes-in_default-enqueue
+shape_of-nodes-in_default-enqueue c = c.delta-worked.auto.nodes ∙ c.epsilon.auto.nodes
+
+pub shape_of-states-in_default-enqueue : goal.shape_of-states-in_default-enqueue
+shape_of-states-in_default-enqueue c = c.enqueue.auto.states ∙ (simp length-set at c.delta-worked.auto.states) ∙ c.epsilon.auto.states
+
+pub shape_of-scratch-in_default-enqueue : goal.shape_of-scratch-in_default-enqueue
+shape_of-scratch-in_default-enqueue c = c.delta-worked.auto.scratch ∙ c.set_bwd.auto.scratch ∙ c.epsilon.auto.scratch
+
+pub returns-in_default-enqueue : goal.returns-in_default-enqueue
+returns-in_default-enqueue c =
+    visiting.visit_stuck_4 c.requires c.epsilon.ensures c.in-Node.is c.epsilon.auto.scratch c.set_bwd.ensures c.in-Node-set_bwd.is c.set_bwd.auto.scratch c.delta-worked.ensures c.in-Done.is c.delta-worked.auto.scratch c.enqueue.ensures c.in_default-enqueue.is
+
+pub shape_of-nodes-in-Refused : goal.shape_of-nodes-in-Refused
+shape_of-nodes-in-Refused c = c.delta-worked.auto.nodes ∙ c.epsilon.auto.nodes
+
+pub shape_of-states-in-Refused : goal.shape_of-states-in-Refused
+shape_of-states-in-Refused c = (simp length-set at c.delta-worked.auto.states) ∙ c.epsilon.auto.states
+
+pub shape_of-scratch-in-Refused : goal.shape_of-scratch-in-Refused
+shape_of-scratch-in-Refused c = c.delta-worked.auto.scratch ∙ c.set_bwd.auto.scratch ∙ c.epsilon.auto.scratch
+
+pub returns-in-Refused : goal.returns-in-Refused
+returns-in-Refused c =
+    visiting.visit_stuck_3 c.requires c.epsilon.ensures c.in-Node.is c.epsilon.auto.scratch c.set_bwd.ensures c.in-Node-set_bwd.is c.set_bwd.auto.scratch c.delta-worked.ensures c.in-Refused.is
+
+pub shape_of-sp-in-At : goal.shape_of-sp-in-At
+shape_of-sp-in-At c = c.set_bwd.auto.sp
+
+pub shape_of-nodes-in-At : goal.shape_of-nodes-in-At
+shape_of-nodes-in-At c = c.delta-worked.auto.nodes ∙ c.epsilon.auto.nodes
+
+pub shape_of-states-in-At : goal.shape_of-states-in-At
+shape_of-states-in-At c = c.enqueue.auto.states ∙ (simp length-set at c.delta-worked.auto.states) ∙ c.epsilon.auto.states
+
+pub shape_of-scratch-in-At : goal.shape_of-scratch-in-At
+shape_of-scratch-in-At c = c.delta-worked.auto.scratch ∙ c.set_bwd.auto.scratch ∙ c.epsilon.auto.scratch
+
+pub returns-in-At : goal.returns-in-At
+returns-in-At c =
+    visiting.visit_done c.requires c.epsilon.ensures c.in-Node.is c.epsilon.auto.scratch c.set_bwd.ensures c.in-Node-set_bwd.is c.set_bwd.auto.scratch c.delta-worked.ensures c.in-Done.is c.delta-worked.auto.scratch c.enqueue.ensures c.in-At.is

@@ -1,0 +1,6 @@
+use native.Mathlib.Omega.{arith}
+use Rattle.sp_steps.proofs.Laws.{wf_down}
+use Rattle.aut_why_least.proofs.first_of.Goals as goal
+
+pub least-requires : goal.least-requires
+least-requires c = record { deep = c.requires.few; wf = wf_down c.requires.wf (omega arith); at_s = c.requires.at_a }
