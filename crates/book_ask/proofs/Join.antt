@@ -1,4 +1,5 @@
 -- A query's step and its answer's lines, put together.
+use Rattle.std.specs.Prelude.{if◌then◌else◌}
 use mathlib.Core.Path.{◌≡◌, refl, sym, ◌∙◌, ap, subst}
 use mathlib.Core.Bool.{Bool}
 use mathlib.Core.Logic.{inl, inr}
@@ -10,7 +11,7 @@ use lib.Dec.{leb}
 use lib.ListN.{length, take, length-append}
 use lib.Seq.{length-take-le}
 use borrow.Author.Tests.{le-leb, lt-leb}
-use Rattle.common.specs.Outcome.{Outcome, refused, given, after, if◌then◌else◌}
+use Rattle.common.specs.Outcome.{Outcome, refused, given, after}
 use Rattle.cache.proofs.Cache.{sound_map, notes_map}
 use Rattle.netkat_steps.specs.ListSteps.{Edge}
 use Rattle.sp_steps.specs.Model as Sp

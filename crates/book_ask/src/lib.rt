@@ -1,4 +1,6 @@
 // The queries `live`, `pruned` and `why`: each does its step and writes its answer, whole or not at all. The lists that the steps leave and the cache lie in scratch.
+#![tactic(auto)]
+
 ghost use Rattle.book_steps.specs.Reader as Reader;
 ghost use Rattle.aut_query_stage.specs.Layer.{tables_of};
 ghost use Rattle.book_ask.specs.Clauses.{PreAsk, PostAsk, PostWhy};
@@ -11,7 +13,7 @@ use book_place::Setting;
 use book_writer::Answered;
 
 // the records in use, and the place behind the answer in the output; or 01's number
-#[derive(Drop)]
+#[derive(Clone, Copy)]
 pub enum Asked {
     Told(Counts, usize),
     Refused(u32),

@@ -1,4 +1,5 @@
 -- The constants in zeroed tables, and the first line of the output.
+use Rattle.std.specs.Prelude.{if◌then◌else◌}
 use mathlib.Core.Path.{◌≡◌, refl, sym, ◌∙◌, ap, ap₂, subst}
 use mathlib.Core.Bool.{Bool}
 use mathlib.Core.Logic.{⊎_elim}
@@ -10,7 +11,7 @@ use lib.Dec.{leb}
 use lib.ListN.{length, take, length-drop, length-replicate}
 use lib.Seq.{get_or-drop}
 use borrow.Author.Tests.{le-ltb, le-leb, lt-leb}
-use Rattle.common.specs.Outcome.{Outcome, refused, given, if◌then◌else◌}
+use Rattle.common.specs.Outcome.{Outcome, refused, given}
 use Rattle.common.specs.Runs.{Table, table}
 use Rattle.cache.specs.Cache.{Sound}
 use Rattle.cache.proofs.Cache.{sound_zero, sound_map}

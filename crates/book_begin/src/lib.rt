@@ -1,4 +1,6 @@
 // Before the instructions of a book: what is lent is zeroed, the limits are set, and the constants are made.
+#![tactic(auto)]
+
 ghost use Rattle.std.specs.Prelude.{◌≡◌, length};
 ghost use Rattle.book_steps.specs.Run.{zeroed};
 ghost use Rattle.book_begin.specs.Clauses as Its;
@@ -8,13 +10,13 @@ use book_place::{Place, Setting};
 use book_writer::Answered;
 
 // everything that stands before the instructions
-#[derive(Drop)]
+#[derive(Clone, Copy)]
 pub struct Header {
     pub fields: u32,
     pub budget: u64,
 }
 
-#[derive(Drop)]
+#[derive(Clone, Copy)]
 pub enum Begun {
     At(Place),
     Refused(u32),

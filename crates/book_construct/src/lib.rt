@@ -1,4 +1,6 @@
 // A constructor line of a book: the constructor of its word, on the states of the lines that it names.
+#![tactic(auto)]
+
 ghost use Rattle.std.specs.Prelude.{◌≡◌, List, [], ◌∷◌, ℕ, ◌≤◌};
 ghost use Rattle.common.specs.Runs.{table};
 ghost use Rattle.spp.specs.Clauses.{seen, FieldAsked};
@@ -18,7 +20,7 @@ use book_words::{Bit, Constant, Listed, Pair, Single};
 use spp::{Made, SPP};
 
 // operands are states; the members of a list, at most 64, are the first words of scratch
-#[derive(Drop)]
+#[derive(Clone, Copy)]
 pub enum Line {
     Constant(Constant),
     Bit(Bit, u32, bool),

@@ -1,4 +1,6 @@
 // The end of a run: where it has come to, and what is returned once the tables are as 01 leaves them.
+#![tactic(auto)]
+
 ghost use Rattle.std.specs.Prelude.{[]};
 ghost use Rattle.book_place.specs.Clauses.{memory};
 ghost use Rattle.book_finish.specs.Clauses as Its;
@@ -6,14 +8,14 @@ ghost use Rattle.book_finish.specs.Clauses as Its;
 use book_place::{Place, Setting};
 
 // the place at the end, with its setting; or 01's number, the text line, and the output's length of the lines before
-#[derive(Drop)]
+#[derive(Clone, Copy)]
 pub enum Went {
     End(Setting, Place),
     Stopped(u32, usize, usize),
 }
 
 // the output's length; or 01's number, the text line, and the output's length of the lines before
-#[derive(Drop)]
+#[derive(Clone, Copy)]
 pub enum Ran {
     Answered(usize),
     Refused(u32, usize, usize),

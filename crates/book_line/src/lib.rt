@@ -1,4 +1,6 @@
 // A line of a book behind the first: what it is told to do (book_place) is done, and what it stands for is kept in the table of lines.
+#![tactic(auto)]
+
 ghost use Rattle.book_place.specs.Clauses.{memory};
 ghost use Rattle.book_line.specs.Clauses as Its;
 ghost use Rattle.book_line.specs.Clauses.{PreAskLine, PostAskLine};
@@ -8,7 +10,7 @@ use book_ask::Asked;
 use book_place::{Place, Setting, Told};
 use book_reader::{Cursor, Query};
 
-#[derive(Drop)]
+#[derive(Clone, Copy)]
 pub enum Obeyed {
     Next(Place),
     Refused(u32),

@@ -1,4 +1,5 @@
 -- What a line is told to do, by what it says and by the lines before it.
+use Rattle.std.specs.Prelude.{if◌then◌else◌}
 use mathlib.Core.Path.{◌≡◌, refl, sym, ◌∙◌, ap, ap₂, subst}
 use mathlib.Core.Bool.{Bool, true, false, ◌&&◌}
 use mathlib.Core.List.{List}
@@ -8,7 +9,7 @@ use native.Mathlib.Omega.{arith}
 use lib.Dec.{ltb, eqb}
 use lib.ListN.{length, get_or}
 use borrow.Author.Tests.{lt-ltb, le-ltb}
-use Rattle.common.specs.Outcome.{Outcome, refused, if◌then◌else◌}
+use Rattle.common.specs.Outcome.{Outcome, refused}
 use Rattle.common.specs.Runs.{placed}
 use Rattle.aut_steps.specs.Tables.{Limits, Aut, words}
 use Rattle.aut_steps.specs.Ascending.{All}

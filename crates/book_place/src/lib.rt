@@ -1,4 +1,6 @@
 // A place in a book that runs, and what a line there is told to do: the lines that it names are looked up, its constructor is done, and the state is kept in the table of lines.
+#![tactic(auto)]
+
 ghost use Rattle.std.specs.Prelude.{◌+◌, ◌≤◌, ◌<◌, length};
 ghost use Rattle.aut_relations.specs.Clauses.{aut_of};
 ghost use Rattle.book_place.specs.Clauses as Its;
@@ -15,35 +17,35 @@ pub const LINES: usize = 0;
 pub const WORK: usize = 2048;
 
 // what holds for the whole book
-#[derive(Drop)]
+#[derive(Clone, Copy)]
 pub struct Setting {
     pub config: Config,
     pub budget: u64,
 }
 
 // a place in a book that runs: the records in use, the lines so far, and the bytes of output so far
-#[derive(Drop)]
+#[derive(Clone, Copy)]
 pub struct Place {
     pub counts: Counts,
     pub lines: usize,
     pub output: usize,
 }
 
-#[derive(Drop)]
+#[derive(Clone, Copy)]
 pub enum Named {
     State(u32),
     Nothing,
 }
 
 // behind the operand; or it is no earlier constructor line
-#[derive(Drop)]
+#[derive(Clone, Copy)]
 pub enum Operand {
     Next(Cursor),
     Bad,
 }
 
 // a constructor line; a query, of the line named, with its state; or 01's number
-#[derive(Drop)]
+#[derive(Clone, Copy)]
 pub enum Told {
     Makes(Line),
     Asks(Query, usize, u32),

@@ -1,4 +1,6 @@
 // The answer to `pruned`: the lines of the transitions that the step has left in scratch, written whole or not at all.
+#![tactic(auto)]
+
 ghost use Rattle.std.specs.Prelude.{◌≤◌, ◌<◌, length};
 ghost use Rattle.common.specs.Runs.{table};
 ghost use Rattle.book_pruned.specs.Clauses.{PrePairs, PostNumber, PostLength, PrePut, PostPairs, PostPruned};

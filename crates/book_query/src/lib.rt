@@ -1,4 +1,6 @@
 // The queries of a book: `empty`, which does its step and writes its answer, whole or not at all, and all four by name (the others: book_ask).
+#![tactic(auto)]
+
 ghost use Rattle.std.specs.Prelude.{◌≡◌};
 ghost use Rattle.book_steps.specs.Reader as Reader;
 ghost use Rattle.aut_query_stage.specs.Layer.{tables_of};

@@ -1,4 +1,5 @@
 -- A word's digits read from the left: each behind the number that those before it are, which stays below 2^64 or is past it for good.
+use Rattle.std.specs.Prelude.{if◌then◌else◌}
 use mathlib.Core.Path.{◌≡◌, refl, sym, ◌∙◌, ap}
 use mathlib.Core.Bool.{Bool, true, false, ◌&&◌}
 use mathlib.Core.List.{List, [], ◌∷◌}
@@ -11,8 +12,7 @@ use lib.Dec.{leb, ltb}
 use lib.ListN.{get_or}
 use lib.Seq.{slice-cons, slice_empty}
 use borrow.Author.Tests.{lt-ltb, le-ltb, le-leb, lt-leb}
-use Rattle.bytes.specs.Bytes.{slice}
-use Rattle.common.specs.Outcome.{if◌then◌else◌}
+use Rattle.book_reader.specs.Bytes.{slice}
 use Rattle.book_steps.specs.Text.{digit, digits, reading, plain, number}
 use Rattle.book_reader.specs.Clauses.{Part, value}
 

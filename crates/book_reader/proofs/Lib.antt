@@ -1,4 +1,5 @@
 -- Lemmas for the proofs of this crate.
+pub mod Places
 pub mod Parts
 pub mod Decimal
 pub mod Saying

@@ -1,4 +1,5 @@
 -- A text at its first byte 10, a line at its first space, and a word beside a name: byte by byte.
+use Rattle.std.specs.Prelude.{if◌then◌else◌}
 use mathlib.Core.Path.{◌≡◌, refl, sym, ◌∙◌, ap}
 use mathlib.Core.Bool.{Bool, true, false, ◌&&◌}
 use mathlib.Core.List.{List, [], ◌∷◌}
@@ -10,8 +11,7 @@ use lib.Dec.{eqb}
 use lib.ListN.{length, take, drop, get_or, length-drop}
 use lib.Seq.{take-nil, take-take, drop-drop, take-length, drop-cons, slice-cons, slice_empty, length-slice}
 use borrow.Author.Tests.{eq-eqb, ne_eqb}
-use Rattle.bytes.specs.Bytes.{slice, index_of, index_after}
-use Rattle.common.specs.Outcome.{if◌then◌else◌}
+use Rattle.book_reader.specs.Bytes.{slice, index_of, index_after}
 use Rattle.book_steps.specs.Text.{line, unended, before, cut, on_first, words, same}
 use Rattle.book_reader.specs.declared.Cursor.{Cursor}
 use Rattle.book_reader.specs.declared.Cut.TheVariants as cut-read

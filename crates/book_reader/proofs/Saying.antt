@@ -1,4 +1,5 @@
 -- What the words of a line say, word by word: those before a cursor have been read, those behind it have not.
+use Rattle.std.specs.Prelude.{if◌then◌else◌}
 use mathlib.Core.Path.{◌≡◌, refl, sym, ◌∙◌, ap, subst}
 use mathlib.Core.Bool.{Bool, true, false, ◌&&◌}
 use mathlib.Core.List.{List, [], ◌∷◌}
@@ -7,8 +8,7 @@ use Prim.Native.Nat.{ℕ, suc, ◌+◌, ◌-◌, ◌≤◌, ◌<◌}
 use native.Mathlib.Omega.{arith}
 use native.Mathlib.Nat.{add-zero}
 use lib.ListN.{length}
-use Rattle.bytes.specs.Bytes.{slice}
-use Rattle.common.specs.Outcome.{if◌then◌else◌}
+use Rattle.book_reader.specs.Bytes.{slice}
 use Rattle.book_steps.specs.Text.{bytes, words, same, number}
 use Rattle.book_steps.specs.Reader.{Header, header_of, header, map, or_else, in_front, find, constants, singles, queries, bits, pairs, lists, numbers, exact, saying}
 use Rattle.book_steps.specs.Reader as Reader

@@ -1,8 +1,7 @@
 -- 01, "The book and its answers": the text of a book in code. What a cursor has still to read, and what each answer of the reader says in the words of the specs.
-use Rattle.std.specs.Prelude.{◌≡◌, List, [], ◌∷◌, ℕ, ◌+◌, ◌≤◌, ◌<◌, ◌^◌, ◌&&◌, ltb, length, drop}
+use Rattle.std.specs.Prelude.{◌≡◌, List, [], ◌∷◌, ℕ, ◌+◌, ◌≤◌, ◌<◌, ◌^◌, ◌&&◌, ltb, length, drop, if◌then◌else◌}
 use Rattle.std.proofs.Math.Option.{Option, none, some}
-use Rattle.bytes.specs.Bytes.{slice}
-use Rattle.common.specs.Outcome.{if◌then◌else◌}
+use Rattle.book_reader.specs.Bytes.{slice}
 use Rattle.book_construct_steps.specs.Lines as Lines
 use Rattle.book_words.specs.Clauses.{constant_of, bit_of, single_of, pair_of, listed_of}
 use Rattle.book_steps.specs.Text as Text

@@ -1,8 +1,10 @@
 // The text of a book: its lines, their words and numbers, and what the lines say. Nothing is copied: a place is a value that each
 // reading step takes and hands back.
-ghost use Rattle.std.specs.Prelude.{◌≡◌, true, [], ◌∷◌, ◌≤◌, length};
+#![tactic(auto)]
+
+ghost use Rattle.std.specs.Prelude.{◌≡◌, true, [], ◌∷◌, ◌+◌, ◌≤◌, length};
 ghost use Rattle.std.proofs.Math.Option.{some};
-ghost use Rattle.bytes.specs.Bytes.{slice};
+ghost use Rattle.book_reader.specs.Bytes.{slice, index_of};
 ghost use Rattle.book_steps.specs.Text as Text;
 ghost use Rattle.book_steps.specs.Reader as Reader;
 ghost use Rattle.book_reader.specs.Clauses.{rest, Within, Part, Cuts, TakesWord, Passes, value, value_of, TakesNumber, counted, count_of, heading_of, found_constant, found_bit, found_single, found_pair, found_listed, found_query, Says, listing};
@@ -13,59 +15,59 @@ use book_words::{Bit, Constant, Listed, Pair, Single};
 pub const MOST: u64 = 18446744073709551615;
 
 // the words of a line that are still to be read: those between at and end, the place of the line's byte 10; none, if there are no more
-#[derive(Drop)]
+#[derive(Clone, Copy)]
 pub struct Cursor {
     pub at: usize,
     pub end: usize,
     pub more: bool,
 }
 
-#[derive(Drop)]
+#[derive(Clone, Copy)]
 pub enum Cut {
     Line(Cursor),
     Unended,
 }
 
 // the bytes from, up to to
-#[derive(Drop)]
+#[derive(Clone, Copy)]
 pub struct Word {
     pub from: usize,
     pub to: usize,
     pub next: Cursor,
 }
 
-#[derive(Drop)]
+#[derive(Clone, Copy)]
 pub enum Passed {
     Is(Cursor),
     Bad,
 }
 
-#[derive(Drop)]
+#[derive(Clone, Copy)]
 pub enum Value {
     Is(u64),
     Bad,
 }
 
-#[derive(Drop)]
+#[derive(Clone, Copy)]
 pub enum Number {
     Is(u64, Cursor),
     Bad,
 }
 
-#[derive(Drop)]
+#[derive(Clone, Copy)]
 pub enum Count {
     Numbers(usize),
     Bad,
 }
 
 // fields and budget
-#[derive(Drop)]
+#[derive(Clone, Copy)]
 pub enum Heading {
     Is(u64, u64),
     Bad,
 }
 
-#[derive(Drop)]
+#[derive(Clone, Copy)]
 pub enum Query {
     Empty,
     Live,
@@ -73,44 +75,44 @@ pub enum Query {
     Why,
 }
 
-#[derive(Drop)]
+#[derive(Clone, Copy)]
 pub enum FoundConstant {
     Is(Constant),
     Nothing,
 }
 
-#[derive(Drop)]
+#[derive(Clone, Copy)]
 pub enum FoundBit {
     Is(Bit),
     Nothing,
 }
 
-#[derive(Drop)]
+#[derive(Clone, Copy)]
 pub enum FoundSingle {
     Is(Single),
     Nothing,
 }
 
-#[derive(Drop)]
+#[derive(Clone, Copy)]
 pub enum FoundPair {
     Is(Pair),
     Nothing,
 }
 
-#[derive(Drop)]
+#[derive(Clone, Copy)]
 pub enum FoundListed {
     Is(Listed),
     Nothing,
 }
 
-#[derive(Drop)]
+#[derive(Clone, Copy)]
 pub enum FoundQuery {
     Is(Query),
     Nothing,
 }
 
 // what a line says, as it is written; the cursor of a list stands before its numbers, of which there are so many
-#[derive(Drop)]
+#[derive(Clone, Copy)]
 pub enum Said {
     Constant(Constant),
     Bit(Bit, u64, u64),
@@ -121,12 +123,27 @@ pub enum Said {
     Bad,
 }
 
+// the first place from `from` on with this byte, or `to`
+fn find(text: &[u8], from: usize, to: usize, byte: u8) -> usize
+    requires { (from ≤ to) × (to ≤ length text.now) }
+    ensures { (result ≡ from + index_of byte (slice from to text.now)) × (result ≤ to) }
+{
+    let mut i = from;
+    while i < to {
+        if text[i] == byte {
+            return i;
+        }
+        i += 1;
+    }
+    to
+}
+
 // the line that begins at a place
 pub fn line_at(book: &[u8], at: usize) -> Cut
     requires { at ≤ length book.now }
     ensures { Cuts book.now at result }
 {
-    let end = bytes::scan::find(book, at, book.len(), 10);
+    let end = find(book, at, book.len(), 10);
     if end == book.len() {
         return Cut::Unended;
     }
@@ -203,7 +220,7 @@ impl Cursor {
     {
         let at = self.at;
         let end = self.end;
-        let to = bytes::scan::find(book, at, end, b' ');
+        let to = find(book, at, end, b' ');
         if to < end {
             return Word {
                 from: at,

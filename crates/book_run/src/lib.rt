@@ -1,4 +1,6 @@
 // A book: its header, the constants, then line by line; and the public entry over what is lent.
+#![tactic(auto)]
+
 ghost use Rattle.book_place.specs.Clauses.{memory};
 ghost use Rattle.book_steps.specs.Claim.{EntrySpec};
 ghost use Rattle.book_run.specs.Clauses as Its;
@@ -18,7 +20,7 @@ pub const SCRATCH: usize = 6144;
 pub const INSTRUCTIONS: usize = 2048;
 
 // the next place, and the text behind the line; or 01's number
-#[derive(Drop)]
+#[derive(Clone, Copy)]
 pub enum Turned {
     Next(Place, usize),
     Refused(u32),

@@ -1,4 +1,6 @@
 // The answer to `why`: the string is picked from the rounds, hop by hop, and its sentence is written, whole or not at all.
+#![tactic(auto)]
+
 ghost use Rattle.std.specs.Prelude.{◌<◌};
 ghost use Rattle.book_why.specs.Clauses.{PreStart, PostStart, PreNext, PostNext, PreLast, PostLast, PreString, PostString, PreAnswer, PostAnswer};
 
@@ -8,7 +10,7 @@ use book_writer::Answered;
 use sp::SP;
 
 // where the picking stands: the round in words 10, the state, the packet's number, and the place behind it in the output
-#[derive(Drop)]
+#[derive(Clone, Copy)]
 pub struct Spot {
     pub mark: usize,
     pub state: u32,

@@ -1,5 +1,7 @@
 // The words of a book's constructor lines, for the reader and for the constructors.
-#[derive(Drop)]
+#![tactic(auto)]
+
+#[derive(Clone, Copy)]
 pub enum Constant {
     Zero,
     One,
@@ -8,20 +10,20 @@ pub enum Constant {
     Top,
 }
 
-#[derive(Drop)]
+#[derive(Clone, Copy)]
 pub enum Bit {
     Test,
     Set,
 }
 
-#[derive(Drop)]
+#[derive(Clone, Copy)]
 pub enum Single {
     Not,
     Star,
     Next,
 }
 
-#[derive(Drop)]
+#[derive(Clone, Copy)]
 pub enum Pair {
     Or,
     And,
@@ -31,7 +33,7 @@ pub enum Pair {
     Until,
 }
 
-#[derive(Drop)]
+#[derive(Clone, Copy)]
 pub enum Listed {
     Union,
     Inter,

@@ -1,4 +1,5 @@
 -- Lines of two, three and four words: how long they are, and what stands in the output when their parts are written; and the share.
+use Rattle.std.specs.Prelude.{if◌then◌else◌}
 use mathlib.Core.Path.{◌≡◌, refl, sym, ◌∙◌, ap}
 use mathlib.Core.Bool.{Bool, true, false}
 use mathlib.Core.List.{List, [], ◌∷◌, ◌++◌}
@@ -8,7 +9,6 @@ use lib.ListN.{length, set, length-append}
 use lib.Pow.{pow_mono, pow_pos}
 use native.Mathlib.Nat.{mod-eq_of_lt}
 use borrow.Author.Tests.{lt-ltb, le-ltb}
-use Rattle.common.specs.Outcome.{if◌then◌else◌}
 use Rattle.book_steps.specs.Answers.{say, share}
 use Rattle.book_writer.specs.Clauses.{Put}
 use Rattle.book_writer.proofs.Contracts.{put_append, put_one}

@@ -1,4 +1,6 @@
 // The lines of an answer, written into the output whole or not at all.
+#![tactic(auto)]
+
 ghost use Rattle.std.specs.Prelude.{◌≡◌, [], ◌∷◌, ◌++◌, ◌+◌, ◌≤◌, ◌<◌, ◌^◌, length};
 ghost use Rattle.book_steps.specs.Text.{bytes, decimal};
 ghost use Rattle.book_steps.specs.Answers as Told;
@@ -6,13 +8,13 @@ ghost use Rattle.book_steps.specs.Sentence.{word_bytes, word_length, sentence_le
 ghost use Rattle.book_writer.specs.Clauses.{Put, Answers, verdict_of, last_digits, pair_line, pruned_head, start_part, hop_part, end_part};
 
 // the whole answer stands in the output, up to a place; or it has no room, which is refusal 27
-#[derive(Drop)]
+#[derive(Clone, Copy)]
 pub enum Answered {
     At(usize),
     Full,
 }
 
-#[derive(Drop)]
+#[derive(Clone, Copy)]
 pub enum Verdict {
     Yes,
     No,

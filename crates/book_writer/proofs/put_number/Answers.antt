@@ -1,0 +1,14 @@
+use mathlib.Core.Path.{◌∙◌}
+use native.Mathlib.Omega.{arith}
+use lib.ListN.{length-set}
+use Rattle.book_writer.proofs.Lines as lines
+use Rattle.book_writer.proofs.put_number.Goals as goal
+
+pub put_decimal-requires : goal.put_decimal-requires
+put_decimal-requires c = simp length-set (omega (arith, c.requires))
+
+pub shape_of-out : goal.shape_of-out
+shape_of-out c = c.put_decimal.auto.out ∙ simp length-set
+
+pub returns : goal.returns
+returns c = lines.spaced (omega (arith, c.requires)) c.put_decimal.ensures
