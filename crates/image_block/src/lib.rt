@@ -1,4 +1,6 @@
 // The blocks of an image: numbers and words as bytes, the high byte first, the check, and whether a block is taken.
+#![tactic(auto)]
+
 pub mod refusal;
 
 ghost use Rattle.std.specs.Prelude.{◌≡◌, ◌+◌, ◌*◌, ◌≤◌, ◌<◌, length, take, drop};
@@ -14,7 +16,7 @@ pub const FRONT: usize = 510;
 const MODULUS: u32 = 65521;
 
 // the block is taken, or it is refused with this number
-#[derive(Drop)]
+#[derive(Clone, Copy)]
 pub enum Looked {
     Whole,
     Refused(u32),

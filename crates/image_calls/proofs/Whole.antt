@@ -1,4 +1,5 @@
 -- 02 (ii), the calls: a book that goes on from an image, and from zeroed tables to what each call returns and leaves, with what is claimed of it.
+use Rattle.std.specs.Prelude.{if◌then◌else◌}
 use mathlib.Core.Path.{◌≡◌, refl, sym, ◌∙◌, ap, subst}
 use mathlib.Core.Bool.{Bool}
 use mathlib.Core.List.{List, []}
@@ -7,7 +8,6 @@ use native.Mathlib.Omega.{arith}
 use lib.Dec.{ltb}
 use lib.ListN.{length}
 use borrow.Author.Tests.{lt-ltb, le-ltb}
-use Rattle.common.specs.Outcome.{if◌then◌else◌}
 use Rattle.aut_steps.specs.Tables.{limits01}
 use Rattle.book_steps.specs.Run as Run
 use Rattle.book_steps.specs.Run.{Lent, zeroed, Result, Came, failed, came_of, ran_book, finished}

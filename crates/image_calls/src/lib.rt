@@ -1,4 +1,6 @@
 // Images of a book's tables: a book is run and its image written; an image is read, and a book goes on from it.
+#![tactic(auto)]
+
 ghost use Rattle.book_place.specs.Clauses.{memory};
 ghost use Rattle.book_finish.specs.Clauses as End;
 ghost use Rattle.book_run.specs.Clauses as Run;

@@ -1,4 +1,5 @@
 -- 02 (ii): "An image above 65,536 blocks, or longer than its output, meets 27, line 0, before any byte"; 02 (iv): 33 before it. The last place of a run is kept as its image, or the run is refused.
+use Rattle.std.specs.Prelude.{if◌then◌else◌}
 use mathlib.Core.Path.{◌≡◌, refl, sym, ◌∙◌, ap, ap₂, subst}
 use mathlib.Core.Bool.{Bool, true, false, ◌||◌}
 use mathlib.Core.List.{List, [], ◌++◌}
@@ -8,7 +9,6 @@ use lib.Dec.{ltb}
 use lib.ListN.{length, get_or, drop, get_or-append}
 use lib.Seq.{sets, sets-eq, length-sets, get_or-append-add, get_or-drop}
 use borrow.Author.Tests.{lt-ltb, le-ltb}
-use Rattle.common.specs.Outcome.{if◌then◌else◌}
 use Rattle.book_steps.specs.Run as Run
 use Rattle.book_steps.specs.Run.{Lent, RunState, came, refusal, success}
 use Rattle.book_steps.specs.Claim.{WritesOnly}

@@ -1,4 +1,6 @@
 // The last place of a run is kept as its image, or meets 33 or 27.
+#![tactic(auto)]
+
 ghost use Rattle.std.specs.Prelude.{◌≡◌, [], ◌*◌, ◌≤◌, length};
 ghost use Rattle.book_place.specs.Clauses.{memory};
 ghost use Rattle.image_steps.specs.Calls.{has_next};
@@ -15,14 +17,14 @@ pub const BLOCKS: usize = 65536;
 pub const UNKNOWN_KIND: u32 = 33;
 
 // the lengths of the output and of the image; or a number, the text line, and the output's length of the lines before
-#[derive(Drop)]
+#[derive(Clone, Copy)]
 pub enum Saved {
     Answered(usize, usize),
     Refused(u32, usize, usize),
 }
 
 // where a run has come to, and the length of its image; 33 where that does not know a state's kind, 27 where it has no room
-#[derive(Drop)]
+#[derive(Clone, Copy)]
 pub struct Kept {
     pub went: Went,
     pub image: usize,

@@ -1,4 +1,6 @@
 // Whether the record of a state in an image is one that its constructor gives: the tests of image_steps/specs/Records, on the tables as they are so far and a list in scratch.
+#![tactic(auto)]
+
 ghost use Rattle.std.specs.Prelude.{◌≡◌, true, false, ◌&&◌, List, ◌∷◌, ℕ, ◌+◌, ◌*◌, ◌-◌, ◌≤◌, ◌<◌, max, eqb, ltb, leb, length};
 ghost use Rattle.common.specs.Runs.{Table, table};
 ghost use Rattle.spp_steps.specs.Wf.{Nodes};
@@ -13,7 +15,7 @@ ghost use Rattle.image_kinds.specs.Clauses.{ShapeOf, Walks, turn_of, met_of, Fix
 use aut_states::{Config, Counts, Limits};
 
 // what a state's words 1 and 2 are: a relation, nothing, a state, two states, a list of states; of a kind that images do not know, nothing is said
-#[derive(Drop)]
+#[derive(Clone, Copy)]
 pub enum Shape {
     Leaf,
     Constant,
@@ -24,14 +26,14 @@ pub enum Shape {
 }
 
 // a member of a Union is no good; or whether an SPP has been seen by then
-#[derive(Drop)]
+#[derive(Clone, Copy)]
 pub enum Turn {
     No,
     On(bool),
 }
 
 // a member of an Intersect decides it; or it goes on
-#[derive(Drop)]
+#[derive(Clone, Copy)]
 pub enum Met {
     Ends(bool),
     On,

@@ -1,4 +1,5 @@
 -- 02 (ii): the depth of a handle by first children, a turn at a time; and children that are of one depth.
+use Rattle.std.specs.Prelude.{if◌then◌else◌}
 use mathlib.Core.Path.{◌≡◌, refl, sym, ◌∙◌, ap, ap₂}
 use mathlib.Core.Bool.{Bool, true, false, ◌&&◌}
 use mathlib.Core.List.{List}
@@ -7,7 +8,6 @@ use native.Mathlib.Omega.{arith}
 use lib.Dec.{ltb}
 use lib.ListN.{get_or}
 use borrow.Author.Tests.{eq-eqb, lt-ltb, le-ltb, le-leb, eqb-true, ltb-true, leb-true}
-use Rattle.common.specs.Outcome.{if◌then◌else◌}
 use Rattle.sp_steps.specs.Model as Sp
 use Rattle.sp_steps.proofs.Make.{by_test, false_true}
 use Rattle.spp_steps.specs.Model as Spp

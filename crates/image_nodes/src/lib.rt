@@ -1,4 +1,6 @@
 // 02 (ii), "each record again by its constructor .. and wants the same number": packet nodes and relation nodes read from an image.
+#![tactic(auto)]
+
 ghost use Rattle.std.specs.Prelude.{◌≡◌, ◌+◌, ◌*◌};
 ghost use Rattle.common.specs.Runs.{table};
 ghost use Rattle.spp.specs.Clauses.{quad_of};
@@ -13,7 +15,7 @@ use sp::SP;
 use spp::{SPP, SPPnode};
 
 // how many nodes there are, or the number with which the record is refused
-#[derive(Drop)]
+#[derive(Clone, Copy)]
 pub enum Made {
     At(usize),
     Refused(u32),

@@ -1,4 +1,5 @@
 -- Members and lines, one record after the other, block by block.
+use Rattle.std.specs.Prelude.{if◌then◌else◌}
 use mathlib.Core.Path.{◌≡◌, refl, sym, ◌∙◌, ap, subst}
 use mathlib.Core.Bool.{Bool}
 use mathlib.Core.List.{List, [], ◌∷◌, ◌++◌}
@@ -9,7 +10,7 @@ use lib.Dec.{leb}
 use lib.ListN.{length, get_or, set, length-set}
 use lib.Seq.{get_or-set_other}
 use borrow.Author.Tests.{le-leb, lt-leb}
-use Rattle.common.specs.Outcome.{Outcome, refused, given, Step, after, ◌>>=◌, if◌then◌else◌}
+use Rattle.common.specs.Outcome.{Outcome, refused, given, Step, after, ◌>>=◌}
 use Rattle.aut_steps.specs.Tables.{Limits}
 use Rattle.book_steps.specs.Run.{RunState, place}
 use Rattle.image_block.specs.declared.Looked.{Looked}

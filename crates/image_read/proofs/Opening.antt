@@ -1,4 +1,5 @@
 -- Block 0 of an image: the length, its number and check, its words.
+use Rattle.std.specs.Prelude.{if◌then◌else◌}
 use mathlib.Core.Path.{◌≡◌, refl, sym, ◌∙◌, ap, ap₂}
 use mathlib.Core.Bool.{Bool, true, false, ◌||◌, not}
 use mathlib.Core.List.{List}
@@ -8,7 +9,7 @@ use native.Mathlib.Omega.{arith}
 use lib.Dec.{eqb}
 use lib.ListN.{length}
 use borrow.Author.Tests.{eq-eqb, ne_eqb}
-use Rattle.common.specs.Outcome.{Outcome, refused, if◌then◌else◌}
+use Rattle.common.specs.Outcome.{Outcome, refused}
 use Rattle.aut_steps.specs.Tables.{Limits}
 use Rattle.book_steps.specs.Run.{Lent, RunState}
 use Rattle.image_form.specs.Form.{verify}

@@ -1,4 +1,6 @@
 // 02 (ii), reading an image: block 0, the tables of a new book, then every record again by its constructor, block by block; the place that the image stands for, or the number with which it is refused.
+#![tactic(auto)]
+
 ghost use Rattle.std.specs.Prelude.{◌≡◌, ◌+◌, ◌≤◌, length};
 ghost use Rattle.image_words.specs.Clauses.{Reaches, head_of};
 ghost use Rattle.image_read.specs.Clauses as Its;
@@ -13,28 +15,28 @@ use image_words::refusal::RECORD;
 use image_words::{Head, WORDS};
 
 // block 0 of an image that goes on, or the number
-#[derive(Drop)]
+#[derive(Clone, Copy)]
 pub enum Opened {
     At(Head),
     Refused(u32),
 }
 
 // how many packet nodes and relation nodes there are, or the number
-#[derive(Drop)]
+#[derive(Clone, Copy)]
 pub enum Diagrams {
     At(usize, usize),
     Refused(u32),
 }
 
 // the word of a line, or the number
-#[derive(Drop)]
+#[derive(Clone, Copy)]
 pub enum Line {
     Word(u32),
     Refused(u32),
 }
 
 // the place that an image stands for, or the number with which it is refused
-#[derive(Drop)]
+#[derive(Clone, Copy)]
 pub enum Placed {
     At(Place),
     Refused(u32),

@@ -1,4 +1,6 @@
 // The image of a place: the head in block 0, and from block 1 on the records of the tables, a word at a time.
+#![tactic(auto)]
+
 ghost use Rattle.std.specs.Prelude.{◌≡◌, ◌+◌, ◌*◌, ◌<◌};
 ghost use Rattle.std.proofs.lemmas.List.Edits.{sets};
 ghost use Rattle.image_form.specs.Form as Form;

@@ -1,4 +1,5 @@
 -- A record that is read from the image; its turn on the place of a run; and all records.
+use Rattle.std.specs.Prelude.{if◌then◌else◌}
 use mathlib.Core.Path.{◌≡◌, refl, sym, ◌∙◌, ap, ap₂, subst}
 use mathlib.Core.Bool.{Bool, true, false, ◌&&◌}
 use mathlib.Core.List.{List, []}
@@ -7,7 +8,7 @@ use native.Mathlib.Omega.{arith}
 use lib.Dec.{ltb}
 use lib.ListN.{length}
 use borrow.Author.Tests.{lt-ltb, le-ltb}
-use Rattle.common.specs.Outcome.{Outcome, refused, given, Step, after, ◌>>=◌, if◌then◌else◌}
+use Rattle.common.specs.Outcome.{Outcome, refused, given, Step, after, ◌>>=◌}
 use Rattle.common.specs.Runs.{placed}
 use Rattle.aut_steps.specs.Tables.{words, Aut}
 use Rattle.aut_steps.specs.Tables.{Limits as Bounds}

@@ -1,7 +1,7 @@
 -- 02 (ii): "Reading makes .. each record again by its constructor .. and wants the same number". What the answers say in the words of image_steps/specs/Read, what is left of scratch, and what is asked.
-use Rattle.std.specs.Prelude.{◌≡◌, Bool, true, ◌&&◌, ◌||◌, List, ℕ, ◌+◌, ◌*◌, ◌/◌, ◌%◌, ◌≤◌, ◌<◌, eqb, ltb, length}
+use Rattle.std.specs.Prelude.{◌≡◌, Bool, true, ◌&&◌, ◌||◌, List, ℕ, ◌+◌, ◌*◌, ◌/◌, ◌%◌, ◌≤◌, ◌<◌, eqb, ltb, length, if◌then◌else◌}
 use Rattle.std.proofs.lemmas.List.Edits.{sets}
-use Rattle.common.specs.Outcome.{refused, given, Step, ◌>>=◌, if◌then◌else◌}
+use Rattle.common.specs.Outcome.{refused, given, Step, ◌>>=◌}
 use Rattle.aut_steps.specs.Tables.{UNION, INTERSECT, words, Aut}
 use Rattle.aut_steps.specs.Tables.{Limits as Bounds}
 use Rattle.aut_steps.specs.Wf.{WfAut}

@@ -1,4 +1,6 @@
 // The states of an image, read: each record is tested against the tables so far, entered as the last step of its constructor does, and its number looked at.
+#![tactic(auto)]
+
 ghost use Rattle.std.specs.Prelude.{◌≡◌, false, ◌+◌, ◌*◌, ◌≤◌, ◌<◌, length};
 ghost use Rattle.aut_steps.specs.Tables.{words};
 ghost use Rattle.aut_states.specs.Clauses.{limits_of};
@@ -11,7 +13,7 @@ use image_block::Looked;
 use image_kinds::Shape;
 
 // words 0 to 3 of a state
-#[derive(Drop)]
+#[derive(Clone, Copy)]
 pub struct Words {
     pub kind: u32,
     pub first: u32,
@@ -20,7 +22,7 @@ pub struct Words {
 }
 
 // where the members stand: their first word in the image, how many there are, and where in scratch a list goes
-#[derive(Drop)]
+#[derive(Clone, Copy)]
 pub struct Lists {
     pub first: usize,
     pub count: usize,
@@ -28,7 +30,7 @@ pub struct Lists {
 }
 
 // all records were taken, and the counts then; or the number with which one is refused
-#[derive(Drop)]
+#[derive(Clone, Copy)]
 pub enum Taken {
     All(Counts),
     Refused(u32),

@@ -1,4 +1,5 @@
 -- 02 (ii): words behind the records, the words of all records, what block 0 asks for, and the block that a record reaches.
+use Rattle.std.specs.Prelude.{if◌then◌else◌}
 use mathlib.Core.Path.{◌≡◌, refl, sym, ◌∙◌, ap, ap₂}
 use mathlib.Core.Bool.{Bool, true, false, ◌&&◌}
 use mathlib.Core.List.{List}
@@ -8,7 +9,7 @@ use native.Mathlib.Omega.{arith}
 use lib.Dec.{eqb}
 use lib.ListN.{length}
 use borrow.Author.Tests.{eq-eqb, ne_eqb, lt-ltb, le-ltb, leb-true, le-leb}
-use Rattle.common.specs.Outcome.{given, if◌then◌else◌}
+use Rattle.common.specs.Outcome.{given}
 use Rattle.sp_steps.proofs.Make.{by_test, false_true}
 use Rattle.aut_steps.proofs.Facts.{and_true}
 use Rattle.aut_steps.specs.Tables.{Limits}

@@ -1,4 +1,6 @@
 // 02 (ii): what reading needs of an image's bytes: block 0, the words of the records, and a block looked at when a record reaches it.
+#![tactic(auto)]
+
 pub mod refusal;
 
 ghost use Rattle.std.specs.Prelude.{◌≡◌, ◌+◌, ◌*◌, ◌≤◌, ◌<◌, length};
@@ -20,7 +22,7 @@ pub const STATES: usize = 32768;
 pub const LINES: usize = 2048;
 
 // block 0
-#[derive(Drop)]
+#[derive(Clone, Copy)]
 pub struct Head {
     pub fields: u32,
     pub budget: u64,

@@ -1,0 +1,37 @@
+use Prim.Native.Nat.{◌-◌}
+use native.Mathlib.Omega.{arith}
+use Rattle.image_nodes.proofs.Depth as its
+use Rattle.image_nodes.proofs.relation_depth.Goals as goal
+
+pub loop-d-init : goal.loop-d-init
+loop-d-init c = its.depth_r_begin c.args.nodes.now c.args.n c.args.h c.requires
+
+pub returns-then-x-lt2 : goal.returns-then-x-lt2
+returns-then-x-lt2 c =
+    its.depth_r_leaf c.args.nodes.now c.args.n c.args.h c.loop-d.d c.loop-d.x c.loop-d.invariant c.loop-d-test.true c.if-x-lt2.true
+
+pub overflow_cast-i : goal.overflow_cast-i
+overflow_cast-i c = omega arith
+
+pub overflow_mul-x : goal.overflow_mul-x
+overflow_mul-x c = omega (arith, c.loop-d.invariant.inside.within, c.loop-d.invariant.inside.fits)
+
+pub offset_bounds-nodes-i : goal.offset_bounds-nodes-i
+offset_bounds-nodes-i c = omega (arith, c.loop-d.invariant.inside.within, c.loop-d.invariant.inside.fits)
+
+pub bounds-nodes-i : goal.bounds-nodes-i
+bounds-nodes-i c = omega (arith, c.loop-d.invariant.inside.within, c.loop-d.invariant.inside.fits)
+
+pub overflow_add-d : goal.overflow_add-d
+overflow_add-d c = omega arith
+
+pub loop-d-smaller : goal.loop-d-smaller
+loop-d-smaller c = omega arith
+
+pub loop-d-preserved : goal.loop-d-preserved
+loop-d-preserved c =
+    its.depth_r_again c.args.nodes.now c.args.n c.args.h c.loop-d.d c.loop-d.x c.loop-d.invariant c.loop-d-test.true c.if-x-lt2.false
+
+pub returns : goal.returns
+returns c =
+    its.depth_r_end c.args.nodes.now c.args.n c.args.h c.loop-d.d c.loop-d.x c.loop-d.invariant c.loop-d-test.false

@@ -1,0 +1,45 @@
+use Prim.Native.Nat.{◌-◌}
+use native.Mathlib.Omega.{arith}
+use Rattle.image_read.proofs.Lines as lines
+use Rattle.image_read.proofs.read_lines.Goals as goal
+
+pub loop-i-init : goal.loop-i-init
+loop-i-init c = lines.lines_begin _ _ _ _ _
+
+pub overflow_add-s : goal.overflow_add-s
+overflow_add-s c = omega arith
+
+pub line_at-line-requires : goal.line_at-line-requires
+line_at-line-requires c = omega (arith, c.requires.reaches)
+
+pub shape_of-scratch-in-Refused : goal.shape_of-scratch-in-Refused
+shape_of-scratch-in-Refused c = c.loop-i.invariant.len
+
+pub returns-in-Refused : goal.returns-in-Refused
+returns-in-Refused c =
+    lines.lines_stop _ _ _ _ _ _ c.loop-i.i c.loop-i.invariant c.loop-i-test.true c.line_at-line.ensures c.in-Refused.is
+
+pub overflow_add-scratch : goal.overflow_add-scratch
+overflow_add-scratch c = omega arith
+
+pub offset_bounds-scratch-i : goal.offset_bounds-scratch-i
+offset_bounds-scratch-i c = omega (arith, c.loop-i.invariant.len, c.requires.few, c.requires.room)
+
+pub bounds-scratch-i : goal.bounds-scratch-i
+bounds-scratch-i c = omega (arith, c.loop-i.invariant.len, c.requires.few, c.requires.room)
+
+pub overflow_add-i : goal.overflow_add-i
+overflow_add-i c = omega arith
+
+pub loop-i-smaller : goal.loop-i-smaller
+loop-i-smaller c = omega arith
+
+pub loop-i-preserved : goal.loop-i-preserved
+loop-i-preserved c =
+    lines.lines_again _ _ _ _ _ _ c.loop-i.i c.loop-i.invariant c.loop-i-test.true c.line_at-line.ensures c.requires c.in-Word.is
+
+pub shape_of-scratch : goal.shape_of-scratch
+shape_of-scratch c = c.loop-i.invariant.len
+
+pub returns : goal.returns
+returns c = lines.lines_end _ _ _ _ _ _ c.loop-i.i c.loop-i.invariant (omega (arith, c.loop-i-test.false))
