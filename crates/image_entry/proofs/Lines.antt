@@ -1,4 +1,5 @@
 -- The text line of a refusal fits into the struct for the calls of images too, since their instructions count on; and what holds of the numbers that a call returns holds of the struct's.
+use Rattle.std.specs.Prelude.{if◌then◌else◌}
 use mathlib.Core.Path.{◌≡◌, sym, subst}
 use mathlib.Core.Bool.{Bool, true, false, ◌||◌}
 use mathlib.Core.List.{List, []}
@@ -6,7 +7,7 @@ use Prim.Native.Nat.{ℕ, ◌+◌, ◌*◌, ◌-◌, ◌≤◌}
 use native.Mathlib.Omega.{arith}
 use lib.Dec.{ltb}
 use lib.ListN.{length}
-use Rattle.common.specs.Outcome.{Outcome, refused, given, if◌then◌else◌}
+use Rattle.common.specs.Outcome.{Outcome, refused, given}
 use Rattle.aut_steps.specs.Tables.{limits01}
 use Rattle.book_steps.specs.Run.{Lent, Setting, RunState, run, setting_of, Result, refusal, success, Came, came, failed, ran_book, finished}
 use Rattle.book_steps.specs.Claim.{Slices}

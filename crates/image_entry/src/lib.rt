@@ -1,5 +1,6 @@
-// For C: images of a book's tables. As in netcheck_entry, nothing is asked of a caller but what the types say: each pointer leads to as many words or
-// bytes as its length, and no two of the slices overlap. include/netcheck.h is its header.
+// Images of a book's tables, and what a call came to as C gets it. image_entry_c exports them.
+#![tactic(auto)]
+
 ghost use Rattle.std.specs.Prelude.{◌≡◌, ◌≤◌};
 ghost use Rattle.book_run.specs.Clauses.{slices};
 ghost use Rattle.image_keep.specs.Clauses.{text_line_of};
@@ -10,7 +11,7 @@ use netcheck_entry::Outcome;
 
 // as Outcome, and how many bytes of the image are written
 #[repr(C)]
-#[derive(Drop)]
+#[derive(Clone, Copy)]
 pub struct SavedOutcome {
     pub number: u32,
     pub line: u32,
@@ -40,8 +41,7 @@ fn saved_outcome_of(saved: Saved) -> SavedOutcome
 
 // ---- a book is run, and the image of its last place written
 
-#[unsafe(no_mangle)]
-pub extern "C" fn netcheck_save(
+pub fn netcheck_save(
     book: &[u8],
     image: &mut [u8],
     sp: &mut [u32],
@@ -78,8 +78,7 @@ pub extern "C" fn netcheck_save(
 
 // ---- an image is read, and a book goes on from it
 
-#[unsafe(no_mangle)]
-pub extern "C" fn netcheck_resume(
+pub fn netcheck_resume(
     image: &[u8],
     book: &[u8],
     sp: &mut [u32],
@@ -115,8 +114,7 @@ pub extern "C" fn netcheck_resume(
 
 // ---- .. and the next image is written
 
-#[unsafe(no_mangle)]
-pub extern "C" fn netcheck_resume_save(
+pub fn netcheck_resume_save(
     image: &[u8],
     book: &[u8],
     next: &mut [u8],

@@ -1,20 +1,19 @@
 -- What stands in the output and the closing line, and what is written for the whole of standard input.
+use Rattle.std.specs.Prelude.{if◌then◌else◌}
 use mathlib.Core.Path.{◌≡◌, refl, sym, ◌∙◌, ap, subst}
 use mathlib.Core.Bool.{Bool, true, false}
 use mathlib.Core.List.{List, [], ◌++◌, append-nil}
 use Prim.Native.Nat.{ℕ, ◌≤◌, ◌<◌}
 use native.Mathlib.Omega.{arith}
-use lib.Dec.{eqb, ltb}
+use lib.Dec.{eqb}
 use lib.ListN.{length, take, length-append}
 use lib.Seq.{length-take-le, get_or-take, ext_get_or}
 use borrow.Author.Tests.{eq-eqb, ne_eqb, lt-ltb, le-ltb}
-use Rattle.common.specs.Outcome.{if◌then◌else◌}
 use Rattle.book_steps.specs.Claim as Claim
 use Rattle.book_steps.specs.Claim.{Slices, Lends}
 use Rattle.book_steps.specs.Run.{Lent, Result, outcome}
 use Rattle.book_steps.specs.Text.{bytes, decimal}
 use Rattle.book_steps.specs.Answers.{say}
-use Rattle.io.specs.Counts.{IsPrefixLen}
 use Rattle.book_writer.specs.Clauses.{Put, Answers}
 use Rattle.book_writer.proofs.Contracts.{put_take}
 use Rattle.book_writer.specs.declared.Answered.{Answered}
@@ -24,7 +23,7 @@ use Rattle.book_writer.proofs.Lines.{length_three}
 use Rattle.book_run.specs.Clauses.{lent_of}
 use Rattle.netcheck_entry.specs.Outcome.{Entered}
 use Rattle.netcheck_entry.specs.declared.Outcome.{Outcome}
-use Rattle.netcheck.specs.Output.{refused_line, closing, too_long, writes, Stands, Prepared}
+use Rattle.netcheck.specs.Output.{refused_line, closing, too_long, writes, IsPrefixLen, Stands, Prepared}
 use Rattle.book_steps.specs.Claim.{netcheck_lent, report, netcheck_output}
 
 counts : (n : ℕ) (s : List ℕ) → n ≤ length s → IsPrefixLen n s

@@ -1,11 +1,9 @@
 -- 01: "The program `netcheck` reads the book on standard input, runs it and writes the output, and after a refusal a line `refused`, number, text line. For a book over 4,096 bytes it writes only `too long`."
-use Rattle.std.specs.Prelude.{◌≡◌, Bool, List, [], ◌∷◌, ◌++◌, ℕ, eqb, take}
-use Rattle.common.specs.Outcome.{if◌then◌else◌}
+use Rattle.std.specs.Prelude.{◌≡◌, Bool, List, [], ◌∷◌, ◌++◌, ℕ, ◌≤◌, eqb, length, take, if◌then◌else◌}
 use Rattle.book_steps.specs.Text.{bytes, decimal}
 use Rattle.book_steps.specs.Answers.{say}
 use Rattle.book_steps.specs.Run.{outcome}
 use Rattle.book_steps.specs.Claim.{netcheck_lent, report}
-use Rattle.io.specs.Counts.{IsPrefixLen}
 use Rattle.netcheck.specs.declared.Written.{Written}
 
 abbrev pub refused_line : (number line : ℕ) → List ℕ
@@ -24,6 +22,10 @@ writes over book = if over then too_long else report (outcome netcheck_lent book
 -- the line behind the output, if there is one
 abbrev pub closing : (number line : ℕ) → List ℕ
 closing number line = if eqb number 0 then [] else refused_line number line
+
+-- `&xs[..n]` is in bounds and has n bytes
+abbrev pub IsPrefixLen : ℕ → List ℕ → Type 0
+IsPrefixLen n xs = (n ≤ length xs) × (n ≡ length (take n xs))
 
 -- bs stands at the start of s
 pub record Stands (bs : List ℕ) (n : ℕ) (s : List ℕ) : Type 0 where

@@ -1,16 +1,20 @@
 // Reads a book on standard input, runs it, and writes the output, and after a refusal a line `refused`, number, text line. For a book over 4,096
 // bytes it writes only `too long`.
+#![tactic(auto)]
+
 ghost use Rattle.std.specs.Prelude.{◌≤◌, length};
+ghost use Rattle.std.specs.Io.{ReadsAtMost};
 ghost use Rattle.book_steps.specs.Claim.{Lends, netcheck_lent};
 ghost use Rattle.book_writer.specs.Clauses.{Put};
 ghost use Rattle.book_run.specs.Clauses.{slices};
 ghost use Rattle.netcheck.specs.Output.{refused_line, closing as Output·closing, too_long, Stands, Prepared};
 
 use book_writer::Answered;
-use libc::STDOUT_FILENO;
+use std::io;
+use std::io::Read;
 
 // how many bytes of the output and of the closing line are written
-#[derive(Drop)]
+#[derive(Clone, Copy)]
 pub struct Written {
     pub output: usize,
     pub closing: usize,
@@ -92,17 +96,33 @@ fn answer(
     }
 }
 
-// whether a byte stands behind those that were read
-fn is_over(got: usize) -> bool {
-    if got < 4096 {
-        return false;
+// reads until `text` is full or the input ends, and returns how many bytes
+fn read_full<R: Read>(input: &mut R, text: &mut [u8]) -> io::Result<usize>
+    ensures { ReadsAtMost result text.new }
+{
+    let mut got = 0;
+    while got < text.len() {
+        let n = input.read(&mut text[got..])?;
+        if n == 0 {
+            break;
+        }
+        got += n;
     }
-    let mut more = [0u8; 1];
-    let n = io::read_full(0, &mut more);
-    n > 0
+    Ok(got)
 }
 
-fn main() {
+// whether a byte stands behind those that were read
+fn is_over<R: Read>(input: &mut R, got: usize) -> io::Result<bool> {
+    if got < 4096 {
+        return Ok(false);
+    }
+    let mut more = [0u8; 1];
+    let n = read_full(input, &mut more)?;
+    Ok(n > 0)
+}
+
+fn main(rt: HostRuntime) -> io::Result<()> {
+    let mut input = rt.stdin();
     let mut book = [0u8; 4096];
     let mut sp = [0u32; 1024];
     let mut spp = [0u32; 2048];
@@ -113,8 +133,8 @@ fn main() {
     let mut scratch = [0u32; 6144];
     let mut output = [0u8; 4096];
     let mut closing = [0u8; 64];
-    let got = io::read_full(0, &mut book);
-    let over = is_over(got);
+    let got = read_full(&mut input, &mut book)?;
+    let over = is_over(&mut input, got)?;
     let w = answer(
         over,
         &book[..got],
@@ -130,6 +150,6 @@ fn main() {
     );
     let a = w.output;
     let b = w.closing;
-    io::write_all(STDOUT_FILENO, &output[..a]);
-    io::write_all(STDOUT_FILENO, &closing[..b]);
+    rt.write_all(&output[..a])?;
+    rt.write_all(&closing[..b])
 }

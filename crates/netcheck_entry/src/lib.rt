@@ -1,5 +1,6 @@
-// For C: a book is run in lent tables. It asks nothing of a caller but what the types say: each pointer leads to as many words or bytes as its
-// length, and no two of the slices overlap. include/netcheck.h is its header.
+// A book is run in lent tables, and what it came to is told as C gets it. netcheck_entry_c exports it.
+#![tactic(auto)]
+
 ghost use Rattle.std.specs.Prelude.{◌≡◌, ◌≤◌};
 ghost use Rattle.book_finish.specs.Clauses.{text_line_of};
 ghost use Rattle.book_run.specs.Clauses.{slices};
@@ -9,7 +10,7 @@ use book_finish::Ran;
 
 // 01's number (0: answered), the text line, and how many bytes of the output are written
 #[repr(C)]
-#[derive(Drop)]
+#[derive(Clone, Copy)]
 pub struct Outcome {
     pub number: u32,
     pub line: u32,
@@ -34,8 +35,7 @@ pub fn outcome_of(ran: Ran) -> Outcome
     }
 }
 
-#[unsafe(no_mangle)]
-pub extern "C" fn netcheck_run(
+pub fn netcheck_run(
     book: &[u8],
     sp: &mut [u32],
     spp: &mut [u32],

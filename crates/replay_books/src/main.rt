@@ -2,18 +2,22 @@
 // `SP SPP STATES MEMBERS TRANSITIONS PENDING SCRATCH OUTPUT BYTES` (words lent of each table, bytes of output and book), then the book's bytes.
 // Printed for it: a line `NUMBER LINE LENGTH`; the output; and for each table a line with its name and its words up to the last that is not 0.
 // The tables are those that the case before left.
+#![tactic(auto)]
+
 ghost use Rattle.std.specs.Prelude.{◌≤◌, length};
+ghost use Rattle.std.specs.Io.{ReadsAtMost};
 
 use book_finish::Ran;
-use libc::STDOUT_FILENO;
+use std::io;
+use std::io::Read;
 
-#[derive(Drop)]
+#[derive(Clone, Copy)]
 struct Number {
     value: usize,
     at: usize,
 }
 
-#[derive(Drop)]
+#[derive(Clone, Copy)]
 struct Lent {
     sp: usize,
     spp: usize,
@@ -27,11 +31,26 @@ struct Lent {
     at: usize,
 }
 
-#[derive(Drop)]
+#[derive(Clone, Copy)]
 struct Told {
     number: u32,
     line: usize,
     length: usize,
+}
+
+// reads until `text` is full or the input ends, and returns how many bytes
+fn read_full<R: Read>(input: &mut R, text: &mut [u8]) -> io::Result<usize>
+    ensures { ReadsAtMost result text.new }
+{
+    let mut got = 0;
+    while got < text.len() {
+        let n = input.read(&mut text[got..])?;
+        if n == 0 {
+            break;
+        }
+        got += n;
+    }
+    Ok(got)
 }
 
 // the number at `from`, and the place behind the byte that ends it
@@ -101,16 +120,16 @@ fn used(table: &[u32]) -> usize
     n
 }
 
-fn print_table(name: &[u8], table: &[u32]) {
-    io::write_all(STDOUT_FILENO, name);
+fn print_table(rt: &impl Print, name: &[u8], table: &[u32]) -> io::Result<()> {
+    rt.write_all(name)?;
     let n = used(table);
     let mut i = 0;
     while i < n {
-        io::write_all(STDOUT_FILENO, b" ");
-        io::print_decimal(STDOUT_FILENO, table[i] as u64);
+        let word = table[i];
+        print!(rt; " {word}")?;
         i += 1;
     }
-    io::write_all(STDOUT_FILENO, b"\n");
+    rt.write_all(b"\n")
 }
 
 fn as_told(ran: Ran) -> Told {
@@ -128,23 +147,20 @@ fn as_told(ran: Ran) -> Told {
     }
 }
 
-fn print_start(output: &[u8], length: usize) {
+fn print_start(rt: &impl Print, output: &[u8], length: usize) -> io::Result<()> {
     if length <= output.len() {
-        io::write_all(STDOUT_FILENO, &output[..length]);
+        rt.write_all(&output[..length])?;
     }
+    Ok(())
 }
 
-fn print_told(told: Told, output: &[u8]) {
-    io::print_decimal(STDOUT_FILENO, told.number as u64);
-    io::write_all(STDOUT_FILENO, b" ");
-    io::print_decimal(STDOUT_FILENO, told.line as u64);
-    io::write_all(STDOUT_FILENO, b" ");
-    io::print_decimal(STDOUT_FILENO, told.length as u64);
-    io::write_all(STDOUT_FILENO, b"\n");
-    print_start(output, told.length);
+fn print_told(rt: &impl Print, told: Told, output: &[u8]) -> io::Result<()> {
+    println!(rt; "{} {} {}", told.number, told.line, told.length)?;
+    print_start(rt, output, told.length)
 }
 
 fn print_tables(
+    rt: &impl Print,
     sp: &[u32],
     spp: &[u32],
     states: &[u32],
@@ -152,17 +168,18 @@ fn print_tables(
     transitions: &[u32],
     pending: &[u32],
     scratch: &[u32],
-) {
-    print_table(b"sp", sp);
-    print_table(b"spp", spp);
-    print_table(b"states", states);
-    print_table(b"members", members);
-    print_table(b"transitions", transitions);
-    print_table(b"pending", pending);
-    print_table(b"scratch", scratch);
+) -> io::Result<()> {
+    print_table(rt, b"sp", sp)?;
+    print_table(rt, b"spp", spp)?;
+    print_table(rt, b"states", states)?;
+    print_table(rt, b"members", members)?;
+    print_table(rt, b"transitions", transitions)?;
+    print_table(rt, b"pending", pending)?;
+    print_table(rt, b"scratch", scratch)
 }
 
 fn replay(
+    rt: &impl Print,
     book: &[u8],
     sp: &mut [u32],
     spp: &mut [u32],
@@ -172,7 +189,7 @@ fn replay(
     pending: &mut [u32],
     scratch: &mut [u32],
     output: &mut [u8],
-) {
+) -> io::Result<()> {
     let ran = book_run::run(
         book,
         sp,
@@ -184,12 +201,13 @@ fn replay(
         scratch,
         output,
     );
-    print_told(as_told(ran), output);
-    print_tables(sp, spp, states, members, transitions, pending, scratch);
+    print_told(rt, as_told(ran), output)?;
+    print_tables(rt, sp, spp, states, members, transitions, pending, scratch)
 }
 
 // the case at a place of the text, and the place behind it
 fn replay_case(
+    rt: &impl Print,
     text: &[u8],
     at: usize,
     sp: &mut [u32],
@@ -200,7 +218,7 @@ fn replay_case(
     pending: &mut [u32],
     scratch: &mut [u32],
     output: &mut [u8],
-) -> usize {
+) -> io::Result<usize> {
     let l = lengths(text, at);
     let from = least(l.at, text.len());
     let to = from + least(l.bytes, text.len() - from);
@@ -213,6 +231,7 @@ fn replay_case(
     let g = least(l.scratch, scratch.len());
     let h = least(l.output, output.len());
     replay(
+        rt,
         &text[from..to],
         &mut sp[..a],
         &mut spp[..b],
@@ -222,11 +241,12 @@ fn replay_case(
         &mut pending[..f],
         &mut scratch[..g],
         &mut output[..h],
-    );
-    to
+    )?;
+    Ok(to)
 }
 
 fn replay_all(
+    rt: &impl Print,
     text: &[u8],
     sp: &mut [u32],
     spp: &mut [u32],
@@ -236,11 +256,12 @@ fn replay_all(
     pending: &mut [u32],
     scratch: &mut [u32],
     output: &mut [u8],
-) {
+) -> io::Result<()> {
     let mut at: usize = 0;
     let mut turns: usize = 100000;
     while turns > 0 && at < text.len() {
         at = replay_case(
+            rt,
             text,
             at,
             sp,
@@ -251,12 +272,13 @@ fn replay_all(
             pending,
             scratch,
             output,
-        );
+        )?;
         turns -= 1;
     }
+    Ok(())
 }
 
-fn main() {
+fn main(rt: HostRuntime) -> io::Result<()> {
     let mut text = [0u8; 1048576];
     let mut sp = [0u32; 32768];
     let mut spp = [0u32; 65536];
@@ -266,8 +288,9 @@ fn main() {
     let mut pending = [0u32; 8192];
     let mut scratch = [0u32; 6144];
     let mut output = [0u8; 65536];
-    let got = io::read_full(0, &mut text);
+    let got = read_full(&mut rt.stdin(), &mut text)?;
     replay_all(
+        &rt,
         &text[..got],
         &mut sp,
         &mut spp,
@@ -277,5 +300,5 @@ fn main() {
         &mut pending,
         &mut scratch,
         &mut output,
-    );
+    )
 }
