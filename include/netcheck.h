@@ -1,6 +1,7 @@
 /* netcheck: a book of rules and queries is run in tables that the caller lends. The entries are proved; their contracts are those of `netcheck_run` in
- * crates/netcheck_entry/src/lib.rt (archive libnetcheck_entry.a) and of `netcheck_save`, `netcheck_resume` and `netcheck_resume_save` in
- * crates/image_entry/src/lib.rt (archive libimage_entry.a). Nothing checks this header against those files: change them together.
+ * crates/netcheck_entry/src/lib.rt (exported by netcheck_entry_c, archive libnetcheck_entry.a) and of `netcheck_save`, `netcheck_resume` and
+ * `netcheck_resume_save` in crates/image_entry/src/lib.rt (exported by image_entry_c, archive libimage_entry.a). Nothing checks this header against
+ * those files: change them together.
  *
  * A caller lends eight slices beside the book. Lengths are in elements: words of 32 bits, but bytes for book, output and images.
  *
@@ -18,8 +19,9 @@
  *  - each pointer leads to as many elements as its length says, aligned for the element, and stays valid during the call;
  *  - no two of the eight lent slices overlap each other, the book or an image, and an image that is written overlaps nothing else;
  *  - a slice of length 0 may have any pointer, also NULL;
- *  - enough stack: NETCHECK_STACK_BYTES. Measured, not proved: 28,056 bytes for `netcheck_run` on the deepest books (nesting 256, 31 fields;
- *    tools/deep), 28,584 with saving or reading. It follows the number of fields; it does not grow with the nesting of a rule or the book's length.
+ *  - enough stack: NETCHECK_STACK_BYTES. Measured, not proved: 21,344 bytes on the deepest books (nesting 256, 31 fields;
+ *    tools/deep), with saving and reading too. It follows the number of fields; it does not grow with the nesting of a rule or the
+ *    book's length.
  *
  * What a caller gets: one book with one set of lent lengths has one outcome. Every table is zeroed first; answered, pending and scratch are zero at
  * the end; refused, all tables are. Output bytes past the length are as they were. Nothing is kept between calls, and no memory but the lent is
