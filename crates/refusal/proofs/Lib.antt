@@ -1,0 +1,2 @@
+-- What `?` hands on.
+pub mod Passed

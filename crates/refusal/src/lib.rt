@@ -1,0 +1,100 @@
+// Why a run ends before its book does: 01's numbers, and those of the image.
+#![tactic(auto)]
+
+ghost use Rattle.std.specs.Prelude.{◌≡◌};
+ghost use Rattle.refusal.specs.Numbers.{number_of};
+
+#[derive(Clone, Copy, Debug, PartialEq, Eq)]
+pub enum Refusal {
+    // whoever writes the book
+    Header,
+    Fields,
+    Form,
+    Name,
+    Range,
+    List,
+    Products,
+    Nesting,
+    TransitionList,
+    // whoever lends the tables
+    Sp,
+    Spp,
+    States,
+    Members,
+    Pending,
+    Transitions,
+    Scratch,
+    Output,
+    // whoever hands over an image
+    Block,
+    Check,
+    Record,
+    // a book with a `next`, where an image is wanted
+    Next,
+}
+
+impl Refusal {
+    pub fn number(self) -> u32
+        ensures { result ≡ number_of self }
+    {
+        match self {
+            Refusal::Header => 1,
+            Refusal::Fields => 2,
+            Refusal::Form => 3,
+            Refusal::Name => 4,
+            Refusal::Range => 5,
+            Refusal::List => 6,
+            Refusal::Products => 7,
+            Refusal::Nesting => 8,
+            Refusal::TransitionList => 9,
+            Refusal::Sp => 20,
+            Refusal::Spp => 21,
+            Refusal::States => 22,
+            Refusal::Members => 23,
+            Refusal::Pending => 24,
+            Refusal::Transitions => 25,
+            Refusal::Scratch => 26,
+            Refusal::Output => 27,
+            Refusal::Block => 30,
+            Refusal::Check => 31,
+            Refusal::Record => 32,
+            Refusal::Next => 33,
+        }
+    }
+}
+
+// ---- for the layers that hold a refusal as a number
+
+pub const HEADER: u32 = 1;
+
+pub const FIELDS: u32 = 2;
+
+pub const FORM: u32 = 3;
+
+pub const NAME: u32 = 4;
+
+pub const RANGE: u32 = 5;
+
+pub const LIST: u32 = 6;
+
+pub const PRODUCTS: u32 = 7;
+
+pub const NESTING: u32 = 8;
+
+pub const TRANSITION_LIST: u32 = 9;
+
+pub const SP: u32 = 20;
+
+pub const SPP: u32 = 21;
+
+pub const STATES: u32 = 22;
+
+pub const MEMBERS: u32 = 23;
+
+pub const PENDING: u32 = 24;
+
+pub const TRANSITIONS: u32 = 25;
+
+pub const SCRATCH: u32 = 26;
+
+pub const OUTPUT: u32 = 27;
