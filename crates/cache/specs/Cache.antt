@@ -1,10 +1,6 @@
 -- A cache of results: slots of four words, the operation's code, two operands, the result. Code 0 is an empty slot.
 -- What a slot must satisfy is its user's (`Valid`). A cache is sound if each slot does; a step only notes slots that do.
-use Rattle.std.specs.Prelude.{◌≡◌, ◌⊎◌, List, ℕ, ◌+◌, ◌*◌, ◌≤◌, ◌<◌, length, get_or}
-use Rattle.cache.specs.declared.Looked.{Looked}
-use Rattle.cache.specs.declared.Looked.TheVariants.{Hit, Miss}
-use Rattle.cache.specs.declared.LookedWide.{LookedWide}
-use Rattle.cache.specs.declared.LookedWide.TheVariants.{HitWide, MissWide}
+use Rattle.std.specs.Prelude.{◌≡◌, ◌⊎◌, List, ℕ, Option, Some, None, ◌+◌, ◌*◌, ◌≤◌, ◌<◌, length, get_or}
 
 -- of an operation's code, two operands and a result
 abbrev pub Valid : Type 1
@@ -37,13 +33,13 @@ pub record Holds (m : List ℕ) (op a b r : ℕ) : Type 0 where
   pub words : Slot (Exactly op a b r) m slot
 
 -- what a look says
-abbrev pub Found : List ℕ → ℕ → ℕ → ℕ → Looked → Type 0
-Found m op a b (Hit r) = Holds m op a b r
-Found m op a b Miss = Unit
+abbrev pub Found : List ℕ → ℕ → ℕ → ℕ → Option ℕ → Type 0
+Found m op a b (Some r) = Holds m op a b r
+Found m op a b None = Unit
 
-abbrev pub FoundWide : List ℕ → ℕ → ℕ → LookedWide → Type 0
-FoundWide m op a (HitWide b r) = Holds m op a b r
-FoundWide m op a MissWide = Unit
+abbrev pub FoundWide : List ℕ → ℕ → ℕ → Option (ℕ × ℕ) → Type 0
+FoundWide m op a (Some (b, r)) = Holds m op a b r
+FoundWide m op a None = Unit
 
 -- ---- the codes of one user: those from lo to hi
 

@@ -1,5 +1,6 @@
 -- what the proofs of several functions use
 pub mod Frame
+pub mod Refused
 pub mod Scan
 pub mod Node
 pub mod Exits

@@ -1,5 +1,5 @@
--- What an answer and the table at exit say of the steps' outcome (a node is given, `Full` is 01's refusal 20), and what the functions ask.
-use Rattle.std.specs.Prelude.{◌≡◌, true, false, List, ℕ, ◌*◌, ◌/◌, ◌≤◌, ◌<◌, length}
+-- What an answer and the store at exit say of the steps' outcome (a handle is given, `Full` is 01's refusal 20), and what the functions ask.
+use Rattle.std.specs.Prelude.{◌≡◌, true, false, List, ℕ, ◌*◌, ◌/◌, ◌≤◌, length, Result, Ok, Err}
 use Rattle.common.specs.Outcome.{Outcome, refused, given, Step}
 use Rattle.common.specs.Runs.{Table, table}
 use Rattle.cache.specs.Cache.{Sound, WritesValid}
@@ -7,16 +7,28 @@ use Rattle.sp_steps.specs.Op as steps
 use Rattle.sp_steps.specs.Model.{child, Exit, out, on, ordered, most, size}
 use Rattle.sp_steps.specs.Wf.{WfAny, Rising, ValidAt}
 use Rattle.sp_steps.specs.Reuse.{SpValid, SpNoted}
+use Rattle.sp.specs.declared.SP.{SP}
+use Rattle.sp.specs.declared.Full.{Full}
+use Rattle.sp.specs.declared.SPstore.{SPstore}
+use Rattle.sp.specs.declared.SPview.{SPview}
 use Rattle.sp.specs.declared.Made.{Made}
-use Rattle.sp.specs.declared.Made.TheVariants.{Node, Full}
+use Rattle.sp.specs.declared.Made.TheVariants.{Node}
+use Rattle.sp.specs.declared.Made.TheVariants as made
 use Rattle.sp.specs.declared.Quick.{Quick}
 use Rattle.sp.specs.declared.Quick.TheVariants.{Out, On}
 use Rattle.sp.specs.declared.Op.{Op}
 use Rattle.sp.specs.declared.Op.TheVariants.{Union, Xor}
 
-abbrev pub seen : Made → List ℕ → Outcome Table ℕ
-seen (Node h n) t = given (table t n) h.0
-seen Full t = refused 20
+-- the nodes of a store
+abbrev pub store_of : SPstore → Table
+store_of s = table s.nodes.now s.count
+
+abbrev pub view_of : SPview → Table
+view_of s = table s.nodes.now s.count
+
+abbrev pub seen : Result SP Full → Table → Outcome Table ℕ
+seen (Ok h) τ = given τ h.0
+seen (Err e) τ = refused 20
 
 abbrev pub op_of : Op → steps.Op
 op_of Union = steps.Op.union
@@ -51,26 +63,36 @@ pub record Ready (σ : Table) (d a b : ℕ) : Type 0 where
   pub at_a : ValidAt σ d a
   pub at_b : ValidAt σ d b
 
-pub record Asked (t m : List ℕ) (n d a b : ℕ) : Type 0 where
-  pub ready : Ready (table t n) d a b
-  pub sound : Sound (SpValid (table t n)) m
+pub record Asked (σ : Table) (m : List ℕ) (d a b : ℕ) : Type 0 where
+  pub ready : Ready σ d a b
+  pub sound : Sound (SpValid σ) m
 
 -- unless refused, the cache was given only valid slots of packet sets
-abbrev pub Noted : List ℕ → Made → List ℕ → List ℕ → Type 0
-Noted m (Node h n) t m' = WritesValid (SpNoted (table t n)) m m'
-Noted m Full t m' = Unit
+abbrev pub Noted : List ℕ → Result SP Full → Table → List ℕ → Type 0
+Noted m (Ok h) τ m' = WritesValid (SpNoted τ) m m'
+Noted m (Err e) τ m' = Unit
 
--- the steps `c` from the table t and the cache m have given r, t' and m'
-pub record Answer (c : Step Table ℕ) (t m : List ℕ) (n : ℕ) (r : Made) (t' m' : List ℕ) : Type 0 where
-  pub gives : c (table t n) ≡ seen r t'
-  pub notes : Noted m r t' m'
+-- the steps `c` from the nodes σ and the cache m have given r, τ and m'
+pub record Answer (c : Step Table ℕ) (σ : Table) (m : List ℕ) (r : Result SP Full) (τ : Table) (m' : List ℕ) : Type 0 where
+  pub gives : c σ ≡ seen r τ
+  pub notes : Noted m r τ m'
 
-pub record SizeAsked (t m : List ℕ) (n d a : ℕ) : Type 0 where
+pub record SizeAsked (σ : Table) (m : List ℕ) (d a : ℕ) : Type 0 where
   pub deep : d ≤ 31
-  pub wf : WfAny d (table t n)
-  pub at_a : ValidAt (table t n) d a
-  pub sound : Sound (SpValid (table t n)) m
+  pub wf : WfAny d σ
+  pub at_a : ValidAt σ d a
+  pub sound : Sound (SpValid σ) m
 
-pub record SizeAnswer (t m : List ℕ) (n d a r : ℕ) (m' : List ℕ) : Type 0 where
-  pub is : r ≡ size t d a
-  pub notes : WritesValid (SpNoted (table t n)) m m'
+pub record SizeAnswer (σ : Table) (m : List ℕ) (d a r : ℕ) (m' : List ℕ) : Type 0 where
+  pub is : r ≡ size σ.words d a
+  pub notes : WritesValid (SpNoted σ) m m'
+
+-- ---- for the layers that hold a table and its count apart
+
+abbrev pub made_of : Result SP Full → ℕ → Made
+made_of (Ok h) n = Node h n
+made_of (Err e) n = made.Full
+
+abbrev pub seen_made : Made → List ℕ → Outcome Table ℕ
+seen_made (Node h n) t = given (table t n) h.0
+seen_made made.Full t = refused 20

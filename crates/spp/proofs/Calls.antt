@@ -1,41 +1,62 @@
 -- What a call gives, in the words of `Stage`; and that an operation can be called in every store where its operands are handles.
-use mathlib.Core.Path.{◌≡◌, refl, sym, ◌∙◌, ap, subst}
+use mathlib.Core.Path.{◌≡◌, refl, sym, ◌∙◌, subst}
 use mathlib.Core.Bool.{Bool, true, false}
 use mathlib.Core.List.{List, [], ◌∷◌}
 use Prim.Native.Nat.{ℕ, suc, ◌+◌, ◌*◌, ◌≤◌, ◌<◌}
 use native.Mathlib.Omega.{arith}
 use lib.ListN.{length}
-use Rattle.common.specs.Packets.{Packet, bit, Relation}
+use Rattle.common.specs.Packets.{bit, Relation}
 use Rattle.common.specs.Outcome.{Outcome, refused, given, Step}
-use Rattle.common.specs.Runs.{Table, table}
+use Rattle.common.specs.Runs.{Table}
 use Rattle.common.proofs.Runs.{StableSpec, runs_map}
 use Rattle.cache.proofs.Stage.{Gave}
 use Rattle.cache.proofs.Cache.{notes_refl}
 use Rattle.spp_steps.specs.Model.{Op, Quad, quad, kids, mem, mk, apply}
-use Rattle.spp_steps.specs.Wf.{Wf, Ext, ValidAt, Denotes}
-use Rattle.spp_steps.proofs.Laws.{spp_theory, at_ext, den_mem}
+use Rattle.spp_steps.specs.Wf.{Wf, Ext, ValidAt}
+use Rattle.spp_steps.proofs.Laws.{spp_theory, at_ext, den_mem, false_true}
 use Rattle.spp_steps.proofs.Make.{mk_exact}
 use Rattle.spp_steps.proofs.Apply.{apply_exact}
-use Rattle.spp.specs.Reuse.{Kept}
 use Rattle.spp.proofs.Reuse.{spp_memo}
-use Rattle.spp.specs.Clauses.{seen, Noted, Answer, AllValidAt, Fits}
-use Rattle.spp.specs.declared.Made.{Made}
-use Rattle.spp.specs.declared.Made.TheVariants.{Node, Full}
+use Rattle.spp.specs.Clauses.{seen, SameStore, Asked, Noted, Answer, AllValidAt, Fits}
+use Rattle.std.specs.Prelude.{Result, Ok, Err, IsErr}
 use Rattle.spp.specs.declared.SPP.{SPP}
+use Rattle.spp.specs.declared.Full.{Full}
+use Rattle.spp.specs.declared.SPPstore.{SPPstore}
 
-module _ {R A : Type 0} {see : R → List ℕ → Outcome Table A} {N : ℕ} {c : Step Table A} {σ : Table} {m t' m' : List ℕ} {r : R} (z : Answer N see c σ m r t' m') where
-  pub gave_of : {τ : Table} {a : A} → see r t' ≡ given τ a → Gave (spp_memo N) c σ m τ m' a
+module _ {R A : Type 0} {see : R → Table → Outcome Table A} {N : ℕ} {c : Step Table A} {σ τ : Table} {m m' : List ℕ} {r : R} (z : Answer N see c σ m r τ m') where
+  pub gave_of : {υ : Table} {a : A} → see r τ ≡ given υ a → Gave (spp_memo N) c σ m υ m' a
   gave_of e = record { is = z.gives ∙ e; notes = subst (λ (o : Outcome Table A). Noted N m o m') e z.notes }
 
-  pub lost_of : see r t' ≡ refused 21 → c σ ≡ refused 21
+  pub lost_of : see r τ ≡ refused 21 → c σ ≡ refused 21
   lost_of e = z.gives ∙ e
 
-module _ {N : ℕ} {c : Step Table ℕ} {σ : Table} {m t' m' : List ℕ} {r : Made} (z : Answer N seen c σ m r t' m') where
-  pub gave : {h : SPP} {n : ℕ} → r ≡ Node h n → Gave (spp_memo N) c σ m (table t' n) m' h.0
-  gave e = gave_of z (ap (λ (r : Made). seen r t') e)
+module _ {N : ℕ} {c : Step Table ℕ} {σ τ : Table} {m m' : List ℕ} where
+  pub gave : {h : SPP} → Answer N seen c σ m (Ok h) τ m' → Gave (spp_memo N) c σ m τ m' h.0
+  gave z = gave_of z refl
 
-  pub lost : r ≡ Full → c σ ≡ refused 21
-  lost e = lost_of z (ap (λ (r : Made). seen r t') e)
+  pub lost : {e : Full} → Answer N seen c σ m (Err e) τ m' → c σ ≡ refused 21
+  lost z = lost_of z refl
+
+-- one store after two calls
+pub same_trans : {s t u : SPPstore} → SameStore s t → SameStore t u → SameStore s u
+same_trans p q = record { lent = q.lent ∙ p.lent; fields = q.fields ∙ p.fields }
+
+-- a refusal is handed on
+pub refused_on : (r : Result SPP Full) (τ : Table) {o : Outcome Table ℕ} → IsErr r → o ≡ refused 21 → o ≡ seen r τ
+refused_on (Ok h) τ p e = absurd (false_true p)
+refused_on (Err x) τ p e = e
+
+pub stopped : {N : ℕ} {c : Step Table ℕ} {σ τ : Table} {m m' : List ℕ} {r : Result SPP Full} → IsErr r → c σ ≡ refused 21 → Answer N seen c σ m r τ m'
+stopped {r = Ok h} p e = absurd (false_true p)
+stopped {r = Err x} p e = record { gives = e; notes = tt }
+
+-- what a call asks and what it comes to, where its store is for as many fields
+pub asked_for : {N N' d : ℕ} {σ : Table} {m hs : List ℕ} → N' ≡ N → Asked N d σ m hs → Asked N' d σ m hs
+asked_for {d} {σ} {m} {hs} e q = subst (λ (N : ℕ). Asked N d σ m hs) (sym e) q
+
+pub answer_for : {R A : Type 0} {see : R → Table → Outcome Table A} {N N' : ℕ} {σ τ : Table} {m m' : List ℕ} {r : R} (c : ℕ → Step Table A)
+    → N' ≡ N → Answer N' see (c N') σ m r τ m' → Answer N see (c N) σ m r τ m'
+answer_for {see} {σ} {τ} {m} {m'} {r} c e z = subst (λ (N : ℕ). Answer N see (c N) σ m r τ m') e z
 
 -- a call that has no cache
 pub gave_alone : {N : ℕ} {c : Step Table ℕ} {σ σ1 : Table} {m : List ℕ} {h : ℕ} → c σ ≡ given σ1 h → Gave (spp_memo N) c σ m σ1 m h
@@ -45,11 +66,11 @@ pub ats_ext : {σ τ : Table} (d : ℕ) (hs : List ℕ) → Ext σ τ → AllVal
 ats_ext d [] e a = tt
 ats_ext d (h ∷ hs) e a = (at_ext e d h a.0, ats_ext d hs e a.1)
 
-pub fits : {N n : ℕ} {t : List ℕ} → Wf N (table t n) → Fits t n
+pub fits : {N : ℕ} {σ : Table} → Wf N σ → Fits σ.words σ.count
 fits w = record { fits = w.nodes.fits; small = w.nodes.small; rising = w.nodes.rising }
 
 -- where the children of a handle are
-pub inside : {N n : ℕ} {t : List ℕ} (d h : ℕ) → Wf N (table t n) → ValidAt (table t n) (suc d) h → (2 ≤ h) × (4 * h ≤ length t + 4)
+pub inside : {N : ℕ} {σ : Table} (d h : ℕ) → Wf N σ → ValidAt σ (suc d) h → (2 ≤ h) × (4 * h ≤ length σ.words + 4)
 inside d h w a = (a.0, omega (arith, a.1, w.nodes.fits))
 
 pub at_kids : (σ : Table) (d h : ℕ) (A : Quad) → A ≡ kids σ.words h → ValidAt σ (suc d) h → (i j : Bool) → ValidAt σ d (A i j)

@@ -1,7 +1,6 @@
 -- The constants of a depth, at depth 0 and above it.
 use mathlib.Core.Path.{◌≡◌, refl, ap}
 use Prim.Native.Nat.{ℕ, zero, suc, ◌+◌, ◌*◌}
-use native.Mathlib.Omega.{arith}
 use Rattle.spp_steps.specs.Model.{zero_at, one_at, top_at}
 
 module _ (N : ℕ) where

@@ -1,8 +1,9 @@
 pub mod Reuse
 pub mod Levels
-pub mod Scan
 pub mod Nodes
+pub mod Scan
 pub mod Calls
 pub mod Quartet
 pub mod Turn
 pub mod Rising
+pub mod Apart

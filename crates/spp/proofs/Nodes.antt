@@ -2,12 +2,12 @@
 use mathlib.Core.Path.{◌≡◌, sym, ◌∙◌, ap, ap₂}
 use mathlib.Core.Bool.{Bool, true, false, ◌&&◌, and-false}
 use mathlib.Core.List.{List}
-use Prim.Native.Nat.{ℕ, ◌+◌, ◌*◌, ◌/◌, ◌<◌, ◌≤◌}
+use Prim.Native.Nat.{ℕ, ◌+◌, ◌/◌, ◌<◌, ◌≤◌}
 use lib.Dec.{ltb}
 use lib.ListN.{length}
 use borrow.Author.Tests.{lt-ltb, le-ltb}
-use Rattle.common.specs.Outcome.{Outcome, refused, given}
-use Rattle.common.specs.Runs.{Table, table}
+use Rattle.common.specs.Outcome.{refused, given}
+use Rattle.common.specs.Runs.{table}
 use Rattle.spp_steps.specs.Model.{Quad, seek, room, cap, put, put_if, found_if, mk}
 
 module _ (t : List ℕ) (n : ℕ) (X : Quad) (i : ℕ) (r : i ≡ seek t X 0 n) where

@@ -1,18 +1,19 @@
 -- Four calls of one operation on relations, one after the other: what each asks, and what they come to.
-use mathlib.Core.Path.{◌≡◌, ◌∙◌, ap}
+use mathlib.Core.Path.{◌≡◌, ◌∙◌}
 use mathlib.Core.List.{List, [], ◌∷◌}
-use Prim.Native.Nat.{ℕ, suc, ◌<◌}
+use Prim.Native.Nat.{ℕ, ◌<◌}
 use Rattle.common.specs.Outcome.{Outcome, refused, given, Step, after}
-use Rattle.common.specs.Runs.{Table, table}
+use Rattle.common.specs.Runs.{Table}
 use Rattle.cache.proofs.Stage as stage
 use Rattle.cache.proofs.Stage.{Gave, Stage}
 use Rattle.spp_steps.specs.Model.{quad, mk}
-use Rattle.spp_steps.specs.Wf.{ValidAt, Ext}
+use Rattle.spp_steps.specs.Wf.{ValidAt}
 use Rattle.spp_steps.proofs.Laws.{at_ext}
 use Rattle.spp.proofs.Reuse.{spp_memo}
-use Rattle.spp.specs.Clauses.{seen, Asked, AllValidAt, Noted, Fits}
-use Rattle.spp.specs.declared.Made.{Made}
-use Rattle.spp.specs.declared.Made.TheVariants.{Node, Full}
+use Rattle.spp.specs.Clauses.{seen, Asked, Noted, Fits}
+use Rattle.std.specs.Prelude.{Result, Ok, Err}
+use Rattle.spp.specs.declared.SPP.{SPP}
+use Rattle.spp.specs.declared.Full.{Full}
 use Rattle.spp.proofs.Calls.{gave_alone, fits, ats_ext, mk_can, quad_at}
 
 -- c is f of four pairs of handles, and then k
@@ -92,22 +93,22 @@ module _ {A : Type 0} {N d : ℕ} {f : ℕ → ℕ → Step Table ℕ} {k : ℕ 
 -- the same where a node is made of the four
 module _ {N d : ℕ} {f : ℕ → ℕ → Step Table ℕ} {c : Outcome Table ℕ} {σ : Table} {m : List ℕ} {x1 y1 x2 y2 x3 y3 x4 y4 : ℕ}
     (Q : Quartet N d f (λ a b e h. mk (quad a b e h)) c σ m x1 y1 x2 y2 x3 y3 x4 y4)
-    {σ1 σ2 σ3 : Table} {t4 m1 m2 m3 m4 : List ℕ} {n4 h1 h2 h3 h4 : ℕ}
+    {σ1 σ2 σ3 σ4 : Table} {m1 m2 m3 m4 : List ℕ} {h1 h2 h3 h4 : ℕ}
     (g1 : Gave (spp_memo N) (f x1 y1) σ m σ1 m1 h1) (g2 : Gave (spp_memo N) (f x2 y2) σ1 m1 σ2 m2 h2)
-    (g3 : Gave (spp_memo N) (f x3 y3) σ2 m2 σ3 m3 h3) (g4 : Gave (spp_memo N) (f x4 y4) σ3 m3 (table t4 n4) m4 h4) where
-  pub mk_ready : Fits t4 n4
+    (g3 : Gave (spp_memo N) (f x3 y3) σ2 m2 σ3 m3 h3) (g4 : Gave (spp_memo N) (f x4 y4) σ3 m3 σ4 m4 h4) where
+  pub mk_ready : Fits σ4.words σ4.count
   mk_ready = fits (last Q g1 g2 g3 g4).wf
 
-  pub made : {o : Outcome Table ℕ} → mk (quad h1 h2 h3 h4) (table t4 n4) ≡ o → c ≡ o
+  pub made : {o : Outcome Table ℕ} → mk (quad h1 h2 h3 h4) σ4 ≡ o → c ≡ o
   made q = (last Q g1 g2 g3 g4).left ∙ q
 
-  pub node : d < N → {τ : Table} {h : ℕ} → mk (quad h1 h2 h3 h4) (table t4 n4) ≡ given τ h → Stage (spp_memo N) c (given τ h) σ τ m m4
+  pub node : d < N → {τ : Table} {h : ℕ} → mk (quad h1 h2 h3 h4) σ4 ≡ given τ h → Stage (spp_memo N) c (given τ h) σ τ m m4
   node l q =
       let s = last Q g1 g2 g3 g4 in
       let p = held Q g1 g2 g3 g4 in
-      stage.finish (spp_memo N) (mk (quad h1 h2 h3 h4)) s (mk_can d (quad h1 h2 h3 h4) l s.wf (quad_at (table t4 n4) d h1 h2 h3 h4 p.0 p.1 p.2 p.3)) (gave_alone q)
+      stage.finish (spp_memo N) (mk (quad h1 h2 h3 h4)) s (mk_can d (quad h1 h2 h3 h4) l s.wf (quad_at σ4 d h1 h2 h3 h4 p.0 p.1 p.2 p.3)) (gave_alone q)
 
   -- the node is the answer
-  pub ended : d < N → (r : Made) (t' : List ℕ) → mk (quad h1 h2 h3 h4) (table t4 n4) ≡ seen r t' → Noted N m (seen r t') m4
-  ended l (Node h n) t' q = (node l q).notes
-  ended l Full t' q = tt
+  pub ended : d < N → (r : Result SPP Full) (τ : Table) → mk (quad h1 h2 h3 h4) σ4 ≡ seen r τ → Noted N m (seen r τ) m4
+  ended l (Ok h) τ q = (node l q).notes
+  ended l (Err e) τ q = tt

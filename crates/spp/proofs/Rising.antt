@@ -1,11 +1,10 @@
 -- Diagrams that are made from the bottom up, a node at each depth: the constants, and those of one field.
-use mathlib.Core.Path.{◌≡◌, refl, sym, ◌∙◌, ap, ap₂}
+use mathlib.Core.Path.{◌≡◌, refl, sym, ◌∙◌, ap, ap₂, subst}
 use mathlib.Core.Bool.{Bool, true, false}
 use mathlib.Core.List.{List}
-use Prim.Native.Nat.{ℕ, zero, suc, ◌+◌, ◌*◌, ◌-◌, ◌≤◌, ◌<◌}
+use Prim.Native.Nat.{ℕ, zero, suc, ◌+◌, ◌-◌, ◌≤◌, ◌<◌}
 use native.Mathlib.Omega.{arith}
 use native.Mathlib.Nat.{le_trans}
-use lib.ListN.{length}
 use Rattle.common.specs.Outcome.{Outcome, refused, given, Step, return, after, ◌>>=◌, Gives, refusal, gives}
 use Rattle.common.proofs.Follow.{given_of, call}
 use Rattle.common.specs.Runs.{Table, table}
@@ -61,8 +60,8 @@ columns_raised N b x (suc d) σ f l z =
     mk_raised σ.count _ τ g.more g.fits (next_below N b y d τ.count g.within (λ e. le_trans (z e) g.more)))
 
 -- the nodes fit after a column, whole or a part of it
-pub columns_fits : (N : ℕ) {t : List ℕ} {n : ℕ} {b : Bool} {x d : ℕ} (e : ℕ) {τ : Table} {h : ℕ} → ColumnAsked t n b x d → e ≤ d → columns N b x e (table t n) ≡ given τ h → Fits τ.words τ.count
-columns_fits N {t} {n} {b} {x} e q l p = (given_of (columns_raised N b x e (table t n) q.fits q.base_in (λ z. le_trans l (q.zeros_in z))) p).fits
+pub columns_fits : (N : ℕ) {σ : Table} {b : Bool} {x d : ℕ} (e : ℕ) {τ : Table} {h : ℕ} → ColumnAsked σ b x d → e ≤ d → columns N b x e σ ≡ given τ h → Fits τ.words τ.count
+columns_fits N {σ} {b} {x} e q l p = (given_of (columns_raised N b x e σ q.fits q.base_in (λ z. le_trans l (q.zeros_in z))) p).fits
 
 -- the nodes fit after a diagram of one field
 pub field_fits : (N : ℕ) (assigned value : Bool) (d f : ℕ) {σ τ : Table} {h : ℕ} → Wf N σ → d ≤ N → f < d → field N (entry_of assigned value) d f σ ≡ given τ h → Fits τ.words τ.count
@@ -81,22 +80,28 @@ halted k e = ap (λ (o : Outcome Table _). after o k) e
 above : ℕ → Bool → ℕ → ℕ → Step Table ℕ
 above N b d y = mk (quad y (beside b y (zero_at N d)) (beside b y (zero_at N d)) y)
 
-module _ (N : ℕ) (b : Bool) (x : ℕ) (D : ℕ) (σ : Table) where
-  pub columns_none : D ≡ 0 → columns N b x D σ ≡ given σ x
+module _ (N : ℕ) (b : Bool) (x : ℕ) (σ : Table) where
+  pub columns_none : columns N b x 0 σ ≡ given σ x
   unfolding columns
-  columns_none e = ap (λ (D : ℕ). columns N b x D σ) e
+  columns_none = refl
 
-  columns_up : (D ≡ 0 → ⊥) → columns N b x D σ ≡ after (columns N b x (D - 1) σ) (above N b (D - 1))
+  columns_up : (d : ℕ) → columns N b x (d + 1) σ ≡ after (columns N b x d σ) (above N b d)
   unfolding columns above
-  columns_up n = ap (λ (D : ℕ). columns N b x D σ) {x = D} {y = suc (D - 1)} (omega arith)
+  columns_up d = ap (λ (D : ℕ). columns N b x D σ) {x = d + 1} {y = suc d} (omega arith)
 
-  pub columns_stuck : {number : ℕ} → (D ≡ 0 → ⊥) → columns N b x (D - 1) σ ≡ refused number → columns N b x D σ ≡ refused number
-  columns_stuck n e = columns_up n ∙ halted (above N b (D - 1)) e
-
-  pub columns_then : (σ1 : Table) (y w : ℕ) {o : Outcome Table ℕ} → (D ≡ 0 → ⊥) → columns N b x (D - 1) σ ≡ given σ1 y
-      → beside b y (zero_at N (D - 1)) ≡ w → mk (quad y w w y) σ1 ≡ o → columns N b x D σ ≡ o
+  pub columns_then : (d : ℕ) {σ1 : Table} {y w : ℕ} {o : Outcome Table ℕ} → columns N b x d σ ≡ given σ1 y
+      → beside b y (zero_at N d) ≡ w → mk (quad y w w y) σ1 ≡ o → columns N b x (d + 1) σ ≡ o
   unfolding above
-  columns_then σ1 y w n e z q = columns_up n ∙ past σ1 y (above N b (D - 1)) e ∙ ap (λ (w : ℕ). mk (quad y w w y) σ1) z ∙ q
+  columns_then d {σ1} {y} e z q = columns_up d ∙ past σ1 y (above N b d) e ∙ ap (λ (w : ℕ). mk (quad y w w y) σ1) z ∙ q
+
+  -- no more is done once a node is refused
+  columns_over : {number : ℕ} (d k : ℕ) → columns N b x d σ ≡ refused number → columns N b x (d + k) σ ≡ refused number
+  columns_over d zero e = ap (λ (D : ℕ). columns N b x D σ) {x = d + 0} {y = d} (omega arith) ∙ e
+  columns_over d (suc k) e =
+      ap (λ (D : ℕ). columns N b x D σ) {x = d + suc k} {y = d + k + 1} (omega arith) ∙ columns_up (d + k) ∙ halted (above N b (d + k)) (columns_over d k e)
+
+  pub columns_stuck : {number : ℕ} (d D : ℕ) → d < D → columns N b x (d + 1) σ ≡ refused number → columns N b x D σ ≡ refused number
+  columns_stuck d D l e = ap (λ (D : ℕ). columns N b x D σ) {x = D} {y = d + 1 + (D - (d + 1))} (omega arith) ∙ columns_over (d + 1) (D - (d + 1)) e
 
 -- the three columns of a store's start
 zeros_is : (N d : ℕ) (σ : Table) → zeros d σ ≡ columns N false 0 d σ
@@ -114,9 +119,16 @@ unfolding tops columns above
 tops_is N zero σ = refl
 tops_is N (suc d) σ = ap (λ (o : Outcome Table ℕ). after o (above N false d)) (tops_is N d σ)
 
+-- a column of a store for as many fields
+pub columns_for : {N N' : ℕ} (b : Bool) (x : ℕ) (σ : Table) {o : Outcome Table ℕ} → N' ≡ N → columns N' b x N' σ ≡ o → columns N b x N σ ≡ o
+columns_for b x σ {o} e q = subst (λ (N : ℕ). columns N b x N σ ≡ o) e q
+
+pub column_asked_for : {N N' : ℕ} {b : Bool} {x : ℕ} {σ : Table} → N' ≡ N → ColumnAsked σ b x N → ColumnAsked σ b x N'
+column_asked_for {b} {x} {σ} e q = subst (ColumnAsked σ b x) (sym e) q
+
 -- what is asked by the three of a store's start
 module _ (N : ℕ) (t : List ℕ) (few : N ≤ 31) where
-  pub asked_1 : ColumnAsked t 0 false 0 N
+  pub asked_1 : ColumnAsked (table t 0) false 0 N
   asked_1 = record {
     deep = few;
     fits = record { fits = omega arith; small = omega arith; rising = λ k l i j. absurd (omega arith) };
@@ -124,16 +136,16 @@ module _ (N : ℕ) (t : List ℕ) (few : N ≤ 31) where
     zeros_in = λ e. absurd (false_true e);
   }
 
-  module _ {t1 : List ℕ} {n1 z : ℕ} (q1 : columns N false 0 N (table t 0) ≡ given (table t1 n1) z) where
-    pub asked_2 : ColumnAsked t1 n1 true 1 N
+  module _ {σ1 : Table} {z : ℕ} (q1 : columns N false 0 N (table t 0) ≡ given σ1 z) where
+    pub asked_2 : ColumnAsked σ1 true 1 N
     asked_2 = record {
       deep = few;
       fits = columns_fits N N asked_1 (omega arith) q1;
       base_in = omega arith;
-      zeros_in = λ e. omega (arith, zeros_count N t (table t1 n1) z (zeros_is N N (table t 0) ∙ q1));
+      zeros_in = λ e. omega (arith, zeros_count N t σ1 z (zeros_is N N (table t 0) ∙ q1));
     }
 
-    pub asked_3 : {t2 : List ℕ} {n2 o : ℕ} → columns N true 1 N (table t1 n1) ≡ given (table t2 n2) o → ColumnAsked t2 n2 false 1 N
+    pub asked_3 : {σ2 : Table} {o : ℕ} → columns N true 1 N σ1 ≡ given σ2 o → ColumnAsked σ2 false 1 N
     asked_3 q2 = record { deep = few; fits = columns_fits N N asked_2 (omega arith) q2; base_in = omega arith; zeros_in = λ e. absurd (false_true e) }
 
 module _ (N : ℕ) (σ : Table) where
@@ -150,7 +162,7 @@ module _ (N : ℕ) (σ : Table) where
   unfolding constants k1 k2 k3
   start_1 e = halted k1 (zeros_is N N σ ∙ e)
 
-  module _ (σ1 : Table) (z : ℕ) (q1 : columns N false 0 N σ ≡ given σ1 z) where
+  module _ {σ1 : Table} {z : ℕ} (q1 : columns N false 0 N σ ≡ given σ1 z) where
     first : constants N σ ≡ k1 z σ1
     unfolding constants k1 k2 k3
     first = past σ1 z k1 (zeros_is N N σ ∙ q1)
@@ -159,7 +171,7 @@ module _ (N : ℕ) (σ : Table) where
     unfolding k1
     start_2 e = first ∙ halted (k2 z) (ones_is N N σ1 ∙ e)
 
-    module _ (σ2 : Table) (o : ℕ) (q2 : columns N true 1 N σ1 ≡ given σ2 o) where
+    module _ {σ2 : Table} {o : ℕ} (q2 : columns N true 1 N σ1 ≡ given σ2 o) where
       second : constants N σ ≡ k2 z o σ2
       unfolding k1
       second = first ∙ past σ2 o (k2 z) (ones_is N N σ1 ∙ q2)
@@ -168,9 +180,9 @@ module _ (N : ℕ) (σ : Table) where
       unfolding k2
       start_3 e = second ∙ halted (k3 z o) (tops_is N N σ2 ∙ e)
 
-      pub start_4 : (σ3 : Table) (t : ℕ) → columns N false 1 N σ2 ≡ given σ3 t → constants N σ ≡ given σ3 (record { zero = z; one = o; top = t })
+      pub start_4 : {σ3 : Table} {t : ℕ} → columns N false 1 N σ2 ≡ given σ3 t → constants N σ ≡ given σ3 (record { zero = z; one = o; top = t })
       unfolding k2 k3
-      start_4 σ3 t e = second ∙ past σ3 t (k3 z o) (tops_is N N σ2 ∙ e)
+      start_4 {σ3} {t} e = second ∙ past σ3 t (k3 z o) (tops_is N N σ2 ∙ e)
 
 module _ (N : ℕ) (e : ℕ → ℕ → Quad) (D f : ℕ) (σ : Table) (inside : f < D) where
   from_here : (D f : ℕ) → f < D → f ≡ 0 → field N e D f σ ≡ mk (e (one_at N (D - 1)) (zero_at N (D - 1))) σ
@@ -179,8 +191,8 @@ module _ (N : ℕ) (e : ℕ → ℕ → Quad) (D f : ℕ) (σ : Table) (inside :
   from_here (suc d) zero l n = ap (λ (d : ℕ). mk (e (one_at N d) (zero_at N d)) σ) {x = d} (omega arith)
   from_here (suc d) (suc f) l n = absurd (omega arith)
 
-  pub field_here : (x z : ℕ) {o : Outcome Table ℕ} → f ≡ 0 → one_at N (D - 1) ≡ x → zero_at N (D - 1) ≡ z → mk (e x z) σ ≡ o → field N e D f σ ≡ o
-  field_here x z n p q m = from_here D f inside n ∙ ap₂ (λ (x z : ℕ). mk (e x z) σ) p q ∙ m
+  pub field_here : {x z : ℕ} {o : Outcome Table ℕ} → f ≡ 0 → one_at N (D - 1) ≡ x → zero_at N (D - 1) ≡ z → mk (e x z) σ ≡ o → field N e D f σ ≡ o
+  field_here n p q m = from_here D f inside n ∙ ap₂ (λ (x z : ℕ). mk (e x z) σ) p q ∙ m
 
   field_up : (f ≡ 0 → ⊥) → field N e D f σ ≡ after (field N e (D - 1) (f - 1) σ) (above N true (D - 1))
   unfolding field above
@@ -189,7 +201,7 @@ module _ (N : ℕ) (e : ℕ → ℕ → Quad) (D f : ℕ) (σ : Table) (inside :
   pub field_stuck : {number : ℕ} → (f ≡ 0 → ⊥) → field N e (D - 1) (f - 1) σ ≡ refused number → field N e D f σ ≡ refused number
   field_stuck n q = field_up n ∙ halted (above N true (D - 1)) q
 
-  pub field_then : (σ1 : Table) (x z : ℕ) {o : Outcome Table ℕ} → (f ≡ 0 → ⊥) → field N e (D - 1) (f - 1) σ ≡ given σ1 x
+  pub field_then : {σ1 : Table} {x z : ℕ} {o : Outcome Table ℕ} → (f ≡ 0 → ⊥) → field N e (D - 1) (f - 1) σ ≡ given σ1 x
       → zero_at N (D - 1) ≡ z → mk (quad x z z x) σ1 ≡ o → field N e D f σ ≡ o
   unfolding above
-  field_then σ1 x z n q p m = field_up n ∙ past σ1 x (above N true (D - 1)) q ∙ ap (λ (z : ℕ). mk (quad x z z x) σ1) p ∙ m
+  field_then {σ1} {x} n q p m = field_up n ∙ past σ1 x (above N true (D - 1)) q ∙ ap (λ (z : ℕ). mk (quad x z z x) σ1) p ∙ m

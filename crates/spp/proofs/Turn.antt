@@ -1,26 +1,27 @@
 -- One turn of `apply`: an exit, a result from the cache, or four calls and a node.
-use mathlib.Core.Path.{◌≡◌, refl, sym, ◌∙◌, ap, ap₂, subst}
+use mathlib.Core.Path.{◌≡◌, sym, ◌∙◌, ap, ap₂, subst}
 use mathlib.Core.Bool.{Bool, true, false}
 use mathlib.Core.List.{List, [], ◌∷◌}
 use Prim.Native.Nat.{ℕ, zero, suc, ◌+◌, ◌*◌, ◌-◌, ◌≤◌, ◌<◌}
 use native.Mathlib.Omega.{arith}
 use lib.ListN.{length}
-use Rattle.common.specs.Packets.{Packet, bit, Relation}
-use Rattle.common.specs.Outcome.{Outcome, refused, given, Step, return, after}
+use Rattle.common.specs.Outcome.{refused, given, Step, return}
 use Rattle.common.proofs.Follow.{given_of}
-use Rattle.common.specs.Runs.{Table, table, StableResult}
-use Rattle.common.proofs.Runs.{StableSpec}
-use Rattle.cache.specs.Cache.{OnCodes, OnlyCodes, WritesValid, Holds, Exactly}
+use Rattle.common.specs.Runs.{Table, StableResult}
+use Rattle.cache.specs.Cache.{OnlyCodes, WritesValid, Holds, Exactly}
 use Rattle.cache.proofs.Stage as stage
-use Rattle.cache.proofs.Stage.{Stage}
+use Rattle.cache.proofs.Stage.{Stage, Gave}
 use Rattle.spp_steps.specs.Model.{Op, Exit, out, on, Quad, quad, kids, mem, mk, exit, follow, down, each, apply}
-use Rattle.spp_steps.specs.Wf.{Wf, Ext, ValidAt, Denotes}
-use Rattle.spp_steps.proofs.Laws.{spp_theory, at_ext, ext_trans, den_mem}
+use Rattle.spp_steps.specs.Wf.{ValidAt, Denotes}
+use Rattle.spp_steps.proofs.Laws.{spp_theory, at_ext, den_mem}
 use Rattle.spp_steps.proofs.Apply.{Leads, Going, pointwise, exit_right, exit_low, apply_exact}
-use Rattle.spp.specs.Reuse.{Kept, code_of, run}
+use Rattle.spp.specs.Reuse.{Kept, code_of}
 use Rattle.spp.proofs.Reuse.{spp_memo, run_code, reused, to_note}
-use Rattle.spp.specs.Clauses.{Asked}
-use Rattle.spp.proofs.Calls.{inside, at_kids, apply_can}
+use Rattle.std.specs.Prelude.{Ok, Err}
+use Rattle.spp.specs.declared.SPP.{SPP}
+use Rattle.spp.specs.declared.Full.{Full}
+use Rattle.spp.specs.Clauses.{seen, Asked, Answer}
+use Rattle.spp.proofs.Calls.{gave, lost, answer_for, inside, at_kids, apply_can}
 use Rattle.spp.proofs.Quartet.{Quartet}
 
 pub apply_out : (N : ℕ) (o : Op) (D a b h : ℕ) (σ : Table) → exit N o D a b ≡ out h → apply N o D a b σ ≡ given σ h
@@ -49,67 +50,84 @@ code_high Op.not = omega arith
 out≢on : {h : ℕ} {u : Op} {x y : ℕ} → out h ≡ on u x y → ⊥
 out≢on e = let z : ◌≡◌ {A = ℕ} 0 1 = cc in omega arith
 
-module _ (N : ℕ) (o : Op) (D a b : ℕ) (t m : List ℕ) (n : ℕ) (r : Asked N D (table t n) m (a ∷ b ∷ [])) (u : Op) (x y : ℕ) (go_on : exit N o D a b ≡ on u x y) where
-  going : Going (table t n) D (pointwise o (mem t D a) (mem t D b)) u x y
-  going = subst (Leads (table t n) D (pointwise o (mem t D a) (mem t D b))) go_on (exit_right r.wf r.deep (den_mem r.at.0) (den_mem r.at.1.0) o)
+-- no exit: it goes down, with u on x and y
+pub record Down (N : ℕ) (o : Op) (D a b : ℕ) (σ : Table) (m : List ℕ) (u : Op) (x y : ℕ) : Type 0 where
+  asked : Asked N D σ m (a ∷ b ∷ [])
+  go_on : exit N o D a b ≡ on u x y
 
-  low : (D : ℕ) → ValidAt (table t n) D a → ValidAt (table t n) D b → exit N o D a b ≡ on u x y → D ≡ suc (D - 1)
+pub goes_down : {N : ℕ} (o : Op) {D a b : ℕ} {σ : Table} {m : List ℕ} {u : Op} {x y : ℕ} → Asked N D σ m (a ∷ b ∷ []) → exit N o D a b ≡ on u x y → Down N o D a b σ m u x y
+goes_down o r e = record { asked = r; go_on = e }
+
+module _ {N : ℕ} {o : Op} {D a b : ℕ} {σ : Table} {m : List ℕ} {u : Op} {x y : ℕ} (G : Down N o D a b σ m u x y) where
+  going : Going σ D (pointwise o (mem σ.words D a) (mem σ.words D b)) u x y
+  going = subst (Leads σ D (pointwise o (mem σ.words D a) (mem σ.words D b))) G.go_on (exit_right G.asked.wf G.asked.deep (den_mem G.asked.at.0) (den_mem G.asked.at.1.0) o)
+
+  low : (D : ℕ) → ValidAt σ D a → ValidAt σ D b → exit N o D a b ≡ on u x y → D ≡ suc (D - 1)
   low zero p q e = let w = exit_low N o a b p q in absurd (out≢on (sym w.1 ∙ e))
   low (suc d) p q e = omega arith
 
   -- at depth 0 there is an exit
   pub above : D ≡ suc (D - 1)
-  above = low D r.at.0 r.at.1.0 go_on
+  above = low D G.asked.at.0 G.asked.at.1.0 G.go_on
 
   pub lower : D - 1 < N
-  lower = omega (arith, above, r.deep)
+  lower = omega (arith, above, G.asked.deep)
 
-  at_x : ValidAt (table t n) (suc (D - 1)) x
-  at_x = subst (λ (k : ℕ). ValidAt (table t n) k x) above going.den_x.at
+  at_x : ValidAt σ (suc (D - 1)) x
+  at_x = subst (λ (k : ℕ). ValidAt σ k x) above going.den_x.at
 
-  at_y : ValidAt (table t n) (suc (D - 1)) y
-  at_y = subst (λ (k : ℕ). ValidAt (table t n) k y) above going.den_y.at
+  at_y : ValidAt σ (suc (D - 1)) y
+  at_y = subst (λ (k : ℕ). ValidAt σ k y) above going.den_y.at
 
   is_down : (τ : Table) → apply N o D a b τ ≡ down (each (apply N u (D - 1))) x y τ
-  is_down τ = ap (λ (k : ℕ). apply N o k a b τ) above ∙ apply_on N o (D - 1) a b u x y τ (ap (λ (k : ℕ). exit N o k a b) (sym above) ∙ go_on)
+  is_down τ = ap (λ (k : ℕ). apply N o k a b τ) above ∙ apply_on N o (D - 1) a b u x y τ (ap (λ (k : ℕ). exit N o k a b) (sym above) ∙ G.go_on)
 
-  pub in_x : (2 ≤ x) × (4 * x ≤ length t + 4)
-  in_x = inside (D - 1) x r.wf at_x
+  pub in_x : (2 ≤ x) × (4 * x ≤ length σ.words + 4)
+  in_x = inside (D - 1) x G.asked.wf at_x
 
-  pub in_y : (2 ≤ y) × (4 * y ≤ length t + 4)
-  in_y = inside (D - 1) y r.wf at_y
+  pub in_y : (2 ≤ y) × (4 * y ≤ length σ.words + 4)
+  in_y = inside (D - 1) y G.asked.wf at_y
 
-  pub hit : {code h : ℕ} → code ≡ code_of u → Holds m code x y h → apply N o D a b (table t n) ≡ given (table t n) h
+  pub hit : {code h : ℕ} → code ≡ code_of u → Holds m code x y h → apply N o D a b σ ≡ given σ h
   hit {h} e found =
-      is_down (table t n) ∙ ap (λ (c : Step Table ℕ). c (table t n)) (sym (run_code N u (D - 1) x y))
-      ∙ reused (D - 1) r.wf at_x (code_low u) (code_high u) r.sound (subst (λ (k : ℕ). Holds m k x y h) e found)
+      is_down σ ∙ ap (λ (c : Step Table ℕ). c σ) (sym (run_code N u (D - 1) x y))
+      ∙ reused (D - 1) G.asked.wf at_x (code_low u) (code_high u) G.asked.sound (subst (λ (k : ℕ). Holds m k x y h) e found)
 
-  module _ (A B : Quad) (A-is : A ≡ kids t x) (B-is : B ≡ kids t y) where
-    pub calls : Quartet N (D - 1) (apply N u (D - 1)) (λ h1 h2 h3 h4. mk (quad h1 h2 h3 h4)) (apply N o D a b (table t n)) (table t n) m
+  module _ {A B : Quad} (A-is : A ≡ kids σ.words x) (B-is : B ≡ kids σ.words y) where
+    pub calls : Quartet N (D - 1) (apply N u (D - 1)) (λ h1 h2 h3 h4. mk (quad h1 h2 h3 h4)) (apply N o D a b σ) σ m
         (A false false) (B false false) (A false true) (B false true) (A true false) (B true false) (A true true) (B true true)
     unfolding each
     calls =
-        let p = at_kids (table t n) (D - 1) x A A-is at_x in
-        let q = at_kids (table t n) (D - 1) y B B-is at_y in
+        let p = at_kids σ (D - 1) x A A-is at_x in
+        let q = at_kids σ (D - 1) y B B-is at_y in
         record {
-          can = apply_can N (D - 1) (omega (arith, r.deep)) u;
+          can = apply_can N (D - 1) (omega (arith, G.asked.deep)) u;
           asked = record {
-            few = r.few;
-            deep = omega (arith, r.deep);
-            wf = r.wf;
+            few = G.asked.few;
+            deep = omega (arith, G.asked.deep);
+            wf = G.asked.wf;
             at = (p false false, (q false false, (p false true, (q false true, (p true false, (q true false, (p true true, (q true true, tt))))))));
-            sound = r.sound;
+            sound = G.asked.sound;
           };
-          is = is_down (table t n) ∙ ap₂ (λ (A B : Quad). each (apply N u (D - 1)) A B (table t n)) (sym A-is) (sym B-is);
+          is = is_down σ ∙ ap₂ (λ (A B : Quad). each (apply N u (D - 1)) A B σ) (sym A-is) (sym B-is);
         }
 
+    -- what one of the four has given or not, on a store for as many fields
+    module _ (i j : Bool) {N' : ℕ} {σ' τ' : Table} {m' m'' : List ℕ} (e : N' ≡ N) where
+      pub gave_at : {h : SPP} → Answer N' seen (apply N' u (D - 1) (A i j) (B i j)) σ' m' (Ok h) τ' m''
+          → Gave (spp_memo N) (apply N u (D - 1) (A i j) (B i j)) σ' m' τ' m'' h.0
+      gave_at z = gave (answer_for (λ N. apply N u (D - 1) (A i j) (B i j)) e z)
+
+      pub lost_at : {f : Full} → Answer N' seen (apply N' u (D - 1) (A i j) (B i j)) σ' m' (Err f) τ' m'' → apply N u (D - 1) (A i j) (B i j) σ' ≡ refused 21
+      lost_at z = lost (answer_for (λ N. apply N u (D - 1) (A i j) (B i j)) e z)
+
   -- what was made may be noted
-  pub noted : {code h : ℕ} {τ : Table} {m4 m5 : List ℕ} → code ≡ code_of u → Stage (spp_memo N) (apply N o D a b (table t n)) (given τ h) (table t n) τ m m4
+  pub noted : {code h : ℕ} {τ : Table} {m4 m5 : List ℕ} → code ≡ code_of u → Stage (spp_memo N) (apply N o D a b σ) (given τ h) σ τ m m4
       → WritesValid (Exactly code x y h) m4 m5 → WritesValid (OnlyCodes 3 9 (Kept N τ)) m m5
   noted {h} {τ} {m4} {m5} e s k = stage.noted (spp_memo N) s (subst (λ (k : ℕ). WritesValid (Exactly k x y h) m4 m5) e k) noting
     where
-      whole : StableResult (spp_theory N) (apply N o D a b) (λ τ h. Denotes τ D h (pointwise o (mem t D a) (mem t D b))) (table t n) τ h
-      whole = given_of (apply_exact N o D r.deep (table t n) a b _ _ r.wf (den_mem r.at.0) (den_mem r.at.1.0)).runs s.left
+      whole : StableResult (spp_theory N) (apply N o D a b) (λ τ h. Denotes τ D h (pointwise o (mem σ.words D a) (mem σ.words D b))) σ τ h
+      whole = given_of (apply_exact N o D G.asked.deep σ a b _ _ G.asked.wf (den_mem G.asked.at.0) (den_mem G.asked.at.1.0)).runs s.left
 
       noting : OnlyCodes 3 9 (Kept N τ) (code_of u) x y h
       noting = to_note (D - 1) (code_low u) (code_high u) (at_ext whole.ext (suc (D - 1)) x at_x)

@@ -1,5 +1,5 @@
 -- What an answer says in the words of the steps, what the operations ask, and what they ensure.
-use Rattle.std.specs.Prelude.{◌≡◌, Bool, true, false, List, [], ◌∷◌, ◌⊎◌, ℕ, zero, suc, ◌+◌, ◌*◌, ◌≤◌, ◌<◌, length}
+use Rattle.std.specs.Prelude.{◌≡◌, Bool, true, false, List, [], ◌∷◌, ℕ, zero, suc, ◌+◌, ◌*◌, ◌≤◌, ◌<◌, length, Result, Ok, Err}
 use Rattle.common.specs.Outcome.{Outcome, refused, given, Step, return, ◌>>=◌}
 use Rattle.common.specs.Runs.{Table, table}
 use Rattle.cache.specs.Cache.{OnCodes, OnlyCodes, Sound, WritesValid}
@@ -7,20 +7,36 @@ use Rattle.spp_steps.specs.Model as M
 use Rattle.spp_steps.specs.Model.{Quad, quad, cap}
 use Rattle.spp_steps.specs.Wf.{Rising, Wf, ValidAt}
 use Rattle.spp.specs.Reuse.{Kept}
+use Rattle.spp.specs.declared.SPP.{SPP}
+use Rattle.spp.specs.declared.SPPnode.{SPPnode}
+use Rattle.spp.specs.declared.Full.{Full}
+use Rattle.spp.specs.declared.SPPstore.{SPPstore}
+use Rattle.spp.specs.declared.SPPview.{SPPview}
+use Rattle.spp.specs.declared.Constants.{Constants}
 use Rattle.spp.specs.declared.Made.{Made}
-use Rattle.spp.specs.declared.Made.TheVariants.{Node, Full}
+use Rattle.spp.specs.declared.Made.TheVariants.{Node}
+use Rattle.spp.specs.declared.Made.TheVariants as made
 use Rattle.spp.specs.declared.Quick.{Quick}
 use Rattle.spp.specs.declared.Quick.TheVariants.{Out, On}
 use Rattle.spp.specs.declared.Op.{Op}
 use Rattle.spp.specs.declared.Op.TheVariants.{Union, Intersect, Xor, Difference, Not}
-use Rattle.spp.specs.declared.SPPnode.{SPPnode}
-use Rattle.spp.specs.declared.Started.{Started}
-use Rattle.spp.specs.declared.Started.TheVariants.{Store, Short}
 
--- a handle and the table at exit; or refusal 21
-abbrev pub seen : Made → List ℕ → Outcome Table ℕ
-seen (Node h n) t = given (table t n) h.0
-seen Full t = refused 21
+-- the nodes of a store
+abbrev pub store_of : SPPstore → Table
+store_of s = table s.nodes.now s.count
+
+abbrev pub view_of : SPPview → Table
+view_of s = table s.nodes.now s.count
+
+-- t is s after a call: on the same lent words, for as many fields
+pub record SameStore (s t : SPPstore) : Type 0 where
+  pub lent : t.nodes.ghost_name ≡ s.nodes.ghost_name
+  pub fields : t.fields ≡ s.fields
+
+-- a handle and the store at exit; or refusal 21
+abbrev pub seen : Result SPP Full → Table → Outcome Table ℕ
+seen (Ok h) τ = given τ h.0
+seen (Err e) τ = refused 21
 
 abbrev pub op_of : Op → M.Op
 op_of Union = M.union
@@ -41,9 +57,9 @@ abbrev pub entry_of : Bool → Bool → ℕ → ℕ → Quad
 entry_of true = M.assign_entry
 entry_of false = M.test_entry
 
-abbrev pub seen_start : Started → List ℕ → Outcome Table M.Constants
-seen_start (Store c n) t = given (table t n) (record { zero = c.zero.0; one = c.one.0; top = c.top.0 })
-seen_start Short t = refused 21
+abbrev pub seen_start : Result Constants Full → Table → Outcome Table M.Constants
+seen_start (Ok c) τ = given τ (record { zero = c.zero.0; one = c.one.0; top = c.top.0 })
+seen_start (Err e) τ = refused 21
 
 abbrev pub beside : Bool → ℕ → ℕ → ℕ
 beside true x z = z
@@ -65,25 +81,19 @@ pub record First (X : Quad) (r : ℕ) : Type 0 where
   pub after : (i j : Bool) → X i j < r + 2
   pub before : (k : ℕ) → k < r → (i : Bool) × (j : Bool) × (k + 2 ≤ X i j)
 
--- r is the larger of a and b
-pub record Larger (a b r : ℕ) : Type 0 where
-  pub from_a : a ≤ r
-  pub from_b : b ≤ r
-  pub one : (r ≡ a) ⊎ (r ≡ b)
-
 -- d constants above the handle base, where a diagonal has the zeros beside it
-pub record ColumnAsked (t : List ℕ) (n : ℕ) (diagonal : Bool) (base d : ℕ) : Type 0 where
+pub record ColumnAsked (σ : Table) (diagonal : Bool) (base d : ℕ) : Type 0 where
   pub deep : d ≤ 31
-  pub fits : Fits t n
-  pub base_in : base < n + 2
-  pub zeros_in : diagonal ≡ true → d ≤ n
+  pub fits : Fits σ.words σ.count
+  pub base_in : base < σ.count + 2
+  pub zeros_in : diagonal ≡ true → d ≤ σ.count
 
 -- a diagram of depth d with an entry at field f
-pub record FieldAsked (N : ℕ) (t : List ℕ) (n d f : ℕ) : Type 0 where
+pub record FieldAsked (N : ℕ) (σ : Table) (d f : ℕ) : Type 0 where
   pub few : N ≤ 31
   pub deep : d ≤ N
   pub below : f < d
-  pub wf : Wf N (table t n)
+  pub wf : Wf N σ
 
 -- all of hs are handles of depth d
 abbrev pub AllValidAt : Table → ℕ → List ℕ → Type 0
@@ -103,7 +113,17 @@ abbrev pub Noted : {A : Type 0} → ℕ → List ℕ → Outcome Table A → Lis
 Noted N m (given τ a) m' = WritesValid (OnlyCodes 3 9 (Kept N τ)) m m'
 Noted N m (refused number) m' = Unit
 
--- the answer r, seen with the nodes at exit, is what the steps c come to from σ, and all that is noted is right
-pub record Answer {R A : Type 0} (N : ℕ) (see : R → List ℕ → Outcome Table A) (c : Step Table A) (σ : Table) (m : List ℕ) (r : R) (t' m' : List ℕ) : Type 0 where
-  pub gives : c σ ≡ see r t'
-  pub notes : Noted N m (see r t') m'
+-- the answer r, seen with the store at exit, is what the steps c come to from σ, and all that is noted is right
+pub record Answer {R A : Type 0} (N : ℕ) (see : R → Table → Outcome Table A) (c : Step Table A) (σ : Table) (m : List ℕ) (r : R) (τ : Table) (m' : List ℕ) : Type 0 where
+  pub gives : c σ ≡ see r τ
+  pub notes : Noted N m (see r τ) m'
+
+-- ---- for the layers that hold a table and its count apart
+
+abbrev pub made_of : Result SPP Full → ℕ → Made
+made_of (Ok h) n = Node h n
+made_of (Err e) n = made.Full
+
+abbrev pub seen_made : Made → List ℕ → Outcome Table ℕ
+seen_made (Node h n) t = given (table t n) h.0
+seen_made made.Full t = refused 21

@@ -1,15 +1,14 @@
 // Relations on packets (spp.rs): nodes of four words on a lent table, the handles x00, x01, x10, x11.
+// The contracts cite the steps of spp_steps.
 #![tactic(auto)]
 
-ghost use Rattle.std.specs.Prelude.{◌≡◌, true, false, [], ◌∷◌, ℕ, ◌+◌, ◌*◌, ◌≤◌, ◌<◌, length, get_or};
+ghost use Rattle.std.specs.Prelude.{◌≡◌, [], ◌∷◌, ℕ, ◌+◌, ◌*◌, ◌≤◌, ◌<◌, length};
 ghost use Rattle.common.specs.Runs.{table};
 ghost use Rattle.spp_steps.specs.Model as M;
 ghost use Rattle.spp.specs.Reuse.{code_of};
-ghost use Rattle.spp.specs.Clauses.{seen, op_of, exit_of, quad_of, entry_of, columns, seen_start, Fits, First, Larger, ColumnAsked, FieldAsked, Asked, Answer};
+ghost use Rattle.spp.specs.Clauses.{store_of, seen, op_of, exit_of, quad_of, entry_of, columns, seen_start, SameStore, Fits, First, ColumnAsked, FieldAsked, Asked, Answer, made_of};
 
-use cache::Looked;
-
-#[derive(Clone, Copy)]
+#[derive(Clone, Copy, Debug, PartialEq, Eq)]
 pub struct SPP(pub u32);
 
 impl SPP {
@@ -27,7 +26,7 @@ impl SPP {
     }
 }
 
-#[derive(Clone, Copy)]
+#[derive(Clone, Copy, PartialEq, Eq)]
 pub struct SPPnode {
     pub x00: SPP,
     pub x01: SPP,
@@ -35,10 +34,32 @@ pub struct SPPnode {
     pub x11: SPP,
 }
 
+// no record is left for a relation node: 01's refusal 21
+#[derive(Clone, Copy, Debug, PartialEq, Eq)]
+pub struct Full;
+
+// the lent table, how many of its records are nodes, and how many fields a packet has
+#[derive(Drop)]
+pub struct SPPstore<'a> {
+    pub nodes: &'a mut [u32],
+    pub count: usize,
+    pub fields: u32,
+}
+
+// the same, to be read
 #[derive(Clone, Copy)]
-pub enum Made {
-    Node(SPP, usize),
-    Full,
+pub struct SPPview<'a> {
+    pub nodes: &'a [u32],
+    pub count: usize,
+    pub fields: u32,
+}
+
+// the constants of a store, at its whole depth
+#[derive(Clone, Copy)]
+pub struct Constants {
+    pub zero: SPP,
+    pub one: SPP,
+    pub top: SPP,
 }
 
 #[derive(Clone, Copy)]
@@ -56,6 +77,8 @@ pub enum Quick {
     Out(SPP),
     On(Op, SPP, SPP),
 }
+
+// ---- handles
 
 pub fn zero_at_depth(depth: u32) -> SPP
     requires { depth ≤ 31 }
@@ -87,11 +110,19 @@ pub fn top_at_depth(fields: u32, depth: u32) -> SPP
     SPP(2 * fields + depth + 1)
 }
 
-pub fn get(nodes: &[u32], spp: SPP) -> SPPnode
-    requires { (2 ≤ spp.0) × (4 * spp.0 ≤ length nodes.now + 4) }
-    ensures { quad_of result ≡ M.kids nodes.now spp.0 }
+#[tactic(auto, unfolding(spp_steps::specs::Model::is_zero))]
+pub fn is_zero(depth: u32, spp: SPP) -> bool
+    requires { depth ≤ 31 }
+    ensures { (N : ℕ) → M.is_zero N depth spp.0 ≡ result }
 {
-    let i = (spp.0 - 2) as usize;
+    spp == zero_at_depth(depth)
+}
+
+// node i
+fn node(nodes: &[u32], i: usize) -> SPPnode
+    requires { 4 * i + 3 < length nodes.now }
+    ensures { quad_of result ≡ M.kid nodes.now i }
+{
     SPPnode {
         x00: SPP(nodes[4 * i]),
         x01: SPP(nodes[4 * i + 1]),
@@ -100,85 +131,25 @@ pub fn get(nodes: &[u32], spp: SPP) -> SPPnode
     }
 }
 
-// whether node i is x
-fn is_at(nodes: &[u32], i: usize, x: SPPnode) -> bool
-    requires { 4 * i + 3 < length nodes.now }
-    ensures { M.same nodes.now (quad_of x) i ≡ result }
+// the children of a handle
+#[tactic(auto, unfolding(spp_steps::specs::Model::kids))]
+pub fn get(nodes: &[u32], spp: SPP) -> SPPnode
+    requires { (2 ≤ spp.0) × (4 * spp.0 ≤ length nodes.now + 4) }
+    ensures { quad_of result ≡ M.kids nodes.now spp.0 }
 {
-    if nodes[4 * i] != x.x00.0 {
-        return false;
-    }
-    if nodes[4 * i + 1] != x.x01.0 {
-        return false;
-    }
-    if nodes[4 * i + 2] != x.x10.0 {
-        return false;
-    }
-    if nodes[4 * i + 3] != x.x11.0 {
-        return false;
-    }
-    true
-}
-
-fn larger(a: u32, b: u32) -> u32
-    ensures { Larger a b result }
-{
-    if a < b {
-        return b;
-    }
-    a
+    node(nodes, (spp.0 - 2) as usize)
 }
 
 // the first node that can have the children x: it comes after theirs
 fn first(x: SPPnode) -> usize
     ensures { First (quad_of x) result }
 {
-    let a = larger(x.x00.0, x.x01.0);
-    let b = larger(x.x10.0, x.x11.0);
-    let high = larger(a, b);
-    if high < 2 {
-        return 0;
-    }
-    (high - 1) as usize
+    let a = x.x00.0.max(x.x01.0);
+    let b = x.x10.0.max(x.x11.0);
+    a.max(b).saturating_sub(1) as usize
 }
 
-// the number of node x, or count
-fn find(nodes: &[u32], count: usize, x: SPPnode) -> usize
-    requires { Fits nodes.now count }
-    ensures { result ≡ M.seek nodes.now (quad_of x) 0 count }
-{
-    let mut i = first(x);
-    if count < i {
-        return count;
-    }
-    while i < count {
-        if is_at(nodes, i, x) {
-            return i;
-        }
-        i += 1;
-    }
-    i
-}
-
-pub fn mk(nodes: &mut [u32], count: usize, x: SPPnode) -> Made
-    requires { Fits nodes.old count }
-    ensures { M.mk (quad_of x) (table nodes.old count) ≡ seen result nodes.new }
-{
-    let i = find(nodes, count, x);
-    if i < count {
-        return Made::Node(SPP((i + 2) as u32), count);
-    }
-    if count < nodes.len() / 4 {
-        if count < 16777216 {
-            nodes[4 * count] = x.x00.0;
-            nodes[4 * count + 1] = x.x01.0;
-            nodes[4 * count + 2] = x.x10.0;
-            nodes[4 * count + 3] = x.x11.0;
-            return Made::Node(SPP((count + 2) as u32), count + 1);
-        }
-    }
-    Made::Full
-}
+// ---- quick exits
 
 // the smaller handle first
 fn sorted(op: Op, a: SPP, b: SPP) -> Quick
@@ -190,94 +161,114 @@ fn sorted(op: Op, a: SPP, b: SPP) -> Quick
     Quick::On(op, a, b)
 }
 
-// what is found with no look at the nodes
+#[tactic(auto, unfolding(spp_steps::specs::Model::exit))]
+fn union_exit(fields: u32, depth: u32, a: SPP, b: SPP) -> Quick
+    requires { (fields ≤ 31) × (depth ≤ 31) }
+    ensures { M.exit fields M.union depth a.0 b.0 ≡ exit_of result }
+{
+    let zero = zero_at_depth(depth);
+    let top = top_at_depth(fields, depth);
+    if a == b {
+        return Quick::Out(a);
+    }
+    if a == zero || b == top {
+        return Quick::Out(b);
+    }
+    if b == zero || a == top {
+        return Quick::Out(a);
+    }
+    sorted(Op::Union, a, b)
+}
+
+#[tactic(auto, unfolding(spp_steps::specs::Model::exit))]
+fn intersect_exit(fields: u32, depth: u32, a: SPP, b: SPP) -> Quick
+    requires { (fields ≤ 31) × (depth ≤ 31) }
+    ensures { M.exit fields M.intersect depth a.0 b.0 ≡ exit_of result }
+{
+    let zero = zero_at_depth(depth);
+    let top = top_at_depth(fields, depth);
+    if a == b {
+        return Quick::Out(a);
+    }
+    if a == zero || b == top {
+        return Quick::Out(a);
+    }
+    if b == zero || a == top {
+        return Quick::Out(b);
+    }
+    sorted(Op::Intersect, a, b)
+}
+
+#[tactic(auto, unfolding(spp_steps::specs::Model::exit))]
+fn xor_exit(fields: u32, depth: u32, a: SPP, b: SPP) -> Quick
+    requires { (fields ≤ 31) × (depth ≤ 31) }
+    ensures { M.exit fields M.xor depth a.0 b.0 ≡ exit_of result }
+{
+    let zero = zero_at_depth(depth);
+    let top = top_at_depth(fields, depth);
+    if a == b {
+        return Quick::Out(zero);
+    }
+    if a == zero {
+        return Quick::Out(b);
+    }
+    if b == zero {
+        return Quick::Out(a);
+    }
+    if a == top {
+        return Quick::On(Op::Not, b, b);
+    }
+    if b == top {
+        return Quick::On(Op::Not, a, a);
+    }
+    sorted(Op::Xor, a, b)
+}
+
+#[tactic(auto, unfolding(spp_steps::specs::Model::exit))]
+fn difference_exit(fields: u32, depth: u32, a: SPP, b: SPP) -> Quick
+    requires { (fields ≤ 31) × (depth ≤ 31) }
+    ensures { M.exit fields M.difference depth a.0 b.0 ≡ exit_of result }
+{
+    let zero = zero_at_depth(depth);
+    let top = top_at_depth(fields, depth);
+    if a == b {
+        return Quick::Out(zero);
+    }
+    if a == zero || b == zero {
+        return Quick::Out(a);
+    }
+    if a == top {
+        return Quick::On(Op::Not, b, b);
+    }
+    Quick::On(Op::Difference, a, b)
+}
+
+#[tactic(auto, unfolding(spp_steps::specs::Model::exit))]
+fn not_exit(a: SPP) -> Quick
+    ensures { (N d y : ℕ) → M.exit N M.not d a.0 y ≡ exit_of result }
+{
+    if a.0 < 2 {
+        return Quick::Out(SPP(1 - a.0));
+    }
+    Quick::On(Op::Not, a, a)
+}
+
+// what is known with no look at the nodes
 fn exit(fields: u32, op: Op, depth: u32, a: SPP, b: SPP) -> Quick
     requires { (fields ≤ 31) × (depth ≤ 31) }
     ensures { M.exit fields (op_of op) depth a.0 b.0 ≡ exit_of result }
 {
-    let zero = zero_at_depth(depth);
-    let top = top_at_depth(fields, depth);
     match op {
-        Op::Union => {
-            if a.0 == b.0 {
-                return Quick::Out(a);
-            }
-            if a.0 == zero.0 {
-                return Quick::Out(b);
-            }
-            if b.0 == top.0 {
-                return Quick::Out(b);
-            }
-            if b.0 == zero.0 {
-                return Quick::Out(a);
-            }
-            if a.0 == top.0 {
-                return Quick::Out(a);
-            }
-            sorted(op, a, b)
-        }
-        Op::Intersect => {
-            if a.0 == b.0 {
-                return Quick::Out(a);
-            }
-            if a.0 == zero.0 {
-                return Quick::Out(a);
-            }
-            if b.0 == top.0 {
-                return Quick::Out(a);
-            }
-            if b.0 == zero.0 {
-                return Quick::Out(b);
-            }
-            if a.0 == top.0 {
-                return Quick::Out(b);
-            }
-            sorted(op, a, b)
-        }
-        Op::Xor => {
-            if a.0 == b.0 {
-                return Quick::Out(zero);
-            }
-            if a.0 == zero.0 {
-                return Quick::Out(b);
-            }
-            if b.0 == zero.0 {
-                return Quick::Out(a);
-            }
-            if a.0 == top.0 {
-                return Quick::On(Op::Not, b, b);
-            }
-            if b.0 == top.0 {
-                return Quick::On(Op::Not, a, a);
-            }
-            sorted(op, a, b)
-        }
-        Op::Difference => {
-            if a.0 == b.0 {
-                return Quick::Out(zero);
-            }
-            if a.0 == zero.0 {
-                return Quick::Out(a);
-            }
-            if b.0 == zero.0 {
-                return Quick::Out(a);
-            }
-            if a.0 == top.0 {
-                return Quick::On(Op::Not, b, b);
-            }
-            Quick::On(op, a, b)
-        }
-        Op::Not => {
-            if a.0 < 2 {
-                return Quick::Out(SPP(1 - a.0));
-            }
-            Quick::On(op, a, a)
-        }
+        Op::Union => union_exit(fields, depth, a, b),
+        Op::Intersect => intersect_exit(fields, depth, a, b),
+        Op::Xor => xor_exit(fields, depth, a, b),
+        Op::Difference => difference_exit(fields, depth, a, b),
+        Op::Not => not_exit(a),
     }
 }
 
 // the code of an operation in the cache
-fn code(op: Op) -> u32
+fn code_of(op: Op) -> u32
     ensures { result ≡ code_of (op_of op) }
 {
     match op {
@@ -288,213 +279,6 @@ fn code(op: Op) -> u32
         Op::Not => 7,
     }
 }
-
-// the pointwise operations
-pub fn apply(
-    nodes: &mut [u32],
-    cache: &mut [u32],
-    count: usize,
-    fields: u32,
-    depth: u32,
-    op: Op,
-    a: SPP,
-    b: SPP,
-) -> Made
-    requires { Asked fields depth (table nodes.old count) cache.old (a.0 ∷ b.0 ∷ []) }
-    ensures { Answer fields seen (M.apply fields (op_of op) depth a.0 b.0)
-        (table nodes.old count) cache.old result nodes.new cache.new }
-{
-    let quick = exit(fields, op, depth, a, b);
-    match quick {
-        Quick::Out(h) => Made::Node(h, count),
-        Quick::On(o, x, y) => {
-            let task = code(o);
-            let looked = cache::look(cache, task, x.0, y.0);
-            if let Looked::Hit(h) = looked {
-                return Made::Node(SPP(h), count);
-            }
-            let p = get(nodes, x);
-            let q = get(nodes, y);
-            let Made::Node(x00, n1) = apply(nodes, cache, count, fields, depth - 1, o, p.x00, q.x00)
-            else {
-                return Made::Full;
-            };
-            let Made::Node(x01, n2) = apply(nodes, cache, n1, fields, depth - 1, o, p.x01, q.x01)
-            else {
-                return Made::Full;
-            };
-            let Made::Node(x10, n3) = apply(nodes, cache, n2, fields, depth - 1, o, p.x10, q.x10)
-            else {
-                return Made::Full;
-            };
-            let Made::Node(x11, n4) = apply(nodes, cache, n3, fields, depth - 1, o, p.x11, q.x11)
-            else {
-                return Made::Full;
-            };
-            let Made::Node(h, n5) = mk(nodes, n4, SPPnode { x00, x01, x10, x11 }) else {
-                return Made::Full;
-            };
-            cache::note(cache, task, x.0, y.0, h.0);
-            Made::Node(h, n5)
-        }
-    }
-}
-
-pub fn union(
-    nodes: &mut [u32],
-    cache: &mut [u32],
-    count: usize,
-    fields: u32,
-    depth: u32,
-    a: SPP,
-    b: SPP,
-) -> Made
-    requires { Asked fields depth (table nodes.old count) cache.old (a.0 ∷ b.0 ∷ []) }
-    ensures { Answer fields seen (M.apply fields M.union depth a.0 b.0)
-        (table nodes.old count) cache.old result nodes.new cache.new }
-{
-    apply(nodes, cache, count, fields, depth, Op::Union, a, b)
-}
-
-pub fn intersect(
-    nodes: &mut [u32],
-    cache: &mut [u32],
-    count: usize,
-    fields: u32,
-    depth: u32,
-    a: SPP,
-    b: SPP,
-) -> Made
-    requires { Asked fields depth (table nodes.old count) cache.old (a.0 ∷ b.0 ∷ []) }
-    ensures { Answer fields seen (M.apply fields M.intersect depth a.0 b.0)
-        (table nodes.old count) cache.old result nodes.new cache.new }
-{
-    apply(nodes, cache, count, fields, depth, Op::Intersect, a, b)
-}
-
-pub fn xor(
-    nodes: &mut [u32],
-    cache: &mut [u32],
-    count: usize,
-    fields: u32,
-    depth: u32,
-    a: SPP,
-    b: SPP,
-) -> Made
-    requires { Asked fields depth (table nodes.old count) cache.old (a.0 ∷ b.0 ∷ []) }
-    ensures { Answer fields seen (M.apply fields M.xor depth a.0 b.0) (table nodes.old count)
-        cache.old result nodes.new cache.new }
-{
-    apply(nodes, cache, count, fields, depth, Op::Xor, a, b)
-}
-
-pub fn difference(
-    nodes: &mut [u32],
-    cache: &mut [u32],
-    count: usize,
-    fields: u32,
-    depth: u32,
-    a: SPP,
-    b: SPP,
-) -> Made
-    requires { Asked fields depth (table nodes.old count) cache.old (a.0 ∷ b.0 ∷ []) }
-    ensures { Answer fields seen (M.apply fields M.difference depth a.0 b.0)
-        (table nodes.old count) cache.old result nodes.new cache.new }
-{
-    apply(nodes, cache, count, fields, depth, Op::Difference, a, b)
-}
-
-pub fn complement(
-    nodes: &mut [u32],
-    cache: &mut [u32],
-    count: usize,
-    fields: u32,
-    depth: u32,
-    a: SPP,
-) -> Made
-    requires { Asked fields depth (table nodes.old count) cache.old (a.0 ∷ a.0 ∷ []) }
-    ensures { Answer fields seen (M.complement fields depth a.0) (table nodes.old count)
-        cache.old result nodes.new cache.new }
-{
-    apply(nodes, cache, count, fields, depth, Op::Not, a, a)
-}
-
-pub fn is_zero(depth: u32, spp: SPP) -> bool
-    requires { depth ≤ 31 }
-    ensures { (N : ℕ) → M.is_zero N depth spp.0 ≡ result }
-{
-    let zero = zero_at_depth(depth);
-    spp.0 == zero.0
-}
-
-// ---- the store's start
-
-#[derive(Clone, Copy)]
-pub struct Constants {
-    pub zero: SPP,
-    pub one: SPP,
-    pub top: SPP,
-}
-
-#[derive(Clone, Copy)]
-pub enum Started {
-    Store(Constants, usize),
-    Short,
-}
-
-// the constants of depth 1 to depth: x in all four places, or on the diagonal with zeros beside it
-fn column(nodes: &mut [u32], count: usize, diagonal: bool, base: SPP, depth: u32) -> Made
-    requires { ColumnAsked nodes.old count diagonal base.0 depth }
-    ensures { (N : ℕ) → columns N diagonal base.0 depth (table nodes.old count) ≡ seen result nodes.new }
-{
-    if depth == 0 {
-        return Made::Node(base, count);
-    }
-    let Made::Node(x, n) = column(nodes, count, diagonal, base, depth - 1) else {
-        return Made::Full;
-    };
-    let zero = zero_at_depth(depth - 1);
-    if diagonal {
-        return mk(
-            nodes,
-            n,
-            SPPnode {
-                x00: x,
-                x01: zero,
-                x10: zero,
-                x11: x,
-            },
-        );
-    }
-    mk(
-        nodes,
-        n,
-        SPPnode {
-            x00: x,
-            x01: x,
-            x10: x,
-            x11: x,
-        },
-    )
-}
-
-pub fn start(nodes: &mut [u32], fields: u32) -> Started
-    requires { fields ≤ 31 }
-    ensures { M.constants fields (table nodes.old 0) ≡ seen_start result nodes.new }
-{
-    let Made::Node(zero, n1) = column(nodes, 0, false, SPP::EMPTY, fields) else {
-        return Started::Short;
-    };
-    let Made::Node(one, n2) = column(nodes, n1, true, SPP::IDENTITY, fields) else {
-        return Started::Short;
-    };
-    let Made::Node(top, n3) = column(nodes, n2, false, SPP::UNIVERSAL, fields) else {
-        return Started::Short;
-    };
-    Started::Store(Constants { zero, one, top }, n3)
-}
-
-// ---- one field
 
 // the entry at the field: of `assign` or of `test`
 fn entry(assigned: bool, value: bool, one: SPP, zero: SPP) -> SPPnode
@@ -532,52 +316,225 @@ fn entry(assigned: bool, value: bool, one: SPP, zero: SPP) -> SPPnode
     }
 }
 
-fn field(
-    nodes: &mut [u32],
-    count: usize,
-    fields: u32,
-    depth: u32,
-    var: u32,
-    assigned: bool,
-    value: bool,
-) -> Made
-    requires { FieldAsked fields nodes.old count depth var }
-    ensures { M.field fields (entry_of assigned value) depth var (table nodes.old count) ≡ seen result
-        nodes.new }
-{
-    let below = depth - 1;
-    let zero = zero_at_depth(below);
-    if var == 0 {
-        let one = one_at_depth(fields, below);
-        return mk(nodes, count, entry(assigned, value, one, zero));
+// ---- the store
+
+impl SPPstore<'_> {
+    // a store with no node but the constants of depth 1 to fields
+    pub fn start(&mut self) -> Result<Constants, Full>
+        requires { self.old.fields ≤ 31 }
+        ensures same_store { SameStore self.old self.new }
+        ensures gives { M.constants self.old.fields (table self.old.nodes.now 0)
+            ≡ seen_start result (store_of self.new) }
+    {
+        self.count = 0;
+        let zero = self.column(false, SPP::EMPTY)?;
+        let one = self.column(true, SPP::IDENTITY)?;
+        let top = self.column(false, SPP::UNIVERSAL)?;
+        Ok(Constants { zero, one, top })
     }
-    let Made::Node(x, n) = field(nodes, count, fields, below, var - 1, assigned, value) else {
-        return Made::Full;
-    };
-    mk(
-        nodes,
-        n,
-        SPPnode {
+
+    // the constants of depth 1 to fields: x in all four places, or on the diagonal with zeros beside it
+    fn column(&mut self, diagonal: bool, base: SPP) -> Result<SPP, Full>
+        requires { ColumnAsked (store_of self.old) diagonal base.0 self.old.fields }
+        ensures same_store { SameStore self.old self.new }
+        ensures gives { columns self.old.fields diagonal base.0 self.old.fields (store_of self.old)
+            ≡ seen result (store_of self.new) }
+    {
+        let mut x = base;
+        for below in 0..self.fields {
+            let side = if diagonal { zero_at_depth(below) } else { x };
+            x = self.mk(SPPnode {
+                x00: x,
+                x01: side,
+                x10: side,
+                x11: x,
+            })?;
+        }
+        Ok(x)
+    }
+
+    // the number of node x, or count
+    fn find(&self, x: SPPnode) -> usize
+        requires { Fits self.now.nodes.now self.now.count }
+        ensures { result ≡ M.seek self.now.nodes.now (quad_of x) 0 self.now.count }
+    {
+        for i in first(x)..self.count {
+            if node(self.nodes, i) == x {
+                return i;
+            }
+        }
+        self.count
+    }
+
+    // the node with the children x, found or put in
+    pub fn mk(&mut self, x: SPPnode) -> Result<SPP, Full>
+        requires { Fits self.old.nodes.now self.old.count }
+        ensures same_store { SameStore self.old self.new }
+        ensures gives { M.mk (quad_of x) (store_of self.old) ≡ seen result (store_of self.new) }
+    {
+        let count = self.count;
+        let i = self.find(x);
+        if i < count {
+            return Ok(SPP((i + 2) as u32));
+        }
+        if count < self.nodes.len() / 4 {
+            if count < 16777216 {
+                self.nodes[4 * count] = x.x00.0;
+                self.nodes[4 * count + 1] = x.x01.0;
+                self.nodes[4 * count + 2] = x.x10.0;
+                self.nodes[4 * count + 3] = x.x11.0;
+                self.count = count + 1;
+                return Ok(SPP((count + 2) as u32));
+            }
+        }
+        Err(Full)
+    }
+
+    // lends self, not its field: the store is then known to be as it was
+    pub fn get(&self, spp: SPP) -> SPPnode
+        requires { (2 ≤ spp.0) × (4 * spp.0 ≤ length self.now.nodes.now + 4) }
+        ensures { quad_of result ≡ M.kids self.now.nodes.now spp.0 }
+    {
+        get(self.nodes, spp)
+    }
+
+    // the pointwise operations
+    pub fn apply(
+        &mut self,
+        cache: &mut [u32],
+        depth: u32,
+        op: Op,
+        a: SPP,
+        b: SPP,
+    ) -> Result<SPP, Full>
+        requires { Asked self.old.fields depth (store_of self.old) cache.old (a.0 ∷ b.0 ∷ []) }
+        ensures same_store { SameStore self.old self.new }
+        ensures answer { Answer self.old.fields seen (M.apply self.old.fields (op_of op) depth a.0 b.0)
+            (store_of self.old) cache.old result (store_of self.new) cache.new }
+    {
+        let quick = exit(self.fields, op, depth, a, b);
+        match quick {
+            Quick::Out(h) => Ok(h),
+            Quick::On(o, x, y) => {
+                let code = code_of(o);
+                if let Some(h) = cache::look(cache, code, x.0, y.0) {
+                    return Ok(SPP(h));
+                }
+                let p = self.get(x);
+                let q = self.get(y);
+                let x00 = self.apply(cache, depth - 1, o, p.x00, q.x00)?;
+                let x01 = self.apply(cache, depth - 1, o, p.x01, q.x01)?;
+                let x10 = self.apply(cache, depth - 1, o, p.x10, q.x10)?;
+                let x11 = self.apply(cache, depth - 1, o, p.x11, q.x11)?;
+                let h = self.mk(SPPnode { x00, x01, x10, x11 })?;
+                cache::note(cache, code, x.0, y.0, h.0);
+                Ok(h)
+            }
+        }
+    }
+
+    pub fn union(&mut self, cache: &mut [u32], depth: u32, a: SPP, b: SPP) -> Result<SPP, Full>
+        requires { Asked self.old.fields depth (store_of self.old) cache.old (a.0 ∷ b.0 ∷ []) }
+        ensures same_store { SameStore self.old self.new }
+        ensures answer { Answer self.old.fields seen (M.apply self.old.fields M.union depth a.0 b.0)
+            (store_of self.old) cache.old result (store_of self.new) cache.new }
+    {
+        self.apply(cache, depth, Op::Union, a, b)
+    }
+
+    pub fn intersect(&mut self, cache: &mut [u32], depth: u32, a: SPP, b: SPP) -> Result<SPP, Full>
+        requires { Asked self.old.fields depth (store_of self.old) cache.old (a.0 ∷ b.0 ∷ []) }
+        ensures same_store { SameStore self.old self.new }
+        ensures answer { Answer self.old.fields seen (M.apply self.old.fields M.intersect depth a.0 b.0)
+            (store_of self.old) cache.old result (store_of self.new) cache.new }
+    {
+        self.apply(cache, depth, Op::Intersect, a, b)
+    }
+
+    pub fn xor(&mut self, cache: &mut [u32], depth: u32, a: SPP, b: SPP) -> Result<SPP, Full>
+        requires { Asked self.old.fields depth (store_of self.old) cache.old (a.0 ∷ b.0 ∷ []) }
+        ensures same_store { SameStore self.old self.new }
+        ensures answer { Answer self.old.fields seen (M.apply self.old.fields M.xor depth a.0 b.0)
+            (store_of self.old) cache.old result (store_of self.new) cache.new }
+    {
+        self.apply(cache, depth, Op::Xor, a, b)
+    }
+
+    pub fn difference(&mut self, cache: &mut [u32], depth: u32, a: SPP, b: SPP) -> Result<SPP, Full>
+        requires { Asked self.old.fields depth (store_of self.old) cache.old (a.0 ∷ b.0 ∷ []) }
+        ensures same_store { SameStore self.old self.new }
+        ensures answer { Answer self.old.fields seen (M.apply self.old.fields M.difference depth a.0 b.0)
+            (store_of self.old) cache.old result (store_of self.new) cache.new }
+    {
+        self.apply(cache, depth, Op::Difference, a, b)
+    }
+
+    #[tactic(auto, unfolding(spp_steps::specs::Model::complement))]
+    pub fn complement(&mut self, cache: &mut [u32], depth: u32, a: SPP) -> Result<SPP, Full>
+        requires { Asked self.old.fields depth (store_of self.old) cache.old (a.0 ∷ a.0 ∷ []) }
+        ensures same_store { SameStore self.old self.new }
+        ensures answer { Answer self.old.fields seen (M.complement self.old.fields depth a.0)
+            (store_of self.old) cache.old result (store_of self.new) cache.new }
+    {
+        self.apply(cache, depth, Op::Not, a, a)
+    }
+
+    // ---- one field
+
+    // a diagram with an entry at one field: of `assign` or of `test`
+    fn field(&mut self, depth: u32, var: u32, assigned: bool, value: bool) -> Result<SPP, Full>
+        requires { FieldAsked self.old.fields (store_of self.old) depth var }
+        ensures same_store { SameStore self.old self.new }
+        ensures gives { M.field self.old.fields (entry_of assigned value) depth var (store_of self.old)
+            ≡ seen result (store_of self.new) }
+    {
+        let below = depth - 1;
+        let zero = zero_at_depth(below);
+        if var == 0 {
+            let one = one_at_depth(self.fields, below);
+            return self.mk(entry(assigned, value, one, zero));
+        }
+        let x = self.field(below, var - 1, assigned, value)?;
+        self.mk(SPPnode {
             x00: x,
             x01: zero,
             x10: zero,
             x11: x,
-        },
-    )
+        })
+    }
+
+    pub fn test(&mut self, var: u32, value: bool) -> Result<SPP, Full>
+        requires { FieldAsked self.old.fields (store_of self.old) self.old.fields var }
+        ensures same_store { SameStore self.old self.new }
+        ensures gives { M.field self.old.fields (M.test_entry value) self.old.fields var (store_of self.old)
+            ≡ seen result (store_of self.new) }
+    {
+        self.field(self.fields, var, false, value)
+    }
+
+    pub fn assign(&mut self, var: u32, value: bool) -> Result<SPP, Full>
+        requires { FieldAsked self.old.fields (store_of self.old) self.old.fields var }
+        ensures same_store { SameStore self.old self.new }
+        ensures gives { M.field self.old.fields (M.assign_entry value) self.old.fields var (store_of self.old)
+            ≡ seen result (store_of self.new) }
+    {
+        self.field(self.fields, var, true, value)
+    }
 }
 
-pub fn test(nodes: &mut [u32], count: usize, fields: u32, var: u32, value: bool) -> Made
-    requires { FieldAsked fields nodes.old count fields var }
-    ensures { M.field fields (M.test_entry value) fields var (table nodes.old count) ≡ seen result
-        nodes.new }
-{
-    field(nodes, count, fields, fields, var, false, value)
+// ---- for the layers that hold a table and its count apart
+
+#[derive(Clone, Copy)]
+pub enum Made {
+    Node(SPP, usize),
+    Full,
 }
 
-pub fn assign(nodes: &mut [u32], count: usize, fields: u32, var: u32, value: bool) -> Made
-    requires { FieldAsked fields nodes.old count fields var }
-    ensures { M.field fields (M.assign_entry value) fields var (table nodes.old count) ≡ seen result
-        nodes.new }
+pub fn made_of(answer: Result<SPP, Full>, count: usize) -> Made
+    ensures { result ≡ made_of answer count }
 {
-    field(nodes, count, fields, fields, var, true, value)
+    match answer {
+        Ok(h) => Made::Node(h, count),
+        Err(Full) => Made::Full,
+    }
 }

@@ -1,12 +1,12 @@
 -- One turn of `lead`.
-use mathlib.Core.Path.{◌≡◌, refl, sym, ◌∙◌, ap, ap₂, subst, fun_ext}
+use mathlib.Core.Path.{◌≡◌, sym, ◌∙◌, ap, ap₂, subst, fun_ext}
 use mathlib.Core.Bool.{Bool, true, false}
 use mathlib.Core.List.{List}
-use Prim.Native.Nat.{ℕ, zero, suc, ◌+◌, ◌*◌, ◌-◌, ◌/◌, ◌≤◌}
+use Prim.Native.Nat.{ℕ, zero, suc, ◌+◌, ◌*◌, ◌-◌, ◌≤◌}
 use native.Mathlib.Omega.{arith}
 use lib.ListN.{length}
 use Rattle.common.specs.Outcome.{given, Step, return}
-use Rattle.common.specs.Runs.{Table, table}
+use Rattle.common.specs.Runs.{Table}
 use Rattle.common.proofs.Runs.{StableSpec, runs_map}
 use Rattle.cache.specs.Cache.{Sound, WritesValid, Holds, Exactly}
 use Rattle.cache.proofs.Stage as stage
@@ -15,9 +15,9 @@ use Rattle.sp_steps.specs.Model as Sp
 use Rattle.sp_steps.specs.Wf as SpLaws
 use Rattle.sp_steps.proofs.Laws as SpLawsProofs
 use Rattle.sp.specs.Clauses.{Inner, Kids}
-use Rattle.sp.specs.declared.Made.{Made}
-use Rattle.sp.specs.declared.Made.TheVariants.{Node, Full}
+use Rattle.std.proofs.Common.{Result, Ok}
 use Rattle.sp.specs.declared.SP.{SP}
+use Rattle.sp.specs.declared.Full.{Full}
 use Rattle.spp_steps.specs.Model.{Quad, quad, kids}
 use Rattle.spp_steps.specs.ImageModel as M
 use Rattle.spp_steps.specs.ImageModel.{Stores, stores, within, fwd, bwd, Led, done, whole, more, led_exit, push, pull, push_node, pull_node}
@@ -89,7 +89,7 @@ done≢whole h e = let z : ◌≡◌ {A = ℕ} 0 1 = cc in omega arith
 done≢more : (h : ℕ) → done h ≡ more → ⊥
 done≢more h e = let z : ◌≡◌ {A = ℕ} 0 1 = cc in omega arith
 
-module _ (N D : ℕ) (w : Way) (σ : Stores) (m : List ℕ) (s r : ℕ) (q : LeadAsked N D σ m s r) where
+module _ {N D : ℕ} (w : Way) {σ : Stores} {m : List ℕ} {s r : ℕ} (q : LeadAsked N D σ m s r) where
   -- at depth 0 every exit is a set
   low : (D : ℕ) (z : Led) → ((h : ℕ) → done h ≡ z → ⊥) → SpLaws.ValidAt σ.sp D s → ValidAt σ.spp D r → led_exit N D s r ≡ z → D ≡ suc (D - 1)
   low zero z n a b e = absurd (n _ (sym (led_exit_low N s r a b).1 ∙ e))
@@ -99,7 +99,7 @@ module _ (N D : ℕ) (w : Way) (σ : Stores) (m : List ℕ) (s r : ℕ) (q : Lea
   pub whole_asked : Asked N D σ m r
   whole_asked = record { few = q.few; deep = q.deep; wf = q.wf; at_r = q.at_r; sound = q.sound }
 
-  pub as_whole : led_exit N D s r ≡ whole → {k : Made} {t' m' : List ℕ} → Answer N (project w D r) σ m k t' m' → Answer N (lead w N D s r) σ m k t' m'
+  pub as_whole : led_exit N D s r ≡ whole → {k : Result SP Full} {τ : Table} {m' : List ℕ} → Answer N (project w D r) σ m k τ m' → Answer N (lead w N D s r) σ m k τ m'
   as_whole e a =
       let above = low D whole done≢whole q.at_s q.at_r e in
       record {
@@ -133,16 +133,15 @@ module _ (N D : ℕ) (w : Way) (σ : Stores) (m : List ℕ) (s r : ℕ) (q : Lea
     is_run : (τ : Stores) → run N (lead_code w) (D - 1) s r τ ≡ lead w N D s r τ
     is_run τ = ap (λ (c : Step Stores ℕ). c τ) (run_lead N (D - 1) s r w) ∙ ap (λ (k : ℕ). lead w N k s r τ) (sym above)
 
-    module _ (k : ℕ) (k-is : k ≡ lead_code w) where
+    module _ {k : ℕ} (k-is : k ≡ lead_code w) where
       pub hit : {h : ℕ} → Holds m k s r h → lead w N D s r σ ≡ given σ h
       hit found = turn.hit N (D - 1) (lead_code w) s r σ m (lead_code_lem w) at_r is_run k k-is q.wf q.sound found
 
-      pub noted : {t5 m5 m6 : List ℕ} {n5 : ℕ} {h : SP}
-          → Stage (set_memo N) (lead w N D s r σ) (given (stores (table t5 n5) σ.spp) h.0) σ (stores (table t5 n5) σ.spp) m m5
-          → WritesValid (Exactly k s r h.0) m5 m6 → Answer N (lead w N D s r) σ m (Node h n5) t5 m6
+      pub noted : {τ5 : Table} {m5 m6 : List ℕ} {h : SP} → Stage (set_memo N) (lead w N D s r σ) (given (stores τ5 σ.spp) h.0) σ (stores τ5 σ.spp) m m5
+          → WritesValid (Exactly k s r h.0) m5 m6 → Answer N (lead w N D s r) σ m (Ok h) τ5 m6
       noted x l = turn.noted N (D - 1) (lead_code w) s r σ m (lead_code_lem w) at_r is_run k k-is (lead_runs N w D s r q.deep q.wf q.at_s q.at_r) x l
 
-    module _ (p0 p1 : ℕ) (K : Kids σ.sp.words s p0 p1) (A : Quad) (A-is : A ≡ kids σ.spp.words r) (u v : ℕ) (u-is : u ≡ first w p1 p0) (v-is : v ≡ second w p1 p0) where
+    module _ {p0 p1 : ℕ} (K : Kids σ.sp.words s p0 p1) {A : Quad} (A-is : A ≡ kids σ.spp.words r) {u v : ℕ} (u-is : u ≡ first w p1 p0) (v-is : v ≡ second w p1 p0) where
       side : (i j : Bool) → quad p0 u v p1 i j ≡ Sp.child σ.sp.words (half w i j) s
       side = sides w σ.sp.words s p0 p1 u v K u-is v-is
 

@@ -1,7 +1,6 @@
 -- what the proofs of several functions use
 pub mod Reuse
 pub mod Frame
-pub mod Exits
 pub mod Halves
 pub mod Turn
 pub mod ProjectTurn

@@ -1,28 +1,27 @@
 -- One turn of `project`.
 use mathlib.Core.Path.{◌≡◌, refl, sym, ◌∙◌, ap, subst, fun_ext}
-use mathlib.Core.Bool.{Bool, true, false}
+use mathlib.Core.Bool.{Bool}
 use mathlib.Core.List.{List}
-use Prim.Native.Nat.{ℕ, zero, suc, ◌+◌, ◌*◌, ◌-◌, ◌≤◌}
+use Prim.Native.Nat.{ℕ, suc, ◌+◌, ◌*◌, ◌-◌, ◌≤◌}
 use native.Mathlib.Omega.{arith}
 use lib.ListN.{length}
 use Rattle.common.specs.Outcome.{given, Step}
-use Rattle.common.specs.Runs.{Table, table}
+use Rattle.common.specs.Runs.{Table}
 use Rattle.common.proofs.Runs.{StableSpec, runs_map}
 use Rattle.cache.specs.Cache.{Sound, WritesValid, Holds, Exactly}
 use Rattle.cache.proofs.Stage as stage
 use Rattle.cache.proofs.Stage.{Stage}
 use Rattle.sp_steps.specs.Wf as SpLaws
-use Rattle.sp.specs.declared.Made.{Made}
-use Rattle.sp.specs.declared.Made.TheVariants.{Node, Full}
+use Rattle.std.proofs.Common.{Ok}
 use Rattle.sp.specs.declared.SP.{SP}
-use Rattle.spp_steps.specs.Model.{Quad, quad, kids}
-use Rattle.spp_steps.specs.ImageModel.{Stores, stores, on_sp, fwd, bwd, fwd_node, bwd_node}
+use Rattle.spp_steps.specs.Model.{Quad, kids}
+use Rattle.spp_steps.specs.ImageModel.{Stores, stores, fwd, bwd, fwd_node, bwd_node}
 use Rattle.spp_steps.specs.Wf.{ValidAt}
 use Rattle.spp_steps.proofs.Laws.{at_ext, den_mem}
 use Rattle.spp_steps.specs.Images.{BothWf}
 use Rattle.spp_steps.proofs.Images.{BothExt, both_theory}
 use Rattle.spp_steps.proofs.Results.{fwd_runs, bwd_runs}
-use Rattle.spp_image.specs.Ways.{project, turn, join}
+use Rattle.spp_image.specs.Ways.{project, turn}
 use Rattle.spp_image.specs.Reuse.{Held, project_code, run}
 use Rattle.spp_image.proofs.Reuse.{set_memo, project_code_lem, run_project}
 use Rattle.spp_image.specs.Clauses.{Asked, Answer}
@@ -56,23 +55,8 @@ turn_at : (w : Way) (σ : Table) (d : ℕ) (X : Quad) → ((i j : Bool) → Vali
 turn_at Forward σ d X a i j = a j i
 turn_at Backward σ d X a i j = a i j
 
-flipped : (a b c d : ℕ) (i j : Bool) → quad a c b d i j ≡ quad a b c d j i
-flipped a b c d false false = refl
-flipped a b c d false true = refl
-flipped a b c d true false = refl
-flipped a b c d true true = refl
-
-pub turned_forward : (w : Way) (a b c d : ℕ) → w ≡ Forward → (i j : Bool) → quad a c b d i j ≡ turn w (quad a b c d) i j
-turned_forward w a b c d e i j = flipped a b c d i j ∙ ap (λ (w : Way). turn w (quad a b c d) i j) (sym e)
-
-pub turned_backward : (w : Way) (X : Quad) → w ≡ Backward → (i j : Bool) → X i j ≡ turn w X i j
-turned_backward w X e i j = ap (λ (w : Way). turn w X i j) (sym e)
-
-pub turned_is : (w : Way) {X Y Z : Quad} → ((i j : Bool) → X i j ≡ turn w Y i j) → Y ≡ Z → (i j : Bool) → X i j ≡ turn w Z i j
-turned_is w f e i j = f i j ∙ ap (λ (X : Quad). turn w X i j) e
-
-module _ (N D : ℕ) (w : Way) (σ : Stores) (m : List ℕ) (r : ℕ) (q : Asked N D σ m r) (pos : D ≡ 0 → ⊥) where
-  pub above : D ≡ suc (D - 1)
+module _ {N D : ℕ} (w : Way) {σ : Stores} {m : List ℕ} {r : ℕ} (q : Asked N D σ m r) (pos : D ≡ 0 → ⊥) where
+  above : D ≡ suc (D - 1)
   above = omega arith
 
   pub deeper : 1 ≤ D
@@ -87,16 +71,18 @@ module _ (N D : ℕ) (w : Way) (σ : Stores) (m : List ℕ) (r : ℕ) (q : Asked
   is_run : (τ : Stores) → run N (project_code w) (D - 1) r r τ ≡ project w D r τ
   is_run τ = ap (λ (c : Step Stores ℕ). c τ) (run_project N (D - 1) r r w) ∙ ap (λ (k : ℕ). project w k r τ) (sym above)
 
-  module _ (k : ℕ) (k-is : k ≡ project_code w) where
+  module _ {k : ℕ} (k-is : k ≡ project_code w) where
     pub hit : {h : ℕ} → Holds m k r r h → project w D r σ ≡ given σ h
     hit found = turn.hit N (D - 1) (project_code w) r r σ m (project_code_lem w) at_r is_run k k-is q.wf q.sound found
 
-    pub noted : {t5 m5 m6 : List ℕ} {n5 : ℕ} {h : SP}
-        → Stage (set_memo N) (project w D r σ) (given (stores (table t5 n5) σ.spp) h.0) σ (stores (table t5 n5) σ.spp) m m5
-        → WritesValid (Exactly k r r h.0) m5 m6 → Answer N (project w D r) σ m (Node h n5) t5 m6
+    pub noted : {τ5 : Table} {m5 m6 : List ℕ} {h : SP} → Stage (set_memo N) (project w D r σ) (given (stores τ5 σ.spp) h.0) σ (stores τ5 σ.spp) m m5
+        → WritesValid (Exactly k r r h.0) m5 m6 → Answer N (project w D r) σ m (Ok h) τ5 m6
     noted s l = turn.noted N (D - 1) (project_code w) r r σ m (project_code_lem w) at_r is_run k k-is (project_runs N w D r q.deep q.wf q.at_r) s l
 
-  module _ (X : Quad) (X-is : (i j : Bool) → X i j ≡ turn w (kids σ.spp.words r) i j) where
+  module _ {X Y : Quad} (turned-is : (i j : Bool) → X i j ≡ turn w Y i j) (Y-is : Y ≡ kids σ.spp.words r) where
+    X-is : (i j : Bool) → X i j ≡ turn w (kids σ.spp.words r) i j
+    X-is i j = turned-is i j ∙ ap (λ (X : Quad). turn w X i j) Y-is
+
     X-same : X ≡ turn w (kids σ.spp.words r)
     X-same = fun_ext (λ i. fun_ext (λ j. X-is i j))
 

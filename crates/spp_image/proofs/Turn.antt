@@ -2,13 +2,13 @@
 use mathlib.Core.Path.{◌≡◌, refl, sym, ◌∙◌, ap, subst, fun_ext}
 use mathlib.Core.Bool.{Bool, true, false}
 use mathlib.Core.List.{List}
-use mathlib.Core.Logic.{◌⊎◌, inl, inr}
+use mathlib.Core.Logic.{inl, inr}
 use Prim.Native.Nat.{ℕ, suc, ◌≤◌, ◌<◌}
 use native.Mathlib.Omega.{arith}
 use lib.Dec.{eqb}
 use Rattle.common.specs.Outcome.{Outcome, refused, given, Step, after, ◌>>=◌}
 use Rattle.common.proofs.Follow.{given_of}
-use Rattle.common.specs.Runs.{Table, table, placed}
+use Rattle.common.specs.Runs.{Table, placed}
 use Rattle.common.proofs.Runs.{StableSpec, runs_on}
 use Rattle.cache.specs.Cache.{OnlyCodes, Sound, WritesValid, Holds, Exactly}
 use Rattle.cache.proofs.Cache.{sound_map, notes_map}
@@ -18,17 +18,18 @@ use Rattle.sp_steps.specs.Model as Sp
 use Rattle.sp_steps.specs.Wf as SpLaws
 use Rattle.sp_steps.proofs.Laws as SpLawsProofs
 use Rattle.sp.specs.Clauses as sp
-use Rattle.sp.specs.declared.Made.{Made}
-use Rattle.sp.specs.declared.Made.TheVariants.{Node, Full}
+use Rattle.std.proofs.Common.{Result, Ok, Err, IsErr}
 use Rattle.sp.specs.declared.SP.{SP}
+use Rattle.sp.specs.declared.Full.{Full}
 use Rattle.spp_steps.specs.ImageModel.{Stores, stores, on_sp}
 use Rattle.spp_steps.specs.Wf.{ValidAt}
 use Rattle.spp_steps.specs.Images.{BothWf}
-use Rattle.spp_steps.proofs.Images.{BothExt, both_theory, both_refl, in_sp}
+use Rattle.spp_steps.proofs.Laws.{false_true}
+use Rattle.spp_steps.proofs.Images.{BothExt, both_theory, in_sp}
 use Rattle.spp_image.specs.Ways.{first, second, join}
-use Rattle.spp_image.specs.Reuse.{Kept, Held, Written, run, depth_by}
+use Rattle.spp_image.specs.Reuse.{Kept, Held, run, depth_by}
 use Rattle.spp_image.proofs.Reuse.{set_memo, Deep, reused, to_note}
-use Rattle.spp_image.specs.Clauses.{seen, Noted, Answer, JoinAsked}
+use Rattle.spp_image.specs.Clauses.{Answer, JoinAsked}
 use Rattle.spp_image.specs.declared.Way.{Way}
 use Rattle.spp_image.proofs.Halves as halves
 
@@ -77,15 +78,13 @@ pub record Turn (N d : ℕ) (C : Step Stores ℕ) (σ : Stores) (m : List ℕ) :
   pub is : C σ ≡ chain call (ending way d) σ
 
 -- what a call has given
-module _ {N : ℕ} {c : Step Stores ℕ} {σ : Stores} {m t' m' : List ℕ} {r : Made} (a : Answer N c σ m r t' m') where
-  pub gave : {h : SP} {n : ℕ} → r ≡ Node h n → Gave (set_memo N) c σ m (stores (table t' n) σ.spp) m' h.0
-  gave e = record { is = a.gives ∙ ap (λ (r : Made). seen r t' σ.spp) e; notes = subst (λ (r : Made). Noted N m r t' σ.spp m') e a.notes }
+gave : {N : ℕ} {c : Step Stores ℕ} {σ : Stores} {m m' : List ℕ} {τ : Table} {h : SP} → Answer N c σ m (Ok h) τ m' → Gave (set_memo N) c σ m (stores τ σ.spp) m' h.0
+gave a = record { is = a.gives; notes = a.notes }
 
-  pub lost : r ≡ Full → c σ ≡ refused 20
-  lost e = a.gives ∙ ap (λ (r : Made). seen r t' σ.spp) e
-
-full : {N : ℕ} {c : Step Stores ℕ} {σ : Stores} {m t' m' : List ℕ} → c σ ≡ refused 20 → Answer N c σ m Full t' m'
-full e = record { gives = e; notes = tt }
+-- a refusal is handed on
+pub stopped : {N : ℕ} {c : Step Stores ℕ} {σ : Stores} {m m' : List ℕ} {r : Result SP Full} {τ : Table} → IsErr r → c σ ≡ refused 20 → Answer N c σ m r τ m'
+stopped {r = Ok h} p e = absurd (false_true p)
+stopped {r = Err x} p e = record { gives = e; notes = tt }
 
 module _ {N d : ℕ} {C : Step Stores ℕ} {σ : Stores} {m : List ℕ} (T : Turn N d C σ m) where
   calls : Four (set_memo N) (λ τ h. SpLaws.ValidAt τ.sp d h) (C σ) σ m
@@ -109,90 +108,84 @@ module _ {N d : ℕ} {C : Step Stores ℕ} {σ : Stores} {m : List ℕ} (T : Tur
   pub ready_1 : T.Ask false false σ m
   ready_1 = asked calls.start false false
 
-  module _ {r1 : Made} {t1 m1 : List ℕ} (a1 : Answer N (T.call false false) σ m r1 t1 m1) where
-    pub lost_1 : r1 ≡ Full → {t' m' : List ℕ} → Answer N C σ m Full t' m'
+  pub lost_1 : T.call false false σ ≡ refused 20 → C σ ≡ refused 20
+  unfolding calls
+  lost_1 e = stage.stuck_1 calls e
+
+  module _ {h1 : SP} {τ1 : Table} {m1 : List ℕ} (a1 : Answer N (T.call false false) σ m (Ok h1) τ1 m1) where
+    pub ready_2 : T.Ask false true (stores τ1 σ.spp) m1
     unfolding calls
-    lost_1 e = full (stage.stuck_1 calls (lost a1 e))
+    ready_2 = asked (stage.stage_1 calls (gave a1)) false true
 
-    module _ {h1 : SP} {n1 : ℕ} (e1 : r1 ≡ Node h1 n1) where
-      pub ready_2 : T.Ask false true (stores (table t1 n1) σ.spp) m1
+    pub lost_2 : T.call false true (stores τ1 σ.spp) ≡ refused 20 → C σ ≡ refused 20
+    unfolding calls
+    lost_2 e = stage.stuck_2 calls (gave a1) e
+
+    module _ {h2 : SP} {τ2 : Table} {m2 : List ℕ} (a2 : Answer N (T.call false true) (stores τ1 σ.spp) m1 (Ok h2) τ2 m2) where
+      pub ready_3 : T.Ask true false (stores τ2 σ.spp) m2
       unfolding calls
-      ready_2 = asked (stage.stage_1 calls (gave a1 e1)) false true
+      ready_3 = asked (stage.stage_2 calls (gave a1) (gave a2)) true false
 
-      module _ {r2 : Made} {t2 m2 : List ℕ} (a2 : Answer N (T.call false true) (stores (table t1 n1) σ.spp) m1 r2 t2 m2) where
-        pub lost_2 : r2 ≡ Full → {t' m' : List ℕ} → Answer N C σ m Full t' m'
+      pub lost_3 : T.call true false (stores τ2 σ.spp) ≡ refused 20 → C σ ≡ refused 20
+      unfolding calls
+      lost_3 e = stage.stuck_3 calls (gave a1) (gave a2) e
+
+      module _ {h3 : SP} {τ3 : Table} {m3 : List ℕ} (a3 : Answer N (T.call true false) (stores τ2 σ.spp) m2 (Ok h3) τ3 m3) where
+        pub ready_4 : T.Ask true true (stores τ3 σ.spp) m3
         unfolding calls
-        lost_2 e = full (stage.stuck_2 calls (gave a1 e1) (lost a2 e))
+        ready_4 = asked (stage.stage_3 calls (gave a1) (gave a2) (gave a3)) true true
 
-        module _ {h2 : SP} {n2 : ℕ} (e2 : r2 ≡ Node h2 n2) where
-          pub ready_3 : T.Ask true false (stores (table t2 n2) σ.spp) m2
+        pub lost_4 : T.call true true (stores τ3 σ.spp) ≡ refused 20 → C σ ≡ refused 20
+        unfolding calls
+        lost_4 e = stage.stuck_4 calls (gave a1) (gave a2) (gave a3) e
+
+        module _ {h4 : SP} {τ4 : Table} {m4 : List ℕ} (a4 : Answer N (T.call true true) (stores τ3 σ.spp) m3 (Ok h4) τ4 m4) where
+          last : Stage (set_memo N) (C σ) (ending T.way d h1.0 h2.0 h3.0 h4.0 (stores τ4 σ.spp)) σ (stores τ4 σ.spp) m m4
           unfolding calls
-          ready_3 = asked (stage.stage_2 calls (gave a1 e1) (gave a2 e2)) true false
+          last = stage.stage_4 calls (gave a1) (gave a2) (gave a3) (gave a4)
 
-          module _ {r3 : Made} {t3 m3 : List ℕ} (a3 : Answer N (T.call true false) (stores (table t2 n2) σ.spp) m2 r3 t3 m3) where
-            pub lost_3 : r3 ≡ Full → {t' m' : List ℕ} → Answer N C σ m Full t' m'
-            unfolding calls
-            lost_3 e = full (stage.stuck_3 calls (gave a1 e1) (gave a2 e2) (lost a3 e))
+          held : SpLaws.ValidAt τ4 d h1.0 × SpLaws.ValidAt τ4 d h2.0 × SpLaws.ValidAt τ4 d h3.0 × SpLaws.ValidAt τ4 d h4.0
+          unfolding calls
+          held = stage.held calls (gave a1) (gave a2) (gave a3) (gave a4)
 
-            module _ {h3 : SP} {n3 : ℕ} (e3 : r3 ≡ Node h3 n3) where
-              pub ready_4 : T.Ask true true (stores (table t3 n3) σ.spp) m3
-              unfolding calls
-              ready_4 = asked (stage.stage_3 calls (gave a1 e1) (gave a2 e2) (gave a3 e3)) true true
+          either : (way : Way) (x y : ℕ) → SpLaws.ValidAt τ4 d x → SpLaws.ValidAt τ4 d y → SpLaws.ValidAt τ4 d (first way x y) × SpLaws.ValidAt τ4 d (second way x y)
+          either Way.Forward x y a b = (a, b)
+          either Way.Backward x y a b = (b, a)
 
-              module _ {r4 : Made} {t4 m4 : List ℕ} (a4 : Answer N (T.call true true) (stores (table t3 n3) σ.spp) m3 r4 t4 m4) where
-                pub lost_4 : r4 ≡ Full → {t' m' : List ℕ} → Answer N C σ m Full t' m'
-                unfolding calls
-                lost_4 e = full (stage.stuck_4 calls (gave a1 e1) (gave a2 e2) (gave a3 e3) (lost a4 e))
+          -- the middle two, as the code has them
+          module _ {x y : ℕ} (x-is : x ≡ first T.way h2.0 h3.0) (y-is : y ≡ second T.way h2.0 h3.0) where
+            pub join_ready : JoinAsked τ4 m4 d h1.0 x y h4.0
+            join_ready =
+                let p = either T.way h2.0 h3.0 held.1 held.2 in
+                record {
+                  deep = omega (arith, T.few, T.deep);
+                  wf = SpLawsProofs.wf_down last.wf.sp_wf (omega (arith, T.deep));
+                  at_w = held.0;
+                  at_x = subst (SpLaws.ValidAt τ4 d) (sym x-is) p.0;
+                  at_y = subst (SpLaws.ValidAt τ4 d) (sym y-is) p.1;
+                  at_z = held.3;
+                  sound = sound_map (λ _ _ _ _ v. v.sets) last.sound;
+                }
 
-                module _ {h4 : SP} {n4 : ℕ} (e4 : r4 ≡ Node h4 n4) where
-                  last : Stage (set_memo N) (C σ) (ending T.way d h1.0 h2.0 h3.0 h4.0 (stores (table t4 n4) σ.spp)) σ (stores (table t4 n4) σ.spp) m m4
-                  unfolding calls
-                  last = stage.stage_4 calls (gave a1 e1) (gave a2 e2) (gave a3 e3) (gave a4 e4)
+            left : C σ ≡ on_sp (join d h1.0 x y h4.0) (stores τ4 σ.spp)
+            left =
+                last.left
+                ∙ ap (λ (k : ℕ). on_sp (join d h1.0 k (second T.way h2.0 h3.0) h4.0) (stores τ4 σ.spp)) (sym x-is)
+                ∙ ap (λ (k : ℕ). on_sp (join d h1.0 x k h4.0) (stores τ4 σ.spp)) (sym y-is)
 
-                  held : SpLaws.ValidAt (table t4 n4) d h1.0 × SpLaws.ValidAt (table t4 n4) d h2.0 × SpLaws.ValidAt (table t4 n4) d h3.0 × SpLaws.ValidAt (table t4 n4) d h4.0
-                  unfolding calls
-                  held = stage.held calls (gave a1 e1) (gave a2 e2) (gave a3 e3) (gave a4 e4)
+            pub lost_5 : join d h1.0 x y h4.0 τ4 ≡ refused 20 → C σ ≡ refused 20
+            lost_5 e = left ∙ ap (placed (λ s σ. stores s σ.spp) (stores τ4 σ.spp)) e
 
-                  either : (way : Way) (x y : ℕ) → SpLaws.ValidAt (table t4 n4) d x → SpLaws.ValidAt (table t4 n4) d y
-                      → SpLaws.ValidAt (table t4 n4) d (first way x y) × SpLaws.ValidAt (table t4 n4) d (second way x y)
-                  either Way.Forward x y a b = (a, b)
-                  either Way.Backward x y a b = (b, a)
-
-                  -- the middle two, as the code has them
-                  module _ (x y : ℕ) (x-is : x ≡ first T.way h2.0 h3.0) (y-is : y ≡ second T.way h2.0 h3.0) where
-                    pub join_ready : JoinAsked t4 m4 n4 d h1.0 x y h4.0
-                    join_ready =
-                        let p = either T.way h2.0 h3.0 held.1 held.2 in
-                        record {
-                          deep = omega (arith, T.few, T.deep);
-                          wf = SpLawsProofs.wf_down last.wf.sp_wf (omega (arith, T.deep));
-                          at_w = held.0;
-                          at_x = subst (SpLaws.ValidAt (table t4 n4) d) (sym x-is) p.0;
-                          at_y = subst (SpLaws.ValidAt (table t4 n4) d) (sym y-is) p.1;
-                          at_z = held.3;
-                          sound = sound_map (λ _ _ _ _ v. v.sets) last.sound;
-                        }
-
-                    left : C σ ≡ on_sp (join d h1.0 x y h4.0) (stores (table t4 n4) σ.spp)
-                    left =
-                        last.left
-                        ∙ ap (λ (k : ℕ). on_sp (join d h1.0 k (second T.way h2.0 h3.0) h4.0) (stores (table t4 n4) σ.spp)) (sym x-is)
-                        ∙ ap (λ (k : ℕ). on_sp (join d h1.0 x k h4.0) (stores (table t4 n4) σ.spp)) (sym y-is)
-
-                    module _ {r5 : Made} {t5 m5 : List ℕ} (a5 : sp.Answer (join d h1.0 x y h4.0) t4 m4 n4 r5 t5 m5) where
-                      pub lost_5 : r5 ≡ Full → {t' m' : List ℕ} → Answer N C σ m Full t' m'
-                      lost_5 e = full (left ∙ ap (placed (λ s σ. stores s σ.spp) (stores (table t4 n4) σ.spp)) (halves.lost a5 e))
-
-                      pub done : {h5 : SP} {n5 : ℕ} → r5 ≡ Node h5 n5
-                          → Stage (set_memo N) (C σ) (given (stores (table t5 n5) σ.spp) h5.0) σ (stores (table t5 n5) σ.spp) m m5
-                      done {h5} {n5} e =
-                          stage.finish (set_memo N) (on_sp (join d h1.0 x y h4.0))
-                          (record { ext = last.ext; wf = last.wf; sound = last.sound; notes = last.notes; left = left })
-                          (runs_on (in_sp N) last.wf (halves.join_runs (SpLaws.Below N) N d h1.0 x y h4.0 (omega (arith, T.deep)) T.deep last.wf.sp_wf join_ready.at_w join_ready.at_x join_ready.at_y join_ready.at_z))
-                          (record {
-                            is = ap (placed (λ s σ. stores s σ.spp) (stores (table t4 n4) σ.spp)) (halves.gives a5 e);
-                            notes = notes_map (λ _ _ _ _ v. inl v) (halves.notes a5 e);
-                          })
+            pub done : {h5 : SP} {τ5 : Table} {m5 : List ℕ} → sp.Answer (join d h1.0 x y h4.0) τ4 m4 (Ok h5) τ5 m5
+                → Stage (set_memo N) (C σ) (given (stores τ5 σ.spp) h5.0) σ (stores τ5 σ.spp) m m5
+            done a5 =
+                stage.finish (set_memo N) (on_sp (join d h1.0 x y h4.0))
+                (record { ext = last.ext; wf = last.wf; sound = last.sound; notes = last.notes; left = left })
+                (runs_on (in_sp N) last.wf (halves.join_runs (SpLaws.Below N) N d h1.0 x y h4.0 (omega (arith, T.deep)) T.deep last.wf.sp_wf join_ready.at_w join_ready.at_x join_ready.at_y join_ready.at_z))
+                (record {
+                  is = ap (placed (λ s σ. stores s σ.spp) (stores τ4 σ.spp)) a5.gives;
+                  notes = notes_map (λ _ _ _ _ v. inl v) a5.notes;
+                })
 
 -- ---- the cache, of an operation whose relation y has depth d + 1
 
@@ -208,13 +201,13 @@ module _ (N d code x y : ℕ) {C : Step Stores ℕ} (σ : Stores) (m : List ℕ)
       ∙ reused N d w (deep_at σ at) c.0 c.1 (sound_map (λ _ _ _ _ v. v.images) s) (subst (λ (k : ℕ). Holds m k x y h) k-is found)
 
   -- noted
-  pub noted : {P : Stores → ℕ → Type 0} {t5 m5 m6 : List ℕ} {n5 : ℕ} {h : SP} → StableSpec (both_theory N) C P σ
-      → Stage (set_memo N) (C σ) (given (stores (table t5 n5) σ.spp) h.0) σ (stores (table t5 n5) σ.spp) m m5
-      → WritesValid (Exactly k x y h.0) m5 m6 → Answer N C σ m (Node h n5) t5 m6
-  noted {P} {t5} {m5} {m6} {n5} {h} r s l =
+  pub noted : {P : Stores → ℕ → Type 0} {τ5 : Table} {m5 m6 : List ℕ} {h : SP} → StableSpec (both_theory N) C P σ
+      → Stage (set_memo N) (C σ) (given (stores τ5 σ.spp) h.0) σ (stores τ5 σ.spp) m m5
+      → WritesValid (Exactly k x y h.0) m5 m6 → Answer N C σ m (Ok h) τ5 m6
+  noted {τ5} {h} r s l =
       let good = given_of r s.left in
       record {
         gives = s.left;
-        notes = stage.noted (set_memo N) s l (inr (subst (λ (o : ℕ). OnlyCodes 10 15 (Kept N (stores (table t5 n5) σ.spp)) o x y h.0) (sym k-is)
-            (to_note N code x y d c.0 c.1 (deep_at (stores (table t5 n5) σ.spp) at) (λ τ e w. is_run τ ∙ good.stable τ e w))));
+        notes = stage.noted (set_memo N) s l (inr (subst (λ (o : ℕ). OnlyCodes 10 15 (Kept N (stores τ5 σ.spp)) o x y h.0) (sym k-is)
+            (to_note N code x y d c.0 c.1 (deep_at (stores τ5 σ.spp) at) (λ τ e w. is_run τ ∙ good.stable τ e w))));
       }

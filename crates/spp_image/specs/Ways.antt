@@ -1,5 +1,5 @@
 -- fwd and bwd are one operation in two directions, and so are push and pull.
-use Rattle.std.specs.Prelude.{◌≡◌, refl, Bool, true, false, ℕ, suc}
+use Rattle.std.specs.Prelude.{ℕ}
 use Rattle.common.specs.Outcome.{Step, ◌>>=◌}
 use Rattle.common.specs.Runs.{Table}
 use Rattle.sp_steps.specs.Model as Sp

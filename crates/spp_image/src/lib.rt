@@ -2,17 +2,16 @@
 #![tactic(auto)]
 
 ghost use Rattle.std.specs.Prelude.{◌≡◌, Bool, ◌≤◌};
-ghost use Rattle.common.specs.Runs.{table};
 ghost use Rattle.sp.specs.Clauses as sp_seen;
-ghost use Rattle.spp.specs.Clauses.{quad_of};
+ghost use Rattle.sp.specs.Clauses.{store_of};
+ghost use Rattle.spp.specs.Clauses.{quad_of, view_of};
 ghost use Rattle.spp_steps.specs.ImageModel.{stores, fwd, bwd, led_exit, push, pull};
 ghost use Rattle.spp_image.specs.Ways.{project, lead, first, second, turn, join};
 ghost use Rattle.spp_image.specs.Reuse.{project_code, lead_code};
 ghost use Rattle.spp_image.specs.Clauses.{Asked, LeadAsked, Answer, JoinAsked, led_of};
 
-use cache::Looked;
-use sp::{Made, SP, SPnode};
-use spp::{SPP, SPPnode};
+use sp::{Full, SP, SPnode, SPstore};
+use spp::{SPP, SPPnode, SPPview};
 
 // from the first packet to the second, or back
 #[derive(Clone, Copy)]
@@ -21,44 +20,43 @@ pub enum Way {
     Backward,
 }
 
+// A finished set; or the set has all packets; or: go down.
+#[derive(Clone, Copy)]
+pub enum Led {
+    Done(SP),
+    Whole,
+    More,
+}
+
 // the set whose first half is the union of w and x, and whose second half is that of y and z
 fn join(
-    nodes: &mut [u32],
+    sets: &mut SPstore,
     cache: &mut [u32],
-    count: usize,
     depth: u32,
     w: SP,
     x: SP,
     y: SP,
     z: SP,
-) -> Made
-    requires { JoinAsked nodes.old cache.old count depth w.0 x.0 y.0 z.0 }
-    ensures { sp_seen.Answer (join depth w.0 x.0 y.0 z.0) nodes.old cache.old
-        count result nodes.new cache.new }
+) -> Result<SP, Full>
+    requires { JoinAsked (store_of sets.old) cache.old depth w.0 x.0 y.0 z.0 }
+    ensures same_table { sets.new.nodes.ghost_name ≡ sets.old.nodes.ghost_name }
+    ensures answer { sp_seen.Answer (join depth w.0 x.0 y.0 z.0) (store_of sets.old) cache.old
+        result (store_of sets.new) cache.new }
 {
-    let Made::Node(x0, n1) = sp::union(nodes, cache, count, depth, w, x) else {
-        return Made::Full;
-    };
-    let Made::Node(x1, n2) = sp::union(nodes, cache, n1, depth, y, z) else {
-        return Made::Full;
-    };
-    sp::mk(nodes, n2, x0, x1)
+    let x0 = sets.union(cache, depth, w, x)?;
+    let x1 = sets.union(cache, depth, y, z)?;
+    sets.mk(x0, x1)
 }
 
 // forward: of the converse relation
 fn turned(way: Way, x: SPPnode) -> SPPnode
     ensures { (i j : Bool) → quad_of result i j ≡ turn way (quad_of x) i j }
 {
-    let x00 = x.x00;
-    let x01 = x.x01;
-    let x10 = x.x10;
-    let x11 = x.x11;
     match way {
         Way::Forward => SPPnode {
-            x00,
-            x01: x10,
-            x10: x01,
-            x11,
+            x01: x.x10,
+            x10: x.x01,
+            ..x
         },
         Way::Backward => x,
     }
@@ -76,112 +74,71 @@ fn project_code(way: Way) -> u32
 
 // the image of a relation, or its domain
 fn project(
-    spp: &[u32],
-    nodes: &mut [u32],
+    sets: &mut SPstore,
+    spp: SPPview,
     cache: &mut [u32],
-    n: usize,
-    count: usize,
-    fields: u32,
     depth: u32,
     way: Way,
     r: SPP,
-) -> Made
-    requires { Asked fields depth (stores (table nodes.old count) (table spp.now n)) cache.old r.0 }
-    ensures { Answer fields (project way depth r.0)
-        (stores (table nodes.old count) (table spp.now n)) cache.old result
-        nodes.new cache.new }
+) -> Result<SP, Full>
+    requires { Asked spp.fields depth (stores (store_of sets.old) (view_of spp)) cache.old r.0 }
+    ensures same_table { sets.new.nodes.ghost_name ≡ sets.old.nodes.ghost_name }
+    ensures answer { Answer spp.entry.fields (project way depth r.0)
+        (stores (store_of sets.old) (view_of spp.entry)) cache.old result (store_of sets.new) cache.new }
 {
     if depth == 0 {
-        return Made::Node(SP(r.0), count);
+        return Ok(SP(r.0));
     }
     let code = project_code(way);
-    let looked = cache::look(cache, code, r.0, r.0);
-    match looked {
-        Looked::Hit(h) => Made::Node(SP(h), count),
-        Looked::Miss => {
-            let node = spp::get(spp, r);
-            let q = turned(way, node);
-            let Made::Node(w, n1) = project(
-                spp,
-                nodes,
-                cache,
-                n,
-                count,
-                fields,
-                depth - 1,
-                way,
-                q.x00,
-            ) else {
-                return Made::Full;
-            };
-            let Made::Node(x, n2) = project(spp, nodes, cache, n, n1, fields, depth - 1, way, q.x01)
-            else {
-                return Made::Full;
-            };
-            let Made::Node(y, n3) = project(spp, nodes, cache, n, n2, fields, depth - 1, way, q.x10)
-            else {
-                return Made::Full;
-            };
-            let Made::Node(z, n4) = project(spp, nodes, cache, n, n3, fields, depth - 1, way, q.x11)
-            else {
-                return Made::Full;
-            };
-            let Made::Node(h, n5) = join(nodes, cache, n4, depth - 1, w, x, y, z) else {
-                return Made::Full;
-            };
-            cache::note(cache, code, r.0, r.0, h.0);
-            Made::Node(h, n5)
-        }
+    if let Some(h) = cache::look(cache, code, r.0, r.0) {
+        return Ok(SP(h));
     }
+    let node = spp::get(spp.nodes, r);
+    let q = turned(way, node);
+    let below = depth - 1;
+    let w = project(sets, spp, cache, below, way, q.x00)?;
+    let x = project(sets, spp, cache, below, way, q.x01)?;
+    let y = project(sets, spp, cache, below, way, q.x10)?;
+    let z = project(sets, spp, cache, below, way, q.x11)?;
+    let h = join(sets, cache, below, w, x, y, z)?;
+    cache::note(cache, code, r.0, r.0, h.0);
+    Ok(h)
 }
 
 // the packets that a relation leads to
 pub fn fwd(
-    spp: &[u32],
-    nodes: &mut [u32],
+    sets: &mut SPstore,
+    spp: SPPview,
     cache: &mut [u32],
-    n: usize,
-    count: usize,
-    fields: u32,
     depth: u32,
     r: SPP,
-) -> Made
-    requires { Asked fields depth (stores (table nodes.old count) (table spp.now n)) cache.old r.0 }
-    ensures { Answer fields (fwd depth r.0)
-        (stores (table nodes.old count) (table spp.now n)) cache.old result
-        nodes.new cache.new }
+) -> Result<SP, Full>
+    requires { Asked spp.fields depth (stores (store_of sets.old) (view_of spp)) cache.old r.0 }
+    ensures same_table { sets.new.nodes.ghost_name ≡ sets.old.nodes.ghost_name }
+    ensures answer { Answer spp.entry.fields (fwd depth r.0)
+        (stores (store_of sets.old) (view_of spp.entry)) cache.old result (store_of sets.new) cache.new }
 {
-    project(spp, nodes, cache, n, count, fields, depth, Way::Forward, r)
+    project(sets, spp, cache, depth, Way::Forward, r)
 }
 
 // the packets that a relation leads on
 pub fn bwd(
-    spp: &[u32],
-    nodes: &mut [u32],
+    sets: &mut SPstore,
+    spp: SPPview,
     cache: &mut [u32],
-    n: usize,
-    count: usize,
-    fields: u32,
     depth: u32,
     r: SPP,
-) -> Made
-    requires { Asked fields depth (stores (table nodes.old count) (table spp.now n)) cache.old r.0 }
-    ensures { Answer fields (bwd depth r.0)
-        (stores (table nodes.old count) (table spp.now n)) cache.old result
-        nodes.new cache.new }
+) -> Result<SP, Full>
+    requires { Asked spp.fields depth (stores (store_of sets.old) (view_of spp)) cache.old r.0 }
+    ensures same_table { sets.new.nodes.ghost_name ≡ sets.old.nodes.ghost_name }
+    ensures answer { Answer spp.entry.fields (bwd depth r.0)
+        (stores (store_of sets.old) (view_of spp.entry)) cache.old result (store_of sets.new) cache.new }
 {
-    project(spp, nodes, cache, n, count, fields, depth, Way::Backward, r)
-}
-
-// A finished set; or the set has all packets; or: go down.
-#[derive(Clone, Copy)]
-pub enum Led {
-    Done(SP),
-    Whole,
-    More,
+    project(sets, spp, cache, depth, Way::Backward, r)
 }
 
 // what is known of push and pull with no look at the nodes
+#[tactic(auto, unfolding(spp_steps::specs::ImageModel::led_exit))]
 fn led_exit(fields: u32, depth: u32, s: SP, r: SPP) -> Led
     requires { (fields ≤ 31) × (depth ≤ 31) }
     ensures { led_exit fields depth s.0 r.0 ≡ led_of result }
@@ -229,173 +186,73 @@ fn lead_code(way: Way) -> u32
 
 // the image of a set, or the packets that a relation leads into a set
 fn lead(
-    spp: &[u32],
-    nodes: &mut [u32],
+    sets: &mut SPstore,
+    spp: SPPview,
     cache: &mut [u32],
-    n: usize,
-    count: usize,
-    fields: u32,
     depth: u32,
     way: Way,
     s: SP,
     r: SPP,
-) -> Made
-    requires { LeadAsked fields depth (stores (table nodes.old count) (table spp.now n)) cache.old s.0
-        r.0 }
-    ensures { Answer fields (lead way fields depth s.0 r.0)
-        (stores (table nodes.old count) (table spp.now n)) cache.old result
-        nodes.new cache.new }
+) -> Result<SP, Full>
+    requires { LeadAsked spp.fields depth (stores (store_of sets.old) (view_of spp)) cache.old s.0 r.0 }
+    ensures same_table { sets.new.nodes.ghost_name ≡ sets.old.nodes.ghost_name }
+    ensures answer { Answer spp.entry.fields (lead way spp.entry.fields depth s.0 r.0)
+        (stores (store_of sets.old) (view_of spp.entry)) cache.old result (store_of sets.new) cache.new }
 {
-    let led = led_exit(fields, depth, s, r);
-    match led {
-        Led::Done(h) => Made::Node(h, count),
-        Led::Whole => project(spp, nodes, cache, n, count, fields, depth, way, r),
+    match led_exit(spp.fields, depth, s, r) {
+        Led::Done(h) => Ok(h),
+        Led::Whole => project(sets, spp, cache, depth, way, r),
         Led::More => {
             let code = lead_code(way);
-            let looked = cache::look(cache, code, s.0, r.0);
-            match looked {
-                Looked::Hit(h) => Made::Node(SP(h), count),
-                Looked::Miss => {
-                    let p = sp::get(nodes, s);
-                    let q = spp::get(spp, r);
-                    let mid = paired(way, p.x1, p.x0);
-                    let Made::Node(a, n1) = lead(
-                        spp,
-                        nodes,
-                        cache,
-                        n,
-                        count,
-                        fields,
-                        depth - 1,
-                        way,
-                        p.x0,
-                        q.x00,
-                    ) else {
-                        return Made::Full;
-                    };
-                    let Made::Node(b, n2) = lead(
-                        spp,
-                        nodes,
-                        cache,
-                        n,
-                        n1,
-                        fields,
-                        depth - 1,
-                        way,
-                        mid.x0,
-                        q.x10,
-                    ) else {
-                        return Made::Full;
-                    };
-                    let Made::Node(c, n3) = lead(
-                        spp,
-                        nodes,
-                        cache,
-                        n,
-                        n2,
-                        fields,
-                        depth - 1,
-                        way,
-                        mid.x1,
-                        q.x01,
-                    ) else {
-                        return Made::Full;
-                    };
-                    let Made::Node(d, n4) = lead(
-                        spp,
-                        nodes,
-                        cache,
-                        n,
-                        n3,
-                        fields,
-                        depth - 1,
-                        way,
-                        p.x1,
-                        q.x11,
-                    ) else {
-                        return Made::Full;
-                    };
-                    let ends = paired(way, b, c);
-                    let Made::Node(h, n5) = join(
-                        nodes,
-                        cache,
-                        n4,
-                        depth - 1,
-                        a,
-                        ends.x0,
-                        ends.x1,
-                        d,
-                    ) else {
-                        return Made::Full;
-                    };
-                    cache::note(cache, code, s.0, r.0, h.0);
-                    Made::Node(h, n5)
-                }
+            if let Some(h) = cache::look(cache, code, s.0, r.0) {
+                return Ok(SP(h));
             }
+            let p = sets.get(s);
+            let q = spp::get(spp.nodes, r);
+            let mid = paired(way, p.x1, p.x0);
+            let below = depth - 1;
+            let a = lead(sets, spp, cache, below, way, p.x0, q.x00)?;
+            let b = lead(sets, spp, cache, below, way, mid.x0, q.x10)?;
+            let c = lead(sets, spp, cache, below, way, mid.x1, q.x01)?;
+            let d = lead(sets, spp, cache, below, way, p.x1, q.x11)?;
+            let ends = paired(way, b, c);
+            let h = join(sets, cache, below, a, ends.x0, ends.x1, d)?;
+            cache::note(cache, code, s.0, r.0, h.0);
+            Ok(h)
         }
     }
 }
 
 // the packets that a relation leads to from a packet of the set
 pub fn push(
-    spp: &[u32],
-    nodes: &mut [u32],
+    sets: &mut SPstore,
+    spp: SPPview,
     cache: &mut [u32],
-    n: usize,
-    count: usize,
-    fields: u32,
     depth: u32,
     s: SP,
     r: SPP,
-) -> Made
-    requires { LeadAsked fields depth (stores (table nodes.old count) (table spp.now n)) cache.old s.0
-        r.0 }
-    ensures { Answer fields (push fields depth s.0 r.0)
-        (stores (table nodes.old count) (table spp.now n)) cache.old result
-        nodes.new cache.new }
+) -> Result<SP, Full>
+    requires { LeadAsked spp.fields depth (stores (store_of sets.old) (view_of spp)) cache.old s.0 r.0 }
+    ensures same_table { sets.new.nodes.ghost_name ≡ sets.old.nodes.ghost_name }
+    ensures answer { Answer spp.entry.fields (push spp.entry.fields depth s.0 r.0)
+        (stores (store_of sets.old) (view_of spp.entry)) cache.old result (store_of sets.new) cache.new }
 {
-    lead(
-        spp,
-        nodes,
-        cache,
-        n,
-        count,
-        fields,
-        depth,
-        Way::Forward,
-        s,
-        r,
-    )
+    lead(sets, spp, cache, depth, Way::Forward, s, r)
 }
 
 // the packets that a relation leads to a packet of the set
 pub fn pull(
-    spp: &[u32],
-    nodes: &mut [u32],
+    sets: &mut SPstore,
+    spp: SPPview,
     cache: &mut [u32],
-    n: usize,
-    count: usize,
-    fields: u32,
     depth: u32,
     r: SPP,
     s: SP,
-) -> Made
-    requires { LeadAsked fields depth (stores (table nodes.old count) (table spp.now n)) cache.old s.0
-        r.0 }
-    ensures { Answer fields (pull fields depth r.0 s.0)
-        (stores (table nodes.old count) (table spp.now n)) cache.old result
-        nodes.new cache.new }
+) -> Result<SP, Full>
+    requires { LeadAsked spp.fields depth (stores (store_of sets.old) (view_of spp)) cache.old s.0 r.0 }
+    ensures same_table { sets.new.nodes.ghost_name ≡ sets.old.nodes.ghost_name }
+    ensures answer { Answer spp.entry.fields (pull spp.entry.fields depth r.0 s.0)
+        (stores (store_of sets.old) (view_of spp.entry)) cache.old result (store_of sets.new) cache.new }
 {
-    lead(
-        spp,
-        nodes,
-        cache,
-        n,
-        count,
-        fields,
-        depth,
-        Way::Backward,
-        s,
-        r,
-    )
+    lead(sets, spp, cache, depth, Way::Backward, s, r)
 }

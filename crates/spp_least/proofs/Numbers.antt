@@ -1,21 +1,30 @@
--- Packets as numbers, and least packets as words.
-use Rattle.std.specs.Prelude.{if◌then◌else◌}
-use mathlib.Core.Path.{◌≡◌, refl, sym, ◌∙◌, ap}
+-- Packets as numbers, and least packets as numbers and as words.
+use Rattle.std.specs.Prelude.{if◌then◌else◌, Some, None, is_some, IfSome}
+use Rattle.std.specs.Prelude as std
+use mathlib.Core.Path.{◌≡◌, refl, sym, ◌∙◌, ap, subst}
 use mathlib.Core.Bool.{Bool, true, false}
 use mathlib.Core.Option.{Option, none, some}
 use Prim.Native.Nat.{ℕ, zero, suc, ◌+◌, ◌-◌, ◌^◌, ◌≤◌, ◌<◌}
 use native.Mathlib.Omega.{arith}
 use native.Mathlib.Decide.{dec_lt}
-use lib.Dec.{eqb}
-use borrow.Author.Tests.{ne_eqb}
+use lib.Pow.{pow_mono}
 use Rattle.common.specs.Packets.{Packet, end, bit, Set}
 use Rattle.netkat_paths.specs.Order.{value, map, or_else, least}
 use Rattle.netkat_paths.proofs.OrderLaws.{value_small}
-use Rattle.spp_least.specs.Clauses.{word_of, raised}
+use Rattle.sp_steps.proofs.Make.{false_true}
+use Rattle.spp_least.specs.Clauses.{number_of, word, raised}
 
-pub word_small : {n : ℕ} (o : Option (Packet n)) → word_of o ≤ 2 ^ n
-word_small none = omega arith
-word_small (some p) = omega (arith, value_small p)
+-- a number is below 2 to the number of bits
+small : {n k : ℕ} (o : Option (Packet n)) → 2 ^ n ≤ k → IfSome (number_of o) (λ m. m < k)
+small none l = tt
+small (some p) l = omega (arith, value_small p)
+
+pub below : {n k : ℕ} {w : std.Option ℕ} (o : Option (Packet n)) → w ≡ number_of o → 2 ^ n ≤ k → IfSome w (λ m. m < k)
+below {k = k} o e l = subst (λ v. IfSome v (λ m. m < k)) (sym e) (small o l)
+
+-- a number that has a word
+pub fits : {n : ℕ} {w : std.Option ℕ} (o : Option (Packet n)) → w ≡ number_of o → n ≤ 31 → IfSome w (λ m. m < 4294967295)
+fits o e l = below o e (omega (arith, pow_mono {j = 31} l))
 
 -- every number is a packet's
 pub packet_of : (d k : ℕ) → k < 2 ^ d → (p : Packet d) × (value p ≡ k)
@@ -35,16 +44,6 @@ first_of true true p k rest e f l = (refl, omega arith)
 first_of false true p k rest e f l = absurd (omega (arith, value_small p))
 first_of true false p k rest e f l = absurd (omega (arith, value_small p))
 
--- the first of two words, or the second if the first has no packet
-abbrev pub either : ℕ → ℕ → ℕ
-either v w = if eqb v 0 then w else v
-
-pub join_word : {n : ℕ} (x y : Option (Packet n)) → word_of (or_else (map (bit false) x) (map (bit true) y)) ≡ either (word_of x) (raised (2 ^ n) (word_of y))
-unfolding value
-join_word none none = refl
-join_word {n} none (some q) = simp (ne_eqb (value q + 1) 0 (λ e. omega arith)) (omega arith)
-join_word (some p) y = simp (ne_eqb (value p + 1) 0 (λ e. omega arith)) (omega arith)
-
 -- a set with no packet
 pub least_empty : (d : ℕ) (x : Set d) → ((p : Packet d) → x p ≡ false) → least d x ≡ none
 unfolding least
@@ -52,31 +51,31 @@ least_empty zero x e = rw (e end)
 least_empty (suc d) x e = rw (least_empty d (λ p. x (bit false p)) (λ p. e (bit false p)), least_empty d (λ p. x (bit true p)) (λ p. e (bit true p)))
 
 -- a set with a packet whose first bit is 0
-pub low_least : {n : ℕ} (x : Set (suc n)) (low : ℕ) → low ≡ word_of (least n (λ p. x (bit false p))) → (low ≡ 0 → ⊥) → low ≡ word_of (least (suc n) x)
+low_number : {n : ℕ} (x y : Option (Packet n)) → is_some (number_of x) ≡ true → number_of x ≡ number_of (or_else (map (bit false) x) (map (bit true) y))
+unfolding value
+low_number none y e = absurd (false_true e)
+low_number (some p) y e = ap Some (omega arith)
+
+pub low_least : {n : ℕ} (x : Set (suc n)) {low : std.Option ℕ} → low ≡ number_of (least n (λ p. x (bit false p))) → is_some low ≡ true → low ≡ number_of (least (suc n) x)
 unfolding least
-low_least {n} x low e has =
-    let l : Option (Packet n) = least n (λ p. x (bit false p)) in
-    let h : Option (Packet n) = least n (λ p. x (bit true p)) in
-    sym (join_word l h ∙ ap (λ (v : ℕ). either v (raised (2 ^ n) (word_of h))) (sym e) ∙ ap (λ (b : Bool). if b then raised (2 ^ n) (word_of h) else low) (ne_eqb low 0 has))
+low_least {n} x e has = e ∙ low_number (least n (λ p. x (bit false p))) (least n (λ p. x (bit true p))) (ap is_some (sym e) ∙ has)
 
 -- .. and with none
-pub high_least : {n : ℕ} (x : Set (suc n)) (low high : ℕ) → low ≡ word_of (least n (λ p. x (bit false p))) → low ≡ 0 → high ≡ word_of (least n (λ p. x (bit true p)))
-    → raised (2 ^ n) high ≡ word_of (least (suc n) x)
+high_number : {n : ℕ} (x y : Option (Packet n)) → is_some (number_of x) ≡ false → raised (2 ^ n) (number_of y) ≡ number_of (or_else (map (bit false) x) (map (bit true) y))
+unfolding value
+high_number none none e = refl
+high_number none (some q) e = refl
+high_number (some p) y e = absurd (false_true (sym e))
+
+pub high_least : {n : ℕ} (x : Set (suc n)) {low high : std.Option ℕ} → low ≡ number_of (least n (λ p. x (bit false p))) → is_some low ≡ false → high ≡ number_of (least n (λ p. x (bit true p)))
+    → raised (2 ^ n) high ≡ number_of (least (suc n) x)
 unfolding least
-high_least {n} x low high e lacks f =
-    let l : Option (Packet n) = least n (λ p. x (bit false p)) in
-    let h : Option (Packet n) = least n (λ p. x (bit true p)) in
-    ap (raised (2 ^ n)) f ∙ sym (join_word l h ∙ ap (λ (v : ℕ). either v (raised (2 ^ n) (word_of h))) (sym e ∙ lacks))
+high_least {n} x e lacks f =
+    ap (raised (2 ^ n)) f ∙ high_number (least n (λ p. x (bit false p))) (least n (λ p. x (bit true p))) (ap is_some (sym e) ∙ lacks)
 
-pub double : (d : ℕ) → 1 ≤ d → 2 ^ d ≡ 2 ^ (d - 1) + 2 ^ (d - 1)
-double zero l = absurd (omega arith)
-double (suc d) l = omega (arith, ap (λ (k : ℕ). 2 ^ k) {x = suc d - 1} {y = d} (omega arith))
-
--- what a word says
-pub word_none : {n : ℕ} (o : Option (Packet n)) → word_of o ≡ 0 → o ≡ none
-word_none none e = refl
-word_none (some p) e = absurd (omega arith)
-
-pub word_some : {n : ℕ} (o : Option (Packet n)) → (word_of o ≡ 0 → ⊥) → (p : Packet n) × (o ≡ some p) × (value p + 1 ≡ word_of o)
-word_some none f = absurd (f refl)
-word_some (some p) f = (p, refl, refl)
+-- two answers with one word are one
+pub same_word : (a b : std.Option ℕ) → word a ≡ word b → a ≡ b
+same_word None None e = refl
+same_word None (Some k) e = absurd (omega arith)
+same_word (Some k) None e = absurd (omega arith)
+same_word (Some j) (Some k) e = ap Some (omega arith)

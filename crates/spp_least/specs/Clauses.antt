@@ -1,6 +1,7 @@
--- 02 (i), "the smallest start, then the hops in order, then the end": the least packet of a set, and the least of a set to which a relation leads a packet, as words.
-use Rattle.std.specs.Prelude.{◌≡◌, Bool, true, false, ◌&&◌, List, ℕ, ◌+◌, ◌-◌, ◌^◌, ◌≤◌, ◌<◌, eqb, if◌then◌else◌}
-use Rattle.std.proofs.Math.Option.{Option, none, some}
+-- 02 (i), "the smallest start, then the hops in order, then the end": the least packet of a set, and the least of a set to which a relation leads a packet, as numbers, and as words of the cache.
+use Rattle.std.specs.Prelude.{◌≡◌, Bool, true, false, ◌&&◌, List, ℕ, Option, Some, None, ◌+◌, ◌-◌, ◌^◌, ◌≤◌, ◌<◌, if◌then◌else◌, option_map}
+use Rattle.std.proofs.Math.Option as maybe
+use Rattle.std.proofs.Math.Option.{none, some}
 use Rattle.common.specs.Packets.{Packet, Set}
 use Rattle.common.specs.Runs.{Table}
 use Rattle.cache.specs.Cache.{Valid, OnCodes, OnlyCodes, Sound, WritesValid}
@@ -13,14 +14,22 @@ use Rattle.spp_steps.specs.Wf.{ValidAt}
 use Rattle.spp_steps.specs.ImageModel.{Stores}
 use Rattle.spp_steps.specs.Images.{BothWf}
 
--- a packet that may be missing as a word: 0, or its number + 1
-abbrev pub word_of : {n : ℕ} → Option (Packet n) → ℕ
-word_of none = 0
-word_of (some p) = value p + 1
+-- the number of a packet that may be missing
+abbrev pub number_of : {n : ℕ} → maybe.Option (Packet n) → Option ℕ
+number_of none = None
+number_of (some p) = Some (value p)
 
--- .. with a bit 1 in front, which counts k
-abbrev pub raised : ℕ → ℕ → ℕ
-raised k w = if eqb w 0 then 0 else k + w
+-- .. as a word: 0, or the number + 1
+abbrev pub word : Option ℕ → ℕ
+word None = 0
+word (Some k) = k + 1
+
+abbrev pub word_of : {n : ℕ} → maybe.Option (Packet n) → ℕ
+word_of o = word (number_of o)
+
+-- a number that may be missing, with a bit 1 in front, which counts k
+abbrev pub raised : ℕ → Option ℕ → Option ℕ
+raised k = option_map (λ w. k + w)
 
 -- ---- of a set
 
@@ -66,8 +75,8 @@ pub record LedAsked (N d : ℕ) (σ : Stores) (m : List ℕ) (k s r : ℕ) : Typ
   pub small : k < 2 ^ d
   pub sound : Sound (LeastRead σ) m
 
-pub record LedAnswer (d : ℕ) (σ : Stores) (m : List ℕ) (k s r w : ℕ) (m' : List ℕ) : Type 0 where
-  pub is : (p : Packet d) → value p ≡ k → w ≡ word_of (least d (led_to σ d s r p))
+pub record LedAnswer (d : ℕ) (σ : Stores) (m : List ℕ) (k s r : ℕ) (w : Option ℕ) (m' : List ℕ) : Type 0 where
+  pub is : (p : Packet d) → value p ≡ k → w ≡ number_of (least d (led_to σ d s r p))
   pub notes : WritesValid (LeastNoted σ) m m'
 
 -- x0 and x1 are the row of the node r for the first bit of the packet with number k of d bits; its other bits are the number `rest`

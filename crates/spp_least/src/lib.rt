@@ -1,17 +1,17 @@
-// The least packet of a set, and the least of a set to which a relation leads a packet, each as its number + 1, or 0 if there is none.
+// The least packet of a set, and the least of a set to which a relation leads a packet, each as its number.
 // They make no node.
 #![tactic(auto)]
 
-ghost use Rattle.std.specs.Prelude.{◌≡◌, ◌+◌, ◌*◌, ◌-◌, ◌^◌, ◌≤◌, ◌<◌, length};
-ghost use Rattle.common.specs.Runs.{table};
+ghost use Rattle.std.specs.Prelude.{◌≡◌, ◌+◌, ◌*◌, ◌-◌, ◌^◌, ◌≤◌, ◌<◌, length, IfSome};
+ghost use Rattle.sp.specs.Clauses as Sets;
+ghost use Rattle.spp.specs.Clauses.{view_of};
 ghost use Rattle.netkat_paths.specs.Order.{least};
 ghost use Rattle.sp_steps.specs.Model.{mem};
 ghost use Rattle.spp_steps.specs.ImageModel.{stores};
-ghost use Rattle.spp_least.specs.Clauses.{word_of, raised, LeastAsked, LedAsked, LedAnswer, RowOf};
+ghost use Rattle.spp_least.specs.Clauses.{number_of, word, raised, LeastAsked, LedAsked, LedAnswer, RowOf};
 
-use cache::Looked;
-use sp::SP;
-use spp::SPP;
+use sp::{SP, SPview};
+use spp::{SPP, SPPview};
 
 // the code of the packet 0 in the cache
 pub const LEAST: u32 = 2147483648;
@@ -24,36 +24,45 @@ fn half(depth: u32) -> u32
     1u32 << (depth - 1)
 }
 
-// with a bit 1 in front
-fn raise(depth: u32, w: u32) -> u32
-    requires { (1 ≤ depth) × (depth ≤ 31) × (w ≤ 2 ^ (depth - 1)) }
-    ensures { result ≡ raised (2 ^ (depth - 1)) w }
+// a number with a bit 1 in front
+fn raise(depth: u32, rest: Option<u32>) -> Option<u32>
+    requires { (1 ≤ depth) × (depth ≤ 31) × IfSome rest (λ k. k < 2 ^ (depth - 1)) }
+    ensures { result ≡ raised (2 ^ (depth - 1)) rest }
 {
-    let k = half(depth);
-    if w == 0 {
-        return 0;
-    }
-    k + w
+    Some(half(depth) + rest?)
+}
+
+// a slot's word: 0 for no packet, or its number + 1
+fn to_word(packet: Option<u32>) -> u32
+    requires { IfSome packet (λ k. k < 4294967295) }
+    ensures { result ≡ word packet }
+{
+    packet.map_or(0, |k| k + 1)
+}
+
+fn from_word(w: u32) -> Option<u32>
+    ensures { word result ≡ w }
+{
+    w.checked_sub(1)
 }
 
 // the least packet of a set
-pub fn least(nodes: &[u32], count: usize, depth: u32, s: SP) -> u32
-    requires { LeastAsked depth (table nodes.now count) s.0 }
-    ensures { result ≡ word_of (least depth (mem nodes.now depth s.0)) }
+pub fn least(sets: SPview, depth: u32, s: SP) -> Option<u32>
+    requires { LeastAsked depth (Sets.view_of sets) s.0 }
+    ensures { result ≡ number_of (least depth (mem sets.entry.nodes.now depth s.0)) }
 {
     if sp::is_zero(depth, s) {
-        return 0;
+        return None;
     }
     if depth == 0 {
-        return 1;
+        return Some(0);
     }
-    let p = sp::get(nodes, s);
-    let low = least(nodes, count, depth - 1, p.x0);
-    if low != 0 {
+    let p = sp::get(sets.nodes, s);
+    let low = least(sets, depth - 1, p.x0);
+    if low.is_some() {
         return low;
     }
-    let high = least(nodes, count, depth - 1, p.x1);
-    raise(depth, high)
+    raise(depth, least(sets, depth - 1, p.x1))
 }
 
 // where a node leads a packet, by the packet's first bit; and the number of its other bits
@@ -72,83 +81,48 @@ fn row(spp: &[u32], depth: u32, packet: u32, r: SPP) -> Led
     let q = spp::get(spp, r);
     if packet < k {
         return Led {
-            x0: SPP(q.x00.0),
-            x1: SPP(q.x01.0),
+            x0: q.x00,
+            x1: q.x01,
             rest: packet,
         };
     }
     Led {
-        x0: SPP(q.x10.0),
-        x1: SPP(q.x11.0),
+        x0: q.x10,
+        x1: q.x11,
         rest: packet - k,
     }
 }
 
 // the least packet of the set to which the relation leads the packet with that number
 pub fn least_led(
-    spp: &[u32],
-    nodes: &[u32],
+    sets: SPview,
+    spp: SPPview,
     cache: &mut [u32],
-    n: usize,
-    count: usize,
-    fields: u32,
     depth: u32,
     packet: u32,
     s: SP,
     r: SPP,
-) -> u32
-    requires { LedAsked fields depth (stores (table nodes.now count) (table spp.now n)) cache.old packet s.0
-        r.0 }
-    ensures { LedAnswer depth (stores (table nodes.now count) (table spp.now n))
-        cache.old packet s.0 r.0 result cache.new }
+) -> Option<u32>
+    requires { LedAsked spp.fields depth (stores (Sets.view_of sets) (view_of spp)) cache.old packet s.0 r.0 }
+    ensures { LedAnswer depth (stores (Sets.view_of sets.entry) (view_of spp.entry)) cache.old packet s.0 r.0
+        result cache.new }
 {
-    if sp::is_zero(depth, s) {
-        return 0;
-    }
-    let zero = spp::zero_at_depth(depth);
-    if r.0 == zero.0 {
-        return 0;
+    if sp::is_zero(depth, s) || spp::is_zero(depth, r) {
+        return None;
     }
     if depth == 0 {
-        return 1;
+        return Some(0);
     }
-    let looked = cache::look(cache, LEAST + packet, s.0, r.0);
-    match looked {
-        Looked::Hit(w) => w,
-        Looked::Miss => {
-            let p = sp::get(nodes, s);
-            let q = row(spp, depth, packet, r);
-            let low = least_led(
-                spp,
-                nodes,
-                cache,
-                n,
-                count,
-                fields,
-                depth - 1,
-                q.rest,
-                p.x0,
-                q.x0,
-            );
-            if low != 0 {
-                cache::note(cache, LEAST + packet, s.0, r.0, low);
-                return low;
-            }
-            let high = least_led(
-                spp,
-                nodes,
-                cache,
-                n,
-                count,
-                fields,
-                depth - 1,
-                q.rest,
-                p.x1,
-                q.x1,
-            );
-            let w = raise(depth, high);
-            cache::note(cache, LEAST + packet, s.0, r.0, w);
-            w
-        }
+    if let Some(word) = cache::look(cache, LEAST + packet, s.0, r.0) {
+        return from_word(word);
     }
+    let p = sp::get(sets.nodes, s);
+    let q = row(spp.nodes, depth, packet, r);
+    let mut led = least_led(sets, spp, cache, depth - 1, q.rest, p.x0, q.x0);
+    if led.is_none() {
+        let high = least_led(sets, spp, cache, depth - 1, q.rest, p.x1, q.x1);
+        led = raise(depth, high);
+    }
+    cache::note(cache, LEAST + packet, s.0, r.0, to_word(led));
+    led
 }

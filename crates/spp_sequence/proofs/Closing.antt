@@ -5,9 +5,10 @@ use mathlib.Core.List.{List, [], ◌∷◌}
 use Prim.Native.Nat.{ℕ, suc, ◌+◌, ◌*◌, ◌-◌, ◌≤◌, ◌<◌}
 use native.Mathlib.Omega.{arith}
 use lib.ListN.{length}
+use Rattle.std.specs.Prelude.{Result}
 use Rattle.common.specs.Outcome.{Outcome, refused, given, Step, return, after}
 use Rattle.common.proofs.Follow.{given_of}
-use Rattle.common.specs.Runs.{Table, table, StableResult}
+use Rattle.common.specs.Runs.{Table, StableResult}
 use Rattle.cache.specs.Cache.{OnlyCodes, WritesValid, Holds, Exactly}
 use Rattle.cache.proofs.Stage as stage
 use Rattle.cache.proofs.Stage.{Gave, Stage}
@@ -19,7 +20,8 @@ use Rattle.spp_steps.proofs.Star.{star_exact}
 use Rattle.spp.specs.Reuse.{Kept, run}
 use Rattle.spp.proofs.Reuse.{spp_memo, reused, to_note}
 use Rattle.spp.specs.Clauses.{seen, Asked, Noted, Fits}
-use Rattle.spp.specs.declared.Made.{Made}
+use Rattle.spp.specs.declared.SPP.{SPP}
+use Rattle.spp.specs.declared.Full.{Full}
 use Rattle.spp.proofs.Calls.{inside, fits, at_kids, ats_ext, quad_at}
 use Rattle.spp_sequence.specs.Parts.{Pair, through, around}
 use Rattle.spp_sequence.proofs.Parts.{blocks_parts}
@@ -29,7 +31,7 @@ use Rattle.spp_sequence.proofs.Moment.{Moment, start, asks, past, past_sequence,
 
 -- ---- b e, and a with b e c
 
-module _ (N d : ℕ) (X : Quad) (v : ℕ) {σ : Table} {m : List ℕ} (r : Asked N d σ m (X false false ∷ X false true ∷ X true false ∷ v ∷ [])) where
+module _ {N d : ℕ} (X : Quad) {v : ℕ} {σ : Table} {m : List ℕ} (r : Asked N d σ m (X false false ∷ X false true ∷ X true false ∷ v ∷ [])) where
   t3 : ℕ → ℕ → Step Table Pair
   t3 be s = return (record { first = be; second = s })
 
@@ -79,7 +81,7 @@ module _ (N d : ℕ) (X : Quad) (v : ℕ) {σ : Table} {m : List ℕ} (r : Asked
 
 -- ---- the other entries, and the node
 
-module _ (N d c v q x : ℕ) {σ : Table} {m : List ℕ} (r : NodeAsked N d σ m (c ∷ v ∷ q ∷ x ∷ [])) where
+module _ {N d c v q x : ℕ} {σ : Table} {m : List ℕ} (r : NodeAsked N d σ m (c ∷ v ∷ q ∷ x ∷ [])) where
   a5 : ℕ → ℕ → ℕ → Step Table ℕ
   a5 x01 x10 x11 = mk (quad x x01 x10 x11)
 
@@ -152,137 +154,151 @@ module _ (N d c v q x : ℕ) {σ : Table} {m : List ℕ} (r : NodeAsked N d σ m
           unfolding a4
           around_lost_5 e = stage.stuck (spp_memo N) (apply N union d v xq) (a5 x01 x10) around_4.here e
 
-          module _ {t5 m5 : List ℕ} {n5 x11 : ℕ} (g5 : Gave (spp_memo N) (apply N union d v xq) σ4 m4 (table t5 n5) m5 x11) where
-            around_5 : Moment N d (around (sequence N d) (apply N union d) c v q x σ) (a5 x01 x10 x11 (table t5 n5)) σ (table t5 n5) m m5 (x11 ∷ xq ∷ x10 ∷ cx ∷ x01 ∷ c ∷ v ∷ q ∷ x ∷ [])
+          module _ {σ5 : Table} {m5 : List ℕ} {x11 : ℕ} (g5 : Gave (spp_memo N) (apply N union d v xq) σ4 m4 σ5 m5 x11) where
+            around_5 : Moment N d (around (sequence N d) (apply N union d) c v q x σ) (a5 x01 x10 x11 σ5) σ σ5 m m5 (x11 ∷ xq ∷ x10 ∷ cx ∷ x01 ∷ c ∷ v ∷ q ∷ x ∷ [])
             unfolding a4
             around_5 = let a = around_4.at in past_union v xq (a5 x01 x10) around_4 a.1.1.1.1.1.0 a.0 g5
 
-            pub around_fits : Fits t5 n5
+            pub around_fits : Fits σ5.words σ5.count
             around_fits = fits around_5.here.wf
 
-            pub around_made : {o : Outcome Table ℕ} → mk (quad x x01 x10 x11) (table t5 n5) ≡ o → around (sequence N d) (apply N union d) c v q x σ ≡ o
+            pub around_made : {o : Outcome Table ℕ} → mk (quad x x01 x10 x11) σ5 ≡ o → around (sequence N d) (apply N union d) c v q x σ ≡ o
             unfolding a5
             around_made e = around_5.here.left ∙ e
 
-            pub around_ended : (z : Made) (t' : List ℕ) → mk (quad x x01 x10 x11) (table t5 n5) ≡ seen z t' → Noted N m (seen z t') m5
+            pub around_ended : (z : Result SPP Full) (τ : Table) → mk (quad x x01 x10 x11) σ5 ≡ seen z τ → Noted N m (seen z τ) m5
             unfolding a5
-            around_ended = let a = around_5.at in ended (quad x x01 x10 x11) around_5 (quad_at (table t5 n5) d x x01 x10 x11 a.1.1.1.1.1.1.1.1.0 a.1.1.1.1.0 a.1.1.0 a.0) r.low
+            around_ended = let a = around_5.at in ended (quad x x01 x10 x11) around_5 (quad_at σ5 d x x01 x10 x11 a.1.1.1.1.1.1.1.1.0 a.1.1.1.1.0 a.1.1.0 a.0) r.low
 
 -- ---- the turn
 
-module _ (N D x : ℕ) (t m : List ℕ) (n : ℕ) (r : Asked N D (table t n) m (x ∷ [])) (go_on : star_exit N D x ≡ more) where
+module _ {N D x : ℕ} {σ : Table} {m : List ℕ} (r : Asked N D σ m (x ∷ [])) (go_on : star_exit N D x ≡ more) where
+  -- at depth 0 there is an exit
   pub up : D ≡ suc (D - 1)
-  up = star_above N D x (table t n) r.at.0 go_on
+  up = star_above N D x σ r.at.0 go_on
 
-  lower : D - 1 < N
-  lower = omega (arith, r.deep, up)
+  at_x : ValidAt σ (suc (D - 1)) x
+  at_x = subst (λ (k : ℕ). ValidAt σ k x) up r.at.0
 
-  at_x : ValidAt (table t n) (suc (D - 1)) x
-  at_x = subst (λ (k : ℕ). ValidAt (table t n) k x) up r.at.0
-
-  pub in_x : (2 ≤ x) × (4 * x ≤ length t + 4)
+  pub in_x : (2 ≤ x) × (4 * x ≤ length σ.words + 4)
   in_x = inside (D - 1) x r.wf at_x
 
   is_up : (τ : Table) → star N D x τ ≡ star N (suc (D - 1)) x τ
   is_up τ = ap (λ (k : ℕ). star N k x τ) up
 
-  pub hit : {h : ℕ} → Holds m 9 x x h → star N D x (table t n) ≡ given (table t n) h
+  pub hit : {h : ℕ} → Holds m 9 x x h → star N D x σ ≡ given σ h
   unfolding run
-  hit found = is_up (table t n) ∙ reused (D - 1) r.wf at_x (omega arith) (omega arith) r.sound found
+  hit found = is_up σ ∙ reused (D - 1) r.wf at_x (omega arith) (omega arith) r.sound found
 
-  pub noted : {h : ℕ} {τ : Table} {m4 m5 : List ℕ} → Stage (spp_memo N) (star N D x (table t n)) (given τ h) (table t n) τ m m4
+-- no exit: it goes down, to the children A of x
+pub record Down (N D x : ℕ) (σ : Table) (m : List ℕ) (A : Quad) : Type 0 where
+  asked : Asked N D σ m (x ∷ [])
+  go_on : star_exit N D x ≡ more
+  A-is : A ≡ kids σ.words x
+
+pub goes_down : {N D x : ℕ} {σ : Table} {m : List ℕ} {A : Quad} → Asked N D σ m (x ∷ []) → star_exit N D x ≡ more → A ≡ kids σ.words x → Down N D x σ m A
+goes_down r e p = record { asked = r; go_on = e; A-is = p }
+
+module _ {N D x : ℕ} {σ : Table} {m : List ℕ} {A : Quad} (G : Down N D x σ m A) where
+  above : D ≡ suc (D - 1)
+  above = up G.asked G.go_on
+
+  lower : D - 1 < N
+  lower = omega (arith, G.asked.deep, above)
+
+  hs : List ℕ
+  hs = A false false ∷ A false true ∷ A true false ∷ A true true ∷ []
+
+  at_A : (i j : Bool) → ValidAt σ (D - 1) (A i j)
+  at_A = at_kids σ (D - 1) x A G.A-is (at_x G.asked G.go_on)
+
+  b3 : ℕ → Pair → ℕ → Step Table ℕ
+  b3 e p x00 = around (sequence N (D - 1)) (apply N union (D - 1)) (A true false) e p.first x00
+
+  b2 : ℕ → Pair → Step Table ℕ
+  b2 e p τ = after (star N (D - 1) p.second τ) (b3 e p)
+
+  b1 : ℕ → Step Table ℕ
+  b1 e τ = after (through (sequence N (D - 1)) (apply N union (D - 1)) A e τ) (b2 e)
+
+  turn_0 : Moment N (D - 1) (star N D x σ) (after (star N (D - 1) (A true true) σ) b1) σ σ m m hs
+  unfolding hs b1 b2 b3
+  turn_0 = start
+      (record { few = G.asked.few; deep = omega (arith, G.asked.deep); wf = G.asked.wf; at = (at_A false false, (at_A false true, (at_A true false, (at_A true true, tt)))); sound = G.asked.sound })
+      (is_up G.asked G.go_on σ ∙ star_more N (D - 1) x σ (ap (λ (k : ℕ). star_exit N k x) (sym above) ∙ G.go_on)
+      ∙ ap (λ (A : Quad). blocks (star N (D - 1)) (sequence N (D - 1)) (apply N union (D - 1)) A σ) (sym G.A-is)
+      ∙ blocks_parts (sequence N (D - 1)) (apply N union (D - 1)) (star N (D - 1)) A σ)
+
+  pub ready_1 : Asked N (D - 1) σ m (A true true ∷ [])
+  ready_1 = asks turn_0 (A true true ∷ []) (at_A true true, tt)
+
+  pub lost_1 : star N (D - 1) (A true true) σ ≡ refused 21 → star N D x σ ≡ refused 21
+  lost_1 e = stage.stuck (spp_memo N) (star N (D - 1) (A true true)) b1 turn_0.here e
+
+  module _ {σ1 : Table} {m1 : List ℕ} {e : ℕ} (g1 : Gave (spp_memo N) (star N (D - 1) (A true true)) σ m σ1 m1 e) where
+    turn_1 : Moment N (D - 1) (star N D x σ) (b1 e σ1) σ σ1 m m1 (e ∷ hs)
+    turn_1 = past (star N (D - 1) (A true true)) b1 turn_0 (star_can N (D - 1) turn_0.deep (A true true) (at_A true true) σ (ext_refl σ) G.asked.wf) g1
+
+    pub ready_2 : Asked N (D - 1) σ1 m1 (A false false ∷ A false true ∷ A true false ∷ e ∷ [])
+    unfolding hs
+    ready_2 = let a = turn_1.at in asks turn_1 (A false false ∷ A false true ∷ A true false ∷ e ∷ []) (a.1.0, (a.1.1.0, (a.1.1.1.0, (a.0, tt))))
+
+    pub lost_2 : through (sequence N (D - 1)) (apply N union (D - 1)) A e σ1 ≡ refused 21 → star N D x σ ≡ refused 21
+    unfolding b1
+    lost_2 z = stage.stuck (spp_memo N) (through (sequence N (D - 1)) (apply N union (D - 1)) A e) (b2 e) turn_1.here z
+
+    module _ {σ2 : Table} {m2 : List ℕ} {p : Pair} (g2 : Gave (spp_memo N) (through (sequence N (D - 1)) (apply N union (D - 1)) A e) σ1 m1 σ2 m2 p) where
+      at_1 : (i j : Bool) → ValidAt σ1 (D - 1) (A i j)
+      at_1 i j = at_ext turn_1.here.ext (D - 1) (A i j) (at_A i j)
+
+      run_2 : StableResult (spp_theory N) (through (sequence N (D - 1)) (apply N union (D - 1)) A e) (λ τ p. ValidAt τ (D - 1) p.first × ValidAt τ (D - 1) p.second) σ1 σ2 p
+      run_2 = given_of (through_can N (D - 1) turn_0.deep σ1 A e at_1 turn_1.at.0 turn_1.here.wf) g2.is
+
+      turn_2 : Moment N (D - 1) (star N D x σ) (b2 e p σ2) σ σ2 m m2 (p.first ∷ p.second ∷ e ∷ hs)
+      unfolding b1
+      turn_2 = record {
+        few = G.asked.few;
+        deep = turn_0.deep;
+        here = stage.next (spp_memo N) (through (sequence N (D - 1)) (apply N union (D - 1)) A e) (b2 e) turn_1.here
+            (through_can N (D - 1) turn_0.deep σ1 A e at_1 turn_1.at.0 turn_1.here.wf) g2;
+        at = (run_2.holds.0, (run_2.holds.1, ats_ext (D - 1) (e ∷ hs) run_2.ext turn_1.at));
+      }
+
+      pub ready_3 : Asked N (D - 1) σ2 m2 (p.second ∷ [])
+      ready_3 = asks turn_2 (p.second ∷ []) (turn_2.at.1.0, tt)
+
+      pub lost_3 : star N (D - 1) p.second σ2 ≡ refused 21 → star N D x σ ≡ refused 21
+      unfolding b2
+      lost_3 z = stage.stuck (spp_memo N) (star N (D - 1) p.second) (b3 e p) turn_2.here z
+
+      module _ {σ3 : Table} {m3 : List ℕ} {x00 : ℕ} (g3 : Gave (spp_memo N) (star N (D - 1) p.second) σ2 m2 σ3 m3 x00) where
+        turn_3 : Moment N (D - 1) (star N D x σ) (b3 e p x00 σ3) σ σ3 m m3 (x00 ∷ p.first ∷ p.second ∷ e ∷ hs)
+        unfolding b2
+        turn_3 = past (star N (D - 1) p.second) (b3 e p) turn_2 (star_can N (D - 1) turn_0.deep p.second turn_2.at.1.0 σ2 (ext_refl σ2) turn_2.here.wf) g3
+
+        pub ready_4 : NodeAsked N (D - 1) σ3 m3 (A true false ∷ e ∷ p.first ∷ x00 ∷ [])
+        unfolding hs
+        ready_4 =
+            let a = turn_3.at in
+            record { asked = asks turn_3 (A true false ∷ e ∷ p.first ∷ x00 ∷ []) (a.1.1.1.1.1.1.0, (a.1.1.1.0, (a.1.0, (a.0, tt)))); low = lower }
+
+        pub lost_4 : around (sequence N (D - 1)) (apply N union (D - 1)) (A true false) e p.first x00 σ3 ≡ refused 21 → star N D x σ ≡ refused 21
+        unfolding b3
+        lost_4 z = turn_3.here.left ∙ z
+
+        pub made : {σ4 : Table} {m4 : List ℕ} {h : ℕ} → Gave (spp_memo N) (around (sequence N (D - 1)) (apply N union (D - 1)) (A true false) e p.first x00) σ3 m3 σ4 m4 h
+            → Stage (spp_memo N) (star N D x σ) (given σ4 h) σ σ4 m m4
+        unfolding b3 hs
+        made g4 =
+            let a = turn_3.at in
+            stage.finish (spp_memo N) (around (sequence N (D - 1)) (apply N union (D - 1)) (A true false) e p.first x00) turn_3.here
+            (around_can N (D - 1) turn_0.deep σ3 (A true false) e p.first x00 a.1.1.1.1.1.1.0 a.1.1.1.0 a.1.0 a.0 lower turn_3.here.wf) g4
+
+  -- what was made may be noted
+  pub noted : {h : ℕ} {τ : Table} {m4 m5 : List ℕ} → Stage (spp_memo N) (star N D x σ) (given τ h) σ τ m m4
       → WritesValid (Exactly 9 x x h) m4 m5 → WritesValid (OnlyCodes 3 9 (Kept N τ)) m m5
   unfolding run
-  noted {h} {τ} s k = stage.noted (spp_memo N) s k (to_note (D - 1) (omega arith) (omega arith) (at_ext whole.ext (suc (D - 1)) x at_x) (λ υ e w. sym (is_up υ) ∙ whole.stable υ e w))
+  noted {h} {τ} s k = stage.noted (spp_memo N) s k (to_note (D - 1) (omega arith) (omega arith) (at_ext whole.ext (suc (D - 1)) x (at_x G.asked G.go_on)) (λ υ e w. sym (is_up G.asked G.go_on υ) ∙ whole.stable υ e w))
     where
-      whole : StableResult (spp_theory N) (star N D x) (λ τ h. Denotes τ D h (closure (mem t D x))) (table t n) τ h
-      whole = given_of (star_exact N D r.deep (table t n) x _ r.wf (den_mem r.at.0)).runs s.left
-
-  module _ (A : Quad) (A-is : A ≡ kids t x) where
-    hs : List ℕ
-    hs = A false false ∷ A false true ∷ A true false ∷ A true true ∷ []
-
-    at_A : (i j : Bool) → ValidAt (table t n) (D - 1) (A i j)
-    at_A = at_kids (table t n) (D - 1) x A A-is at_x
-
-    b3 : ℕ → Pair → ℕ → Step Table ℕ
-    b3 e p x00 = around (sequence N (D - 1)) (apply N union (D - 1)) (A true false) e p.first x00
-
-    b2 : ℕ → Pair → Step Table ℕ
-    b2 e p τ = after (star N (D - 1) p.second τ) (b3 e p)
-
-    b1 : ℕ → Step Table ℕ
-    b1 e τ = after (through (sequence N (D - 1)) (apply N union (D - 1)) A e τ) (b2 e)
-
-    turn_0 : Moment N (D - 1) (star N D x (table t n)) (after (star N (D - 1) (A true true) (table t n)) b1) (table t n) (table t n) m m hs
-    unfolding hs b1 b2 b3
-    turn_0 = start
-        (record { few = r.few; deep = omega (arith, r.deep); wf = r.wf; at = (at_A false false, (at_A false true, (at_A true false, (at_A true true, tt)))); sound = r.sound })
-        (is_up (table t n) ∙ star_more N (D - 1) x (table t n) (ap (λ (k : ℕ). star_exit N k x) (sym up) ∙ go_on)
-        ∙ ap (λ (A : Quad). blocks (star N (D - 1)) (sequence N (D - 1)) (apply N union (D - 1)) A (table t n)) (sym A-is)
-        ∙ blocks_parts (sequence N (D - 1)) (apply N union (D - 1)) (star N (D - 1)) A (table t n))
-
-    pub ready_1 : Asked N (D - 1) (table t n) m (A true true ∷ [])
-    ready_1 = asks turn_0 (A true true ∷ []) (at_A true true, tt)
-
-    pub lost_1 : star N (D - 1) (A true true) (table t n) ≡ refused 21 → star N D x (table t n) ≡ refused 21
-    lost_1 e = stage.stuck (spp_memo N) (star N (D - 1) (A true true)) b1 turn_0.here e
-
-    module _ {σ1 : Table} {m1 : List ℕ} {e : ℕ} (g1 : Gave (spp_memo N) (star N (D - 1) (A true true)) (table t n) m σ1 m1 e) where
-      turn_1 : Moment N (D - 1) (star N D x (table t n)) (b1 e σ1) (table t n) σ1 m m1 (e ∷ hs)
-      turn_1 = past (star N (D - 1) (A true true)) b1 turn_0 (star_can N (D - 1) turn_0.deep (A true true) (at_A true true) (table t n) (ext_refl (table t n)) r.wf) g1
-
-      pub ready_2 : Asked N (D - 1) σ1 m1 (A false false ∷ A false true ∷ A true false ∷ e ∷ [])
-      unfolding hs
-      ready_2 = let a = turn_1.at in asks turn_1 (A false false ∷ A false true ∷ A true false ∷ e ∷ []) (a.1.0, (a.1.1.0, (a.1.1.1.0, (a.0, tt))))
-
-      pub lost_2 : through (sequence N (D - 1)) (apply N union (D - 1)) A e σ1 ≡ refused 21 → star N D x (table t n) ≡ refused 21
-      unfolding b1
-      lost_2 z = stage.stuck (spp_memo N) (through (sequence N (D - 1)) (apply N union (D - 1)) A e) (b2 e) turn_1.here z
-
-      module _ {σ2 : Table} {m2 : List ℕ} {p : Pair} (g2 : Gave (spp_memo N) (through (sequence N (D - 1)) (apply N union (D - 1)) A e) σ1 m1 σ2 m2 p) where
-        at_1 : (i j : Bool) → ValidAt σ1 (D - 1) (A i j)
-        at_1 i j = at_ext turn_1.here.ext (D - 1) (A i j) (at_A i j)
-
-        run_2 : StableResult (spp_theory N) (through (sequence N (D - 1)) (apply N union (D - 1)) A e) (λ τ p. ValidAt τ (D - 1) p.first × ValidAt τ (D - 1) p.second) σ1 σ2 p
-        run_2 = given_of (through_can N (D - 1) turn_0.deep σ1 A e at_1 turn_1.at.0 turn_1.here.wf) g2.is
-
-        turn_2 : Moment N (D - 1) (star N D x (table t n)) (b2 e p σ2) (table t n) σ2 m m2 (p.first ∷ p.second ∷ e ∷ hs)
-        unfolding b1
-        turn_2 = record {
-          few = r.few;
-          deep = turn_0.deep;
-          here = stage.next (spp_memo N) (through (sequence N (D - 1)) (apply N union (D - 1)) A e) (b2 e) turn_1.here
-              (through_can N (D - 1) turn_0.deep σ1 A e at_1 turn_1.at.0 turn_1.here.wf) g2;
-          at = (run_2.holds.0, (run_2.holds.1, ats_ext (D - 1) (e ∷ hs) run_2.ext turn_1.at));
-        }
-
-        pub ready_3 : Asked N (D - 1) σ2 m2 (p.second ∷ [])
-        ready_3 = asks turn_2 (p.second ∷ []) (turn_2.at.1.0, tt)
-
-        pub lost_3 : star N (D - 1) p.second σ2 ≡ refused 21 → star N D x (table t n) ≡ refused 21
-        unfolding b2
-        lost_3 z = stage.stuck (spp_memo N) (star N (D - 1) p.second) (b3 e p) turn_2.here z
-
-        module _ {σ3 : Table} {m3 : List ℕ} {x00 : ℕ} (g3 : Gave (spp_memo N) (star N (D - 1) p.second) σ2 m2 σ3 m3 x00) where
-          turn_3 : Moment N (D - 1) (star N D x (table t n)) (b3 e p x00 σ3) (table t n) σ3 m m3 (x00 ∷ p.first ∷ p.second ∷ e ∷ hs)
-          unfolding b2
-          turn_3 = past (star N (D - 1) p.second) (b3 e p) turn_2 (star_can N (D - 1) turn_0.deep p.second turn_2.at.1.0 σ2 (ext_refl σ2) turn_2.here.wf) g3
-
-          pub ready_4 : NodeAsked N (D - 1) σ3 m3 (A true false ∷ e ∷ p.first ∷ x00 ∷ [])
-          unfolding hs
-          ready_4 =
-              let a = turn_3.at in
-              record { asked = asks turn_3 (A true false ∷ e ∷ p.first ∷ x00 ∷ []) (a.1.1.1.1.1.1.0, (a.1.1.1.0, (a.1.0, (a.0, tt)))); low = lower }
-
-          pub lost_4 : around (sequence N (D - 1)) (apply N union (D - 1)) (A true false) e p.first x00 σ3 ≡ refused 21 → star N D x (table t n) ≡ refused 21
-          unfolding b3
-          lost_4 z = turn_3.here.left ∙ z
-
-          pub made : {σ4 : Table} {m4 : List ℕ} {h : ℕ} → Gave (spp_memo N) (around (sequence N (D - 1)) (apply N union (D - 1)) (A true false) e p.first x00) σ3 m3 σ4 m4 h
-              → Stage (spp_memo N) (star N D x (table t n)) (given σ4 h) (table t n) σ4 m m4
-          unfolding b3 hs
-          made g4 =
-              let a = turn_3.at in
-              stage.finish (spp_memo N) (around (sequence N (D - 1)) (apply N union (D - 1)) (A true false) e p.first x00) turn_3.here
-              (around_can N (D - 1) turn_0.deep σ3 (A true false) e p.first x00 a.1.1.1.1.1.1.0 a.1.1.1.0 a.1.0 a.0 lower turn_3.here.wf) g4
+      whole : StableResult (spp_theory N) (star N D x) (λ τ h. Denotes τ D h (closure (mem σ.words D x))) σ τ h
+      whole = given_of (star_exact N D G.asked.deep σ x _ G.asked.wf (den_mem G.asked.at.0)).runs s.left

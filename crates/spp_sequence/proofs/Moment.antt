@@ -1,9 +1,10 @@
 -- A run of calls, each on what was given before: where it has come, and the handles that it has there.
-use mathlib.Core.Path.{◌≡◌, ◌∙◌}
+use mathlib.Core.Path.{◌≡◌}
 use mathlib.Core.Bool.{Bool}
-use mathlib.Core.List.{List, [], ◌∷◌}
-use Prim.Native.Nat.{ℕ, suc, ◌≤◌, ◌<◌}
-use Rattle.common.specs.Outcome.{Outcome, given, Step, after}
+use mathlib.Core.List.{List, ◌∷◌}
+use Prim.Native.Nat.{ℕ, ◌≤◌, ◌<◌}
+use Rattle.std.specs.Prelude.{Result, Ok, Err}
+use Rattle.common.specs.Outcome.{Outcome, Step, after}
 use Rattle.common.proofs.Follow.{given_of}
 use Rattle.common.specs.Runs.{Table}
 use Rattle.common.proofs.Runs.{StableSpec}
@@ -14,8 +15,8 @@ use Rattle.spp_steps.specs.Wf.{ValidAt}
 use Rattle.spp_steps.proofs.Laws.{spp_theory, ext_refl}
 use Rattle.spp.proofs.Reuse.{spp_memo}
 use Rattle.spp.specs.Clauses.{seen, Asked, AllValidAt, Noted}
-use Rattle.spp.specs.declared.Made.{Made}
-use Rattle.spp.specs.declared.Made.TheVariants.{Node, Full}
+use Rattle.spp.specs.declared.SPP.{SPP}
+use Rattle.spp.specs.declared.Full.{Full}
 use Rattle.spp.proofs.Calls.{gave_alone, ats_ext, apply_can, mk_can}
 use Rattle.spp_sequence.proofs.Calls.{sequence_can}
 
@@ -51,6 +52,6 @@ module _ {A : Type 0} {N d : ℕ} {c : Outcome Table A} {σ : Table} {m hs : Lis
 
 -- a node is the answer
 pub ended : {N d : ℕ} {c : Outcome Table ℕ} {σ σ' : Table} {m m' hs : List ℕ} (X : Quad) → Moment N d c (mk X σ') σ σ' m m' hs → ((i j : Bool) → ValidAt σ' d (X i j)) → d < N
-    → (r : Made) (t' : List ℕ) → mk X σ' ≡ seen r t' → Noted N m (seen r t') m'
-ended {N} {d} X M a l (Node h n) t' q = (stage.finish (spp_memo N) (mk X) M.here (mk_can d X l M.here.wf a) (gave_alone q)).notes
-ended X M a l Full t' q = tt
+    → (r : Result SPP Full) (τ : Table) → mk X σ' ≡ seen r τ → Noted N m (seen r τ) m'
+ended {N} {d} X M a l (Ok h) τ q = (stage.finish (spp_memo N) (mk X) M.here (mk_can d X l M.here.wf a) (gave_alone q)).notes
+ended X M a l (Err e) τ q = tt

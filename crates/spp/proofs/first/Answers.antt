@@ -1,11 +1,6 @@
 use Rattle.spp.specs.Clauses.{quad_of}
-use Rattle.spp.proofs.Scan as scan
+use Rattle.spp.proofs.Scan.{first_is}
 use Rattle.spp.proofs.first.Goals as goal
 
-pub returns-then-high-lt2 : goal.returns-then-high-lt2
-returns-then-high-lt2 c =
-    scan.first_zero (quad_of c.args.x) _ _ _ c.larger-a.ensures c.larger-b.ensures c.larger-high.ensures c.if-high-lt2.true
-
 pub returns : goal.returns
-returns c =
-    scan.first_above (quad_of c.args.x) _ _ _ c.larger-a.ensures c.larger-b.ensures c.larger-high.ensures c.if-high-lt2.false
+returns c = first_is (quad_of c.args.x) c.max-a.ensures c.max-b.ensures c.max.ensures c.saturating_sub.ensures

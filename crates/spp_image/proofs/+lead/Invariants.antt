@@ -1,4 +1,3 @@
-use Prim.Native.Nat.{◌-◌}
 use Rattle.spp_image.proofs.+lead.Given as goal
 
 abbrev pub decreases-lead : goal.decreases-lead

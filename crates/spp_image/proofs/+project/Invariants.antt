@@ -1,4 +1,3 @@
-use Prim.Native.Nat.{◌-◌}
 use Rattle.spp_image.proofs.+project.Given as goal
 
 abbrev pub decreases-project : goal.decreases-project

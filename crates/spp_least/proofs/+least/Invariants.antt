@@ -1,4 +1,3 @@
-use Prim.Native.Nat.{◌-◌}
 use Rattle.spp_least.proofs.+least.Given as goal
 
 abbrev pub decreases-least : goal.decreases-least

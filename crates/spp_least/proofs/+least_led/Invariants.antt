@@ -1,4 +1,3 @@
-use Prim.Native.Nat.{◌-◌}
 use Rattle.spp_least.proofs.+least_led.Given as goal
 
 abbrev pub decreases-least_led : goal.decreases-least_led

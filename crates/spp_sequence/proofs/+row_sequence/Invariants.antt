@@ -1,4 +1,4 @@
-use Prim.Native.Nat.{◌+◌, ◌*◌, ◌-◌}
+use Prim.Native.Nat.{◌+◌, ◌*◌}
 use Rattle.spp_sequence.proofs.+row_sequence.Given as goal
 
 abbrev pub decreases-row : goal.decreases-row

@@ -1,164 +1,85 @@
-use mathlib.Core.Path.{◌≡◌, ◌∙◌, ap, subst}
+use mathlib.Core.Path.{◌≡◌, refl, ◌∙◌}
 use native.Mathlib.Omega.{arith}
-use Prim.Native.Nat.{suc, ◌-◌}
-use Rattle.cache.specs.Cache.{Found}
+use Prim.Native.Nat.{ℕ, suc, ◌-◌, ◌<◌}
 use Rattle.cache.proofs.Cache.{notes_refl}
-use Rattle.spp.specs.Clauses.{quad_of}
-use Rattle.spp.proofs.Calls.{gave, lost, gave_of, lost_of}
-use Rattle.spp_sequence.specs.Clauses.{early_of, seen_two}
-use Rattle.spp_sequence.proofs.Calls.{star_done}
+use Rattle.spp.proofs.Calls.{stopped, asked_for}
+use Rattle.spp_sequence.proofs.Calls.{star_done, star_gave, star_lost, through_gave, through_lost, around_gave, around_lost, node_asked_for}
 use Rattle.spp_sequence.proofs.Closing as closing
-use Prim.Native.Nat.{ℕ, ◌<◌}
 use Rattle.spp_sequence.proofs.+star.Goals as goal
 
 less : (d t : ℕ) → d ≡ suc (d - 1) → d ≡ t → d - 1 < t
 less d t h e = omega arith
 
-pub star_exit-early-requires : goal.star_exit-early-requires
-star_exit-early-requires t c = (c.requires.few, omega (arith, c.requires.few, c.requires.deep))
+pub returns-in-Some-clause-answer : goal.returns-in-Some-clause-answer
+returns-in-Some-clause-answer t c = record { gives = star_done c.args.store.now.fields c.args.depth c.args.x.0 _ _ c.in-Some.ensures; notes = notes_refl }
 
-pub returns-in-Done : goal.returns-in-Done
-returns-in-Done t c =
-    record {
-      gives = star_done c.args.fields c.args.depth c.args.x.0 _ _ (c.star_exit-early.ensures ∙ ap early_of c.in-Done.is);
-      notes = notes_refl;
-    }
-
-pub returns-in-Hit : goal.returns-in-Hit
-returns-in-Hit t c =
-    record {
-      gives = closing.hit c.args.fields c.args.depth c.args.x.0 c.args.nodes.now c.args.cache.now c.args.count c.requires (c.star_exit-early.ensures ∙ ap early_of c.in_default.is) (subst (Found c.args.cache.now 9 _ _) c.in-Hit.is c.look-looked.ensures);
-      notes = notes_refl;
-    }
+pub returns-in-Some-look-clause-answer : goal.returns-in-Some-look-clause-answer
+returns-in-Some-look-clause-answer t c = record { gives = closing.hit c.requires c.in_default.ensures c.in-Some-look.ensures; notes = notes_refl }
 
 pub get-p-requires : goal.get-p-requires
-get-p-requires t c =
-    closing.in_x c.args.fields c.args.depth c.args.x.0 c.args.nodes.now c.args.cache.now c.args.count c.requires (c.star_exit-early.ensures ∙ ap early_of c.in_default.is)
+get-p-requires t c = closing.in_x c.requires c.in_default.ensures
 
-pub overflow_sub-depth : goal.overflow_sub-depth
-overflow_sub-depth t c =
-    omega (arith, closing.up c.args.fields c.args.depth c.args.x.0 c.args.nodes.now c.args.cache.now c.args.count c.requires (c.star_exit-early.ensures ∙ ap early_of c.in_default.is))
+pub overflow_sub-below : goal.overflow_sub-below
+overflow_sub-below t c = omega (arith, closing.up c.requires c.in_default.ensures)
 
 pub star-requires : goal.star-requires
-star-requires t c = (
-  less c.args.depth t (closing.up c.args.fields c.args.depth c.args.x.0 c.args.nodes.now c.args.cache.now c.args.count c.requires (c.star_exit-early.ensures ∙ ap early_of c.in_default.is)) c.decreases,
-  closing.ready_1 c.args.fields c.args.depth c.args.x.0 c.args.nodes.now c.args.cache.now c.args.count c.requires (c.star_exit-early.ensures ∙ ap early_of c.in_default.is)
-      (quad_of c.get-p.result) c.get-p.ensures,
-)
+star-requires t c =
+    let q = closing.goes_down c.requires c.in_default.ensures c.get-p.ensures in
+    (less c.args.depth t (closing.up c.requires c.in_default.ensures) c.decreases, closing.ready_1 q)
 
-pub shape_of-nodes-in_default-star : goal.shape_of-nodes-in_default-star
-shape_of-nodes-in_default-star t c = c.star.auto.nodes
-
-pub shape_of-cache-in_default-star : goal.shape_of-cache-in_default-star
-shape_of-cache-in_default-star t c = c.star.auto.cache
-
-pub returns-in_default-star : goal.returns-in_default-star
-returns-in_default-star t c =
-    record {
-      gives = closing.lost_1 c.args.fields c.args.depth c.args.x.0 c.args.nodes.now c.args.cache.now c.args.count c.requires (c.star_exit-early.ensures ∙ ap early_of c.in_default.is)
-          (quad_of c.get-p.result) c.get-p.ensures
-          (lost c.star.ensures c.in_default-star.is);
-      notes = tt;
-    }
-
-pub overflow_sub-depth-2 : goal.overflow_sub-depth-2
-overflow_sub-depth-2 t c =
-    omega (arith, closing.up c.args.fields c.args.depth c.args.x.0 c.args.nodes.now c.args.cache.now c.args.count c.requires (c.star_exit-early.ensures ∙ ap early_of c.in_default.is))
+pub returns-in_err-e-clause-answer : goal.returns-in_err-e-clause-answer
+returns-in_err-e-clause-answer t c =
+    let q = closing.goes_down c.requires c.in_default.ensures c.get-p.ensures in
+    stopped c.from_residual.ensures.0 (closing.lost_1 q (star_lost _ refl _ c.in_err-e.ensures.answer))
 
 pub through-requires : goal.through-requires
 through-requires t c =
-    closing.ready_2 c.args.fields c.args.depth c.args.x.0 c.args.nodes.now c.args.cache.now c.args.count c.requires (c.star_exit-early.ensures ∙ ap early_of c.in_default.is)
-    (quad_of c.get-p.result) c.get-p.ensures
-    (gave c.star.ensures c.in-Node.is)
+    let q = closing.goes_down c.requires c.in_default.ensures c.get-p.ensures in
+    let g1 = star_gave _ refl _ c.in_ok-e.ensures.answer in
+    asked_for c.star.ensures.same_store.fields (closing.ready_2 q g1)
 
-pub shape_of-nodes-in_default-through : goal.shape_of-nodes-in_default-through
-shape_of-nodes-in_default-through t c = c.through.auto.nodes ∙ c.star.auto.nodes
-
-pub shape_of-cache-in_default-through : goal.shape_of-cache-in_default-through
-shape_of-cache-in_default-through t c = c.through.auto.cache ∙ c.star.auto.cache
-
-pub returns-in_default-through : goal.returns-in_default-through
-returns-in_default-through t c =
-    record {
-      gives = closing.lost_2 c.args.fields c.args.depth c.args.x.0 c.args.nodes.now c.args.cache.now c.args.count c.requires (c.star_exit-early.ensures ∙ ap early_of c.in_default.is)
-          (quad_of c.get-p.result) c.get-p.ensures
-          (gave c.star.ensures c.in-Node.is)
-          (lost_of c.through.ensures (ap (λ r. seen_two r c.through.new.nodes) c.in_default-through.is));
-      notes = tt;
-    }
-
-pub overflow_sub-depth-3 : goal.overflow_sub-depth-3
-overflow_sub-depth-3 t c =
-    omega (arith, closing.up c.args.fields c.args.depth c.args.x.0 c.args.nodes.now c.args.cache.now c.args.count c.requires (c.star_exit-early.ensures ∙ ap early_of c.in_default.is))
+pub returns-in_err-be-clause-answer : goal.returns-in_err-be-clause-answer
+returns-in_err-be-clause-answer t c =
+    let q = closing.goes_down c.requires c.in_default.ensures c.get-p.ensures in
+    let g1 = star_gave _ refl _ c.in_ok-e.ensures.answer in
+    stopped c.from_residual-in_err-be.ensures.0 (closing.lost_2 q g1 (through_lost _ c.star.ensures.same_store.fields _ _ c.in_err-be.ensures.answer))
 
 pub star-requires-2 : goal.star-requires-2
-star-requires-2 t c = (
-  less c.args.depth t (closing.up c.args.fields c.args.depth c.args.x.0 c.args.nodes.now c.args.cache.now c.args.count c.requires (c.star_exit-early.ensures ∙ ap early_of c.in_default.is)) c.decreases,
-  closing.ready_3 c.args.fields c.args.depth c.args.x.0 c.args.nodes.now c.args.cache.now c.args.count c.requires (c.star_exit-early.ensures ∙ ap early_of c.in_default.is)
-      (quad_of c.get-p.result) c.get-p.ensures
-      (gave c.star.ensures c.in-Node.is)
-      (gave_of c.through.ensures (ap (λ r. seen_two r c.through.new.nodes) c.in-Both.is)),
-)
+star-requires-2 t c =
+    let q = closing.goes_down c.requires c.in_default.ensures c.get-p.ensures in
+    let g1 = star_gave _ refl _ c.in_ok-e.ensures.answer in
+    let g2 = through_gave _ c.star.ensures.same_store.fields _ _ c.in_ok-be.ensures.answer in
+    (less c.args.depth t (closing.up c.requires c.in_default.ensures) c.decreases, asked_for (c.through.ensures.same_store.fields ∙ c.star.ensures.same_store.fields) (closing.ready_3 q g1 g2))
 
-pub shape_of-nodes-in_default-star-2 : goal.shape_of-nodes-in_default-star-2
-shape_of-nodes-in_default-star-2 t c = c.star-2.auto.nodes ∙ c.through.auto.nodes ∙ c.star.auto.nodes
-
-pub shape_of-cache-in_default-star-2 : goal.shape_of-cache-in_default-star-2
-shape_of-cache-in_default-star-2 t c = c.star-2.auto.cache ∙ c.through.auto.cache ∙ c.star.auto.cache
-
-pub returns-in_default-star-2 : goal.returns-in_default-star-2
-returns-in_default-star-2 t c =
-    record {
-      gives = closing.lost_3 c.args.fields c.args.depth c.args.x.0 c.args.nodes.now c.args.cache.now c.args.count c.requires (c.star_exit-early.ensures ∙ ap early_of c.in_default.is)
-          (quad_of c.get-p.result) c.get-p.ensures
-          (gave c.star.ensures c.in-Node.is)
-          (gave_of c.through.ensures (ap (λ r. seen_two r c.through.new.nodes) c.in-Both.is))
-          (lost c.star-2.ensures c.in_default-star-2.is);
-      notes = tt;
-    }
-
-pub overflow_sub-depth-4 : goal.overflow_sub-depth-4
-overflow_sub-depth-4 t c =
-    omega (arith, closing.up c.args.fields c.args.depth c.args.x.0 c.args.nodes.now c.args.cache.now c.args.count c.requires (c.star_exit-early.ensures ∙ ap early_of c.in_default.is))
+pub returns-in_err-x00-clause-answer : goal.returns-in_err-x00-clause-answer
+returns-in_err-x00-clause-answer t c =
+    let q = closing.goes_down c.requires c.in_default.ensures c.get-p.ensures in
+    let g1 = star_gave _ refl _ c.in_ok-e.ensures.answer in
+    let g2 = through_gave _ c.star.ensures.same_store.fields _ _ c.in_ok-be.ensures.answer in
+    stopped c.from_residual-in_err-x00.ensures.0 (closing.lost_3 q g1 g2 (star_lost _ (c.through.ensures.same_store.fields ∙ c.star.ensures.same_store.fields) _ c.in_err-x00.ensures.answer))
 
 pub around-requires : goal.around-requires
 around-requires t c =
-    closing.ready_4 c.args.fields c.args.depth c.args.x.0 c.args.nodes.now c.args.cache.now c.args.count c.requires (c.star_exit-early.ensures ∙ ap early_of c.in_default.is)
-    (quad_of c.get-p.result) c.get-p.ensures
-    (gave c.star.ensures c.in-Node.is)
-    (gave_of c.through.ensures (ap (λ r. seen_two r c.through.new.nodes) c.in-Both.is))
-    (gave c.star-2.ensures c.in-Node-star.is)
+    let q = closing.goes_down c.requires c.in_default.ensures c.get-p.ensures in
+    let g1 = star_gave _ refl _ c.in_ok-e.ensures.answer in
+    let g2 = through_gave _ c.star.ensures.same_store.fields _ _ c.in_ok-be.ensures.answer in
+    let g3 = star_gave _ (c.through.ensures.same_store.fields ∙ c.star.ensures.same_store.fields) _ c.in_ok-x00.ensures.answer in
+    node_asked_for (c.star-2.ensures.same_store.fields ∙ c.through.ensures.same_store.fields ∙ c.star.ensures.same_store.fields) (closing.ready_4 q g1 g2 g3)
 
-pub shape_of-nodes-in_default-around : goal.shape_of-nodes-in_default-around
-shape_of-nodes-in_default-around t c = c.around.auto.nodes ∙ c.star-2.auto.nodes ∙ c.through.auto.nodes ∙ c.star.auto.nodes
+pub returns-in_err-h-clause-answer : goal.returns-in_err-h-clause-answer
+returns-in_err-h-clause-answer t c =
+    let q = closing.goes_down c.requires c.in_default.ensures c.get-p.ensures in
+    let g1 = star_gave _ refl _ c.in_ok-e.ensures.answer in
+    let g2 = through_gave _ c.star.ensures.same_store.fields _ _ c.in_ok-be.ensures.answer in
+    let g3 = star_gave _ (c.through.ensures.same_store.fields ∙ c.star.ensures.same_store.fields) _ c.in_ok-x00.ensures.answer in
+    stopped c.from_residual-in_err-h.ensures.0 (closing.lost_4 q g1 g2 g3 (around_lost _ (c.star-2.ensures.same_store.fields ∙ c.through.ensures.same_store.fields ∙ c.star.ensures.same_store.fields) _ _ _ _ c.in_err-h.ensures.answer))
 
-pub shape_of-cache-in_default-around : goal.shape_of-cache-in_default-around
-shape_of-cache-in_default-around t c = c.around.auto.cache ∙ c.star-2.auto.cache ∙ c.through.auto.cache ∙ c.star.auto.cache
-
-pub returns-in_default-around : goal.returns-in_default-around
-returns-in_default-around t c =
-    record {
-      gives = closing.lost_4 c.args.fields c.args.depth c.args.x.0 c.args.nodes.now c.args.cache.now c.args.count c.requires (c.star_exit-early.ensures ∙ ap early_of c.in_default.is)
-          (quad_of c.get-p.result) c.get-p.ensures
-          (gave c.star.ensures c.in-Node.is)
-          (gave_of c.through.ensures (ap (λ r. seen_two r c.through.new.nodes) c.in-Both.is))
-          (gave c.star-2.ensures c.in-Node-star.is)
-          (lost c.around.ensures c.in_default-around.is);
-      notes = tt;
-    }
-
-pub shape_of-nodes : goal.shape_of-nodes
-shape_of-nodes t c = c.around.auto.nodes ∙ c.star-2.auto.nodes ∙ c.through.auto.nodes ∙ c.star.auto.nodes
-
-pub shape_of-cache : goal.shape_of-cache
-shape_of-cache t c = c.note.auto.cache ∙ c.around.auto.cache ∙ c.star-2.auto.cache ∙ c.through.auto.cache ∙ c.star.auto.cache
-
-pub returns : goal.returns
-returns t c =
-    let s = closing.made c.args.fields c.args.depth c.args.x.0 c.args.nodes.now c.args.cache.now c.args.count c.requires (c.star_exit-early.ensures ∙ ap early_of c.in_default.is)
-    (quad_of c.get-p.result) c.get-p.ensures
-    (gave c.star.ensures c.in-Node.is)
-    (gave_of c.through.ensures (ap (λ r. seen_two r c.through.new.nodes) c.in-Both.is))
-    (gave c.star-2.ensures c.in-Node-star.is)
-    (gave c.around.ensures c.in-Node-around.is) in
-    record { gives = s.left; notes = closing.noted c.args.fields c.args.depth c.args.x.0 c.args.nodes.now c.args.cache.now c.args.count c.requires (c.star_exit-early.ensures ∙ ap early_of c.in_default.is) s c.note.ensures }
+pub returns-clause-answer : goal.returns-clause-answer
+returns-clause-answer t c =
+    let q = closing.goes_down c.requires c.in_default.ensures c.get-p.ensures in
+    let g1 = star_gave _ refl _ c.in_ok-e.ensures.answer in
+    let g2 = through_gave _ c.star.ensures.same_store.fields _ _ c.in_ok-be.ensures.answer in
+    let g3 = star_gave _ (c.through.ensures.same_store.fields ∙ c.star.ensures.same_store.fields) _ c.in_ok-x00.ensures.answer in
+    let g4 = around_gave _ (c.star-2.ensures.same_store.fields ∙ c.through.ensures.same_store.fields ∙ c.star.ensures.same_store.fields) _ _ _ _ c.in_ok-h.ensures.answer in
+    let s = closing.made q g1 g2 g3 g4 in
+    record { gives = s.left; notes = closing.noted q s c.note.ensures }

@@ -1,4 +1,3 @@
-use Prim.Native.Nat.{◌-◌}
 use Rattle.spp_sequence.proofs.+star.Given as goal
 
 abbrev pub decreases-star : goal.decreases-star

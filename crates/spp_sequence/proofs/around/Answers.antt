@@ -1,126 +1,79 @@
-use mathlib.Core.Path.{◌∙◌}
-use Rattle.spp.proofs.Calls.{gave, lost}
+use mathlib.Core.Path.{refl, ◌∙◌}
+use Rattle.spp.proofs.Calls.{stopped, asked_for}
+use Rattle.spp_sequence.proofs.Calls.{sequence_gave, sequence_lost, union_gave, union_lost}
 use Rattle.spp_sequence.proofs.Closing as closing
 use Rattle.spp_sequence.proofs.around.Goals as goal
 
-pub sequence-requires : goal.sequence-requires
-sequence-requires c = closing.around_ready_1 c.args.fields c.args.depth c.args.c.0 c.args.e.0 c.args.be.0 c.args.x00.0 c.requires
-
-pub returns-in_default : goal.returns-in_default
-returns-in_default c =
-    record {
-      gives = closing.around_lost_1 c.args.fields c.args.depth c.args.c.0 c.args.e.0 c.args.be.0 c.args.x00.0 c.requires (lost c.sequence.ensures c.in_default.is);
-      notes = tt;
-    }
+pub returns-in_err-x01-clause-answer : goal.returns-in_err-x01-clause-answer
+returns-in_err-x01-clause-answer c =
+    stopped c.from_residual.ensures.0 (closing.around_lost_1 c.requires (sequence_lost _ refl _ _ c.in_err-x01.ensures.answer))
 
 pub sequence-requires-2 : goal.sequence-requires-2
 sequence-requires-2 c =
-    closing.around_ready_2 c.args.fields c.args.depth c.args.c.0 c.args.e.0 c.args.be.0 c.args.x00.0 c.requires
-    (gave c.sequence.ensures c.in-Node.is)
+    let g1 = sequence_gave _ refl _ _ c.in_ok-x01.ensures.answer in
+    asked_for c.sequence.ensures.same_store.fields (closing.around_ready_2 c.requires g1)
 
-pub returns-in_default-sequence : goal.returns-in_default-sequence
-returns-in_default-sequence c =
-    record {
-      gives = closing.around_lost_2 c.args.fields c.args.depth c.args.c.0 c.args.e.0 c.args.be.0 c.args.x00.0 c.requires
-          (gave c.sequence.ensures c.in-Node.is) (lost c.sequence-2.ensures c.in_default-sequence.is);
-      notes = tt;
-    }
+pub returns-in_err-cx-clause-answer : goal.returns-in_err-cx-clause-answer
+returns-in_err-cx-clause-answer c =
+    let g1 = sequence_gave _ refl _ _ c.in_ok-x01.ensures.answer in
+    stopped c.from_residual-in_err-cx.ensures.0 (closing.around_lost_2 c.requires g1 (sequence_lost _ c.sequence.ensures.same_store.fields _ _ c.in_err-cx.ensures.answer))
 
 pub sequence-requires-3 : goal.sequence-requires-3
 sequence-requires-3 c =
-    closing.around_ready_3 c.args.fields c.args.depth c.args.c.0 c.args.e.0 c.args.be.0 c.args.x00.0 c.requires
-    (gave c.sequence.ensures c.in-Node.is)
-    (gave c.sequence-2.ensures c.in-Node-sequence.is)
+    let g1 = sequence_gave _ refl _ _ c.in_ok-x01.ensures.answer in
+    let g2 = sequence_gave _ c.sequence.ensures.same_store.fields _ _ c.in_ok-cx.ensures.answer in
+    asked_for (c.sequence-2.ensures.same_store.fields ∙ c.sequence.ensures.same_store.fields) (closing.around_ready_3 c.requires g1 g2)
 
-pub returns-in_default-sequence-2 : goal.returns-in_default-sequence-2
-returns-in_default-sequence-2 c =
-    record {
-      gives = closing.around_lost_3 c.args.fields c.args.depth c.args.c.0 c.args.e.0 c.args.be.0 c.args.x00.0 c.requires
-          (gave c.sequence.ensures c.in-Node.is)
-          (gave c.sequence-2.ensures c.in-Node-sequence.is) (lost c.sequence-3.ensures c.in_default-sequence-2.is);
-      notes = tt;
-    }
+pub returns-in_err-x10-clause-answer : goal.returns-in_err-x10-clause-answer
+returns-in_err-x10-clause-answer c =
+    let g1 = sequence_gave _ refl _ _ c.in_ok-x01.ensures.answer in
+    let g2 = sequence_gave _ c.sequence.ensures.same_store.fields _ _ c.in_ok-cx.ensures.answer in
+    stopped c.from_residual-in_err-x10.ensures.0 (closing.around_lost_3 c.requires g1 g2 (sequence_lost _ (c.sequence-2.ensures.same_store.fields ∙ c.sequence.ensures.same_store.fields) _ _ c.in_err-x10.ensures.answer))
 
 pub sequence-requires-4 : goal.sequence-requires-4
 sequence-requires-4 c =
-    closing.around_ready_4 c.args.fields c.args.depth c.args.c.0 c.args.e.0 c.args.be.0 c.args.x00.0 c.requires
-    (gave c.sequence.ensures c.in-Node.is)
-    (gave c.sequence-2.ensures c.in-Node-sequence.is)
-    (gave c.sequence-3.ensures c.in-Node-sequence-2.is)
+    let g1 = sequence_gave _ refl _ _ c.in_ok-x01.ensures.answer in
+    let g2 = sequence_gave _ c.sequence.ensures.same_store.fields _ _ c.in_ok-cx.ensures.answer in
+    let g3 = sequence_gave _ (c.sequence-2.ensures.same_store.fields ∙ c.sequence.ensures.same_store.fields) _ _ c.in_ok-x10.ensures.answer in
+    asked_for (c.sequence-3.ensures.same_store.fields ∙ c.sequence-2.ensures.same_store.fields ∙ c.sequence.ensures.same_store.fields) (closing.around_ready_4 c.requires g1 g2 g3)
 
-pub shape_of-nodes-in_default-sequence-3 : goal.shape_of-nodes-in_default-sequence-3
-shape_of-nodes-in_default-sequence-3 c = c.sequence-4.auto.nodes ∙ c.sequence-3.auto.nodes ∙ c.sequence-2.auto.nodes ∙ c.sequence.auto.nodes
-
-pub shape_of-cache-in_default-sequence-3 : goal.shape_of-cache-in_default-sequence-3
-shape_of-cache-in_default-sequence-3 c = c.sequence-4.auto.cache ∙ c.sequence-3.auto.cache ∙ c.sequence-2.auto.cache ∙ c.sequence.auto.cache
-
-pub returns-in_default-sequence-3 : goal.returns-in_default-sequence-3
-returns-in_default-sequence-3 c =
-    record {
-      gives = closing.around_lost_4 c.args.fields c.args.depth c.args.c.0 c.args.e.0 c.args.be.0 c.args.x00.0 c.requires
-          (gave c.sequence.ensures c.in-Node.is)
-          (gave c.sequence-2.ensures c.in-Node-sequence.is)
-          (gave c.sequence-3.ensures c.in-Node-sequence-2.is) (lost c.sequence-4.ensures c.in_default-sequence-3.is);
-      notes = tt;
-    }
+pub returns-in_err-xbe-clause-answer : goal.returns-in_err-xbe-clause-answer
+returns-in_err-xbe-clause-answer c =
+    let g1 = sequence_gave _ refl _ _ c.in_ok-x01.ensures.answer in
+    let g2 = sequence_gave _ c.sequence.ensures.same_store.fields _ _ c.in_ok-cx.ensures.answer in
+    let g3 = sequence_gave _ (c.sequence-2.ensures.same_store.fields ∙ c.sequence.ensures.same_store.fields) _ _ c.in_ok-x10.ensures.answer in
+    stopped c.from_residual-in_err-xbe.ensures.0 (closing.around_lost_4 c.requires g1 g2 g3 (sequence_lost _ (c.sequence-3.ensures.same_store.fields ∙ c.sequence-2.ensures.same_store.fields ∙ c.sequence.ensures.same_store.fields) _ _ c.in_err-xbe.ensures.answer))
 
 pub union-requires : goal.union-requires
 union-requires c =
-    closing.around_ready_5 c.args.fields c.args.depth c.args.c.0 c.args.e.0 c.args.be.0 c.args.x00.0 c.requires
-    (gave c.sequence.ensures c.in-Node.is)
-    (gave c.sequence-2.ensures c.in-Node-sequence.is)
-    (gave c.sequence-3.ensures c.in-Node-sequence-2.is)
-    (gave c.sequence-4.ensures c.in-Node-sequence-3.is)
+    let g1 = sequence_gave _ refl _ _ c.in_ok-x01.ensures.answer in
+    let g2 = sequence_gave _ c.sequence.ensures.same_store.fields _ _ c.in_ok-cx.ensures.answer in
+    let g3 = sequence_gave _ (c.sequence-2.ensures.same_store.fields ∙ c.sequence.ensures.same_store.fields) _ _ c.in_ok-x10.ensures.answer in
+    let g4 = sequence_gave _ (c.sequence-3.ensures.same_store.fields ∙ c.sequence-2.ensures.same_store.fields ∙ c.sequence.ensures.same_store.fields) _ _ c.in_ok-xbe.ensures.answer in
+    asked_for (c.sequence-4.ensures.same_store.fields ∙ c.sequence-3.ensures.same_store.fields ∙ c.sequence-2.ensures.same_store.fields ∙ c.sequence.ensures.same_store.fields) (closing.around_ready_5 c.requires g1 g2 g3 g4)
 
-pub shape_of-nodes-in_default-union : goal.shape_of-nodes-in_default-union
-shape_of-nodes-in_default-union c =
-    c.union.auto.nodes ∙ c.sequence-4.auto.nodes ∙ c.sequence-3.auto.nodes ∙ c.sequence-2.auto.nodes ∙ c.sequence.auto.nodes
-
-pub shape_of-cache-in_default-union : goal.shape_of-cache-in_default-union
-shape_of-cache-in_default-union c =
-    c.union.auto.cache ∙ c.sequence-4.auto.cache ∙ c.sequence-3.auto.cache ∙ c.sequence-2.auto.cache ∙ c.sequence.auto.cache
-
-pub returns-in_default-union : goal.returns-in_default-union
-returns-in_default-union c =
-    record {
-      gives = closing.around_lost_5 c.args.fields c.args.depth c.args.c.0 c.args.e.0 c.args.be.0 c.args.x00.0 c.requires
-          (gave c.sequence.ensures c.in-Node.is)
-          (gave c.sequence-2.ensures c.in-Node-sequence.is)
-          (gave c.sequence-3.ensures c.in-Node-sequence-2.is)
-          (gave c.sequence-4.ensures c.in-Node-sequence-3.is) (lost c.union.ensures c.in_default-union.is);
-      notes = tt;
-    }
+pub returns-in_err-x11-clause-answer : goal.returns-in_err-x11-clause-answer
+returns-in_err-x11-clause-answer c =
+    let g1 = sequence_gave _ refl _ _ c.in_ok-x01.ensures.answer in
+    let g2 = sequence_gave _ c.sequence.ensures.same_store.fields _ _ c.in_ok-cx.ensures.answer in
+    let g3 = sequence_gave _ (c.sequence-2.ensures.same_store.fields ∙ c.sequence.ensures.same_store.fields) _ _ c.in_ok-x10.ensures.answer in
+    let g4 = sequence_gave _ (c.sequence-3.ensures.same_store.fields ∙ c.sequence-2.ensures.same_store.fields ∙ c.sequence.ensures.same_store.fields) _ _ c.in_ok-xbe.ensures.answer in
+    stopped c.from_residual-in_err-x11.ensures.0 (closing.around_lost_5 c.requires g1 g2 g3 g4 (union_lost _ (c.sequence-4.ensures.same_store.fields ∙ c.sequence-3.ensures.same_store.fields ∙ c.sequence-2.ensures.same_store.fields ∙ c.sequence.ensures.same_store.fields) _ _ c.in_err-x11.ensures.answer))
 
 pub mk-requires : goal.mk-requires
 mk-requires c =
-    closing.around_fits c.args.fields c.args.depth c.args.c.0 c.args.e.0 c.args.be.0 c.args.x00.0 c.requires
-    (gave c.sequence.ensures c.in-Node.is)
-    (gave c.sequence-2.ensures c.in-Node-sequence.is)
-    (gave c.sequence-3.ensures c.in-Node-sequence-2.is)
-    (gave c.sequence-4.ensures c.in-Node-sequence-3.is)
-    (gave c.union.ensures c.in-Node-union.is)
+    let g1 = sequence_gave _ refl _ _ c.in_ok-x01.ensures.answer in
+    let g2 = sequence_gave _ c.sequence.ensures.same_store.fields _ _ c.in_ok-cx.ensures.answer in
+    let g3 = sequence_gave _ (c.sequence-2.ensures.same_store.fields ∙ c.sequence.ensures.same_store.fields) _ _ c.in_ok-x10.ensures.answer in
+    let g4 = sequence_gave _ (c.sequence-3.ensures.same_store.fields ∙ c.sequence-2.ensures.same_store.fields ∙ c.sequence.ensures.same_store.fields) _ _ c.in_ok-xbe.ensures.answer in
+    let g5 = union_gave _ (c.sequence-4.ensures.same_store.fields ∙ c.sequence-3.ensures.same_store.fields ∙ c.sequence-2.ensures.same_store.fields ∙ c.sequence.ensures.same_store.fields) _ _ c.in_ok-x11.ensures.answer in
+    closing.around_fits c.requires g1 g2 g3 g4 g5
 
-pub shape_of-nodes : goal.shape_of-nodes
-shape_of-nodes c =
-    c.mk.auto.nodes ∙ c.union.auto.nodes ∙ c.sequence-4.auto.nodes ∙ c.sequence-3.auto.nodes ∙ c.sequence-2.auto.nodes ∙ c.sequence.auto.nodes
-
-pub shape_of-cache : goal.shape_of-cache
-shape_of-cache c =
-    c.union.auto.cache ∙ c.sequence-4.auto.cache ∙ c.sequence-3.auto.cache ∙ c.sequence-2.auto.cache ∙ c.sequence.auto.cache
-
-pub returns : goal.returns
-returns c =
-    record {
-      gives = closing.around_made c.args.fields c.args.depth c.args.c.0 c.args.e.0 c.args.be.0 c.args.x00.0 c.requires
-          (gave c.sequence.ensures c.in-Node.is)
-          (gave c.sequence-2.ensures c.in-Node-sequence.is)
-          (gave c.sequence-3.ensures c.in-Node-sequence-2.is)
-          (gave c.sequence-4.ensures c.in-Node-sequence-3.is)
-          (gave c.union.ensures c.in-Node-union.is) c.mk.ensures;
-      notes = closing.around_ended c.args.fields c.args.depth c.args.c.0 c.args.e.0 c.args.be.0 c.args.x00.0 c.requires
-          (gave c.sequence.ensures c.in-Node.is)
-          (gave c.sequence-2.ensures c.in-Node-sequence.is)
-          (gave c.sequence-3.ensures c.in-Node-sequence-2.is)
-          (gave c.sequence-4.ensures c.in-Node-sequence-3.is)
-          (gave c.union.ensures c.in-Node-union.is) c.mk.result c.mk.new.nodes c.mk.ensures;
-    }
+pub returns-clause-answer : goal.returns-clause-answer
+returns-clause-answer c =
+    let g1 = sequence_gave _ refl _ _ c.in_ok-x01.ensures.answer in
+    let g2 = sequence_gave _ c.sequence.ensures.same_store.fields _ _ c.in_ok-cx.ensures.answer in
+    let g3 = sequence_gave _ (c.sequence-2.ensures.same_store.fields ∙ c.sequence.ensures.same_store.fields) _ _ c.in_ok-x10.ensures.answer in
+    let g4 = sequence_gave _ (c.sequence-3.ensures.same_store.fields ∙ c.sequence-2.ensures.same_store.fields ∙ c.sequence.ensures.same_store.fields) _ _ c.in_ok-xbe.ensures.answer in
+    let g5 = union_gave _ (c.sequence-4.ensures.same_store.fields ∙ c.sequence-3.ensures.same_store.fields ∙ c.sequence-2.ensures.same_store.fields ∙ c.sequence.ensures.same_store.fields) _ _ c.in_ok-x11.ensures.answer in
+    record { gives = closing.around_made c.requires g1 g2 g3 g4 g5 c.mk.ensures.gives; notes = closing.around_ended c.requires g1 g2 g3 g4 g5 _ _ c.mk.ensures.gives }

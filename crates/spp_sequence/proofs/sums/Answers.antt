@@ -1,96 +1,72 @@
-use mathlib.Core.Path.{◌∙◌}
+use mathlib.Core.Path.{refl, ◌∙◌}
 use Rattle.spp.specs.Clauses.{quad_of}
-use Rattle.spp.proofs.Calls.{gave, lost}
+use Rattle.spp.proofs.Calls.{stopped, asked_for}
 use Rattle.spp.proofs.Quartet as quartet
+use Rattle.spp_sequence.proofs.Calls.{union_gave, union_lost}
 use Rattle.spp_sequence.proofs.Product.{sums_calls}
 use Rattle.spp_sequence.proofs.sums.Goals as goal
 
-pub union-requires : goal.union-requires
-union-requires c = quartet.ready_1 (sums_calls c.args.fields c.args.depth (quad_of c.args.r) (quad_of c.args.s) c.requires)
-
-pub returns-in_default : goal.returns-in_default
-returns-in_default c =
-    record {
-      gives = quartet.lost_1 (sums_calls c.args.fields c.args.depth (quad_of c.args.r) (quad_of c.args.s) c.requires) (lost c.union.ensures c.in_default.is);
-      notes = tt;
-    }
+pub returns-in_err-x00-clause-answer : goal.returns-in_err-x00-clause-answer
+returns-in_err-x00-clause-answer c =
+    let q = sums_calls (quad_of c.args.r) (quad_of c.args.s) c.requires in
+    stopped c.from_residual.ensures.0 (quartet.lost_1 q (union_lost _ refl _ _ c.in_err-x00.ensures.answer))
 
 pub union-requires-2 : goal.union-requires-2
 union-requires-2 c =
-    quartet.ready_2 (sums_calls c.args.fields c.args.depth (quad_of c.args.r) (quad_of c.args.s) c.requires)
-    (gave c.union.ensures c.in-Node.is)
+    let q = sums_calls (quad_of c.args.r) (quad_of c.args.s) c.requires in
+    let g1 = union_gave _ refl _ _ c.in_ok-x00.ensures.answer in
+    asked_for c.union.ensures.same_store.fields (quartet.ready_2 q g1)
 
-pub returns-in_default-union : goal.returns-in_default-union
-returns-in_default-union c =
-    record {
-      gives = quartet.lost_2 (sums_calls c.args.fields c.args.depth (quad_of c.args.r) (quad_of c.args.s) c.requires)
-          (gave c.union.ensures c.in-Node.is) (lost c.union-2.ensures c.in_default-union.is);
-      notes = tt;
-    }
+pub returns-in_err-x01-clause-answer : goal.returns-in_err-x01-clause-answer
+returns-in_err-x01-clause-answer c =
+    let q = sums_calls (quad_of c.args.r) (quad_of c.args.s) c.requires in
+    let g1 = union_gave _ refl _ _ c.in_ok-x00.ensures.answer in
+    stopped c.from_residual-in_err-x01.ensures.0 (quartet.lost_2 q g1 (union_lost _ c.union.ensures.same_store.fields _ _ c.in_err-x01.ensures.answer))
 
 pub union-requires-3 : goal.union-requires-3
 union-requires-3 c =
-    quartet.ready_3 (sums_calls c.args.fields c.args.depth (quad_of c.args.r) (quad_of c.args.s) c.requires)
-    (gave c.union.ensures c.in-Node.is)
-    (gave c.union-2.ensures c.in-Node-union.is)
+    let q = sums_calls (quad_of c.args.r) (quad_of c.args.s) c.requires in
+    let g1 = union_gave _ refl _ _ c.in_ok-x00.ensures.answer in
+    let g2 = union_gave _ c.union.ensures.same_store.fields _ _ c.in_ok-x01.ensures.answer in
+    asked_for (c.union-2.ensures.same_store.fields ∙ c.union.ensures.same_store.fields) (quartet.ready_3 q g1 g2)
 
-pub returns-in_default-union-2 : goal.returns-in_default-union-2
-returns-in_default-union-2 c =
-    record {
-      gives = quartet.lost_3 (sums_calls c.args.fields c.args.depth (quad_of c.args.r) (quad_of c.args.s) c.requires)
-          (gave c.union.ensures c.in-Node.is)
-          (gave c.union-2.ensures c.in-Node-union.is) (lost c.union-3.ensures c.in_default-union-2.is);
-      notes = tt;
-    }
+pub returns-in_err-x10-clause-answer : goal.returns-in_err-x10-clause-answer
+returns-in_err-x10-clause-answer c =
+    let q = sums_calls (quad_of c.args.r) (quad_of c.args.s) c.requires in
+    let g1 = union_gave _ refl _ _ c.in_ok-x00.ensures.answer in
+    let g2 = union_gave _ c.union.ensures.same_store.fields _ _ c.in_ok-x01.ensures.answer in
+    stopped c.from_residual-in_err-x10.ensures.0 (quartet.lost_3 q g1 g2 (union_lost _ (c.union-2.ensures.same_store.fields ∙ c.union.ensures.same_store.fields) _ _ c.in_err-x10.ensures.answer))
 
 pub union-requires-4 : goal.union-requires-4
 union-requires-4 c =
-    quartet.ready_4 (sums_calls c.args.fields c.args.depth (quad_of c.args.r) (quad_of c.args.s) c.requires)
-    (gave c.union.ensures c.in-Node.is)
-    (gave c.union-2.ensures c.in-Node-union.is)
-    (gave c.union-3.ensures c.in-Node-union-2.is)
+    let q = sums_calls (quad_of c.args.r) (quad_of c.args.s) c.requires in
+    let g1 = union_gave _ refl _ _ c.in_ok-x00.ensures.answer in
+    let g2 = union_gave _ c.union.ensures.same_store.fields _ _ c.in_ok-x01.ensures.answer in
+    let g3 = union_gave _ (c.union-2.ensures.same_store.fields ∙ c.union.ensures.same_store.fields) _ _ c.in_ok-x10.ensures.answer in
+    asked_for (c.union-3.ensures.same_store.fields ∙ c.union-2.ensures.same_store.fields ∙ c.union.ensures.same_store.fields) (quartet.ready_4 q g1 g2 g3)
 
-pub shape_of-nodes-in_default-union-3 : goal.shape_of-nodes-in_default-union-3
-shape_of-nodes-in_default-union-3 c = c.union-4.auto.nodes ∙ c.union-3.auto.nodes ∙ c.union-2.auto.nodes ∙ c.union.auto.nodes
-
-pub shape_of-cache-in_default-union-3 : goal.shape_of-cache-in_default-union-3
-shape_of-cache-in_default-union-3 c = c.union-4.auto.cache ∙ c.union-3.auto.cache ∙ c.union-2.auto.cache ∙ c.union.auto.cache
-
-pub returns-in_default-union-3 : goal.returns-in_default-union-3
-returns-in_default-union-3 c =
-    record {
-      gives = quartet.lost_4 (sums_calls c.args.fields c.args.depth (quad_of c.args.r) (quad_of c.args.s) c.requires)
-          (gave c.union.ensures c.in-Node.is)
-          (gave c.union-2.ensures c.in-Node-union.is)
-          (gave c.union-3.ensures c.in-Node-union-2.is) (lost c.union-4.ensures c.in_default-union-3.is);
-      notes = tt;
-    }
+pub returns-in_err-x11-clause-answer : goal.returns-in_err-x11-clause-answer
+returns-in_err-x11-clause-answer c =
+    let q = sums_calls (quad_of c.args.r) (quad_of c.args.s) c.requires in
+    let g1 = union_gave _ refl _ _ c.in_ok-x00.ensures.answer in
+    let g2 = union_gave _ c.union.ensures.same_store.fields _ _ c.in_ok-x01.ensures.answer in
+    let g3 = union_gave _ (c.union-2.ensures.same_store.fields ∙ c.union.ensures.same_store.fields) _ _ c.in_ok-x10.ensures.answer in
+    stopped c.from_residual-in_err-x11.ensures.0 (quartet.lost_4 q g1 g2 g3 (union_lost _ (c.union-3.ensures.same_store.fields ∙ c.union-2.ensures.same_store.fields ∙ c.union.ensures.same_store.fields) _ _ c.in_err-x11.ensures.answer))
 
 pub mk-requires : goal.mk-requires
 mk-requires c =
-    quartet.mk_ready (sums_calls c.args.fields c.args.depth (quad_of c.args.r) (quad_of c.args.s) c.requires)
-    (gave c.union.ensures c.in-Node.is)
-    (gave c.union-2.ensures c.in-Node-union.is)
-    (gave c.union-3.ensures c.in-Node-union-2.is)
-    (gave c.union-4.ensures c.in-Node-union-3.is)
+    let q = sums_calls (quad_of c.args.r) (quad_of c.args.s) c.requires in
+    let g1 = union_gave _ refl _ _ c.in_ok-x00.ensures.answer in
+    let g2 = union_gave _ c.union.ensures.same_store.fields _ _ c.in_ok-x01.ensures.answer in
+    let g3 = union_gave _ (c.union-2.ensures.same_store.fields ∙ c.union.ensures.same_store.fields) _ _ c.in_ok-x10.ensures.answer in
+    let g4 = union_gave _ (c.union-3.ensures.same_store.fields ∙ c.union-2.ensures.same_store.fields ∙ c.union.ensures.same_store.fields) _ _ c.in_ok-x11.ensures.answer in
+    quartet.mk_ready q g1 g2 g3 g4
 
-pub shape_of-nodes : goal.shape_of-nodes
-shape_of-nodes c = c.mk.auto.nodes ∙ c.union-4.auto.nodes ∙ c.union-3.auto.nodes ∙ c.union-2.auto.nodes ∙ c.union.auto.nodes
-
-pub shape_of-cache : goal.shape_of-cache
-shape_of-cache c = c.union-4.auto.cache ∙ c.union-3.auto.cache ∙ c.union-2.auto.cache ∙ c.union.auto.cache
-
-pub returns : goal.returns
-returns c =
-    record {
-      gives = quartet.made (sums_calls c.args.fields c.args.depth (quad_of c.args.r) (quad_of c.args.s) c.requires)
-          (gave c.union.ensures c.in-Node.is)
-          (gave c.union-2.ensures c.in-Node-union.is)
-          (gave c.union-3.ensures c.in-Node-union-2.is)
-          (gave c.union-4.ensures c.in-Node-union-3.is) c.mk.ensures;
-      notes = quartet.ended (sums_calls c.args.fields c.args.depth (quad_of c.args.r) (quad_of c.args.s) c.requires)
-          (gave c.union.ensures c.in-Node.is)
-          (gave c.union-2.ensures c.in-Node-union.is)
-          (gave c.union-3.ensures c.in-Node-union-2.is)
-          (gave c.union-4.ensures c.in-Node-union-3.is) c.requires.low c.mk.result c.mk.new.nodes c.mk.ensures;
-    }
+pub returns-clause-answer : goal.returns-clause-answer
+returns-clause-answer c =
+    let q = sums_calls (quad_of c.args.r) (quad_of c.args.s) c.requires in
+    let g1 = union_gave _ refl _ _ c.in_ok-x00.ensures.answer in
+    let g2 = union_gave _ c.union.ensures.same_store.fields _ _ c.in_ok-x01.ensures.answer in
+    let g3 = union_gave _ (c.union-2.ensures.same_store.fields ∙ c.union.ensures.same_store.fields) _ _ c.in_ok-x10.ensures.answer in
+    let g4 = union_gave _ (c.union-3.ensures.same_store.fields ∙ c.union-2.ensures.same_store.fields ∙ c.union.ensures.same_store.fields) _ _ c.in_ok-x11.ensures.answer in
+    record { gives = quartet.made q g1 g2 g3 g4 c.mk.ensures.gives; notes = quartet.ended q g1 g2 g3 g4 c.requires.low _ _ c.mk.ensures.gives }
