@@ -1,172 +1,167 @@
 -- Interning: what each way through comes to.
 use Rattle.std.specs.Prelude.{if◌then◌else◌}
-use mathlib.Core.Path.{◌≡◌, refl, sym, ◌∙◌, ap, ap₂}
-use mathlib.Core.Bool.{Bool, true, false, ◌&&◌, and-false}
-use mathlib.Core.List.{List, [], ◌∷◌}
-use Prim.Native.Nat.{ℕ, suc, ◌+◌, ◌-◌, ◌*◌, ◌/◌, ◌<◌, ◌≤◌, max}
+use mathlib.Core.Path.{◌≡◌, refl, sym, ◌∙◌, ap}
+use mathlib.Core.Bool.{Bool, true, false}
+use mathlib.Core.List.{List}
+use Prim.Native.Nat.{ℕ, ◌+◌, ◌-◌, ◌<◌, ◌≤◌, max}
 use native.Mathlib.Omega.{arith}
-use lib.Dec.{eqb, ltb, leb}
-use lib.ListN.{length, get_or, set}
-use lib.Seq.{sets}
-use borrow.Author.Tests.{eq-eqb, ne_eqb, lt-ltb, le-ltb, le-leb, lt-leb}
-use Rattle.common.specs.Outcome.{Outcome, refused, given, Step}
+use lib.Dec.{ltb, leb}
+use lib.ListN.{length}
+use borrow.Author.Tests.{eq-eqb, ne_eqb, lt-ltb, le-ltb, le-leb, leb-true}
+use borrow.Rule.Slice.PartMut.{put_mid}
+use Rattle.std.specs.Prelude.{Result, Ok, Err}
+use Rattle.common.specs.Outcome.{Outcome, refused, given}
 use Rattle.common.specs.Runs.{Table, table, placed}
-use Rattle.aut_steps.specs.Tables.{kind_of, op1, nest, words, state_cap, member_cap, room_s, room_m, put4, Exprs, exprs, Limits, COMPLEMENT, TOP, SPP}
+use Rattle.refusal.specs.declared.Refusal.{Refusal}
+use Rattle.aut_steps.specs.Tables.{kind_of, op1, nest, member_cap, room_m, Exprs, exprs, Limits, COMPLEMENT, TOP}
 use Rattle.aut_steps.specs.Intern.{seek, same2, same_l, put, intern0, intern1, intern2, nest_l, store, put_l, intern_l}
 use Rattle.aut_steps.specs.Relations.{zero_at}
 use Rattle.aut_steps.specs.Constructors.{mk_spp, mk_complement}
-use Rattle.aut_steps.proofs.Facts.{words_length}
+use Rattle.aut_steps.proofs.Facts.{and_true}
+use Rattle.aut_states.specs.Clauses.{seen, append}
+use Rattle.aut_states.proofs.Slices.{pasted}
 
--- ---- push
-
-module _ (t : List ℕ) (n k x y e : ℕ) where
-  in_room : (c : Bool) → room_s (table t n) ≡ c → put k x y e (table t n) ≡ (if c then given (table (put4 t n k x y e) (n + 1)) n else refused 22)
-  unfolding put
-  in_room c q = ap (λ (c : Bool). if c then given (table (put4 t n k x y e) (n + 1)) n else refused 22) q
-
-  pub put_yes : n < length t / 12 → n < state_cap → put k x y e (table t n) ≡ given (table (put4 t n k x y e) (n + 1)) n
-  unfolding room_s
-  put_yes a b = in_room true (ap₂ ◌&&◌ (lt-ltb n (length t / 12) a) (lt-ltb n state_cap b))
-
-  pub put_full : length t / 12 ≤ n → put k x y e (table t n) ≡ refused 22
-  unfolding room_s
-  put_full a = in_room false (ap (λ (c : Bool). c && ltb n state_cap) (le-ltb n (length t / 12) a))
-
-  pub put_most : state_cap ≤ n → put k x y e (table t n) ≡ refused 22
-  unfolding room_s
-  put_most a = in_room false (ap (λ (c : Bool). ltb n (length t / 12) && c) (le-ltb n state_cap a) ∙ and-false (ltb n (length t / 12)))
-
--- ---- a state that stands already, one that is nested too high, and a new one; i is where the search ended
+-- ---- a state that stands already, one that is nested too high, and a new one
 
 abbrev way : {S : Type 0} → ℕ → ℕ → ℕ → ℕ → S → Outcome S ℕ → Outcome S ℕ
 way i n most e s new = if ltb i n then given s i else if ltb most e then refused 8 else new
 
-module _ {S : Type 0} (i n most e : ℕ) (s : S) (new : Outcome S ℕ) where
-  way_found : i < n → way i n most e s new ≡ given s i
-  way_found l = ap (λ (c : Bool). if c then given s i else if ltb most e then refused 8 else new) (lt-ltb i n l)
+module _ {S : Type 0} (n most e : ℕ) (s : S) (new : Outcome S ℕ) where
+  way_found : (i j : ℕ) → (i < n) × (j ≡ i) → way j n most e s new ≡ given s i
+  way_found i j p = simp (p.1, lt-ltb i n p.0)
 
-  way_deep : n ≤ i → most < e → way i n most e s new ≡ refused 8
-  way_deep l m = ap₂ (λ (c d : Bool). if c then given s i else if d then refused 8 else new) (le-ltb i n l) (lt-ltb most e m)
+  way_deep : (j : ℕ) → j ≡ n → most < e → way j n most e s new ≡ refused 8
+  way_deep j p l = simp (p, le-ltb n n (omega arith), lt-ltb most e l)
 
-  way_new : n ≤ i → e ≤ most → way i n most e s new ≡ new
-  way_new l m = ap₂ (λ (c d : Bool). if c then given s i else if d then refused 8 else new) (le-ltb i n l) (le-ltb most e m)
+  way_new : (j : ℕ) → j ≡ n → e ≤ most → way j n most e s new ≡ new
+  way_new j p l = simp (p, le-ltb n n (omega arith), le-ltb most e l)
 
--- ---- intern0
-
-module _ (t : List ℕ) (n k x i : ℕ) (r : i ≡ seek (same2 t k x 0) 0 n) where
-  is0 : intern0 k x (table t n) ≡ (if ltb i n then given (table t n) i else put k x 0 0 (table t n))
+module _ (σ : Table) (k x : ℕ) where
+  pub found0 : {i : ℕ} → (i < σ.count) × (seek (same2 σ.words k x 0) 0 σ.count ≡ i) → intern0 k x σ ≡ given σ i
   unfolding intern0
-  is0 = ap (λ (i : ℕ). if ltb i n then given (table t n) i else put k x 0 0 (table t n)) (sym r)
+  found0 {i} p = simp (p.1, lt-ltb i σ.count p.0)
 
-  pub found0 : i < n → intern0 k x (table t n) ≡ given (table t n) i
-  found0 l = is0 ∙ ap (λ (c : Bool). if c then given (table t n) i else put k x 0 0 (table t n)) (lt-ltb i n l)
+  pub new0 : {z : Outcome Table ℕ} → seek (same2 σ.words k x 0) 0 σ.count ≡ σ.count → put k x 0 0 σ ≡ z → intern0 k x σ ≡ z
+  unfolding intern0
+  new0 p w = simp (p, le-ltb σ.count σ.count (omega arith)) w
 
-  pub new0 : n ≤ i → {z : Outcome Table ℕ} → put k x 0 0 (table t n) ≡ z → intern0 k x (table t n) ≡ z
-  new0 l w = is0 ∙ ap (λ (c : Bool). if c then given (table t n) i else put k x 0 0 (table t n)) (le-ltb i n l) ∙ w
-
--- ---- intern1; a is the nesting of its operand
-
-module _ (L : Limits) (t : List ℕ) (n k x i : ℕ) (r : i ≡ seek (same2 t k x 0) 0 n) where
-  is1 : intern1 L k x (table t n) ≡ way i n L.nesting (nest t x + 1) (table t n) (put k x 0 (nest t x + 1) (table t n))
+module _ (L : Limits) (σ : Table) (k x : ℕ) where
+  pub found1 : {i : ℕ} → (i < σ.count) × (seek (same2 σ.words k x 0) 0 σ.count ≡ i) → intern1 L k x σ ≡ given σ i
   unfolding intern1
-  is1 = ap (λ (i : ℕ). way i n L.nesting (nest t x + 1) (table t n) (put k x 0 (nest t x + 1) (table t n))) (sym r)
+  found1 p = way_found σ.count L.nesting (nest σ.words x + 1) σ (put k x 0 (nest σ.words x + 1) σ) _ _ p
 
-  pub found1 : i < n → intern1 L k x (table t n) ≡ given (table t n) i
-  found1 l = is1 ∙ way_found i n L.nesting (nest t x + 1) (table t n) (put k x 0 (nest t x + 1) (table t n)) l
+  module _ {e : ℕ} (p : seek (same2 σ.words k x 0) 0 σ.count ≡ σ.count) (e-is : e ≡ nest σ.words x) where
+    pub deep1 : L.nesting ≤ e → intern1 L k x σ ≡ refused 8
+    unfolding intern1
+    deep1 l = way_deep σ.count L.nesting (nest σ.words x + 1) σ (put k x 0 (nest σ.words x + 1) σ) _ p (omega (arith, e-is))
 
-  module _ (a : ℕ) (a-is : a ≡ nest t x) (l : n ≤ i) where
-    pub deep1 : L.nesting ≤ a → intern1 L k x (table t n) ≡ refused 8
-    deep1 h = is1 ∙ way_deep i n L.nesting (nest t x + 1) (table t n) (put k x 0 (nest t x + 1) (table t n)) l (omega (arith, a-is))
+    pub new1 : e < L.nesting → {z : Outcome Table ℕ} → put k x 0 (e + 1) σ ≡ z → intern1 L k x σ ≡ z
+    unfolding intern1
+    new1 l w =
+        way_new σ.count L.nesting (nest σ.words x + 1) σ (put k x 0 (nest σ.words x + 1) σ) _ p (omega (arith, e-is))
+        ∙ ap (λ (e : ℕ). put k x 0 (e + 1) σ) (sym e-is) ∙ w
 
-    pub new1 : a < L.nesting → {z : Outcome Table ℕ} → put k x 0 (a + 1) (table t n) ≡ z → intern1 L k x (table t n) ≡ z
-    new1 h w = is1 ∙ way_new i n L.nesting (nest t x + 1) (table t n) (put k x 0 (nest t x + 1) (table t n)) l (omega (arith, a-is)) ∙ ap (λ (e : ℕ). put k x 0 (e + 1) (table t n)) (sym a-is) ∙ w
-
--- ---- intern2; h is the higher nesting of its operands
-
-module _ (L : Limits) (t : List ℕ) (n k x y i : ℕ) (r : i ≡ seek (same2 t k x y) 0 n) where
+module _ (L : Limits) (σ : Table) (k x y : ℕ) where
   abbrev e2 : ℕ
-  e2 = max (nest t x) (nest t y) + 1
+  e2 = max (nest σ.words x) (nest σ.words y) + 1
 
-  is2 : intern2 L k x y (table t n) ≡ way i n L.nesting e2 (table t n) (put k x y e2 (table t n))
+  pub found2 : {i : ℕ} → (i < σ.count) × (seek (same2 σ.words k x y) 0 σ.count ≡ i) → intern2 L k x y σ ≡ given σ i
   unfolding intern2
-  is2 = ap (λ (i : ℕ). way i n L.nesting e2 (table t n) (put k x y e2 (table t n))) (sym r)
+  found2 p = way_found σ.count L.nesting e2 σ (put k x y e2 σ) _ _ p
 
-  pub found2 : i < n → intern2 L k x y (table t n) ≡ given (table t n) i
-  found2 l = is2 ∙ way_found i n L.nesting e2 (table t n) (put k x y e2 (table t n)) l
+  module _ {a b h : ℕ} (p : seek (same2 σ.words k x y) 0 σ.count ≡ σ.count) (a-is : a ≡ nest σ.words x) (b-is : b ≡ nest σ.words y) (h-is : h ≡ max a b) where
+    pub deep2 : L.nesting ≤ h → intern2 L k x y σ ≡ refused 8
+    unfolding intern2
+    deep2 l = way_deep σ.count L.nesting e2 σ (put k x y e2 σ) _ p (omega (arith, a-is, b-is, h-is))
 
-  module _ (a b h : ℕ) (a-is : a ≡ nest t x) (b-is : b ≡ nest t y) (h-is : h ≡ max a b) (l : n ≤ i) where
-    pub deep2 : L.nesting ≤ h → intern2 L k x y (table t n) ≡ refused 8
-    deep2 m = is2 ∙ way_deep i n L.nesting e2 (table t n) (put k x y e2 (table t n)) l (omega (arith, a-is, b-is, h-is))
-
-    pub new2 : h < L.nesting → {z : Outcome Table ℕ} → put k x y (h + 1) (table t n) ≡ z → intern2 L k x y (table t n) ≡ z
-    new2 m w = is2 ∙ way_new i n L.nesting e2 (table t n) (put k x y e2 (table t n)) l (omega (arith, a-is, b-is, h-is)) ∙ ap (λ (e : ℕ). put k x y e (table t n)) {x = e2} {y = h + 1} (omega (arith, a-is, b-is, h-is)) ∙ w
+    pub new2 : h < L.nesting → {z : Outcome Table ℕ} → put k x y (h + 1) σ ≡ z → intern2 L k x y σ ≡ z
+    unfolding intern2
+    new2 l w =
+        way_new σ.count L.nesting e2 σ (put k x y e2 σ) _ p (omega (arith, a-is, b-is, h-is))
+        ∙ ap (λ (e : ℕ). put k x y e σ) {x = e2} {y = h + 1} (omega (arith, a-is, b-is, h-is)) ∙ w
 
 -- ---- push_list
 
-module _ (st m s : List ℕ) (n nm kind base k e : ℕ) where
-  abbrev σ : Exprs
-  σ = exprs (table st n) (table m nm)
+-- the words of the part that the list is copied to are z
+pub room : (d z xs : List ℕ) (m : ℕ) → z ≡ xs → m + length xs ≤ length d → m + length xs ≤ member_cap → append xs (table d m) ≡ given (table (put_mid m (m + length xs - m) d z) (m + length xs)) m
+unfolding append room_m store
+room d z xs m e a b =
+    simp (le-leb (m + length xs) (length d) a, le-leb (m + length xs) member_cap b, pasted d z xs m (length xs) e refl a)
 
-  abbrev beside : Outcome Table ℕ → List ℕ → Outcome Exprs ℕ
-  beside (given t i) m' = given (exprs t (table m' (nm + k))) i
-  beside (refused number) m' = refused number
+-- what was appended fits
+fits_by : (xs : List ℕ) (m : Table) {m' : Table} {i : ℕ} (c : Bool) → room_m m (length xs) ≡ c → (if c then given (store xs m) m.count else refused 23) ≡ given m' i → m.count + length xs ≤ member_cap
+unfolding room_m
+fits_by xs m true q e = leb-true (m.count + length xs) member_cap (and_true (leb (m.count + length xs) (length m.words)) (leb (m.count + length xs) member_cap) q).1
+fits_by xs m false q e = absurd (cc)
 
-  is_beside : (o : Outcome Table ℕ) → placed (λ s' τ. exprs s' (store (words s base k) τ.members)) σ o ≡ beside o (sets m nm (words s base k))
-  unfolding store
-  is_beside (given t i) = ap (λ (z : ℕ). given (exprs t (table (sets m nm (words s base k)) (nm + z))) i) (words_length s base k)
-  is_beside (refused number) = refl
+pub fits : (xs : List ℕ) (m : Table) {m' : Table} {i : ℕ} → append xs m ≡ given m' i → m.count + length xs ≤ member_cap
+unfolding append
+fits xs m e = fits_by xs m (room_m m (length xs)) refl e
 
-  on_room : (c : Bool) → room_m (table m nm) k ≡ c → put_l kind (words s base k) e σ ≡ (if c then beside (put kind nm k e (table st n)) (sets m nm (words s base k)) else refused 23)
-  unfolding put_l
-  on_room c q =
-      ap (λ (z : ℕ). if room_m (table m nm) z then placed (λ s' τ. exprs s' (store (words s base k) τ.members)) σ (put kind nm z e (table st n)) else refused 23) (words_length s base k)
-      ∙ ap₂ (λ (c : Bool) (o : Outcome Exprs ℕ). if c then o else refused 23) q (is_beside (put kind nm k e (table st n)))
+module _ (k e : ℕ) (xs : List ℕ) (s m : Table) where
+  abbrev both : Bool → Outcome Exprs ℕ
+  both c = if c then placed (λ s τ. exprs s (store xs τ.members)) (exprs s m) (put k m.count (length xs) e s) else refused 23
 
-  pub no_room : length m < nm + k → put_l kind (words s base k) e σ ≡ refused 23
-  unfolding room_m
-  no_room h = on_room false (ap (λ (c : Bool). c && leb (nm + k) member_cap) (lt-leb (nm + k) (length m) h))
+  unplaced_by : {n : ℕ} (c : Bool) → (if c then given (store xs m) m.count else refused 23) ≡ refused n → both c ≡ refused n
+  unplaced_by true q = absurd (cc)
+  unplaced_by false q = cc
 
-  pub no_cap : member_cap < nm + k → put_l kind (words s base k) e σ ≡ refused 23
-  unfolding room_m
-  no_cap h = on_room false (ap (λ (c : Bool). leb (nm + k) (length m) && c) (lt-leb (nm + k) member_cap h) ∙ and-false (leb (nm + k) (length m)))
+  pub unplaced : {n : ℕ} → append xs m ≡ refused n → put_l k xs e (exprs s m) ≡ refused n
+  unfolding append put_l
+  unplaced q = unplaced_by (room_m m (length xs)) q
 
-  pub added : nm + k ≤ length m → nm + k ≤ member_cap → (m' : List ℕ) → sets m nm (words s base k) ≡ m' → (z : Outcome Table ℕ) → put kind nm k e (table st n) ≡ z → put_l kind (words s base k) e σ ≡ beside z m'
-  unfolding room_m
-  added a b m' p z q =
-      on_room true (ap₂ ◌&&◌ (le-leb (nm + k) (length m) a) (le-leb (nm + k) member_cap b)) ∙ ap₂ (λ (m : List ℕ) (z : Outcome Table ℕ). beside z m) p q
+  placed_as : (s' : Table) (r : Result ℕ Refusal) → put k m.count (length xs) e s ≡ seen r s' → both true ≡ seen r (exprs s' (store xs m))
+  placed_as s' (Ok i) p = ap (placed (λ s τ. exprs s (store xs τ.members)) (exprs s m)) p
+  placed_as s' (Err n) p = ap (placed (λ s τ. exprs s (store xs τ.members)) (exprs s m)) p
+
+  added_by : {m' : Table} {i : ℕ} (s' : Table) (r : Result ℕ Refusal) (c : Bool) → (if c then given (store xs m) m.count else refused 23) ≡ given m' i → put k i (length xs) e s ≡ seen r s' → both c ≡ seen r (exprs s' m')
+  added_by {m'} {i} s' r true q p =
+      let a : store xs m ≡ m' = cc in
+      let b : i ≡ m.count = cc in
+      placed_as s' r (ap (λ (i : ℕ). put k i (length xs) e s) (sym b) ∙ p) ∙ ap (λ (m : Table). seen r (exprs s' m)) a
+  added_by s' r false q p = absurd (cc)
+
+  pub added : {m' : Table} {i : ℕ} (s' : Table) (r : Result ℕ Refusal) → append xs m ≡ given m' i → put k i (length xs) e s ≡ seen r s' → put_l k xs e (exprs s m) ≡ seen r (exprs s' m')
+  unfolding append put_l
+  added s' r q p = added_by s' r (room_m m (length xs)) q p
 
 -- ---- intern_list; e is the highest nesting of the list
 
-module _ (L : Limits) (st m xs : List ℕ) (n nm kind i : ℕ) (r : i ≡ seek (same_l st m kind xs) 0 n) where
-  abbrev τ : Exprs
-  τ = exprs (table st n) (table m nm)
+module _ (L : Limits) (τ : Exprs) (k : ℕ) (xs : List ℕ) where
+  abbrev e_l : ℕ
+  e_l = nest_l τ.states.words 0 xs + 1
 
-  is_l : intern_l L kind xs τ ≡ way i n L.nesting (nest_l st 0 xs + 1) τ (put_l kind xs (nest_l st 0 xs + 1) τ)
+  abbrev place : ℕ
+  place = seek (same_l τ.states.words τ.members.words k xs) 0 τ.states.count
+
+  pub found_l : {i : ℕ} → (i < τ.states.count) × (place ≡ i) → intern_l L k xs τ ≡ given τ i
   unfolding intern_l
-  is_l = ap (λ (i : ℕ). way i n L.nesting (nest_l st 0 xs + 1) τ (put_l kind xs (nest_l st 0 xs + 1) τ)) (sym r)
+  found_l p = way_found τ.states.count L.nesting e_l τ (put_l k xs e_l τ) _ _ p
 
-  pub found_l : i < n → intern_l L kind xs τ ≡ given τ i
-  found_l l = is_l ∙ way_found i n L.nesting (nest_l st 0 xs + 1) τ (put_l kind xs (nest_l st 0 xs + 1) τ) l
+  module _ {e : ℕ} (p : place ≡ τ.states.count) (e-is : e ≡ nest_l τ.states.words 0 xs) where
+    pub deep_l : L.nesting ≤ e → intern_l L k xs τ ≡ refused 8
+    unfolding intern_l
+    deep_l l = way_deep τ.states.count L.nesting e_l τ (put_l k xs e_l τ) _ p (omega (arith, e-is))
 
-  module _ (e : ℕ) (e-is : e ≡ nest_l st 0 xs) (l : n ≤ i) where
-    pub deep_l : L.nesting ≤ e → intern_l L kind xs τ ≡ refused 8
-    deep_l h = is_l ∙ way_deep i n L.nesting (nest_l st 0 xs + 1) τ (put_l kind xs (nest_l st 0 xs + 1) τ) l (omega (arith, e-is))
-
-    pub new_l : e < L.nesting → {z : Outcome Exprs ℕ} → put_l kind xs (e + 1) τ ≡ z → intern_l L kind xs τ ≡ z
-    new_l h w = is_l ∙ way_new i n L.nesting (nest_l st 0 xs + 1) τ (put_l kind xs (nest_l st 0 xs + 1) τ) l (omega (arith, e-is)) ∙ ap (λ (e : ℕ). put_l kind xs (e + 1) τ) (sym e-is) ∙ w
+    pub new_l : e < L.nesting → {z : Outcome Exprs ℕ} → put_l k xs (e + 1) τ ≡ z → intern_l L k xs τ ≡ z
+    unfolding intern_l
+    new_l l w =
+        way_new τ.states.count L.nesting e_l τ (put_l k xs e_l τ) _ p (omega (arith, e-is))
+        ∙ ap (λ (e : ℕ). put_l k xs (e + 1) τ) (sym e-is) ∙ w
 
 -- ---- mk_complement
 
-module _ (N : ℕ) (L : Limits) (x : ℕ) (t : List ℕ) (n : ℕ) where
-  pub undone : get_or t (12 * x) 0 ≡ COMPLEMENT → mk_complement N L x (table t n) ≡ given (table t n) (get_or t (12 * x + 1) 0)
-  unfolding mk_complement kind_of op1
-  undone e = simp (eq-eqb (get_or t (12 * x) 0) COMPLEMENT e)
+module _ (N : ℕ) (L : Limits) (x : ℕ) (σ : Table) where
+  pub undone : kind_of σ.words x ≡ COMPLEMENT → mk_complement N L x σ ≡ given σ (op1 σ.words x)
+  unfolding mk_complement
+  undone e = simp (eq-eqb (kind_of σ.words x) COMPLEMENT e)
 
-  module _ (p : get_or t (12 * x) 0 ≡ COMPLEMENT → ⊥) {z : Outcome Table ℕ} where
-    pub of_top : get_or t (12 * x) 0 ≡ TOP → (h : ℕ) → zero_at N ≡ h → mk_spp h (table t n) ≡ z → mk_complement N L x (table t n) ≡ z
-    unfolding mk_complement kind_of
-    of_top e h q w = simp (ne_eqb (get_or t (12 * x) 0) COMPLEMENT p, eq-eqb (get_or t (12 * x) 0) TOP e) (ap (λ (h : ℕ). mk_spp h (table t n)) q ∙ w)
+  module _ {z : Outcome Table ℕ} where
+    pub of_top : kind_of σ.words x ≡ TOP → {h : ℕ} → zero_at N ≡ h → mk_spp h σ ≡ z → mk_complement N L x σ ≡ z
+    unfolding mk_complement
+    of_top e {h} q w =
+        simp (ne_eqb (kind_of σ.words x) COMPLEMENT (λ d. omega (arith, e, d)), eq-eqb (kind_of σ.words x) TOP e) (ap (λ (h : ℕ). mk_spp h σ) q ∙ w)
 
-    pub of_other : (get_or t (12 * x) 0 ≡ TOP → ⊥) → intern1 L COMPLEMENT x (table t n) ≡ z → mk_complement N L x (table t n) ≡ z
-    unfolding mk_complement kind_of
-    of_other q w = simp (ne_eqb (get_or t (12 * x) 0) COMPLEMENT p, ne_eqb (get_or t (12 * x) 0) TOP q) w
+    pub of_other : (kind_of σ.words x ≡ COMPLEMENT → ⊥) → (kind_of σ.words x ≡ TOP → ⊥) → intern1 L COMPLEMENT x σ ≡ z → mk_complement N L x σ ≡ z
+    unfolding mk_complement
+    of_other p q w = simp (ne_eqb (kind_of σ.words x) COMPLEMENT p, ne_eqb (kind_of σ.words x) TOP q) w

@@ -1,4 +1,5 @@
 -- What each turn of the searches and each way through the constructors comes to.
-pub mod Region
+pub mod Slices
 pub mod Scan
 pub mod Intern
+pub mod Apart

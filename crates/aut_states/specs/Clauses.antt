@@ -1,12 +1,17 @@
 -- What an answer says in the words of the steps, and what the functions ask of the tables.
-use Rattle.std.specs.Prelude.{◌≡◌, Bool, false, List, [], ◌∷◌, ℕ, ◌+◌, ◌*◌, ◌≤◌, ◌<◌, max, length}
-use Rattle.common.specs.Outcome.{Outcome, refused, given}
+use Rattle.std.specs.Prelude.{◌≡◌, Bool, false, List, [], ◌∷◌, ℕ, ◌+◌, ◌*◌, ◌≤◌, ◌<◌, max, length, Option, Some, None, Result, Ok, Err, if◌then◌else◌}
+use Rattle.common.specs.Outcome.{Outcome, refused, given, Step}
 use Rattle.common.specs.Runs.{Table, table}
+use Rattle.refusal.specs.declared.Refusal.{Refusal}
+use Rattle.refusal.specs.Numbers.{number_of, outcome}
 use Rattle.aut_steps.specs.Tables as M
-use Rattle.aut_steps.specs.Tables.{Exprs, exprs, kind_of, op1, op2, words, state_cap, member_cap}
+use Rattle.aut_steps.specs.Tables.{Exprs, exprs, kind_of, op1, op2, words, state_cap, member_cap, room_m}
+use Rattle.aut_steps.specs.Intern.{seek, store}
 use Rattle.aut_steps.specs.Ascending.{All}
 use Rattle.aut_states.specs.declared.Counts.{Counts}
 use Rattle.aut_states.specs.declared.Limits.{Limits}
+use Rattle.aut_states.specs.declared.States.{States}
+use Rattle.aut_states.specs.declared.Members.{Members}
 use Rattle.aut_states.specs.declared.Put.{Put}
 use Rattle.aut_states.specs.declared.Put.TheVariants as put
 use Rattle.aut_states.specs.declared.State.{State}
@@ -15,23 +20,27 @@ use Rattle.aut_states.specs.declared.State.TheVariants as state
 abbrev pub limits_of : Limits → M.Limits
 limits_of l = record { nesting = l.nesting; list = l.list; products = l.products; transitions = l.transitions }
 
--- a state and the table at exit, or 01's number
-abbrev pub seen_put : Put → List ℕ → Outcome Table ℕ
-seen_put (put.At i n) t = given (table t n) i
-seen_put (put.Refused e) t = refused e
+abbrev pub states_of : States → Table
+states_of s = table s.words.now s.count
 
-abbrev pub seen_state : State → List ℕ → List ℕ → Outcome Exprs ℕ
-seen_state (state.Is i c) s m = given (exprs (table s c.states) (table m c.members)) i
-seen_state (state.Refused e) s m = refused e
+abbrev pub members_of : Members → Table
+members_of m = table m.words.now m.count
 
--- the counts of the tables that are not taken are as they were
-abbrev pub Beside : State → Counts → Type 0
-Beside (state.Is i d) c = (d.sp ≡ c.sp) × (d.spp ≡ c.spp) × (d.transitions ≡ c.transitions)
-Beside (state.Refused e) c = Unit
+abbrev pub exprs_of : States → Members → Exprs
+exprs_of s m = exprs (states_of s) (members_of m)
 
-pub record Interned (o : Outcome Exprs ℕ) (r : State) (c : Counts) (s m : List ℕ) : Type 0 where
-  pub is : o ≡ seen_state r s m
-  pub beside : Beside r c
+-- the number of a state, or where a list begins, and the tables at exit
+abbrev pub seen : {S : Type 0} → Result ℕ Refusal → S → Outcome S ℕ
+seen r σ = outcome (λ i. i) r σ
+
+-- the first of n with f, if there is one
+abbrev pub Found : (ℕ → Bool) → ℕ → Option ℕ → Type 0
+Found f n (Some i) = (i < n) × (seek f 0 n ≡ i)
+Found f n None = seek f 0 n ≡ n
+
+-- a list behind the members in use
+unfoldable pub append : List ℕ → Step Table ℕ
+append xs m = if room_m m (length xs) then given (store xs m) m.count else refused 23
 
 -- ---- what is asked
 
@@ -64,6 +73,45 @@ above_l h (x ∷ xs) = above_l (max h (x + 1)) xs
 -- where state i is of the list kind k, its members are in the table
 pub record ListIn (st m : List ℕ) (i k : ℕ) : Type 0 where
   pub within : kind_of st i ≡ k → op1 st i + op2 st i ≤ length m
+
+pub record PushReady (τ : Exprs) : Type 0 where
+  pub fits : Fits τ.states.words τ.states.count
+  pub small : τ.members.count ≤ member_cap
+
+-- the list has states only, and those of a state of kind k are earlier states
+pub record ListAsked (τ : Exprs) (k : ℕ) (xs : List ℕ) : Type 0 where
+  pub push : PushReady τ
+  pub lists : (i : ℕ) → i < τ.states.count → ListIn τ.states.words τ.members.words i k
+  pub has : All (λ x. x < τ.states.count) xs
+  pub earlier : (i : ℕ) → i < τ.states.count → kind_of τ.states.words i ≡ k → All (λ x. x < i) (words τ.members.words (op1 τ.states.words i) (op2 τ.states.words i))
+
+-- ---- for the layers that hold a table and its count apart. A list is given as k words of scratch at base.
+
+abbrev pub put_of : Result ℕ Refusal → ℕ → Put
+put_of (Ok i) n = put.At i n
+put_of (Err e) n = put.Refused (number_of e)
+
+abbrev pub state_of : Result ℕ Refusal → Counts → State
+state_of (Ok i) c = state.Is i c
+state_of (Err e) c = state.Refused (number_of e)
+
+-- a state and the table at exit, or 01's number
+abbrev pub seen_put : Put → List ℕ → Outcome Table ℕ
+seen_put (put.At i n) t = given (table t n) i
+seen_put (put.Refused e) t = refused e
+
+abbrev pub seen_state : State → List ℕ → List ℕ → Outcome Exprs ℕ
+seen_state (state.Is i c) s m = given (exprs (table s c.states) (table m c.members)) i
+seen_state (state.Refused e) s m = refused e
+
+-- the counts of the tables that are not taken are as they were
+abbrev pub Beside : State → Counts → Type 0
+Beside (state.Is i d) c = (d.sp ≡ c.sp) × (d.spp ≡ c.spp) × (d.transitions ≡ c.transitions)
+Beside (state.Refused e) c = Unit
+
+pub record Interned (o : Outcome Exprs ℕ) (r : State) (c : Counts) (s m : List ℕ) : Type 0 where
+  pub is : o ≡ seen_state r s m
+  pub beside : Beside r c
 
 -- the k words of scratch at base are numbers of whole records
 pub record Below (st s : List ℕ) (base k : ℕ) : Type 0 where

@@ -1,20 +1,25 @@
 // States and members of aut.rs on lent tables, twelve words a state, one a member: interning by comparison, and the constructors
-// that need no relation operation. A list of states is given as k words of scratch at base.
+// that need no relation operation.
 #![tactic(auto)]
 
 pub mod kind;
-pub mod refusal;
 pub mod word;
 
-ghost use Rattle.std.specs.Prelude.{◌≡◌, ℕ, ◌+◌, ◌*◌, ◌≤◌, ◌<◌, max, length, get_or};
+ghost use Rattle.std.specs.Prelude.{◌≡◌, ℕ, ◌+◌, ◌*◌, ◌≤◌, ◌<◌, max, length};
 ghost use Rattle.std.proofs.lemmas.List.Edits.{sets};
 ghost use Rattle.common.specs.Runs.{table};
-ghost use Rattle.aut_steps.specs.Tables.{COMPLEMENT, NEXT, UNTIL, exprs, words, nest};
+ghost use Rattle.aut_steps.specs.Tables.{COMPLEMENT, NEXT, UNTIL, exprs, words, kind_of, op1, op2, nest};
 ghost use Rattle.aut_steps.specs.Intern as M;
 ghost use Rattle.aut_steps.specs.Constructors as C;
-ghost use Rattle.aut_states.specs.Clauses.{seen_put, Interned, limits_of, Fits, From, Ready1, Ready2, ListIn, Below, AddReady, ListReady, above_l};
+ghost use Rattle.aut_steps.specs.Ascending.{All};
+ghost use Rattle.aut_states.specs.Clauses.{limits_of, states_of, members_of, exprs_of, seen, Found, Fits, From, Ready1, Ready2, ListIn, PushReady, ListAsked, above_l, append};
+ghost use Rattle.aut_states.specs.Clauses.{put_of, state_of, seen_put, Interned, ListReady};
 
+use refusal::Refusal;
 use spp::SPP;
+
+// for the layers that hold a refusal as a number
+pub use refusal;
 
 // records in use of each table
 #[derive(Clone, Copy)]
@@ -45,6 +50,325 @@ pub struct Config {
 // words of a state
 pub const STATE: usize = 12;
 
+// the lent table of states, and how many of its records are states
+#[derive(Drop)]
+pub struct States<'a> {
+    pub words: &'a mut [u32],
+    pub count: usize,
+}
+
+// the lent table of members, and how many of them are in use
+#[derive(Drop)]
+pub struct Members<'a> {
+    pub words: &'a mut [u32],
+    pub count: usize,
+}
+
+// one above x, or at if that is more. Operands are earlier states, so a search for a state begins above its operands
+fn above(at: usize, x: u32) -> usize
+    ensures { result ≡ max at (x + 1) }
+{
+    at.max(x as usize + 1)
+}
+
+// one above the highest of the list
+fn above_list(list: &[u32]) -> usize
+    ensures { result ≡ above_l 0 list.now }
+{
+    let mut at: usize = 0;
+    for x in list {
+        at = above(at, *x);
+    }
+    at
+}
+
+impl States<'_> {
+    #[tactic(auto, unfolding(aut_steps::specs::Tables::kind_of))]
+    pub fn kind(&self, x: u32) -> u32
+        requires { 12 * x + 11 < length self.now.words.now }
+        ensures { result ≡ kind_of self.now.words.now x }
+    {
+        self.words[STATE * x as usize + word::KIND]
+    }
+
+    // the operands
+    #[tactic(auto, unfolding(aut_steps::specs::Tables::op1))]
+    pub fn first(&self, x: u32) -> u32
+        requires { 12 * x + 11 < length self.now.words.now }
+        ensures { result ≡ op1 self.now.words.now x }
+    {
+        self.words[STATE * x as usize + word::FIRST]
+    }
+
+    #[tactic(auto, unfolding(aut_steps::specs::Tables::op2))]
+    pub fn second(&self, x: u32) -> u32
+        requires { 12 * x + 11 < length self.now.words.now }
+        ensures { result ≡ op2 self.now.words.now x }
+    {
+        self.words[STATE * x as usize + word::SECOND]
+    }
+
+    #[tactic(auto, unfolding(aut_steps::specs::Tables::nest))]
+    pub fn nest_of(&self, x: u32) -> u32
+        requires { 12 * x + 11 < length self.now.words.now }
+        ensures { result ≡ nest self.now.words.now x }
+    {
+        self.words[STATE * x as usize + word::NESTING]
+    }
+
+    // whether state i has this kind and these operands
+    #[tactic(auto, unfolding(aut_steps::specs::Intern::same2))]
+    fn is_at(&self, i: u32, kind: u32, x: u32, y: u32) -> bool
+        requires { 12 * i + 11 < length self.now.words.now }
+        ensures { result ≡ M.same2 self.now.words.now kind x y i }
+    {
+        self.kind(i) == kind && self.first(i) == x && self.second(i) == y
+    }
+
+    // the first that is; it is no state before from
+    fn find(&self, from: usize, kind: u32, x: u32, y: u32) -> Option<u32>
+        requires { Fits self.now.words.now self.now.count ×
+            From (M.same2 self.now.words.now kind x y) from self.now.count }
+        ensures { Found (M.same2 self.now.words.now kind x y) self.now.count result }
+    {
+        for i in from..self.count {
+            if self.is_at(i as u32, kind, x, y) {
+                return Some(i as u32);
+            }
+        }
+        None
+    }
+
+    // a state at the end of the table
+    #[tactic(auto, unfolding(aut_steps::specs::Intern::put, aut_steps::specs::Tables::room_s, aut_steps::specs::Tables::put4))]
+    fn put(&mut self, kind: u32, x: u32, y: u32, nest: u32) -> Result<u32, Refusal>
+        requires { Fits self.old.words.now self.old.count }
+        ensures same_table { self.new.words.ghost_name ≡ self.old.words.ghost_name }
+        ensures gives { M.put kind x y nest (states_of self.old) ≡ seen result (states_of self.new) }
+    {
+        let n = self.count;
+        if n >= self.words.len() / STATE || n >= 32768 {
+            return Err(Refusal::States);
+        }
+        self.words[STATE * n + word::KIND] = kind;
+        self.words[STATE * n + word::FIRST] = x;
+        self.words[STATE * n + word::SECOND] = y;
+        self.words[STATE * n + word::NESTING] = nest;
+        self.count = n + 1;
+        Ok(n as u32)
+    }
+
+    // SPP, Dup, Top: no operand that is a state
+    pub fn intern0(&mut self, kind: u32, x: u32) -> Result<u32, Refusal>
+        requires { Fits self.old.words.now self.old.count }
+        ensures same_table { self.new.words.ghost_name ≡ self.old.words.ghost_name }
+        ensures gives { M.intern0 kind x (states_of self.old) ≡ seen result (states_of self.new) }
+    {
+        if let Some(i) = self.find(0, kind, x, 0) {
+            return Ok(i);
+        }
+        self.put(kind, x, 0, 0)
+    }
+
+    pub fn intern1(&mut self, limits: Limits, kind: u32, x: u32) -> Result<u32, Refusal>
+        requires { Ready1 self.old.words.now self.old.count kind x }
+        ensures same_table { self.new.words.ghost_name ≡ self.old.words.ghost_name }
+        ensures gives { M.intern1 (limits_of limits) kind x (states_of self.old) ≡ seen result
+            (states_of self.new) }
+    {
+        if let Some(i) = self.find(above(0, x), kind, x, 0) {
+            return Ok(i);
+        }
+        let e = self.nest_of(x);
+        if e >= limits.nesting {
+            return Err(Refusal::Nesting);
+        }
+        self.put(kind, x, 0, e + 1)
+    }
+
+    pub fn intern2(&mut self, limits: Limits, kind: u32, x: u32, y: u32) -> Result<u32, Refusal>
+        requires { Ready2 self.old.words.now self.old.count kind x y }
+        ensures same_table { self.new.words.ghost_name ≡ self.old.words.ghost_name }
+        ensures gives { M.intern2 (limits_of limits) kind x y (states_of self.old) ≡ seen result
+            (states_of self.new) }
+    {
+        if let Some(i) = self.find(above(above(0, x), y), kind, x, y) {
+            return Ok(i);
+        }
+        let e = self.nest_of(x).max(self.nest_of(y));
+        if e >= limits.nesting {
+            return Err(Refusal::Nesting);
+        }
+        self.put(kind, x, y, e + 1)
+    }
+
+    #[tactic(auto, unfolding(aut_steps::specs::Constructors::mk_spp))]
+    pub fn mk_spp(&mut self, spp: SPP) -> Result<u32, Refusal>
+        requires { Fits self.old.words.now self.old.count }
+        ensures same_table { self.new.words.ghost_name ≡ self.old.words.ghost_name }
+        ensures gives { C.mk_spp spp.0 (states_of self.old) ≡ seen result (states_of self.new) }
+    {
+        self.intern0(kind::SPP, spp.0)
+    }
+
+    #[tactic(auto, unfolding(aut_steps::specs::Constructors::mk_dup))]
+    pub fn mk_dup(&mut self) -> Result<u32, Refusal>
+        requires { Fits self.old.words.now self.old.count }
+        ensures same_table { self.new.words.ghost_name ≡ self.old.words.ghost_name }
+        ensures gives { C.mk_dup (states_of self.old) ≡ seen result (states_of self.new) }
+    {
+        self.intern0(kind::DUP, 0)
+    }
+
+    #[tactic(auto, unfolding(aut_steps::specs::Constructors::mk_top))]
+    pub fn mk_top(&mut self) -> Result<u32, Refusal>
+        requires { Fits self.old.words.now self.old.count }
+        ensures same_table { self.new.words.ghost_name ≡ self.old.words.ghost_name }
+        ensures gives { C.mk_top (states_of self.old) ≡ seen result (states_of self.new) }
+    {
+        self.intern0(kind::TOP, 0)
+    }
+
+    #[tactic(auto, unfolding(aut_steps::specs::Constructors::mk_next))]
+    pub fn mk_next(&mut self, limits: Limits, x: u32) -> Result<u32, Refusal>
+        requires { Ready1 self.old.words.now self.old.count NEXT x }
+        ensures same_table { self.new.words.ghost_name ≡ self.old.words.ghost_name }
+        ensures gives { C.mk_next (limits_of limits) x (states_of self.old) ≡ seen result
+            (states_of self.new) }
+    {
+        self.intern1(limits, kind::NEXT, x)
+    }
+
+    #[tactic(auto, unfolding(aut_steps::specs::Constructors::mk_until))]
+    pub fn mk_until(&mut self, limits: Limits, x: u32, y: u32) -> Result<u32, Refusal>
+        requires { Ready2 self.old.words.now self.old.count UNTIL x y }
+        ensures same_table { self.new.words.ghost_name ≡ self.old.words.ghost_name }
+        ensures gives { C.mk_until (limits_of limits) x y (states_of self.old) ≡ seen result
+            (states_of self.new) }
+    {
+        self.intern2(limits, kind::UNTIL, x, y)
+    }
+
+    #[tactic(auto, unfolding(aut_steps::specs::Constructors::mk_complement))]
+    pub fn mk_complement(&mut self, config: Config, x: u32) -> Result<u32, Refusal>
+        requires { Ready1 self.old.words.now self.old.count COMPLEMENT x × (config.fields ≤ 31) }
+        ensures same_table { self.new.words.ghost_name ≡ self.old.words.ghost_name }
+        ensures gives { C.mk_complement config.fields (limits_of config.limits) x
+            (states_of self.old) ≡ seen result (states_of self.new) }
+    {
+        match self.kind(x) {
+            kind::COMPLEMENT => Ok(self.first(x)),
+            kind::TOP => self.mk_spp(spp::zero_at_depth(config.fields)),
+            _ => self.intern1(config.limits, kind::COMPLEMENT, x),
+        }
+    }
+}
+
+impl Members<'_> {
+    // a list at the end of the table; where it begins
+    #[tactic(auto, unfolding(crate::specs::Clauses::append, aut_steps::specs::Tables::room_m, aut_steps::specs::Intern::store))]
+    fn append(&mut self, list: &[u32]) -> Result<u32, Refusal>
+        requires { self.old.count ≤ 16777216 }
+        ensures same_table { self.new.words.ghost_name ≡ self.old.words.ghost_name }
+        ensures gives { append list.now (members_of self.old) ≡ seen result (members_of self.new) }
+    {
+        let m = self.count;
+        let end = m + list.len();
+        if end > self.words.len() || end > 16777216 {
+            return Err(Refusal::Members);
+        }
+        self.words[m..end].copy_from_slice(list);
+        self.count = end;
+        Ok(m as u32)
+    }
+}
+
+// ---- lists: a state of the list kinds has its members in the other table. stays: the members are a parameter, since the check gives
+// a lent slice back from a struct, but not from a struct within a struct.
+
+impl States<'_> {
+    // whether state i is the list of this kind
+    fn is_at_list(&self, members: &Members, i: u32, kind: u32, list: &[u32]) -> bool
+        requires { ListIn self.now.words.now members.now.words.now i kind ×
+            (12 * i + 11 < length self.now.words.now) }
+        ensures { result ≡ M.same_l self.now.words.now members.now.words.now kind list.now i }
+    {
+        let a = self.first(i) as usize;
+        let n = self.second(i) as usize;
+        self.kind(i) == kind && n == list.len() && &members.words[a..a + n] == list
+    }
+
+    // the first that is; it is no state before from
+    fn find_list(&self, members: &Members, from: usize, kind: u32, list: &[u32]) -> Option<u32>
+        requires { Fits self.now.words.now self.now.count ×
+            ((i : ℕ) → i < self.now.count → ListIn self.now.words.now members.now.words.now i kind) ×
+            From (M.same_l self.now.words.now members.now.words.now kind list.now) from self.now.count }
+        ensures { Found (M.same_l self.now.words.now members.now.words.now kind list.now)
+            self.now.count result }
+    {
+        for i in from..self.count {
+            if self.is_at_list(members, i as u32, kind, list) {
+                return Some(i as u32);
+            }
+        }
+        None
+    }
+
+    // the highest nesting of the list
+    fn nest_list(&self, list: &[u32]) -> u32
+        requires { All (λ x. 12 * x + 11 < length self.now.words.now) list.now }
+        ensures { result ≡ M.nest_l self.now.words.now 0 list.now }
+    {
+        let mut h: u32 = 0;
+        for x in list {
+            h = h.max(self.nest_of(*x));
+        }
+        h
+    }
+
+    // a list's state at the end of the table, its members at the end of theirs
+    fn push_list(
+        &mut self,
+        members: &mut Members,
+        kind: u32,
+        list: &[u32],
+        nest: u32,
+    ) -> Result<u32, Refusal>
+        requires { PushReady (exprs_of self.old members.old) }
+        ensures same_table { self.new.words.ghost_name ≡ self.old.words.ghost_name }
+        ensures same_members { members.new.words.ghost_name ≡ members.old.words.ghost_name }
+        ensures gives { M.put_l kind list.now nest (exprs_of self.old members.old) ≡ seen result (exprs_of self.new members.new) }
+    {
+        let m = members.append(list)?;
+        self.put(kind, m, list.len() as u32, nest)
+    }
+
+    pub fn intern_list(
+        &mut self,
+        members: &mut Members,
+        limits: Limits,
+        kind: u32,
+        list: &[u32],
+    ) -> Result<u32, Refusal>
+        requires { ListAsked (exprs_of self.old members.old) kind list.now }
+        ensures same_table { self.new.words.ghost_name ≡ self.old.words.ghost_name }
+        ensures same_members { members.new.words.ghost_name ≡ members.old.words.ghost_name }
+        ensures gives { M.intern_l (limits_of limits) kind list.now (exprs_of self.old members.old) ≡ seen result
+            (exprs_of self.new members.new) }
+    {
+        if let Some(i) = self.find_list(members, above_list(list), kind, list) {
+            return Ok(i);
+        }
+        let e = self.nest_list(list);
+        if e >= limits.nesting {
+            return Err(Refusal::Nesting);
+        }
+        self.push_list(members, kind, list, e + 1)
+    }
+}
+
+// ---- for the layers that hold a table and its count apart
+
 // a state and the number of states, or 01's number
 #[derive(Clone, Copy)]
 pub enum Put {
@@ -58,49 +382,25 @@ pub enum State {
     Refused(u32),
 }
 
-// whether state i has this kind and these operands
-fn is_at2(states: &[u32], i: usize, kind: u32, x: u32, y: u32) -> bool
-    requires { 12 * i + 11 < length states.now }
-    ensures { M.same2 states.now kind x y i ≡ result }
+fn put_of(answer: Result<u32, Refusal>, count: usize) -> Put
+    ensures { result ≡ put_of answer count }
 {
-    if states[12 * i] != kind {
-        return false;
+    match answer {
+        Ok(i) => Put::At(i, count),
+        Err(e) => Put::Refused(e.number()),
     }
-    if states[12 * i + 1] != x {
-        return false;
-    }
-    if states[12 * i + 2] != y {
-        return false;
-    }
-    true
 }
 
-// its number, or count; it is no state before from
-fn find2(states: &[u32], from: usize, count: usize, kind: u32, x: u32, y: u32) -> usize
-    requires { Fits states.now count × From (M.same2 states.now kind x y) from count }
-    ensures { result ≡ M.seek (M.same2 states.now kind x y) 0 count }
+fn state_of(answer: Result<u32, Refusal>, c: Counts) -> State
+    ensures { result ≡ state_of answer c }
 {
-    let mut i = from;
-    while i < count {
-        if is_at2(states, i, kind, x, y) {
-            return i;
-        }
-        i += 1;
+    match answer {
+        Ok(i) => State::Is(i, c),
+        Err(e) => State::Refused(e.number()),
     }
-    i
 }
 
-// one above x, or at if that is more. Operands are earlier states, so a search for a state begins above its operands
-fn above(at: usize, x: u32) -> usize
-    ensures { result ≡ max at (x + 1) }
-{
-    let next = x as usize + 1;
-    if at < next {
-        return next;
-    }
-    at
-}
-
+#[tactic(auto, unfolding(aut_steps::specs::Tables::nest))]
 pub fn nest_of(states: &[u32], x: u32) -> u32
     requires { 12 * x + 11 < length states.now }
     ensures { result ≡ nest states.now x }
@@ -109,33 +409,24 @@ pub fn nest_of(states: &[u32], x: u32) -> u32
     states[12 * i + 3]
 }
 
-// a state at the end of the table
-fn put_state(states: &mut [u32], count: usize, kind: u32, x: u32, y: u32, nest: u32) -> Put
-    requires { Fits states.old count }
-    ensures { M.put kind x y nest (table states.old count) ≡ seen_put result states.new }
+// k words of one slice at base go to the other at m
+pub fn copy(out: &mut [u32], m: usize, from: &[u32], base: usize, k: usize)
+    requires { (m + k ≤ length out.old) × (base + k ≤ length from.now) }
+    ensures { sets out.old m (words from.now base k) ≡ out.new }
 {
-    if count < states.len() / 12 {
-        if count < 32768 {
-            states[12 * count] = kind;
-            states[12 * count + 1] = x;
-            states[12 * count + 2] = y;
-            states[12 * count + 3] = nest;
-            return Put::At(count as u32, count + 1);
-        }
-    }
-    Put::Refused(22)
+    out[m..m + k].copy_from_slice(&from[base..base + k]);
 }
 
-// SPP, Dup, Top: no operand that is a state
 pub fn intern0(states: &mut [u32], count: usize, kind: u32, x: u32) -> Put
     requires { Fits states.old count }
     ensures { M.intern0 kind x (table states.old count) ≡ seen_put result states.new }
 {
-    let i = find2(states, 0, count, kind, x, 0);
-    if i < count {
-        return Put::At(i as u32, count);
-    }
-    put_state(states, count, kind, x, 0, 0)
+    let mut table = States {
+        words: states,
+        count,
+    };
+    let answer = table.intern0(kind, x);
+    put_of(answer, table.count)
 }
 
 pub fn intern1(states: &mut [u32], count: usize, limits: Limits, kind: u32, x: u32) -> Put
@@ -143,25 +434,12 @@ pub fn intern1(states: &mut [u32], count: usize, limits: Limits, kind: u32, x: u
     ensures { M.intern1 (limits_of limits) kind x (table states.old count) ≡ seen_put result
         states.new }
 {
-    let from = above(0, x);
-    let i = find2(states, from, count, kind, x, 0);
-    if i < count {
-        return Put::At(i as u32, count);
-    }
-    let e = nest_of(states, x);
-    if e >= limits.nesting {
-        return Put::Refused(8);
-    }
-    put_state(states, count, kind, x, 0, e + 1)
-}
-
-fn higher(a: u32, b: u32) -> u32
-    ensures { result ≡ max a b }
-{
-    if a < b {
-        return b;
-    }
-    a
+    let mut table = States {
+        words: states,
+        count,
+    };
+    let answer = table.intern1(limits, kind, x);
+    put_of(answer, table.count)
 }
 
 pub fn intern2(states: &mut [u32], count: usize, limits: Limits, kind: u32, x: u32, y: u32) -> Put
@@ -169,161 +447,87 @@ pub fn intern2(states: &mut [u32], count: usize, limits: Limits, kind: u32, x: u
     ensures { M.intern2 (limits_of limits) kind x y (table states.old count) ≡ seen_put result
         states.new }
 {
-    let from = above(above(0, x), y);
-    let i = find2(states, from, count, kind, x, y);
-    if i < count {
-        return Put::At(i as u32, count);
-    }
-    let e = higher(nest_of(states, x), nest_of(states, y));
-    if e >= limits.nesting {
-        return Put::Refused(8);
-    }
-    put_state(states, count, kind, x, y, e + 1)
+    let mut table = States {
+        words: states,
+        count,
+    };
+    let answer = table.intern2(limits, kind, x, y);
+    put_of(answer, table.count)
 }
 
-// whether the members from a are the list
-fn same_at(members: &[u32], a: usize, scratch: &[u32], base: usize, k: usize) -> bool
-    requires { (a + k ≤ length members.now) × (base + k ≤ length scratch.now) }
-    ensures { M.same_at members.now a (words scratch.now base k) ≡ result }
+pub fn mk_spp(states: &mut [u32], count: usize, spp: SPP) -> Put
+    requires { Fits states.old count }
+    ensures { C.mk_spp spp.0 (table states.old count) ≡ seen_put result states.new }
 {
-    let mut j = 0;
-    while j < k {
-        if members[a + j] != scratch[base + j] {
-            return false;
-        }
-        j += 1;
-    }
-    true
+    let mut table = States {
+        words: states,
+        count,
+    };
+    let answer = table.mk_spp(spp);
+    put_of(answer, table.count)
 }
 
-fn is_at_list(
-    states: &[u32],
-    members: &[u32],
-    scratch: &[u32],
-    i: usize,
-    kind: u32,
-    base: usize,
-    k: usize,
-) -> bool
-    requires { ListIn states.now members.now i kind × (12 * i + 11 < length states.now) ×
-        (base + k ≤ length scratch.now) }
-    ensures { M.same_l states.now members.now kind (words scratch.now base k) i
-        ≡ result }
+pub fn mk_dup(states: &mut [u32], count: usize) -> Put
+    requires { Fits states.old count }
+    ensures { C.mk_dup (table states.old count) ≡ seen_put result states.new }
 {
-    if states[12 * i] != kind {
-        return false;
-    }
-    let n = states[12 * i + 2] as usize;
-    if n != k {
-        return false;
-    }
-    let a = states[12 * i + 1] as usize;
-    same_at(members, a, scratch, base, k)
+    let mut table = States {
+        words: states,
+        count,
+    };
+    let answer = table.mk_dup();
+    put_of(answer, table.count)
 }
 
-fn find_list(
-    states: &[u32],
-    members: &[u32],
-    scratch: &[u32],
-    from: usize,
-    count: usize,
-    kind: u32,
-    base: usize,
-    k: usize,
-) -> usize
-    requires { Fits states.now count × ((i : ℕ) → i < count → ListIn states.now members.now i kind) ×
-        (base + k ≤ length scratch.now) × From
-        (M.same_l states.now members.now kind (words scratch.now base k)) from count }
-    ensures { result ≡ M.seek
-        (M.same_l states.now members.now kind (words scratch.now base k)) 0 count }
+pub fn mk_top(states: &mut [u32], count: usize) -> Put
+    requires { Fits states.old count }
+    ensures { C.mk_top (table states.old count) ≡ seen_put result states.new }
 {
-    let mut i = from;
-    while i < count {
-        if is_at_list(states, members, scratch, i, kind, base, k) {
-            return i;
-        }
-        i += 1;
-    }
-    i
+    let mut table = States {
+        words: states,
+        count,
+    };
+    let answer = table.mk_top();
+    put_of(answer, table.count)
 }
 
-// one above the highest of the list
-fn above_list(scratch: &[u32], base: usize, k: usize) -> usize
-    requires { base + k ≤ length scratch.now }
-    ensures { result ≡ above_l 0 (words scratch.now base k) }
+pub fn mk_next(states: &mut [u32], count: usize, limits: Limits, x: u32) -> Put
+    requires { Ready1 states.old count NEXT x }
+    ensures { C.mk_next (limits_of limits) x (table states.old count) ≡ seen_put result
+        states.new }
 {
-    let mut at: usize = 0;
-    let mut j = 0;
-    while j < k {
-        at = above(at, scratch[base + j]);
-        j += 1;
-    }
-    at
+    let mut table = States {
+        words: states,
+        count,
+    };
+    let answer = table.mk_next(limits, x);
+    put_of(answer, table.count)
 }
 
-// the highest nesting of the list
-fn nest_list(states: &[u32], scratch: &[u32], base: usize, k: usize) -> u32
-    requires { Below states.now scratch.now base k }
-    ensures { result ≡ M.nest_l states.now 0 (words scratch.now base k) }
+pub fn mk_until(states: &mut [u32], count: usize, limits: Limits, x: u32, y: u32) -> Put
+    requires { Ready2 states.old count UNTIL x y }
+    ensures { C.mk_until (limits_of limits) x y (table states.old count) ≡ seen_put result
+        states.new }
 {
-    let mut h: u32 = 0;
-    let mut j = 0;
-    while j < k {
-        h = higher(h, nest_of(states, scratch[base + j]));
-        j += 1;
-    }
-    h
+    let mut table = States {
+        words: states,
+        count,
+    };
+    let answer = table.mk_until(limits, x, y);
+    put_of(answer, table.count)
 }
 
-// k words of one slice at base go to the other at m
-pub fn copy(out: &mut [u32], m: usize, from: &[u32], base: usize, k: usize)
-    requires { (m + k ≤ length out.old) × (base + k ≤ length from.now) }
-    ensures { sets out.old m (words from.now base k) ≡ out.new }
+pub fn mk_complement(states: &mut [u32], count: usize, config: Config, x: u32) -> Put
+    requires { Ready1 states.old count COMPLEMENT x × (config.fields ≤ 31) }
+    ensures { C.mk_complement config.fields (limits_of config.limits) x
+        (table states.old count) ≡ seen_put result states.new }
 {
-    let mut j = 0;
-    while j < k {
-        out[m + j] = from[base + j];
-        j += 1;
-    }
-}
-
-// a list's state at the end of the table, its members at the end of theirs
-fn push_list(
-    states: &mut [u32],
-    members: &mut [u32],
-    scratch: &[u32],
-    c: Counts,
-    kind: u32,
-    base: usize,
-    k: usize,
-    nest: u32,
-) -> State
-    requires { AddReady states.old members.old scratch.now c base k }
-    ensures { Interned
-        (M.put_l kind (words scratch.now base k) nest
-        (exprs (table states.old c.states) (table members.old c.members))) result c
-        states.new members.new }
-{
-    let m = c.members;
-    if m + k > members.len() {
-        return State::Refused(23);
-    }
-    if m + k > 16777216 {
-        return State::Refused(23);
-    }
-    copy(members, m, scratch, base, k);
-    let put = put_state(states, c.states, kind, m as u32, k as u32, nest);
-    match put {
-        Put::Refused(e) => State::Refused(e),
-        Put::At(i, n) => State::Is(
-            i,
-            Counts {
-                states: n,
-                members: m + k,
-                ..c
-            },
-        ),
-    }
+    let mut table = States {
+        words: states,
+        count,
+    };
+    let answer = table.mk_complement(config, x);
+    put_of(answer, table.count)
 }
 
 pub fn intern_list(
@@ -342,68 +546,19 @@ pub fn intern_list(
         (exprs (table states.old c.states) (table members.old c.members))) result c
         states.new members.new }
 {
-    let from = above_list(scratch, base, k);
-    let i = find_list(states, members, scratch, from, c.states, kind, base, k);
-    if i < c.states {
-        return State::Is(i as u32, c);
-    }
-    let e = nest_list(states, scratch, base, k);
-    if e >= limits.nesting {
-        return State::Refused(8);
-    }
-    push_list(states, members, scratch, c, kind, base, k, e + 1)
-}
-
-pub fn mk_spp(states: &mut [u32], count: usize, spp: SPP) -> Put
-    requires { Fits states.old count }
-    ensures { C.mk_spp spp.0 (table states.old count) ≡ seen_put result states.new }
-{
-    intern0(states, count, kind::SPP, spp.0)
-}
-
-pub fn mk_dup(states: &mut [u32], count: usize) -> Put
-    requires { Fits states.old count }
-    ensures { C.mk_dup (table states.old count) ≡ seen_put result states.new }
-{
-    intern0(states, count, kind::DUP, 0)
-}
-
-pub fn mk_top(states: &mut [u32], count: usize) -> Put
-    requires { Fits states.old count }
-    ensures { C.mk_top (table states.old count) ≡ seen_put result states.new }
-{
-    intern0(states, count, kind::TOP, 0)
-}
-
-pub fn mk_next(states: &mut [u32], count: usize, limits: Limits, x: u32) -> Put
-    requires { Ready1 states.old count NEXT x }
-    ensures { C.mk_next (limits_of limits) x (table states.old count) ≡ seen_put result
-        states.new }
-{
-    intern1(states, count, limits, kind::NEXT, x)
-}
-
-pub fn mk_until(states: &mut [u32], count: usize, limits: Limits, x: u32, y: u32) -> Put
-    requires { Ready2 states.old count UNTIL x y }
-    ensures { C.mk_until (limits_of limits) x y (table states.old count) ≡ seen_put result
-        states.new }
-{
-    intern2(states, count, limits, kind::UNTIL, x, y)
-}
-
-pub fn mk_complement(states: &mut [u32], count: usize, config: Config, x: u32) -> Put
-    requires { Ready1 states.old count COMPLEMENT x × (config.fields ≤ 31) }
-    ensures { C.mk_complement config.fields (limits_of config.limits) x
-        (table states.old count) ≡ seen_put result states.new }
-{
-    let i = x as usize;
-    let kind = states[12 * i];
-    if kind == kind::COMPLEMENT {
-        return Put::At(states[12 * i + 1], count);
-    }
-    if kind == kind::TOP {
-        let zero = spp::zero_at_depth(config.fields);
-        return mk_spp(states, count, zero);
-    }
-    intern1(states, count, config.limits, kind::COMPLEMENT, x)
+    let mut table = States {
+        words: states,
+        count: c.states,
+    };
+    let mut rest = Members {
+        words: members,
+        count: c.members,
+    };
+    let answer = table.intern_list(&mut rest, limits, kind, &scratch[base..base + k]);
+    let counts = Counts {
+        states: table.count,
+        members: rest.count,
+        ..c
+    };
+    state_of(answer, counts)
 }
