@@ -1,4 +1,5 @@
 -- The chain of calls of an intersection: what each call is asked, and what the whole comes to.
+use Rattle.std.specs.Prelude.{Option, Some, None}
 use mathlib.Core.Path.{◌≡◌, refl, ◌∙◌, ap, subst}
 use mathlib.Core.List.{List, []}
 use Prim.Native.Nat.{ℕ, ◌≤◌}
@@ -9,7 +10,6 @@ use Rattle.common.specs.Outcome.{Outcome, refused, given, Step, after}
 use Rattle.common.specs.Runs.{table}
 use Rattle.aut_steps.specs.Tables.{words, Limits, Aut}
 use Rattle.aut_steps.specs.Relations as Rel
-use Rattle.aut_steps.specs.Wf.{states}
 use Rattle.aut_steps.proofs.StepSpec.{StepSpec, came}
 use Rattle.aut_steps.proofs.Products.{counted}
 use Rattle.aut_steps.specs.Constructors as C
@@ -21,8 +21,6 @@ use Rattle.aut_states.specs.declared.State.TheVariants as state
 use Rattle.aut_states.specs.Clauses.{limits_of}
 use Rattle.aut_scratch.specs.Clauses.{CountReady, counted_of, counted_most}
 use Rattle.aut_scratch.specs.Clauses as Lists
-use Rattle.aut_scratch.specs.declared.Counted.{Counted}
-use Rattle.aut_scratch.specs.declared.Counted.TheVariants as number
 use Rattle.aut_relations.specs.Behind.{Modifies}
 use Rattle.aut_relations.proofs.Behind.{left_wide, left_trans}
 use Rattle.aut_relations.specs.Clauses.{aut_of, seen_aut, ModifiesBy, Ready, Does}
@@ -50,14 +48,14 @@ module _ (N : ℕ) (l : Bounds) (t st mem s : List ℕ) (c : Counts) (k : ℕ) (
   pub count_ready : CountReady st s l.products 64 k
   count_ready = record { at = order.below R.good xs A.states; limit = R.products; within = omega (arith, A.apart, R.room) }
 
-  module _ (r1 : Counted) (K : Lists.Counts (count_all l.products st xs 1) r1) where
+  module _ (r1 : Option ℕ) (K : Lists.Counts (count_all l.products st xs 1) r1) where
     after_1 : whole ≡ C.distribute N (limits_of l) xs (counted_of r1) σ
     after_1 = ap (λ (o : Within ℕ). C.distribute N (limits_of l) xs o σ) K.is
 
-    pub too_many : r1 ≡ number.Many → whole ≡ refused 7
-    too_many e = after_1 ∙ ap (λ (r : Counted). C.distribute N (limits_of l) xs (counted_of r) σ) e
+    pub too_many : r1 ≡ None → whole ≡ refused 7
+    too_many e = after_1 ∙ ap (λ (r : Option ℕ). C.distribute N (limits_of l) xs (counted_of r) σ) e
 
-    module _ (n : ℕ) (told : r1 ≡ number.Products n) where
+    module _ (n : ℕ) (told : r1 ≡ Some n) where
       number_is : n ≡ sizes st xs
       number_is = counted l.products st xs 1 n (K.is ∙ ap counted_of told) ∙ one-mul (sizes st xs)
 
@@ -68,7 +66,7 @@ module _ (N : ℕ) (l : Bounds) (t st mem s : List ℕ) (c : Counts) (k : ℕ) (
       bases_ready = record { ready = R; list = A; products = omega (arith, number_is); few = few }
 
       after_2 : {o : Outcome Aut (List ℕ)} → C.bases N (limits_of l) xs 0 n [] σ ≡ o → whole ≡ after o (mk_union_n N (limits_of l))
-      after_2 e = after_1 ∙ ap (λ (r : Counted). C.distribute N (limits_of l) xs (counted_of r) σ) told ∙ ap (λ (o : Outcome Aut (List ℕ)). after o (mk_union_n N (limits_of l))) e
+      after_2 e = after_1 ∙ ap (λ (r : Option ℕ). C.distribute N (limits_of l) xs (counted_of r) σ) told ∙ ap (λ (o : Outcome Aut (List ℕ)). after o (mk_union_n N (limits_of l))) e
 
       module _ (r2 : Based) (t2 st2 mem2 s2 : List ℕ) (D : Bases N n l σ (C.bases N (limits_of l) xs 0 n [] σ) r2 c t2 st2 mem2 s s2) (len2 : length s2 ≡ length s) where
         pub not_based : (e : ℕ) → r2 ≡ based.Refused e → whole ≡ refused e

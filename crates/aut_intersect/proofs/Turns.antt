@@ -11,7 +11,7 @@ use Rattle.aut_steps.specs.Ascending.{All}
 use Rattle.aut_steps.proofs.ListLaws.{all_append, all_map}
 use Rattle.aut_steps.specs.Scratch.{Kept}
 use Rattle.aut_steps.proofs.Scratch.{kept_wide, kept_sets, words_append}
-use Rattle.aut_steps.specs.Wf.{states, ExtAut}
+use Rattle.aut_steps.specs.Wf.{ExtAut}
 use Rattle.aut_steps.proofs.Wf.{grown_refl, grown_trans, states_grown, state_grown}
 use Rattle.aut_steps.specs.StepSpec.{Gone}
 use Rattle.aut_steps.proofs.StepSpec.{StepSpec, came}

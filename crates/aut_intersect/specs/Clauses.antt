@@ -1,7 +1,7 @@
 -- What the answers say in the words of the steps, what is left of scratch, and what is asked.
-use Rattle.std.specs.Prelude.{◌≡◌, List, ℕ, ◌+◌, ◌*◌, ◌≤◌, ◌<◌}
+use Rattle.std.specs.Prelude.{◌≡◌, List, ℕ, ◌≤◌, ◌<◌}
 use Rattle.common.specs.Outcome.{Outcome, refused, given}
-use Rattle.common.specs.Runs.{Table, table}
+use Rattle.common.specs.Runs.{table}
 use Rattle.aut_steps.specs.Tables.{words, Aut}
 use Rattle.aut_steps.specs.Ascending.{All}
 use Rattle.aut_steps.specs.Wf.{states, ExtAut, WfAut}

@@ -9,7 +9,6 @@ ghost use Rattle.aut_relations.specs.Clauses.{aut_of, Ready, Does};
 ghost use Rattle.aut_union.specs.Clauses.{ListAt, PairAt};
 ghost use Rattle.aut_intersect.specs.Clauses.{BaseReady, BasesReady, Bases};
 
-use aut_scratch::{Counted, Listed};
 use aut_states::{Config, Counts, State};
 use spp::Op;
 
@@ -79,8 +78,7 @@ fn bases(
         states.new members.new scratch.old scratch.new }
 {
     let mut d = c;
-    let mut i = 0;
-    while i < n {
+    for i in 0..n {
         let made = base(nodes, states, members, scratch, d, config, k, i);
         match made {
             State::Refused(e) => {
@@ -91,7 +89,6 @@ fn bases(
                 d = d1;
             }
         }
-        i += 1;
     }
     Based::Done(d)
 }
@@ -113,7 +110,7 @@ fn distribute(
         (aut_of nodes.old states.old members.old c)) result c nodes.new
         states.new members.new scratch.old scratch.new }
 {
-    let Counted::Products(n) = aut_scratch::count_all(
+    let Some(n) = aut_scratch::count_all(
         states,
         scratch,
         config.limits.products,
@@ -162,7 +159,7 @@ pub fn mk_intersect_n(
     if k == 1 {
         return State::Is(scratch[from], c);
     }
-    let Listed::List(m) = aut_scratch::open(
+    let Some(m) = aut_scratch::open(
         states,
         members,
         scratch,

@@ -42,7 +42,6 @@ use Rattle.aut_union.specs.declared.Added.TheVariants as added
 use Rattle.aut_union.specs.Clauses.{seen_added, AddedMost, Adds}
 use Rattle.aut_union.proofs.Gather.{Each, each_later, behind_goes}
 use Rattle.aut_union.proofs.Calls.{interned_is, interned_beside, interned_nodes}
-use Rattle.aut_intersect_base.specs.declared.Met.{Met}
 use Rattle.aut_intersect_base.specs.declared.Met.TheVariants.{Rest, Full}
 use Rattle.aut_intersect_base.specs.Clauses.{nothing_of, alone_of, list_of, Meets, FinishReady, Finishes, AddReady}
 

@@ -1,5 +1,5 @@
 -- What the answers say in the words of the steps, what is left of scratch, and what is asked.
-use Rattle.std.specs.Prelude.{◌≡◌, Bool, ◌&&◌, List, ℕ, ◌+◌, ◌*◌, ◌≤◌, ◌<◌, eqb, length, if◌then◌else◌}
+use Rattle.std.specs.Prelude.{◌≡◌, Bool, ◌&&◌, List, ℕ, ◌+◌, ◌≤◌, ◌<◌, eqb, length, if◌then◌else◌}
 use Rattle.common.specs.Outcome.{Outcome, refused, given, Step, ◌>>=◌}
 use Rattle.common.specs.Runs.{Table, table, placed}
 use Rattle.aut_steps.specs.Tables.{INTERSECT, words, put_states, Aut, on_states, on_exprs}

@@ -12,7 +12,6 @@ ghost use Rattle.aut_relations.specs.Clauses.{aut_of, Ready, Does};
 ghost use Rattle.aut_union.specs.Clauses.{UniteReady, UnitesReady, Adds, ListAt};
 ghost use Rattle.aut_intersect_base.specs.Clauses.{nothing_of, alone_of, list_of, Meets, AddReady, OnStates, FinishReady, Finishes};
 
-use aut_scratch::Listed;
 use aut_states::{Config, Counts, Limits, Put, State};
 use spp::{Made, Op, SPP};
 
@@ -86,8 +85,7 @@ fn meet_each(
     let mut h = spp::top_at_depth(fields, fields);
     let mut n = count;
     let mut m = 0;
-    let mut i = 0;
-    while i < k {
+    for i in 0..k {
         let x = scratch[from + i];
         let Met::Rest(b, h1, n1, m1) = meet_one(
             nodes, states, scratch, n, fields, some, h, x, to, m,
@@ -98,7 +96,6 @@ fn meet_each(
         h = h1;
         n = n1;
         m = m1;
-        i += 1;
     }
     Met::Rest(some, h, n, m)
 }
@@ -278,7 +275,7 @@ pub fn mk_intersect_n_base(
         (aut_of nodes.old states.old members.old c)) result c nodes.new
         states.new members.new scratch.old scratch.new }
 {
-    let Listed::List(m) = aut_scratch::open(
+    let Some(m) = aut_scratch::open(
         states,
         members,
         scratch,

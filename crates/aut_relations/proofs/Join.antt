@@ -16,12 +16,14 @@ use Rattle.aut_states.specs.declared.Put.{Put}
 use Rattle.aut_states.specs.declared.Put.TheVariants as put
 use Rattle.aut_states.specs.declared.State.{State}
 use Rattle.aut_states.specs.declared.State.TheVariants.{Is, Refused}
-use Rattle.spp.specs.Clauses.{seen, Noted}
+use Rattle.std.specs.Prelude.{Result, Ok, Err}
+use Rattle.spp.specs.Clauses.{seen, Answer, made_of}
+use Rattle.spp.specs.declared.SPP.{SPP as Handle}
+use Rattle.spp.specs.declared.Full.{Full}
 use Rattle.spp.specs.declared.Made.{Made}
-use Rattle.spp.specs.declared.Made.TheVariants.{Node, Full}
 use Rattle.aut_relations.specs.Behind.{LISTS, Modifies}
 use Rattle.aut_relations.proofs.Behind.{lent, back, left_back}
-use Rattle.aut_relations.specs.Clauses.{aut_of, seen_aut, Beside, ModifiesBy, SameNodes, MadeLeft, Places}
+use Rattle.aut_relations.specs.Clauses.{aut_of, seen_aut, Beside, ModifiesBy, SameNodes, Relates, Places}
 
 -- both_relations
 module _ (st : List ℕ) (x y : ℕ) where
@@ -38,10 +40,14 @@ module _ (st : List ℕ) (x y : ℕ) where
     unfolding kind_of
     yes_both p = simp (eq-eqb (get_or st (12 * x) 0) SPP e, eq-eqb (get_or st (12 * y) 0) SPP p)
 
--- what is left of scratch by an operation that took the cache
-pub made_left : (N : ℕ) (r : Made) (t' s m' : List ℕ) → LISTS ≤ length s → Noted N (lent s) (seen r t') m' → MadeLeft N r t' s (back s m')
-made_left N (Node h n) t' s m' l v = left_back s m' l v
-made_left N Full t' s m' l v = tt
+-- an operation on a store that was made for the call and took the cache: its table and the cache are back
+module _ {N : ℕ} {o : Step Table ℕ} {t : Table} {s m u : List ℕ} {n : ℕ} (l : LISTS ≤ length s) where
+  made_left : {a : Result Handle Full} → Answer N seen o t (lent s) a (table u n) m → Relates N o t (made_of a n) u s (back s m)
+  made_left {a = Ok h} A = record { gives = A.gives; left = left_back s m l A.notes }
+  made_left {a = Err e} A = record { gives = A.gives; left = tt }
+
+  pub related : {a : Result Handle Full} {r : Made} {u' : List ℕ} → Answer N seen o t (lent s) a (table u n) m → r ≡ made_of a n → u' ≡ u → Relates N o t r u' s (back s m)
+  related {r = r} A p q = subst (λ (v : List ℕ). Relates N o t r v s (back s m)) (sym q) (subst (λ (r : Made). Relates N o t r u s (back s m)) (sym p) (made_left A))
 
 -- what is left of scratch, where the nodes are as they were
 pub same_left : (N a n : ℕ) (r : State) (c : Counts) (t s s' : List ℕ) → SameNodes r c → Modifies N a n (table t c.spp) s s' → ModifiesBy N a n r t s s'

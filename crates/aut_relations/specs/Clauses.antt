@@ -4,7 +4,7 @@ use Rattle.common.specs.Outcome.{Outcome, refused, given, Step}
 use Rattle.common.specs.Runs.{Table, table, placed}
 use Rattle.cache.specs.Cache.{Sound}
 use Rattle.spp_steps.specs.Wf.{ValidAt}
-use Rattle.spp.specs.Clauses.{seen}
+use Rattle.spp.specs.Clauses.{seen_made as seen}
 use Rattle.spp.specs.declared.Made.{Made}
 use Rattle.spp.specs.declared.Made.TheVariants.{Node, Full}
 use Rattle.aut_steps.specs.Tables as M

@@ -10,7 +10,7 @@ ghost use Rattle.aut_steps.specs.Constructors.{relations};
 ghost use Rattle.aut_relations.specs.Clauses.{RelateReady, Relates, Places, SppReady, DoesSpp};
 
 use aut_states::{Counts, Put, State};
-use spp::{Made, Op, SPP};
+use spp::{Made, Op, SPP, SPPstore};
 
 pub fn apply(
     nodes: &mut [u32],
@@ -26,7 +26,13 @@ pub fn apply(
         result nodes.new scratch.old scratch.new }
 {
     let at = aut_scratch::LISTS;
-    spp::apply(nodes, &mut scratch[at..], count, fields, fields, op, a, b)
+    let mut relations = SPPstore {
+        nodes,
+        count,
+        fields,
+    };
+    let made = relations.apply(&mut scratch[at..], fields, op, a, b);
+    spp::made_of(made, relations.count)
 }
 
 // an answer on states, with the counts of all tables

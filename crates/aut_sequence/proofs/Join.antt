@@ -20,13 +20,15 @@ use Rattle.aut_states.specs.declared.Put.{Put}
 use Rattle.aut_states.specs.declared.State.{State}
 use Rattle.aut_states.specs.declared.State.TheVariants.{Is}
 use Rattle.cache.specs.Cache.{Sound}
-use Rattle.spp.specs.Clauses.{seen, Asked, Noted, Answer}
+use Rattle.std.specs.Prelude.{Result}
+use Rattle.spp.specs.Clauses.{seen, Asked, Answer, made_of}
+use Rattle.spp.specs.declared.SPP.{SPP as Handle}
+use Rattle.spp.specs.declared.Full.{Full}
 use Rattle.spp.specs.declared.Made.{Made}
-use Rattle.spp.specs.declared.Made.TheVariants.{Node, Full}
 use Rattle.aut_relations.specs.Behind.{LISTS, Readable}
-use Rattle.aut_relations.proofs.Behind.{left_refl, lent, lent_is, back, left_back}
-use Rattle.aut_relations.specs.Clauses.{aut_of, MadeLeft, RelateReady, Relates, Places, SppReady, DoesSpp}
-use Rattle.aut_relations.proofs.Join.{same_left}
+use Rattle.aut_relations.proofs.Behind.{left_refl, lent, lent_is, back}
+use Rattle.aut_relations.specs.Clauses.{aut_of, RelateReady, Relates, Places, SppReady, DoesSpp}
+use Rattle.aut_relations.proofs.Join.{same_left, related as brought_back}
 use Rattle.aut_relations.proofs.Order.{fits, in_table, ready_star, ready_xor, ready_difference, ready_sequence, spp_ready}
 use Rattle.aut_sequence.specs.declared.Known.{Known}
 use Rattle.aut_sequence.specs.declared.Task.{Task}
@@ -140,10 +142,6 @@ module _ (N : ℕ) (L : Limits) (x : ℕ) (σ : Aut) where
       star_new n = simp (ne_eqb k STAR p, ne_eqb k SPP q, ne_eqb k TOP n)
 
 -- relate: the cache is lent out of scratch
-made_left : (N : ℕ) (r : Made) (t' s m' : List ℕ) → LISTS ≤ length s → Noted N (lent s) (seen r t') m' → MadeLeft N r t' s (back s m')
-made_left N (Node h n) t' s m' l v = left_back s m' l v
-made_left N Full t' s m' l v = tt
-
 module _ {N : ℕ} {t : Table} {s : List ℕ} {a b : ℕ} (p : RelateReady N t s a b) where
   lent_sound : Sound (Readable N t) (lent s)
   lent_sound = subst (Sound (Readable N t)) (sym (lent_is s)) p.backed.sound
@@ -154,9 +152,10 @@ module _ {N : ℕ} {t : Table} {s : List ℕ} {a b : ℕ} (p : RelateReady N t s
   pub star_asked : Asked N N t (lent s) (a ∷ [])
   star_asked = record { few = p.backed.few; deep = omega arith; wf = p.backed.wf; at = (p.at_a, tt); sound = lent_sound }
 
-  pub relates : {k k' : Task} → k ≡ k' → {r : Made} {t' m' : List ℕ} → Answer N seen (task_of N k' a b) t (lent s) r t' m' → Relates N (task_of N k a b) t r t' s (back s m')
-  relates e {r} {t'} {m'} v =
-      subst (λ (k : Task). Relates N (task_of N k a b) t r t' s (back s m')) (sym e) (record { gives = v.gives; left = made_left N r t' s m' p.backed.room v.notes })
+  -- the table and the cache are back
+  pub relates : {k k' : Task} → k ≡ k' → {v : Result Handle Full} {r : Made} {u u' m' : List ℕ} {n : ℕ}
+      → Answer N seen (task_of N k' a b) t (lent s) v (table u n) m' → r ≡ made_of v n → u' ≡ u → Relates N (task_of N k a b) t r u' s (back s m')
+  relates e {r = r} {u' = u'} {m' = m'} A q w = subst (λ (k : Task). Relates N (task_of N k a b) t r u' s (back s m')) (sym e) (brought_back p.backed.room A q w)
 
 -- what mk_sequence knows
 module _ (N : ℕ) (L : Limits) (x y : ℕ) where

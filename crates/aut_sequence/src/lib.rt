@@ -12,7 +12,7 @@ ghost use Rattle.aut_relations.specs.Clauses.{RelateReady, Relates, SppReady, Do
 ghost use Rattle.aut_sequence.specs.Clauses.{Enters, Makes, Asks, task_of, known_of, Because, Plans, Walks, Chain, Ends, Links, Sequences};
 
 use aut_states::{Config, Counts, Limits, State};
-use spp::{Made, Op, SPP};
+use spp::{Made, Op, SPP, SPPstore};
 
 // the operations on relations that are no pointwise ones; star has its operand twice
 #[derive(Clone, Copy)]
@@ -150,17 +150,20 @@ pub fn relate(
         nodes.new scratch.old scratch.new }
 {
     let at = aut_scratch::LISTS;
+    let mut relations = SPPstore {
+        nodes,
+        count,
+        fields,
+    };
     match task {
-        Task::Sequence => spp_sequence::sequence(
-            nodes,
-            &mut scratch[at..],
-            count,
-            fields,
-            fields,
-            a,
-            b,
-        ),
-        Task::Star => spp_sequence::star(nodes, &mut scratch[at..], count, fields, fields, a),
+        Task::Sequence => {
+            let made = spp_sequence::sequence(&mut relations, &mut scratch[at..], fields, a, b);
+            spp::made_of(made, relations.count)
+        }
+        Task::Star => {
+            let made = spp_sequence::star(&mut relations, &mut scratch[at..], fields, a);
+            spp::made_of(made, relations.count)
+        }
     }
 }
 

@@ -9,8 +9,8 @@ ghost use Rattle.spp_steps.specs.ImageModel.{stores};
 ghost use Rattle.aut_sets.specs.Clauses.{PreSets, PostSets, PreSet, PreImage, PreLead, PostImage, PostHas, PreLift, PostLift, PostSize, PreCount, PostCount};
 
 use aut_states::Counts;
-use sp::SP;
-use spp::SPP;
+use sp::{SP, SPstore, SPview};
+use spp::{SPP, SPPstore, SPPview};
 
 pub fn set_difference(
     sp: &mut [u32],
@@ -25,8 +25,12 @@ pub fn set_difference(
         sp.new scratch.old scratch.new }
 {
     let at = aut_scratch::LISTS;
-    let n = c.sp;
-    sp::difference(sp, &mut scratch[at..], n, fields, a, b)
+    let mut sets = SPstore {
+        nodes: sp,
+        count: c.sp,
+    };
+    let made = sets.difference(&mut scratch[at..], fields, a, b);
+    sp::made_of(made, sets.count)
 }
 
 pub fn set_union(
@@ -42,8 +46,12 @@ pub fn set_union(
         scratch.old scratch.new }
 {
     let at = aut_scratch::LISTS;
-    let n = c.sp;
-    sp::union(sp, &mut scratch[at..], n, fields, a, b)
+    let mut sets = SPstore {
+        nodes: sp,
+        count: c.sp,
+    };
+    let made = sets.union(&mut scratch[at..], fields, a, b);
+    sp::made_of(made, sets.count)
 }
 
 // the packets that a relation leads to from a packet of the set
@@ -63,9 +71,17 @@ pub fn set_push(
         scratch.old scratch.new }
 {
     let at = aut_scratch::LISTS;
-    let n = c.sp;
-    let m = c.spp;
-    spp_image::push(nodes, sp, &mut scratch[at..], m, n, fields, fields, s, r)
+    let mut sets = SPstore {
+        nodes: sp,
+        count: c.sp,
+    };
+    let relations = SPPview {
+        nodes,
+        count: c.spp,
+        fields,
+    };
+    let made = spp_image::push(&mut sets, relations, &mut scratch[at..], fields, s, r);
+    sp::made_of(made, sets.count)
 }
 
 // the packets that a relation leads to a packet of the set
@@ -85,9 +101,17 @@ pub fn set_pull(
         scratch.old scratch.new }
 {
     let at = aut_scratch::LISTS;
-    let n = c.sp;
-    let m = c.spp;
-    spp_image::pull(nodes, sp, &mut scratch[at..], m, n, fields, fields, r, s)
+    let mut sets = SPstore {
+        nodes: sp,
+        count: c.sp,
+    };
+    let relations = SPPview {
+        nodes,
+        count: c.spp,
+        fields,
+    };
+    let made = spp_image::pull(&mut sets, relations, &mut scratch[at..], fields, r, s);
+    sp::made_of(made, sets.count)
 }
 
 // the packets that a relation leads on
@@ -105,9 +129,17 @@ pub fn set_bwd(
         scratch.old scratch.new }
 {
     let at = aut_scratch::LISTS;
-    let n = c.sp;
-    let m = c.spp;
-    spp_image::bwd(nodes, sp, &mut scratch[at..], m, n, fields, fields, r)
+    let mut sets = SPstore {
+        nodes: sp,
+        count: c.sp,
+    };
+    let relations = SPPview {
+        nodes,
+        count: c.spp,
+        fields,
+    };
+    let made = spp_image::bwd(&mut sets, relations, &mut scratch[at..], fields, r);
+    sp::made_of(made, sets.count)
 }
 
 // whether some packet of the set is related to some packet
@@ -126,9 +158,16 @@ pub fn set_has_image(
         s.0 r.0 result scratch.old scratch.new }
 {
     let at = aut_scratch::LISTS;
-    let n = c.sp;
-    let m = c.spp;
-    spp_query::has_image(nodes, sp, &mut scratch[at..], m, n, fields, fields, s, r)
+    let sets = SPview {
+        nodes: sp,
+        count: c.sp,
+    };
+    let relations = SPPview {
+        nodes,
+        count: c.spp,
+        fields,
+    };
+    spp_query::has_image(sets, relations, &mut scratch[at..], fields, s, r)
 }
 
 // the pairs whose second packet is in the set
@@ -146,9 +185,17 @@ pub fn set_ifwd(
         scratch.old scratch.new }
 {
     let at = aut_scratch::LISTS;
-    let n = c.sp;
-    let m = c.spp;
-    spp_query::ifwd(nodes, sp, &mut scratch[at..], m, n, fields, fields, s)
+    let sets = SPview {
+        nodes: sp,
+        count: c.sp,
+    };
+    let mut relations = SPPstore {
+        nodes,
+        count: c.spp,
+        fields,
+    };
+    let made = spp_query::ifwd(&mut relations, sets, &mut scratch[at..], fields, s);
+    spp::made_of(made, relations.count)
 }
 
 // the number of packets in a set
@@ -158,8 +205,11 @@ pub fn set_size(sp: &[u32], scratch: &mut [u32], c: Counts, fields: u32, s: SP) 
         scratch.new }
 {
     let at = aut_scratch::LISTS;
-    let n = c.sp;
-    sp::size(sp, &mut scratch[at..], n, fields, s)
+    let sets = SPview {
+        nodes: sp,
+        count: c.sp,
+    };
+    sets.size(&mut scratch[at..], fields, s)
 }
 
 // the number of packet pairs in a relation
@@ -169,6 +219,10 @@ pub fn pair_count(nodes: &[u32], scratch: &mut [u32], c: Counts, fields: u32, r:
         scratch.new }
 {
     let at = aut_scratch::LISTS;
-    let n = c.spp;
-    spp_query::size(nodes, &mut scratch[at..], n, fields, fields, r)
+    let relations = SPPview {
+        nodes,
+        count: c.spp,
+        fields,
+    };
+    spp_query::size(relations, &mut scratch[at..], fields, r)
 }

@@ -1,4 +1,5 @@
 -- The chain of calls of a union: what each call is asked, and what the whole comes to.
+use Rattle.std.specs.Prelude.{Option, Some, None}
 use mathlib.Core.Path.{◌≡◌, refl, ◌∙◌, ap, subst}
 use mathlib.Core.List.{List, []}
 use Prim.Native.Nat.{ℕ, ◌+◌, ◌≤◌, ◌<◌}
@@ -10,7 +11,7 @@ use Rattle.common.specs.Runs.{Table, table, placed}
 use Rattle.spp_steps.specs.Wf.{ValidAt}
 use Rattle.spp_steps.proofs.Laws.{den_zero}
 use Rattle.spp.specs.declared.SPP as Spp
-use Rattle.aut_steps.specs.Tables.{SPP, UNION, words, Limits, Aut, aut, Exprs, exprs, put_nodes, put_states, put_exprs, on_states, on_exprs}
+use Rattle.aut_steps.specs.Tables.{UNION, words, Limits, Aut, aut, Exprs, exprs, put_nodes, put_states, put_exprs, on_states, on_exprs}
 use Rattle.aut_steps.specs.Relations as Rel
 use Rattle.aut_steps.specs.Ascending.{All}
 use Rattle.aut_steps.proofs.ListLaws.{all_map, all_sorted}
@@ -24,7 +25,6 @@ use Rattle.aut_steps.proofs.Scratch.{kept_wide}
 use Rattle.aut_states.specs.declared.Counts.{Counts}
 use Rattle.aut_states.specs.declared.Limits.{Limits as Bounds}
 use Rattle.aut_states.specs.declared.State.{State}
-use Rattle.aut_states.specs.declared.State.TheVariants.{Refused}
 use Rattle.aut_states.specs.Clauses.{limits_of, Interned, ListReady}
 use Rattle.aut_scratch.specs.Clauses.{OpenReady, OpenedUnion, opened_of, opened_most, SortReady, Sorts}
 use Rattle.aut_scratch.specs.declared.Opened.{Opened as Answer}
@@ -187,29 +187,29 @@ module _ (N : ℕ) (l : Bounds) (t st mem s : List ℕ) (c : Counts) (from k : �
     pub open_ready : OpenReady st mem s l.list UNION from k 256
     open_ready = record { at = order.open_union_at R.good (words s from k) A.states; limit = R.list; apart = A.apart; room = omega (arith, R.list, R.room) }
 
-    module _ (p : k ≡ 1 → ⊥) (r1 : Answer) (s1 : List ℕ) (O : OpenedUnion open_n r1 s s1 256 l.list) (len1 : length s1 ≡ length s) where
-      after_open : (r : Answer) → r1 ≡ r → all_n ≡ unite_opened N (limits_of l) (opened_of r s1 256) σn
-      after_open r e = several of_list N l t st mem s c from k h p ∙ ap (λ (o : Opened). unite_opened N (limits_of l) o σn) (O.is ∙ ap (λ (r : Answer). opened_of r s1 256) e)
+    module _ (p : k ≡ 1 → ⊥) (r1 : Option Answer) (s1 : List ℕ) (O : OpenedUnion open_n r1 s s1 256 l.list) (len1 : length s1 ≡ length s) where
+      after_open : (r : Option Answer) → r1 ≡ r → all_n ≡ unite_opened N (limits_of l) (opened_of r s1 256) σn
+      after_open r e = several of_list N l t st mem s c from k h p ∙ ap (λ (o : Opened). unite_opened N (limits_of l) o σn) (O.is ∙ ap (λ (r : Option Answer). opened_of r s1 256) e)
 
       pub top_left : Modifies N 256 320 (table t c.spp) s s1
       top_left = left_wide (left_kept O.kept len1 (omega (arith, R.list))) (omega arith) (omega (arith, R.list))
 
-      pub too_long : r1 ≡ answer.Long → all_n ≡ refused 6
-      too_long e = after_open answer.Long e
+      pub too_long : r1 ≡ None → all_n ≡ refused 6
+      too_long e = after_open None e
 
-      pub meets_top : r1 ≡ answer.Top → {o : Outcome Table ℕ} → mk_top (table st c.states) ≡ o → all_n ≡ placed put_states σn o
-      meets_top e q = after_open answer.Top e ∙ ap (placed put_states σn) q
+      pub meets_top : r1 ≡ Some answer.Top → {o : Outcome Table ℕ} → mk_top (table st c.states) ≡ o → all_n ≡ placed put_states σn o
+      meets_top e q = after_open (Some answer.Top) e ∙ ap (placed put_states σn) q
 
-      module _ (m : ℕ) (told : r1 ≡ answer.List m) where
+      module _ (m : ℕ) (told : r1 ≡ Some (answer.List m)) where
         few_m : m ≤ 64
-        few_m = omega (arith, R.list, subst (λ (r : Answer). opened_most r l.list) told O.few)
+        few_m = omega (arith, R.list, subst (λ (r : Option Answer). opened_most r l.list) told O.few)
 
         written : Written c.states 256 m s s1
         written = record {
           kept = kept_wide O.kept (omega arith) (omega (arith, R.list));
           len = len1;
           few = few_m;
-          states = subst (AllOpen (λ x. x < c.states)) (O.is ∙ ap (λ (r : Answer). opened_of r s1 256) told) (union_states R.good l.list (words s from k) [] A.states tt);
+          states = subst (AllOpen (λ x. x < c.states)) (O.is ∙ ap (λ (r : Option Answer). opened_of r s1 256) told) (union_states R.good l.list (words s from k) [] A.states tt);
         }
 
         pub unite_ready : Ready N l σn s1 × ListAt s1 c.states 256 m 320 × (m ≤ 64)
@@ -218,7 +218,7 @@ module _ (N : ℕ) (l : Bounds) (t st mem s : List ℕ) (c : Counts) (from k : �
             (p.0, p.1, few_m)
 
         pub united : (r2 : State) (t2 st2 mem2 s2 : List ℕ) → Does N 320 256 (C.unite N (limits_of l) (words s1 256 m) σn) r2 c t2 st2 mem2 s1 s2 → Does N 256 320 all_n r2 c t2 st2 mem2 s s2
-        united r2 t2 st2 mem2 s2 D = written_done r2 t2 st2 mem2 s2 written (omega arith) (after_open (answer.List m) told) D
+        united r2 t2 st2 mem2 s2 D = written_done r2 t2 st2 mem2 s2 written (omega arith) (after_open (Some (answer.List m)) told) D
 
 -- ---- mk_union
 

@@ -79,8 +79,7 @@ fn unite_each(
     let mut h = spp::zero_at_depth(fields);
     let mut n = count;
     let mut m = 0;
-    let mut i = 0;
-    while i < k {
+    for i in 0..k {
         let x = scratch[from + i];
         let Gathered::Rest(h1, n1, m1) = unite_one(nodes, states, scratch, n, fields, h, x, to, m)
         else {
@@ -89,7 +88,6 @@ fn unite_each(
         h = h1;
         n = n1;
         m = m1;
-        i += 1;
     }
     Gathered::Rest(h, n, m)
 }
@@ -235,7 +233,7 @@ pub fn mk_union_n(
     if k == 1 {
         return State::Is(scratch[from], c);
     }
-    let opened = aut_scratch::open_union(
+    let Some(opened) = aut_scratch::open_union(
         states,
         members,
         scratch,
@@ -243,9 +241,10 @@ pub fn mk_union_n(
         from,
         k,
         aut_scratch::BASE,
-    );
+    ) else {
+        return State::Refused(6);
+    };
     match opened {
-        Opened::Long => State::Refused(6),
         Opened::Top => {
             let put = aut_states::mk_top(states, c.states);
             aut_relations::placed(put, c)

@@ -6,7 +6,12 @@ use native.Mathlib.Omega.{arith}
 use lib.ListN.{length}
 use Rattle.common.specs.Outcome.{Outcome, Step}
 use Rattle.common.specs.Runs.{Table, table}
-use Rattle.spp.specs.Clauses.{FieldAsked}
+use Rattle.std.specs.Prelude.{Result}
+use Rattle.spp.specs.declared.SPP.{SPP}
+use Rattle.spp.specs.declared.Full.{Full}
+use Rattle.spp.specs.declared.Made as Spp
+use Rattle.spp.specs.Clauses.{FieldAsked, seen, made_of, seen_made}
+use Rattle.spp.proofs.Apart.{apart}
 use Rattle.aut_steps.specs.Tables.{COMPLEMENT, NEXT, UNTIL, Aut, on_states}
 use Rattle.aut_steps.specs.Constructors.{spp_of, mk_spp}
 use Rattle.aut_steps.proofs.StepSpec.{StepSpec, came}
@@ -47,7 +52,7 @@ module _ {N : ℕ} {l : Limits} {t st mem s : List ℕ} (c : Counts) (R : Ready 
     turned : {b : Line} → a ≡ b → LineReady N c.states s b
     turned e = subst (LineReady N c.states s) e q
 
-    pub bit_ready : {w : Bit} {f : ℕ} {v : _} → a ≡ line.Bit w f v → FieldAsked N t c.spp N f × Fits st c.states
+    pub bit_ready : {w : Bit} {f : ℕ} {v : _} → a ≡ line.Bit w f v → FieldAsked N (table t c.spp) N f × Fits st c.states
     bit_ready e = (
       record { few = R.few; deep = omega arith; below = (turned e).asked.field; wf = R.good.nodes },
       fits R.good,
@@ -96,6 +101,10 @@ module _ {N : ℕ} {r : State} {c : Counts} where
 
   pub of_enters : {o : Step Table ℕ} {st st' : List ℕ} (t mem s : List ℕ) → Enters o r c st st' → Does N 0 LISTS (on_states o (aut_of t st mem c)) r c t st' mem s s
   of_enters t mem s d = record { is = d.is t mem; beside = d.beside; left = same_left N 0 LISTS r c t s s d.nodes (left_refl 0 LISTS (table t c.spp) s) }
+
+-- the table of a store that was made for the call is back
+pub brought_back : {o : Outcome Table ℕ} (a : Result SPP Full) {r : Spp.Made} {u u' : List ℕ} (n : ℕ) → o ≡ seen a (table u n) → r ≡ made_of a n → u' ≡ u → o ≡ seen_made r u'
+brought_back {o} a {r} {u} {u'} n e p q = subst (λ (v : List ℕ). o ≡ seen_made r v) (sym q) (subst (λ (r : Spp.Made). o ≡ seen_made r u) (sym p) (e ∙ apart a u n))
 
 -- ---- a word that is told apart
 

@@ -3,7 +3,7 @@
 
 ghost use Rattle.std.specs.Prelude.{◌≡◌, List, [], ◌∷◌, ℕ, ◌≤◌};
 ghost use Rattle.common.specs.Runs.{table};
-ghost use Rattle.spp.specs.Clauses.{seen, FieldAsked};
+ghost use Rattle.spp.specs.Clauses.{seen_made as seen, FieldAsked};
 ghost use Rattle.aut_steps.specs.Tables.{words};
 ghost use Rattle.aut_steps.specs.Constructors as C;
 ghost use Rattle.book_construct_steps.specs.Lines as M;
@@ -17,7 +17,7 @@ ghost use Rattle.book_construct.specs.Clauses.{line_of, LineReady, Made as LineM
 
 use aut_states::{Config, Counts, State};
 use book_words::{Bit, Constant, Listed, Pair, Single};
-use spp::{Made, SPP};
+use spp::{Made, SPP, SPPstore};
 
 // operands are states; the members of a list, at most 64, are the first words of scratch
 #[derive(Clone, Copy)]
@@ -57,12 +57,23 @@ fn make_constant(states: &mut [u32], c: Counts, fields: u32, word: Constant) -> 
 }
 
 fn field(nodes: &mut [u32], count: usize, fields: u32, word: Bit, f: u32, v: bool) -> Made
-    requires { FieldAsked fields nodes.old count fields f }
+    requires { FieldAsked fields (table nodes.old count) fields f }
     ensures { M.bit_of fields (bit_of word) f v (table nodes.old count) ≡ seen result nodes.new }
 {
+    let mut relations = SPPstore {
+        nodes,
+        count,
+        fields,
+    };
     match word {
-        Bit::Test => spp::test(nodes, count, fields, f, v),
-        Bit::Set => spp::assign(nodes, count, fields, f, v),
+        Bit::Test => {
+            let made = relations.test(f, v);
+            spp::made_of(made, relations.count)
+        }
+        Bit::Set => {
+            let made = relations.assign(f, v);
+            spp::made_of(made, relations.count)
+        }
     }
 }
 
@@ -75,7 +86,7 @@ fn make_bit(
     f: u32,
     v: bool,
 ) -> State
-    requires { FieldAsked fields nodes.old c.spp fields f × Fits states.old c.states }
+    requires { FieldAsked fields (table nodes.old c.spp) fields f × Fits states.old c.states }
     ensures { (s : List ℕ) → DoesSpp fields (M.bit_of fields (bit_of word) f v) result c nodes.old
         states.old s nodes.new states.new s }
 {

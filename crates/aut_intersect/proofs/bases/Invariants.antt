@@ -1,12 +1,6 @@
-use mathlib.Core.Path.{◌≡◌}
-use Prim.Native.Nat.{◌-◌}
-use lib.ListN.{length}
 use Rattle.aut_intersect.proofs.Turns as turns
 use Rattle.aut_intersect.proofs.bases.Given as goal
 
 abbrev pub invariant-loop-i : goal.invariant-loop-i
 invariant-loop-i l =
-    turns.Turn l.config.fields l.config.limits l.initial.nodes l.initial.states l.initial.members l.initial.scratch l.initial.d l.k l.n l.nodes l.states l.members l.scratch l.d l.i × (length l.nodes ≡ length l.initial.nodes) × (length l.states ≡ length l.initial.states) × (length l.members ≡ length l.initial.members)
-
-abbrev pub decreases-loop-i : goal.decreases-loop-i
-decreases-loop-i l = l.n - l.i
+    turns.Turn l.config.fields l.config.limits l.initial.nodes l.initial.states l.initial.members l.initial.scratch l.initial.d l.k l.n l.nodes l.states l.members l.scratch l.d l.i

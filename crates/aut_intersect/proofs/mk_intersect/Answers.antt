@@ -1,5 +1,4 @@
 use mathlib.Core.Path.{◌∙◌}
-use native.Mathlib.Omega.{arith}
 use lib.ListN.{length-set}
 use Rattle.aut_steps.proofs.StateLaws.{both_spp}
 use Rattle.aut_relations.proofs.Order as order
@@ -18,9 +17,6 @@ spp_of-requires c =
 pub returns-then-both_relations : goal.returns-then-both_relations
 returns-then-both_relations c =
     calls.both chain.of_pair c.args.config.fields c.args.config.limits c.args.nodes.now c.args.states.now c.args.members.now c.args.scratch.now c.args.c c.args.x c.args.y c.requires.0 c.requires.1 c.if-x-y.false (c.both_relations.ensures ∙ c.if-both_relations.true) c.spp_of.ensures
-
-pub bounds-scratch : goal.bounds-scratch
-bounds-scratch c = simp length-set (omega (arith, c.requires.0.room))
 
 pub mk_intersect_n-requires : goal.mk_intersect_n-requires
 mk_intersect_n-requires c =

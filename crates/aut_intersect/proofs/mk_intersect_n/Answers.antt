@@ -24,8 +24,8 @@ returns-in_default c =
 
 pub distribute-requires : goal.distribute-requires
 distribute-requires c =
-    let p = opening.next_ready c.args.config.fields c.args.config.limits c.args.nodes.now c.args.states.now c.args.members.now c.args.scratch.now c.args.c c.args.from c.args.k 64 c.requires.0 c.requires.1 (omega arith) (intersect_opened c.args.config.fields (limits_of c.args.config.limits)) _ (calls.several chain.of_list c.args.config.fields c.args.config.limits c.args.nodes.now c.args.states.now c.args.members.now c.args.scratch.now c.args.c c.args.from c.args.k c.if-k-config.false c.if-k-eq1.false) c.«open».result c.«open».new.scratch c.«open».ensures c.«open».auto.scratch _ c.in-List.is in (p.0, p.1)
+    let p = opening.next_ready c.args.config.fields c.args.config.limits c.args.nodes.now c.args.states.now c.args.members.now c.args.scratch.now c.args.c c.args.from c.args.k 64 c.requires.0 c.requires.1 (omega arith) (intersect_opened c.args.config.fields (limits_of c.args.config.limits)) _ (calls.several chain.of_list c.args.config.fields c.args.config.limits c.args.nodes.now c.args.states.now c.args.members.now c.args.scratch.now c.args.c c.args.from c.args.k c.if-k-config.false c.if-k-eq1.false) c.«open».result c.«open».new.scratch c.«open».ensures c.«open».auto.scratch _ c.in-Some.is in (p.0, p.1)
 
 pub returns : goal.returns
 returns c =
-    opening.next_done c.args.config.fields c.args.config.limits c.args.nodes.now c.args.states.now c.args.members.now c.args.scratch.now c.args.c c.args.from c.args.k 64 c.requires.0 c.requires.1 (omega arith) (intersect_opened c.args.config.fields (limits_of c.args.config.limits)) _ (calls.several chain.of_list c.args.config.fields c.args.config.limits c.args.nodes.now c.args.states.now c.args.members.now c.args.scratch.now c.args.c c.args.from c.args.k c.if-k-config.false c.if-k-eq1.false) c.«open».result c.«open».new.scratch c.«open».ensures c.«open».auto.scratch _ c.in-List.is 448 (omega arith) c.distribute.result c.distribute.new.nodes c.distribute.new.states c.distribute.new.members c.distribute.new.scratch c.distribute.ensures
+    opening.next_done c.args.config.fields c.args.config.limits c.args.nodes.now c.args.states.now c.args.members.now c.args.scratch.now c.args.c c.args.from c.args.k 64 c.requires.0 c.requires.1 (omega arith) (intersect_opened c.args.config.fields (limits_of c.args.config.limits)) _ (calls.several chain.of_list c.args.config.fields c.args.config.limits c.args.nodes.now c.args.states.now c.args.members.now c.args.scratch.now c.args.c c.args.from c.args.k c.if-k-config.false c.if-k-eq1.false) c.«open».result c.«open».new.scratch c.«open».ensures c.«open».auto.scratch _ c.in-Some.is 448 (omega arith) c.distribute.result c.distribute.new.nodes c.distribute.new.states c.distribute.new.members c.distribute.new.scratch c.distribute.ensures

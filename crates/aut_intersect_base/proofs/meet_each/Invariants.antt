@@ -1,8 +1,6 @@
-use mathlib.Core.Path.{◌≡◌}
 use mathlib.Core.Bool.{Bool, false}
 use mathlib.Core.List.{List, []}
-use Prim.Native.Nat.{ℕ, ◌-◌}
-use lib.ListN.{length}
+use Prim.Native.Nat.{ℕ}
 use Rattle.common.specs.Runs.{Table, table}
 use Rattle.aut_steps.specs.Tables.{words}
 use Rattle.aut_steps.specs.Relations.{top_at}
@@ -17,7 +15,4 @@ AtTurn N st t₀ s₀ from k to b h t s m i = Turn N (meet_one N st) (gather.Hel
 
 abbrev pub invariant-loop-i : goal.invariant-loop-i
 invariant-loop-i l =
-    AtTurn l.fields l.states (table l.initial.nodes l.count) l.initial.scratch l.from l.k l.to l.some l.h.0 (table l.nodes l.n) l.scratch l.m l.i × (length l.nodes ≡ length l.initial.nodes)
-
-abbrev pub decreases-loop-i : goal.decreases-loop-i
-decreases-loop-i l = l.k - l.i
+    AtTurn l.fields l.states (table l.initial.nodes l.count) l.initial.scratch l.from l.k l.to l.some l.h.0 (table l.nodes l.n) l.scratch l.m l.i

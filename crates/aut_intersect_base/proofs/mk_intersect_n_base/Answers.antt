@@ -16,8 +16,8 @@ returns-in_default c =
 
 pub meet-requires : goal.meet-requires
 meet-requires c =
-    opening.next_ready c.args.config.fields c.args.config.limits c.args.nodes.now c.args.states.now c.args.members.now c.args.scratch.now c.args.c c.args.from c.args.k 256 c.requires.0 c.requires.1 (omega arith) (meet_opened c.args.config.fields (limits_of c.args.config.limits)) _ (chain.opens c.args.config.fields c.args.config.limits c.args.nodes.now c.args.states.now c.args.members.now c.args.scratch.now c.args.c c.args.from c.args.k c.requires.0 c.requires.1) c.«open».result c.«open».new.scratch c.«open».ensures c.«open».auto.scratch _ c.in-List.is
+    opening.next_ready c.args.config.fields c.args.config.limits c.args.nodes.now c.args.states.now c.args.members.now c.args.scratch.now c.args.c c.args.from c.args.k 256 c.requires.0 c.requires.1 (omega arith) (meet_opened c.args.config.fields (limits_of c.args.config.limits)) _ (chain.opens c.args.config.fields c.args.config.limits c.args.nodes.now c.args.states.now c.args.members.now c.args.scratch.now c.args.c c.args.from c.args.k c.requires.0 c.requires.1) c.«open».result c.«open».new.scratch c.«open».ensures c.«open».auto.scratch _ c.in-Some.is
 
 pub returns : goal.returns
 returns c =
-    opening.next_done c.args.config.fields c.args.config.limits c.args.nodes.now c.args.states.now c.args.members.now c.args.scratch.now c.args.c c.args.from c.args.k 256 c.requires.0 c.requires.1 (omega arith) (meet_opened c.args.config.fields (limits_of c.args.config.limits)) _ (chain.opens c.args.config.fields c.args.config.limits c.args.nodes.now c.args.states.now c.args.members.now c.args.scratch.now c.args.c c.args.from c.args.k c.requires.0 c.requires.1) c.«open».result c.«open».new.scratch c.«open».ensures c.«open».auto.scratch _ c.in-List.is 256 (omega arith) c.meet.result c.meet.new.nodes c.meet.new.states c.meet.new.members c.meet.new.scratch c.meet.ensures
+    opening.next_done c.args.config.fields c.args.config.limits c.args.nodes.now c.args.states.now c.args.members.now c.args.scratch.now c.args.c c.args.from c.args.k 256 c.requires.0 c.requires.1 (omega arith) (meet_opened c.args.config.fields (limits_of c.args.config.limits)) _ (chain.opens c.args.config.fields c.args.config.limits c.args.nodes.now c.args.states.now c.args.members.now c.args.scratch.now c.args.c c.args.from c.args.k c.requires.0 c.requires.1) c.«open».result c.«open».new.scratch c.«open».ensures c.«open».auto.scratch _ c.in-Some.is 256 (omega arith) c.meet.result c.meet.new.nodes c.meet.new.states c.meet.new.members c.meet.new.scratch c.meet.ensures

@@ -1,6 +1,6 @@
 use mathlib.Core.Path.{refl, ◌∙◌, ap, subst}
 use Rattle.spp_steps.specs.Model as M
-use Rattle.spp.specs.Clauses.{seen, op_of}
+use Rattle.spp.specs.Clauses.{seen_made as seen, op_of}
 use Rattle.spp.specs.declared.Made.{Made}
 use Rattle.aut_steps.specs.Tables.{op1}
 use Rattle.aut_relations.specs.Clauses.{MadeLeft}

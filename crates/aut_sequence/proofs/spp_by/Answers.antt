@@ -1,5 +1,5 @@
 use mathlib.Core.Path.{◌∙◌, ap, refl, subst}
-use Rattle.spp.specs.Clauses.{seen}
+use Rattle.spp.specs.Clauses.{seen_made as seen}
 use Rattle.spp.specs.declared.Made.{Made}
 use Rattle.aut_steps.specs.Tables.{op1}
 use Rattle.aut_relations.specs.Clauses.{MadeLeft}

@@ -1,12 +1,11 @@
 use native.Mathlib.Omega.{arith}
-use Rattle.common.specs.Runs.{table}
+use Rattle.std.proofs.Common.{rules}
 use Rattle.aut_sets.proofs.Back as back
 use Rattle.aut_sets.proofs.set_push.Goals as goal
 
-pub push-requires : goal.push-requires
-push-requires c =
+pub push-made-requires : goal.push-made-requires
+push-made-requires c =
     record { few = c.requires.image.few; deep = omega arith; wf = c.requires.image.wf; at_s = c.requires.at_a; at_r = c.requires.image.at_r; sound = back.lent_sound c.args.scratch.now c.requires.image.sound }
 
 pub returns : goal.returns
-returns c =
-    record { gives = c.push.ensures.gives; left = back.image_back c.args.fields c.push.result c.push.new.nodes (table c.args.nodes.now c.args.c.spp) c.args.scratch.now c.push.new.cache c.requires.image.room c.push.ensures.notes }
+returns c = back.image_back c.requires.image.room c.push-made.ensures.answer c.made_of.ensures (search rules)

@@ -29,9 +29,6 @@ pub returns-in-Refused : goal.returns-in-Refused
 returns-in-Refused c =
     calls.not_done _ (chain.not_added c.args.config.fields c.args.config.limits c.args.nodes.now c.args.states.now c.args.members.now c.args.scratch.now c.args.c c.args.k c.requires.0 c.requires.1 c.requires.2 c.unite_each.result c.unite_each.new.nodes c.unite_each.new.scratch c.unite_each.ensures c.unite_each.auto.scratch _ _ _ c.in-Rest.is c.add_relation-added.result c.add_relation-added.new.states c.add_relation-added.new.scratch c.add_relation-added.ensures c.add_relation-added.auto.scratch _ c.in-Refused.is)
 
-pub shape_of-nodes-in-List : goal.shape_of-nodes-in-List
-shape_of-nodes-in-List c = c.unite_each.auto.nodes
-
 pub returns-in-List : goal.returns-in-List
 returns-in-List c =
     chain.done c.args.config.fields c.args.config.limits c.args.nodes.now c.args.states.now c.args.members.now c.args.scratch.now c.args.c c.args.k c.requires.0 c.requires.1 c.requires.2 c.unite_each.result c.unite_each.new.nodes c.unite_each.new.scratch c.unite_each.ensures c.unite_each.auto.scratch _ _ _ c.in-Rest.is c.add_relation-added.result c.add_relation-added.new.states c.add_relation-added.new.scratch c.add_relation-added.ensures c.add_relation-added.auto.scratch _ _ c.in-List.is c.sorted-r.result c.sorted-r.new.scratch c.sorted-r.ensures c.sorted-r.auto.scratch c.finish.result c.finish.new.states c.finish.new.members c.finish.ensures

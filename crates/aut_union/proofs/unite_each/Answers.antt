@@ -1,12 +1,12 @@
-use mathlib.Core.Path.{◌≡◌, refl, ◌∙◌, ap, subst}
+use mathlib.Core.Path.{◌≡◌, ◌∙◌, ap, subst}
 use mathlib.Core.List.{List, []}
-use Prim.Native.Nat.{ℕ, ◌≤◌, ◌-◌, ◌+◌}
+use Prim.Native.Nat.{ℕ, ◌≤◌, ◌+◌}
 use native.Mathlib.Omega.{arith}
 use Rattle.common.specs.Runs.{Table, table}
 use Rattle.spp_steps.proofs.Laws.{den_zero}
 use Rattle.aut_steps.specs.Tables.{words}
 use Rattle.aut_steps.specs.Relations.{zero_at}
-use Rattle.aut_steps.specs.Constructors.{parts, unite_one}
+use Rattle.aut_steps.specs.Constructors.{parts}
 use Rattle.aut_relations.specs.Behind.{CacheReady}
 use Rattle.aut_relations.proofs.Each as each
 use Rattle.aut_union.specs.declared.Gathered.{Gathered}
@@ -22,68 +22,35 @@ begin_turn N st t s from k to a r b z e =
     subst (λ (z : ℕ). AtTurn N st t s from k to z t s 0 0) e
     (each.begin (gather.keeps N st Any) (parts (zero_at N) []) t s from k to a r b ((den_zero b.wf N (omega arith)).at, tt))
 
-pub zero_at_depth-h-requires : goal.zero_at_depth-h-requires
-zero_at_depth-h-requires c = c.requires.backed.few
-
 pub loop-i-init : goal.loop-i-init
 loop-i-init c =
-    (begin_turn c.args.fields c.args.states.now (table c.args.nodes.now c.args.count) c.args.scratch.now c.args.from c.args.k c.args.to c.requires.apart c.requires.room c.requires.backed _ (c.zero_at_depth-h.ensures c.args.fields), refl)
-
-pub overflow_add-x : goal.overflow_add-x
-overflow_add-x c = omega (arith, c.requires.apart, c.requires.room)
-
-pub offset_bounds-scratch-from : goal.offset_bounds-scratch-from
-offset_bounds-scratch-from c = omega (arith, c.requires.apart, c.requires.room, c.loop-i.invariant.0.len)
-
-pub bounds-scratch-from : goal.bounds-scratch-from
-bounds-scratch-from c =
-    omega (arith, c.requires.apart, c.requires.room, c.loop-i.invariant.0.len, c.requires.backed.room, c.loop-i-test.true)
+    begin_turn c.args.fields c.args.states.now (table c.args.nodes.now c.args.count) c.args.scratch.now c.args.from c.args.k c.args.to c.requires.apart c.requires.room c.requires.backed _ (c.zero_at_depth-h.ensures c.args.fields)
 
 pub unite_one-requires : goal.unite_one-requires
 unite_one-requires c =
     record {
-      backed = c.loop-i.invariant.0.backed;
-      at_h = c.loop-i.invariant.0.holds.0;
-      at_x = (each.member (gather.keeps c.args.fields c.args.states.now Any) (parts (zero_at c.args.fields) []) (table c.args.nodes.now c.args.count) c.args.scratch.now c.args.from c.args.k c.args.to c.requires.apart c.requires.room (parts c.loop-i.h.0 (words c.loop-i.scratch c.args.to c.loop-i.m)) (table c.loop-i.nodes c.loop-i.n) c.loop-i.scratch c.loop-i.m c.loop-i.i c.loop-i.invariant.0 c.loop-i-test.true (members_of_lem c.args.fields c.args.states.now (table c.args.nodes.now c.args.count) (words c.args.scratch.now c.args.from c.args.k) c.requires.at)).0;
-      room = omega (arith, c.loop-i.invariant.0.few, c.loop-i-test.true, c.requires.room);
+      backed = c.loop-i.invariant.backed;
+      at_h = c.loop-i.invariant.holds.0;
+      at_x = (each.member (gather.keeps c.args.fields c.args.states.now Any) (parts (zero_at c.args.fields) []) (table c.args.nodes.now c.args.count) c.args.scratch.now c.args.from c.args.k c.args.to c.requires.apart c.requires.room (parts c.loop-i.h.0 (words c.loop-i.scratch c.args.to c.loop-i.m)) (table c.loop-i.nodes c.loop-i.n) c.loop-i.scratch c.loop-i.m c.loop-i.i c.loop-i.invariant c.loop-i-test.true (members_of_lem c.args.fields c.args.states.now (table c.args.nodes.now c.args.count) (words c.args.scratch.now c.args.from c.args.k) c.requires.at)).0;
+      room = omega (arith, c.loop-i.invariant.few, c.loop-i-test.true, c.requires.room);
     }
-
-pub shape_of-nodes-in_default : goal.shape_of-nodes-in_default
-shape_of-nodes-in_default c = c.unite_one.auto.nodes ∙ c.loop-i.invariant.1
-
-pub shape_of-scratch-in_default : goal.shape_of-scratch-in_default
-shape_of-scratch-in_default c = c.unite_one.auto.scratch ∙ c.loop-i.invariant.0.len
 
 pub returns-in_default : goal.returns-in_default
 returns-in_default c =
     record {
-      is = each.stuck (gather.keeps c.args.fields c.args.states.now Any) (parts (zero_at c.args.fields) []) (table c.args.nodes.now c.args.count) c.args.scratch.now c.args.from c.args.k c.args.to c.requires.apart c.requires.room (parts c.loop-i.h.0 (words c.loop-i.scratch c.args.to c.loop-i.m)) (table c.loop-i.nodes c.loop-i.n) c.loop-i.scratch c.loop-i.m c.loop-i.i c.loop-i.invariant.0 c.loop-i-test.true (c.unite_one.ensures.is ∙ ap (λ (r : Gathered). seen_parts r c.unite_one.new.nodes c.unite_one.new.scratch c.args.to) c.in_default.is);
+      is = each.stuck (gather.keeps c.args.fields c.args.states.now Any) (parts (zero_at c.args.fields) []) (table c.args.nodes.now c.args.count) c.args.scratch.now c.args.from c.args.k c.args.to c.requires.apart c.requires.room (parts c.loop-i.h.0 (words c.loop-i.scratch c.args.to c.loop-i.m)) (table c.loop-i.nodes c.loop-i.n) c.loop-i.scratch c.loop-i.m c.loop-i.i c.loop-i.invariant c.loop-i-test.true (c.unite_one.ensures.is ∙ ap (λ (r : Gathered). seen_parts r c.unite_one.new.nodes c.unite_one.new.scratch c.args.to) c.in_default.is);
       left = tt;
       few = tt;
     }
 
-pub overflow_add-i : goal.overflow_add-i
-overflow_add-i c = omega (arith, c.loop-i-test.true)
-
-pub loop-i-smaller : goal.loop-i-smaller
-loop-i-smaller c = omega (arith, c.loop-i-test.true)
-
 pub loop-i-preserved : goal.loop-i-preserved
-loop-i-preserved c = (
-  each.again (gather.keeps c.args.fields c.args.states.now Any) (parts (zero_at c.args.fields) []) (table c.args.nodes.now c.args.count) c.args.scratch.now c.args.from c.args.k c.args.to c.requires.apart c.requires.room (parts c.loop-i.h.0 (words c.loop-i.scratch c.args.to c.loop-i.m)) (table c.loop-i.nodes c.loop-i.n) c.loop-i.scratch c.loop-i.m c.loop-i.i c.loop-i.invariant.0 c.loop-i-test.true (members_of_lem c.args.fields c.args.states.now (table c.args.nodes.now c.args.count) (words c.args.scratch.now c.args.from c.args.k) c.requires.at) _ _ c.unite_one.new.scratch _ (c.unite_one.ensures.is ∙ ap (λ (r : Gathered). seen_parts r c.unite_one.new.nodes c.unite_one.new.scratch c.args.to) c.in-Rest.is) (subst (λ (r : Gathered). PartsLeft c.args.fields (c.args.to + c.loop-i.m) 1 r c.unite_one.new.nodes c.loop-i.scratch c.unite_one.new.scratch) c.in-Rest.is c.unite_one.ensures.left) (subst (λ (r : Gathered). PartsMost r (c.loop-i.m + 1)) c.in-Rest.is c.unite_one.ensures.few) c.unite_one.auto.scratch,
-  c.unite_one.auto.nodes ∙ c.loop-i.invariant.1,
-)
-
-pub shape_of-nodes : goal.shape_of-nodes
-shape_of-nodes c = c.loop-i.invariant.1
-
-pub shape_of-scratch : goal.shape_of-scratch
-shape_of-scratch c = c.loop-i.invariant.0.len
+loop-i-preserved c =
+    each.again (gather.keeps c.args.fields c.args.states.now Any) (parts (zero_at c.args.fields) []) (table c.args.nodes.now c.args.count) c.args.scratch.now c.args.from c.args.k c.args.to c.requires.apart c.requires.room (parts c.loop-i.h.0 (words c.loop-i.scratch c.args.to c.loop-i.m)) (table c.loop-i.nodes c.loop-i.n) c.loop-i.scratch c.loop-i.m c.loop-i.i c.loop-i.invariant c.loop-i-test.true (members_of_lem c.args.fields c.args.states.now (table c.args.nodes.now c.args.count) (words c.args.scratch.now c.args.from c.args.k) c.requires.at) _ _ c.unite_one.new.scratch _ (c.unite_one.ensures.is ∙ ap (λ (r : Gathered). seen_parts r c.unite_one.new.nodes c.unite_one.new.scratch c.args.to) c.in-Rest.is) (subst (λ (r : Gathered). PartsLeft c.args.fields (c.args.to + c.loop-i.m) 1 r c.unite_one.new.nodes c.loop-i.scratch c.unite_one.new.scratch) c.in-Rest.is c.unite_one.ensures.left) (subst (λ (r : Gathered). PartsMost r (c.loop-i.m + 1)) c.in-Rest.is c.unite_one.ensures.few) c.unite_one.auto.scratch
 
 pub returns : goal.returns
 returns c =
     record {
-      is = each.end (gather.keeps c.args.fields c.args.states.now Any) (parts (zero_at c.args.fields) []) (table c.args.nodes.now c.args.count) c.args.scratch.now c.args.from c.args.k c.args.to c.requires.apart c.requires.room (parts c.loop-i.h.0 (words c.loop-i.scratch c.args.to c.loop-i.m)) (table c.loop-i.nodes c.loop-i.n) c.loop-i.scratch c.loop-i.m c.loop-i.i c.loop-i.invariant.0 c.loop-i-test.false;
-      left = c.loop-i.invariant.0.left;
-      few = omega (arith, c.loop-i.invariant.0.few, c.loop-i.invariant.0.at);
+      is = each.end (gather.keeps c.args.fields c.args.states.now Any) (parts (zero_at c.args.fields) []) (table c.args.nodes.now c.args.count) c.args.scratch.now c.args.from c.args.k c.args.to c.requires.apart c.requires.room (parts c.loop-i.h.0 (words c.loop-i.scratch c.args.to c.loop-i.m)) (table c.loop-i.nodes c.loop-i.n) c.loop-i.scratch c.loop-i.m c.loop-i.i c.loop-i.invariant c.loop-i-test.false;
+      left = c.loop-i.invariant.left;
+      few = omega (arith, c.loop-i.invariant.few, c.loop-i.invariant.at);
     }

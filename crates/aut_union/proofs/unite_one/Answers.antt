@@ -1,6 +1,6 @@
 use mathlib.Core.Path.{◌∙◌, ap, subst}
 use Rattle.common.specs.Runs.{table}
-use Rattle.spp.specs.Clauses.{seen}
+use Rattle.spp.specs.Clauses.{seen_made as seen}
 use Rattle.spp.specs.declared.Made.{Made}
 use Rattle.aut_steps.specs.Tables.{kind_of, op1}
 use Rattle.aut_relations.specs.Clauses.{MadeLeft}

@@ -1,6 +1,6 @@
 use mathlib.Core.Path.{refl, ◌∙◌, ap}
 use Rattle.common.specs.Runs.{table}
-use Rattle.spp.specs.Clauses.{seen}
+use Rattle.spp.specs.Clauses.{seen_made as seen}
 use Rattle.spp.specs.declared.Made.{Made}
 use Rattle.aut_relations.proofs.Behind.{left_refl}
 use Rattle.aut_relations.proofs.Join as rel
