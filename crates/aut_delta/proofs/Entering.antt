@@ -83,13 +83,13 @@ module _ {N : ℕ} (l : Limits) {a : ℕ} {r : Made} {c : Counts} {t st mem s t1
 
     module _ {r2 : Made} {t2 s2 : List ℕ} (S : Relates N (task_of N task.Star h.0 h.0) (table t1 n) r2 t2 s1 s2) where
       star_is : (tr : List ℕ) → on_aut (epsilon N a >>= λ e. on_nodes (Rel.star N e) >>= quit) (store_of t st mem tr c)
-          ≡ placed put_aut (store_of t st mem tr c) (after (placed put_nodes (aut_of t1 st1 mem (with_nodes c n)) (Spp.seen r2 t2)) quit)
+          ≡ placed put_aut (store_of t st mem tr c) (after (placed put_nodes (aut_of t1 st1 mem (with_nodes c n)) (Spp.seen_made r2 t2)) quit)
       star_is tr =
           ap (λ (o : Outcome Aut ℕ). placed put_aut (store_of t st mem tr c) (after o (λ e τ. after (on_nodes (Rel.star N e) τ) quit))) made_is
           ∙ ap (λ (o : Outcome Table ℕ). placed put_aut (store_of t st mem tr c) (after (placed put_nodes (aut_of t1 st1 mem (with_nodes c n)) o) quit)) S.gives
 
       pub no_star : r2 ≡ Full → {st' s' : List ℕ} → PostStar N l a entered.Full c t st mem s t2 st' s'
-      no_star p tr R = record { is = star_is tr ∙ ap (λ (r : Made). placed put_aut (store_of t st mem tr c) (after (placed put_nodes (aut_of t1 st1 mem (with_nodes c n)) (Spp.seen r t2)) quit)) p; then = tt }
+      no_star p tr R = record { is = star_is tr ∙ ap (λ (r : Made). placed put_aut (store_of t st mem tr c) (after (placed put_nodes (aut_of t1 st1 mem (with_nodes c n)) (Spp.seen_made r t2)) quit)) p; then = tt }
 
       pub star_made : {g : SPP} {m : ℕ} → r2 ≡ Node g m → length s2 ≡ length s1 → PostStar N l a (entered.Nodes m) c t st mem s t2 st1 s2
       star_made {g} {m} p len tr R =
@@ -99,7 +99,7 @@ module _ {N : ℕ} (l : Limits) {a : ℕ} {r : Made} {c : Counts} {t st mem s t1
           let w = (aut_given t1 st1 mem tr (with_nodes c n) (on_nodes (Rel.star N h.0)) v.ready
           (relation_given st1 mem (with_nodes c n) S p A.ready (nodes_goes G (star_makes G.nodes A.law.found.means.den)) len)).then in
           record {
-            is = star_is tr ∙ ap (λ (r : Made). placed put_aut (store_of t st mem tr c) (after (placed put_nodes (aut_of t1 st1 mem (with_nodes c n)) (Spp.seen r t2)) quit)) p;
+            is = star_is tr ∙ ap (λ (r : Made). placed put_aut (store_of t st mem tr c) (after (placed put_nodes (aut_of t1 st1 mem (with_nodes c n)) (Spp.seen_made r t2)) quit)) p;
             then = record {
               ext = went_trans v.ext w.ext;
               beside = refl;

@@ -166,8 +166,7 @@ fn join_all(
 {
     let mut d = c;
     let mut m = n;
-    let mut i = 0;
-    while i < k {
+    for i in 0..k {
         let y = members[from + i];
         let listed = join_next(
             nodes,
@@ -190,7 +189,6 @@ fn join_all(
                 m = m1;
             }
         }
-        i += 1;
     }
     Listed::List(d, m)
 }

@@ -159,7 +159,6 @@ module _ (N : ℕ) (o : Spp.Op) (st : List ℕ) where
       grows (gives m) = gives (record { ext = m.ext; wf = m.wf; holds = m.den.at })
 
   pub record Turn (mem : List ℕ) (from k : ℕ) (t₀ : Table) (s₀ : List ℕ) (h : ℕ) (t : Table) (s : List ℕ) (g i : ℕ) : Type 0 where
-    pub at : i ≤ k
     pub len : length s ≡ length s₀
     pub left : Modifies N 0 0 t s₀ s
     pub ext : Ext t₀ t
@@ -170,7 +169,6 @@ module _ (N : ℕ) (o : Spp.Op) (st : List ℕ) where
   module _ (mem : List ℕ) (from k : ℕ) (t₀ : Table) (s₀ : List ℕ) (h : ℕ) (p : EachReady N t₀ st mem s₀ h from k) where
     pub begin : Turn mem from k t₀ s₀ h t₀ s₀ h 0
     begin = record {
-      at = omega arith;
       len = refl;
       left = left_refl 0 0 t₀ s₀;
       ext = ext_refl t₀;
@@ -195,7 +193,6 @@ module _ (N : ℕ) (o : Spp.Op) (st : List ℕ) where
         again {b} e {t1} {s1} {g1} f left len =
             let d = given_of (keeps.step t (get_or mem (from + i) 0) g v.backed.wf v.at_g value_at) (ap (λ (b : ℕ). Spp.apply N o N g b t) e ∙ f) in
             record {
-              at = omega arith;
               len = len ∙ v.len;
               left = left_trans d.ext v.left left;
               ext = ext_trans v.ext d.ext;

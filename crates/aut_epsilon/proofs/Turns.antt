@@ -6,6 +6,7 @@ use native.Mathlib.Omega.{arith}
 use lib.Dec.{eqb}
 use lib.ListN.{length, length-append}
 use borrow.Author.Tests.{eqb-true, eqb-false}
+use Rattle.std.specs.Prelude.{Option, Some, None}
 use Rattle.common.specs.Outcome.{Outcome, given, after}
 use Rattle.common.proofs.Follow.{given_of}
 use Rattle.common.specs.Runs.{Table, table, placed}
@@ -38,8 +39,6 @@ use Rattle.aut_relations.specs.Behind.{Modifies, CacheReady}
 use Rattle.aut_relations.proofs.Behind.{left_refl, left_trans}
 use Rattle.aut_relations.specs.Clauses.{aut_of, MadeLeft, Ready}
 use Rattle.aut_relations.proofs.Order.{in_table, backed_of, ready_after}
-use Rattle.aut_epsilon.specs.declared.Kept.{Kept}
-use Rattle.aut_epsilon.specs.declared.Kept.TheVariants.{Handle, Nothing}
 use Rattle.aut_operands.specs.Clauses.{Descends}
 use Rattle.aut_operands.proofs.Down.{inside_of}
 use Rattle.aut_epsilon.specs.Clauses.{Keeps, CombineReady, Finishes, seen_epsilon, Asks, After, AfterBy, Works}
@@ -67,9 +66,9 @@ module _ {N : ℕ} {c : Counts} {t st mem s : List ℕ} {x : ℕ} (E : Epsilons 
 
 -- ---- a state that has its value
 
-pub kept_works : {N : ℕ} {c : Counts} {t st mem s : List ℕ} {x : ℕ} → Asks N (aut_of t st mem c) s x → {k : Kept} → Keeps st x k → {h : Spp.SPP} → k ≡ Handle h → Works N x (Node h c.spp) c t st mem s t st s
+pub kept_works : {N : ℕ} {c : Counts} {t st mem s : List ℕ} {x : ℕ} → Asks N (aut_of t st mem c) s x → {k : Option Spp.SPP} → Keeps st x k → {h : Spp.SPP} → k ≡ Some h → Works N x (Node h c.spp) c t st mem s t st s
 kept_works {N} {c} {t} {st} {mem} {s} {x} a {k} f {h} e =
-    let p : Keeps st x (Handle h) = subst (Keeps st x) e f in
+    let p : Keeps st x (Some h) = subst (Keeps st x) e f in
     works a.epsilons a.has (Node h c.spp) (epsilon_known (laws_ready a.epsilons a.has a.ready) a.has p.0 ∙ ap (λ (h : ℕ). given (aut_of t st mem c) h) p.1) (left_refl 0 0 (table t c.spp) s) refl
 
 -- ---- tables in order
@@ -105,7 +104,7 @@ module _ {N : ℕ} (c : Counts) {mem : List ℕ} {x : ℕ} {t₀ st₀ s₀ : Li
   abbrev σ : Aut
   σ = aut_of t₀ st₀ mem c
 
-  pub begin : {k : Kept} → Keeps st₀ x k → k ≡ Nothing → Turn N c mem x t₀ st₀ s₀ t₀ st₀ s₀ c.spp
+  pub begin : {k : Option Spp.SPP} → Keeps st₀ x k → k ≡ None → Turn N c mem x t₀ st₀ s₀ t₀ st₀ s₀ c.spp
   begin f e = record {
     len = refl;
     noted = noted_refl σ;

@@ -1,9 +1,10 @@
 -- 01, "Lent tables": state word 4 is epsilon + 1. What the answers of epsilon's parts say in the words of its step, what is left of scratch, and what is asked.
-use Rattle.std.specs.Prelude.{◌≡◌, List, ℕ, ◌+◌, ◌*◌, ◌≤◌, ◌<◌, eqb, length, set, if◌then◌else◌}
+use Rattle.std.specs.Prelude.{◌≡◌, List, ℕ, Option, Some, None, ◌+◌, ◌*◌, ◌≤◌, ◌<◌, eqb, length, set, if◌then◌else◌}
 use Rattle.common.specs.Outcome.{Outcome, refused, given, Step}
 use Rattle.common.specs.Runs.{Table, table}
 use Rattle.spp_steps.specs.Wf.{ValidAt}
-use Rattle.spp.specs.Clauses.{seen}
+use Rattle.spp.specs.Clauses.{seen_made as seen}
+use Rattle.spp.specs.declared.SPP.{SPP}
 use Rattle.spp.specs.declared.Made.{Made}
 use Rattle.spp.specs.declared.Made.TheVariants.{Node, Full}
 use Rattle.aut_steps.specs.Relations as Rel
@@ -22,14 +23,12 @@ use Rattle.aut_states.specs.declared.Limits.{Limits}
 use Rattle.aut_relations.specs.Behind.{CacheReady}
 use Rattle.aut_relations.specs.Clauses.{aut_of, MadeLeft, Ready}
 use Rattle.aut_operands.specs.Clauses.{Inside}
-use Rattle.aut_epsilon.specs.declared.Kept.{Kept}
-use Rattle.aut_epsilon.specs.declared.Kept.TheVariants.{Handle, Nothing}
 
 -- ---- what is kept
 
-abbrev pub Keeps : List ℕ → ℕ → Kept → Type 0
-Keeps st x (Handle h) = Known st x × (value_of st x ≡ h.0)
-Keeps st x Nothing = Open st x
+abbrev pub Keeps : List ℕ → ℕ → Option SPP → Type 0
+Keeps st x (Some h) = Known st x × (value_of st x ≡ h.0)
+Keeps st x None = Open st x
 
 -- state y has its value, a relation
 pub record ValueAt (N : ℕ) (t : Table) (st : List ℕ) (y : ℕ) : Type 0 where

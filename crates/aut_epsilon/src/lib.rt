@@ -19,28 +19,22 @@ use aut_sequence::Task;
 use aut_states::Counts;
 use spp::{Made, Op, SPP};
 
-// what a state has: an SPP its handle, another what is kept
-#[derive(Clone, Copy)]
-pub enum Kept {
-    Handle(SPP),
-    Nothing,
-}
-
 // ---- words of a state
 
-fn look(states: &[u32], x: u32) -> Kept
+// what a state has: an SPP its handle, another what is kept
+fn look(states: &[u32], x: u32) -> Option<SPP>
     requires { 12 * x + 11 < length states.now }
     ensures { Keeps states.now x result }
 {
     let i = x as usize;
     if states[12 * i] == aut_states::kind::SPP {
-        return Kept::Handle(SPP(states[12 * i + 1]));
+        return Some(SPP(states[12 * i + 1]));
     }
     let e = states[12 * i + 4];
     if e == 0 {
-        return Kept::Nothing;
+        return None;
     }
-    Kept::Handle(SPP(e - 1))
+    Some(SPP(e - 1))
 }
 
 fn value(states: &[u32], y: u32) -> SPP
@@ -77,8 +71,7 @@ fn combine_each(
 {
     let mut g = h;
     let mut n = count;
-    let mut i = 0;
-    while i < k {
+    for i in 0..k {
         let y = members[from + i];
         let b = value(states, y);
         let Made::Node(g1, n1) = aut_relations::apply(nodes, scratch, n, fields, op, g, b) else {
@@ -86,7 +79,6 @@ fn combine_each(
         };
         g = g1;
         n = n1;
-        i += 1;
     }
     Made::Node(g, n)
 }
@@ -265,7 +257,7 @@ pub fn epsilon(
         scratch.old nodes.new states.new scratch.new }
 {
     let kept = look(states, x);
-    if let Kept::Handle(h) = kept {
+    if let Some(h) = kept {
         return Made::Node(h, c.spp);
     }
     let mut n = c.spp;

@@ -30,13 +30,12 @@ all_get_d P (y ∷ ys) (suc j) l a = all_get_d P ys j (omega arith) a.1
 -- ---- the first j of k operands are worked out
 
 pub record Passed (p : Part) (st mem : List ℕ) (x k j : ℕ) : Type 0 where
-  pub at : j ≤ k
   pub many : length (operands_of p st mem x) ≡ k
   pub first : (z : ℕ) → First (Worked p st) (NotYet p st) z (drop j (operands_of p st mem x)) → First (Worked p st) (NotYet p st) z (operands_of p st mem x)
   pub all : All (Worked p st) (drop j (operands_of p st mem x)) → All (Worked p st) (operands_of p st mem x)
 
 pub none_passed : (p : Part) (st mem : List ℕ) (x : ℕ) {k : ℕ} → ((mem : List ℕ) → length (operands_of p st mem x) ≡ k) → Passed p st mem x k 0
-none_passed p st mem x e = record { at = omega arith; many = e mem; first = λ z f. f; all = λ a. a }
+none_passed p st mem x e = record { many = e mem; first = λ z f. f; all = λ a. a }
 
 module _ {p : Part} {st mem : List ℕ} {x k j : ℕ} (v : Passed p st mem x k j) where
   abbrev ys : List ℕ
@@ -64,7 +63,6 @@ module _ {p : Part} {st mem : List ℕ} {x k j : ℕ} (v : Passed p st mem x k j
         pass q =
             let g : Worked p st y = subst (Told p st y) q f in
             record {
-              at = omega arith;
               many = v.many;
               first = λ z d. v.first z (subst (First (Worked p st) (NotYet p st) z) (sym rest) (later g d));
               all = λ d. v.all (subst (All (Worked p st)) (sym rest) (g, d));

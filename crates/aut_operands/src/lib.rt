@@ -122,13 +122,11 @@ pub fn open_operand(states: &[u32], members: &[u32], part: Part, x: u32) -> u32
     ensures { Next part states.now members.now x result }
 {
     let k = operand_count(states, part, x);
-    let mut j = 0;
-    while j < k {
+    for j in 0..k {
         let y = operand(states, members, part, x, j);
         if is_open(states, part, y) {
             return y;
         }
-        j += 1;
     }
     x
 }

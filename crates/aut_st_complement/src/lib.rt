@@ -37,8 +37,7 @@ fn cover_all(
 {
     let mut sum = spp::zero_at_depth(fields);
     let mut n = count;
-    let mut i = 0;
-    while i < source.length {
+    for i in 0..source.length {
         let t = aut_st_source::read(transitions, scratch, source, i);
         let Made::Node(h, n1) = aut_relations::apply(
             nodes,
@@ -53,7 +52,6 @@ fn cover_all(
         };
         sum = h;
         n = n1;
-        i += 1;
     }
     Made::Node(sum, n)
 }

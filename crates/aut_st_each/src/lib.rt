@@ -223,8 +223,7 @@ pub fn insert_each(
 {
     let mut d = c;
     let mut n = m;
-    let mut i = 0;
-    while i < source.length {
+    for i in 0..source.length {
         let t = aut_st_source::read(transitions, scratch, source, i);
         let listed = insert_made(nodes, states, members, scratch, d, config, each, t, n);
         match listed {
@@ -236,7 +235,6 @@ pub fn insert_each(
                 n = n1;
             }
         }
-        i += 1;
     }
     Listed::List(d, n)
 }
@@ -266,8 +264,7 @@ pub fn insert_pairs(
 {
     let mut d = c;
     let mut n = m;
-    let mut i = 0;
-    while i < first.length {
+    for i in 0..first.length {
         let t = aut_st_source::read(transitions, scratch, first, i);
         let l = t.label;
         let listed = insert_each(
@@ -291,7 +288,6 @@ pub fn insert_pairs(
                 n = n1;
             }
         }
-        i += 1;
     }
     Listed::List(d, n)
 }

@@ -10,7 +10,7 @@ use Rattle.netkat_steps.specs.ListSteps.{Edge}
 use Rattle.spp.specs.declared.SPP.{SPP}
 use Rattle.spp.specs.declared.Made.{Made}
 use Rattle.spp.specs.declared.Made.TheVariants.{Node}
-use Rattle.spp.specs.Clauses.{seen}
+use Rattle.spp.specs.Clauses.{seen_made as seen}
 use Rattle.aut_steps.specs.Tables as T
 use Rattle.aut_steps.specs.Tables.{Aut, put_nodes, on_nodes}
 use Rattle.aut_steps.specs.Wf.{ExtAut, WfAut}
@@ -34,9 +34,6 @@ use Rattle.aut_st_insert.specs.Clauses.{RESULT, ListReady, seen_list, ListBeside
 -- ---- lists elsewhere are as they were
 
 module _ {N a n : ℕ} {t : Table} {s s' : List ℕ} (p : Modifies N a n t s s') (b k : ℕ) where
-  pub edges_before : 2 * (b + k) ≤ a → edges s' b k ≡ edges s b k
-  edges_before l = edges_same s s' b k (λ i x y. p.below i (omega arith))
-
   pub edges_behind : a + n ≤ 2 * b → 2 * (b + k) ≤ LISTS → edges s' b k ≡ edges s b k
   edges_behind l r = edges_same s s' b k (λ i x y. p.above i (omega arith) (omega arith))
 

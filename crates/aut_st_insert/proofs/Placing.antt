@@ -17,7 +17,7 @@ use Rattle.spp_steps.proofs.Laws.{ext_refl}
 use Rattle.spp.specs.declared.SPP.{SPP}
 use Rattle.spp.specs.declared.Made.{Made}
 use Rattle.spp.specs.declared.Made.TheVariants.{Node, Full}
-use Rattle.spp.specs.Clauses.{seen}
+use Rattle.spp.specs.Clauses.{seen_made as seen}
 use Rattle.aut_steps.specs.Tables as T
 use Rattle.aut_steps.specs.Tables.{Aut, put_nodes, put_states, on_states}
 use Rattle.aut_steps.specs.Relations as Rel

@@ -277,8 +277,7 @@ fn walk(
     let mut total = spp::zero_at_depth(config.fields);
     let mut d = c;
     let mut k = 0;
-    let mut i = 0;
-    while i < m {
+    for i in 0..m {
         let j = 2 * (TAKEN + i);
         let target2 = scratch[j];
         let label2 = SPP(scratch[j + 1]);
@@ -295,7 +294,6 @@ fn walk(
                 k = k1;
             }
         }
-        i += 1;
     }
     Met::Next(d, total, k)
 }

@@ -5,7 +5,6 @@ use Prim.Native.Nat.{ℕ, ◌≤◌}
 use Rattle.common.specs.Outcome.{refused, Step}
 use Rattle.netkat_steps.specs.ListSteps.{Summed as Sum}
 use Rattle.aut_steps.specs.Tables.{Aut}
-use Rattle.aut_st_steps.specs.Operations.{ops}
 use Rattle.aut_st_steps.specs.ListSpec.{SumAt}
 use Rattle.aut_states.specs.Clauses.{limits_of}
 use Rattle.aut_states.specs.declared.Counts.{Counts}

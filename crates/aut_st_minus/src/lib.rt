@@ -105,8 +105,7 @@ fn subtract_row(
     let mut d = c;
     let mut h = sum;
     let mut n = m;
-    let mut i = 0;
-    while i < second.length {
+    for i in 0..second.length {
         let u = aut_st_source::read(transitions, scratch, second, i);
         let summed = subtract_one(nodes, states, members, scratch, d, config, t, u, h, n);
         match summed {
@@ -119,7 +118,6 @@ fn subtract_row(
                 n = n1;
             }
         }
-        i += 1;
     }
     Summed::Next(d, h, n)
 }
@@ -150,8 +148,7 @@ pub fn subtract_rows(
     let mut d = c;
     let mut h = sum;
     let mut n = m;
-    let mut i = 0;
-    while i < first.length {
+    for i in 0..first.length {
         let t = aut_st_source::read(transitions, scratch, first, i);
         let summed = subtract_row(
             nodes,
@@ -176,7 +173,6 @@ pub fn subtract_rows(
                 n = n1;
             }
         }
-        i += 1;
     }
     Summed::Next(d, h, n)
 }

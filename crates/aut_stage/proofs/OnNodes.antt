@@ -34,7 +34,7 @@ module _ {N : ℕ} {o : Step Table ℕ} {t : Table} {r : Made} {t' s s' : List �
   node_given {R} {u} {m} a n c q b v len k = go (subst (Laws.Makes N R t) e v)
     where
       e : o t ≡ given (table t' m) u.0
-      e = A.gives ∙ ap (λ (r : Made). Spp.seen r t') q
+      e = A.gives ∙ ap (λ (r : Made). Spp.seen_made r t') q
 
       p : Modifies N a n (table t' m) s s'
       p = left_any a n (subst (λ (r : Made). MadeLeft N r t' s s') q A.left) k
@@ -43,7 +43,7 @@ module _ {N : ℕ} {o : Step Table ℕ} {t : Table} {r : Made} {t' s s' : List �
       go (Laws.makes d) = record { is = e; then = record { ext = d.ext; beside = tt; frame = p; ready = backed_left b d.ext d.wf p len; holds = d.den.at } }
 
   pub node_refused : r ≡ Full → o t ≡ refused 21
-  node_refused q = A.gives ∙ ap (λ (r : Made). Spp.seen r t') q
+  node_refused q = A.gives ∙ ap (λ (r : Made). Spp.seen_made r t') q
 
 -- any answer
 pub node_post : {N : ℕ} {o : Step Table ℕ} {t : Table} {t' s s' : List ℕ} {R : Relation N} (a n c : ℕ) (r : Made) → Relates N o t r t' s s' → CacheReady N t s → Laws.Makes N R t (o t) → length s' ≡ length s → a ≤ LISTS
@@ -74,10 +74,10 @@ module _ (t st mem : List ℕ) (c : Counts) (o : Step Table ℕ) where
 module _ (st mem : List ℕ) (c : Counts) {N : ℕ} {o : Step Table ℕ} {t : List ℕ} {r : Made} {t' s s' : List ℕ} (A : Relates N o (table t c.spp) r t' s s') where
   pub relation_given : {l : Limits} {P : Aut → ℕ → Type 0} {u : SPP} {m : ℕ} → r ≡ Node u m → Ready N l (aut_of t st mem c) s → StepSpec N (limits_of l) P (aut_of t st mem c) (on_nodes o (aut_of t st mem c)) → length s' ≡ length s
       → Post (aut_layer N l) 0 0 P (on_nodes o (aut_of t st mem c)) (aut_of t st mem c) c (gave (with_nodes c m) u.0) (aut_of t' st mem) s s'
-  relation_given q R G len = by_law R G (ap (placed put_nodes (aut_of t st mem c)) (A.gives ∙ ap (λ (r : Made). Spp.seen r t') q)) (refl, refl) (subst (λ (r : Made). MadeLeft N r t' s s') q A.left) len
+  relation_given q R G len = by_law R G (ap (placed put_nodes (aut_of t st mem c)) (A.gives ∙ ap (λ (r : Made). Spp.seen_made r t') q)) (refl, refl) (subst (λ (r : Made). MadeLeft N r t' s s') q A.left) len
 
   pub relation_refused : r ≡ Full → on_nodes o (aut_of t st mem c) ≡ refused 21
-  relation_refused q = ap (placed put_nodes (aut_of t st mem c)) (A.gives ∙ ap (λ (r : Made). Spp.seen r t') q)
+  relation_refused q = ap (placed put_nodes (aut_of t st mem c)) (A.gives ∙ ap (λ (r : Made). Spp.seen_made r t') q)
 
 -- ---- a step on states
 

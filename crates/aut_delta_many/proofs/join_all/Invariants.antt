@@ -1,6 +1,3 @@
-use mathlib.Core.Path.{◌≡◌}
-use Prim.Native.Nat.{◌-◌}
-use lib.ListN.{length}
 use Rattle.aut_relations.specs.Clauses.{aut_of}
 use Rattle.aut_delta_stage.specs.OnStore.{store_of}
 use Rattle.aut_delta_many.proofs.Joins.{Joined}
@@ -9,7 +6,3 @@ use Rattle.aut_delta_many.proofs.join_all.Given as goal
 abbrev pub invariant-loop-i : goal.invariant-loop-i
 invariant-loop-i l =
     Joined l.config.fields l.config.limits l.join (store_of l.initial.nodes l.initial.states l.initial.members l.transitions l.initial.d) l.initial.d l.initial.scratch l.n l.from l.k (aut_of l.nodes l.states l.members l.d) l.d l.scratch l.m l.i
-    × (length l.nodes ≡ length l.initial.nodes) × (length l.states ≡ length l.initial.states) × (length l.members ≡ length l.initial.members) × (length l.scratch ≡ length l.initial.scratch)
-
-abbrev pub decreases-loop-i : goal.decreases-loop-i
-decreases-loop-i l = l.k - l.i

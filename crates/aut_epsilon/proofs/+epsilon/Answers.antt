@@ -1,4 +1,3 @@
-use mathlib.Core.Path.{◌∙◌}
 use Rattle.aut_relations.proofs.Order.{in_table}
 use Rattle.aut_epsilon.proofs.Turns as turns
 use Rattle.aut_epsilon.proofs.+epsilon.Goals as goal
@@ -6,8 +5,8 @@ use Rattle.aut_epsilon.proofs.+epsilon.Goals as goal
 pub look-kept-requires : goal.look-kept-requires
 look-kept-requires t c = in_table c.requires.ready.good c.requires.has
 
-pub returns-in-Handle : goal.returns-in-Handle
-returns-in-Handle t c = turns.kept_works c.requires c.look-kept.ensures c.in-Handle.is
+pub returns-in-Some : goal.returns-in-Some
+returns-in-Some t c = turns.kept_works c.requires c.look-kept.ensures c.in-Some.is
 
 pub loop-c-init : goal.loop-c-init
 loop-c-init t c = turns.begin c.args.c c.requires c.look-kept.ensures c.in_default.is
@@ -18,30 +17,12 @@ lowest-y-requires t c = turns.lowest_ready c.args.c c.requires c.loop-c.invarian
 pub finish-requires : goal.finish-requires
 finish-requires t c = turns.combine_ready c.args.c c.requires c.loop-c.invariant c.lowest-y.ensures c.if-y-x.true
 
-pub shape_of-nodes-then-y-x : goal.shape_of-nodes-then-y-x
-shape_of-nodes-then-y-x t c = c.finish.auto.nodes ∙ c.loop-c.invariant.noted.nodes.len
-
-pub shape_of-states-then-y-x : goal.shape_of-states-then-y-x
-shape_of-states-then-y-x t c = c.finish.auto.states ∙ c.loop-c.invariant.noted.len
-
-pub shape_of-scratch-then-y-x : goal.shape_of-scratch-then-y-x
-shape_of-scratch-then-y-x t c = c.finish.auto.scratch ∙ c.loop-c.invariant.len
-
 pub returns-then-y-x : goal.returns-then-y-x
 returns-then-y-x t c =
     turns.done c.args.c c.requires c.loop-c.invariant c.lowest-y.ensures c.if-y-x.true c.finish.result c.finish.ensures c.finish.auto.scratch
 
 pub epsilon-requires : goal.epsilon-requires
 epsilon-requires t c = turns.call_ready c.args.c c.requires c.loop-c.invariant c.lowest-y.ensures c.if-y-x.false c.decreases
-
-pub shape_of-nodes-in_default-epsilon : goal.shape_of-nodes-in_default-epsilon
-shape_of-nodes-in_default-epsilon t c = c.epsilon.auto.nodes ∙ c.loop-c.invariant.noted.nodes.len
-
-pub shape_of-states-in_default-epsilon : goal.shape_of-states-in_default-epsilon
-shape_of-states-in_default-epsilon t c = c.epsilon.auto.states ∙ c.loop-c.invariant.noted.len
-
-pub shape_of-scratch-in_default-epsilon : goal.shape_of-scratch-in_default-epsilon
-shape_of-scratch-in_default-epsilon t c = c.epsilon.auto.scratch ∙ c.loop-c.invariant.len
 
 pub returns-in_default-epsilon : goal.returns-in_default-epsilon
 returns-in_default-epsilon t c =

@@ -1,17 +1,10 @@
 use mathlib.Core.Path.{◌∙◌, ap}
-use Prim.Native.Nat.{ℕ, ◌+◌, ◌*◌}
-use native.Mathlib.Omega.{arith}
+use Prim.Native.Nat.{ℕ}
 use Rattle.common.specs.Outcome.{given}
 use Rattle.common.specs.Runs.{table}
 use Rattle.aut_relations.proofs.Behind.{left_refl}
 use Rattle.aut_epsilon.proofs.Together as together
 use Rattle.aut_epsilon.proofs.combine.Goals as goal
-
-pub overflow_cast-a : goal.overflow_cast-a
-overflow_cast-a c = omega (arith, c.shared_slice_known-5-1.given (12 * c.args.x + 1))
-
-pub overflow_cast-b : goal.overflow_cast-b
-overflow_cast-b c = omega (arith, c.shared_slice_known-5-1.given (12 * c.args.x + 2))
 
 pub combine_many-requires : goal.combine_many-requires
 combine_many-requires c = together.many_ready c.requires c.shape_of-shape.ensures c.in-Many.is

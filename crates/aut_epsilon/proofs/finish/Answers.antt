@@ -1,6 +1,6 @@
 use mathlib.Core.Path.{refl, ◌∙◌, ap, subst}
 use native.Mathlib.Omega.{arith}
-use Rattle.spp.specs.Clauses.{seen}
+use Rattle.spp.specs.Clauses.{seen_made as seen}
 use Rattle.spp.specs.declared.Made.{Made}
 use Rattle.aut_relations.specs.Clauses.{MadeLeft}
 use Rattle.aut_epsilon.proofs.Together as together

@@ -1,10 +1,6 @@
-use Prim.Native.Nat.{◌-◌}
 use native.Mathlib.Omega.{arith}
 use Rattle.aut_operands.proofs.Down as below
 use Rattle.aut_operands.proofs.open_operand.Goals as goal
-
-pub operand_count-k-requires : goal.operand_count-k-requires
-operand_count-k-requires c = c.requires.inside.state
 
 pub loop-j-init : goal.loop-j-init
 loop-j-init c = below.none_passed c.args.part c.args.states.now c.args.members.now c.args.x c.operand_count-k.ensures
@@ -17,12 +13,6 @@ is_open-requires c = below.look_at c.loop-j.invariant c.loop-j-test.true c.opera
 
 pub returns-then-is_open : goal.returns-then-is_open
 returns-then-is_open c = below.found c.loop-j.invariant c.loop-j-test.true c.operand-y.ensures c.is_open.ensures c.if-is_open.true
-
-pub overflow_add-j : goal.overflow_add-j
-overflow_add-j c = omega (arith, c.loop-j-test.true)
-
-pub loop-j-smaller : goal.loop-j-smaller
-loop-j-smaller c = omega (arith, c.loop-j-test.true)
 
 pub loop-j-preserved : goal.loop-j-preserved
 loop-j-preserved c = below.pass c.loop-j.invariant c.loop-j-test.true c.operand-y.ensures c.is_open.ensures c.if-is_open.false

@@ -1,10 +1,6 @@
-use Prim.Native.Nat.{◌+◌, ◌*◌}
 use native.Mathlib.Omega.{arith}
 use Rattle.aut_operands.proofs.Shapes as shapes
 use Rattle.aut_operands.proofs.operand.Goals as goal
-
-pub overflow_cast-from : goal.overflow_cast-from
-overflow_cast-from c = omega (arith, c.shared_slice_known-in-Many-1.given (12 * c.args.x + 1))
 
 pub overflow_add-result : goal.overflow_add-result
 overflow_add-result c =

@@ -1,4 +1,3 @@
-use mathlib.Core.Path.{◌∙◌}
 use Rattle.aut_st_complement.proofs.Join as join
 use Rattle.aut_st_complement.proofs.st_complement.Goals as goal
 
@@ -23,24 +22,9 @@ st_insert-requires c =
 pub returns-in-Refused : goal.returns-in-Refused
 returns-in-Refused c = join.stuck_1 c.requires c.insert_each-listed.ensures c.in-Refused.is
 
-pub shape_of-nodes-in-Refused-state : goal.shape_of-nodes-in-Refused-state
-shape_of-nodes-in-Refused-state c = c.rest_of.auto.nodes ∙ c.insert_each-listed.auto.nodes
-
 pub returns-in-Refused-state : goal.returns-in-Refused-state
 returns-in-Refused-state c =
     join.stuck_3 c.requires c.insert_each-listed.ensures c.in-List.is c.rest_of.result c.rest_of.ensures c.in-Node.is c.mk_top-put.result c.mk_top-put.new.states c.mk_top-put.ensures c.placed-state.ensures c.in-Refused-state.is
-
-pub shape_of-nodes-in-Is : goal.shape_of-nodes-in-Is
-shape_of-nodes-in-Is c = c.st_insert.auto.nodes ∙ c.rest_of.auto.nodes ∙ c.insert_each-listed.auto.nodes
-
-pub shape_of-states-in-Is : goal.shape_of-states-in-Is
-shape_of-states-in-Is c = c.st_insert.auto.states ∙ c.mk_top-put.auto.states ∙ c.insert_each-listed.auto.states
-
-pub shape_of-members-in-Is : goal.shape_of-members-in-Is
-shape_of-members-in-Is c = c.st_insert.auto.members ∙ c.insert_each-listed.auto.members
-
-pub shape_of-scratch-in-Is : goal.shape_of-scratch-in-Is
-shape_of-scratch-in-Is c = c.st_insert.auto.scratch ∙ c.rest_of.auto.scratch ∙ c.insert_each-listed.auto.scratch
 
 pub returns-in-Is : goal.returns-in-Is
 returns-in-Is c =

@@ -1,6 +1,3 @@
-use mathlib.Core.Path.{◌≡◌}
-use Prim.Native.Nat.{◌-◌}
-use lib.ListN.{length}
 use Rattle.aut_st_steps.specs.Edges.{edges}
 use Rattle.aut_st_steps.specs.ListSpec.{ListAt}
 use Rattle.aut_states.specs.Clauses.{limits_of}
@@ -15,7 +12,3 @@ abbrev pub invariant-loop-i : goal.invariant-loop-i
 invariant-loop-i l =
     Turning l.config.fields l.config.limits (ListAt l.config.fields (limits_of l.config.limits)) (each_all l.config.fields l.config.limits (each_of l.each)) l.transitions l.source (aut_of l.initial.nodes l.initial.states l.initial.members l.initial.d) l.initial.d l.initial.scratch (edges l.initial.scratch RESULT l.m)
     (aut_of l.nodes l.states l.members l.d) l.d l.scratch (edges l.scratch RESULT l.n) l.i
-    × (length l.nodes ≡ length l.initial.nodes) × (length l.states ≡ length l.initial.states) × (length l.members ≡ length l.initial.members) × (length l.scratch ≡ length l.initial.scratch)
-
-abbrev pub decreases-loop-i : goal.decreases-loop-i
-decreases-loop-i l = l.source.length - l.i

@@ -1,45 +1,17 @@
-use mathlib.Core.Path.{◌∙◌}
 use Rattle.aut_st_each.specs.Clauses.{each_of}
 use Rattle.aut_st_source.specs.Clauses.{edge_of}
 use Rattle.aut_st_each.proofs.Join as join
 use Rattle.aut_st_each.proofs.insert_made.Goals as goal
-
-pub make_edge-edged-requires : goal.make_edge-edged-requires
-make_edge-edged-requires c = c.requires.1
 
 pub st_insert-requires : goal.st_insert-requires
 st_insert-requires c =
     join.insert_ready c.args.config.fields c.args.config.limits c.args.nodes.now c.args.states.now c.args.members.now c.args.scratch.now c.args.c (each_of c.args.each) (edge_of c.args.t) c.args.m c.requires
     c.make_edge-edged.result c.make_edge-edged.new.nodes c.make_edge-edged.new.states c.make_edge-edged.new.members c.make_edge-edged.new.scratch c.make_edge-edged.ensures c.make_edge-edged.auto.scratch _ _ c.in-Edge.is
 
-pub shape_of-nodes-in-Refused : goal.shape_of-nodes-in-Refused
-shape_of-nodes-in-Refused c = c.make_edge-edged.auto.nodes
-
-pub shape_of-states-in-Refused : goal.shape_of-states-in-Refused
-shape_of-states-in-Refused c = c.make_edge-edged.auto.states
-
-pub shape_of-members-in-Refused : goal.shape_of-members-in-Refused
-shape_of-members-in-Refused c = c.make_edge-edged.auto.members
-
-pub shape_of-scratch-in-Refused : goal.shape_of-scratch-in-Refused
-shape_of-scratch-in-Refused c = c.make_edge-edged.auto.scratch
-
 pub returns-in-Refused : goal.returns-in-Refused
 returns-in-Refused c =
     join.no_edge c.args.config.fields c.args.config.limits c.args.nodes.now c.args.states.now c.args.members.now c.args.scratch.now c.args.c (each_of c.args.each) (edge_of c.args.t) c.args.m c.requires
     c.make_edge-edged.result c.make_edge-edged.new.nodes c.make_edge-edged.new.states c.make_edge-edged.new.members c.make_edge-edged.new.scratch c.make_edge-edged.ensures c.make_edge-edged.auto.scratch _ c.in-Refused.is
-
-pub shape_of-nodes-in-Edge : goal.shape_of-nodes-in-Edge
-shape_of-nodes-in-Edge c = c.st_insert.auto.nodes ∙ c.make_edge-edged.auto.nodes
-
-pub shape_of-states-in-Edge : goal.shape_of-states-in-Edge
-shape_of-states-in-Edge c = c.st_insert.auto.states ∙ c.make_edge-edged.auto.states
-
-pub shape_of-members-in-Edge : goal.shape_of-members-in-Edge
-shape_of-members-in-Edge c = c.st_insert.auto.members ∙ c.make_edge-edged.auto.members
-
-pub shape_of-scratch-in-Edge : goal.shape_of-scratch-in-Edge
-shape_of-scratch-in-Edge c = c.st_insert.auto.scratch ∙ c.make_edge-edged.auto.scratch
 
 pub returns-in-Edge : goal.returns-in-Edge
 returns-in-Edge c =

@@ -1,4 +1,3 @@
-use mathlib.Core.Path.{◌∙◌}
 use Rattle.aut_st_insert.proofs.Halves as halves
 use Rattle.aut_st_insert.proofs.meet_in.Goals as goal
 
@@ -18,21 +17,9 @@ pub returns-in-Refused : goal.returns-in-Refused
 returns-in-Refused c =
     halves.not_2 c.args.config.fields c.args.config.limits c.args.nodes.now c.args.states.now c.args.members.now c.args.scratch.now c.args.c c.args.s c.args.l.0 c.args.target2 c.args.label2.0 c.args.m c.requires c.apply.result c.apply.new.nodes c.apply.new.scratch c.apply.ensures _ _ c.in-Node.is c.apply.auto.scratch c.mk_union-both.result c.mk_union-both.new.nodes c.mk_union-both.new.states c.mk_union-both.new.members c.mk_union-both.new.scratch c.mk_union-both.ensures c.mk_union-both.auto.scratch _ c.in-Refused.is
 
-pub shape_of-nodes-in-Refused-listed : goal.shape_of-nodes-in-Refused-listed
-shape_of-nodes-in-Refused-listed c = c.st_insert_helper-listed.auto.nodes ∙ c.mk_union-both.auto.nodes ∙ c.apply.auto.nodes
-
-pub shape_of-scratch-in-Refused-listed : goal.shape_of-scratch-in-Refused-listed
-shape_of-scratch-in-Refused-listed c = c.st_insert_helper-listed.auto.scratch ∙ c.mk_union-both.auto.scratch ∙ c.apply.auto.scratch
-
 pub returns-in-Refused-listed : goal.returns-in-Refused-listed
 returns-in-Refused-listed c =
     halves.not_3 c.args.config.fields c.args.config.limits c.args.nodes.now c.args.states.now c.args.members.now c.args.scratch.now c.args.c c.args.s c.args.l.0 c.args.target2 c.args.label2.0 c.args.m c.requires c.apply.result c.apply.new.nodes c.apply.new.scratch c.apply.ensures _ _ c.in-Node.is c.apply.auto.scratch c.mk_union-both.result c.mk_union-both.new.nodes c.mk_union-both.new.states c.mk_union-both.new.members c.mk_union-both.new.scratch c.mk_union-both.ensures c.mk_union-both.auto.scratch _ _ c.in-Is.is c.st_insert_helper-listed.result c.st_insert_helper-listed.new.nodes c.st_insert_helper-listed.new.states c.st_insert_helper-listed.new.scratch c.st_insert_helper-listed.ensures _ c.in-Refused-listed.is
-
-pub shape_of-nodes-in-List : goal.shape_of-nodes-in-List
-shape_of-nodes-in-List c = c.st_insert_helper-listed.auto.nodes ∙ c.mk_union-both.auto.nodes ∙ c.apply.auto.nodes
-
-pub shape_of-scratch-in-List : goal.shape_of-scratch-in-List
-shape_of-scratch-in-List c = c.st_insert_helper-listed.auto.scratch ∙ c.mk_union-both.auto.scratch ∙ c.apply.auto.scratch
 
 pub returns-in-List : goal.returns-in-List
 returns-in-List c =

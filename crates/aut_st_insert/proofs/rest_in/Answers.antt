@@ -1,4 +1,3 @@
-use mathlib.Core.Path.{◌∙◌}
 use Rattle.aut_st_insert.proofs.Halves as halves
 use Rattle.aut_st_insert.proofs.rest_in.Goals as goal
 
@@ -18,18 +17,9 @@ pub st_insert_helper-listed-requires : goal.st_insert_helper-listed-requires
 st_insert_helper-listed-requires c =
     halves.rest_place_ready c.args.config.fields c.args.config.limits c.args.nodes.now c.args.states.now c.args.scratch.now c.args.c c.args.total.0 c.args.meet.0 c.args.target2 c.args.label2.0 c.args.m c.requires c.apply.result c.apply.new.nodes c.apply.new.scratch c.apply.ensures _ _ c.in-Node.is c.apply.auto.scratch c.apply-2.result c.apply-2.new.nodes c.apply-2.new.scratch c.apply-2.ensures _ _ c.in-Node-apply.is c.apply-2.auto.scratch
 
-pub shape_of-nodes-in-Refused : goal.shape_of-nodes-in-Refused
-shape_of-nodes-in-Refused c = c.st_insert_helper-listed.auto.nodes ∙ c.apply-2.auto.nodes ∙ c.apply.auto.nodes
-
 pub returns-in-Refused : goal.returns-in-Refused
 returns-in-Refused c =
     halves.not_placed c.args.config.fields c.args.config.limits c.args.nodes.now c.args.states.now c.args.scratch.now c.args.c c.args.total.0 c.args.meet.0 c.args.target2 c.args.label2.0 c.args.m c.requires c.apply.result c.apply.new.nodes c.apply.new.scratch c.apply.ensures _ _ c.in-Node.is c.apply.auto.scratch c.apply-2.result c.apply-2.new.nodes c.apply-2.new.scratch c.apply-2.ensures _ _ c.in-Node-apply.is c.apply-2.auto.scratch c.st_insert_helper-listed.result c.st_insert_helper-listed.new.nodes c.st_insert_helper-listed.new.states c.st_insert_helper-listed.new.scratch c.st_insert_helper-listed.ensures _ c.in-Refused.is
-
-pub shape_of-nodes-in-List : goal.shape_of-nodes-in-List
-shape_of-nodes-in-List c = c.st_insert_helper-listed.auto.nodes ∙ c.apply-2.auto.nodes ∙ c.apply.auto.nodes
-
-pub shape_of-scratch-in-List : goal.shape_of-scratch-in-List
-shape_of-scratch-in-List c = c.st_insert_helper-listed.auto.scratch ∙ c.apply-2.auto.scratch ∙ c.apply.auto.scratch
 
 pub returns-in-List : goal.returns-in-List
 returns-in-List c =

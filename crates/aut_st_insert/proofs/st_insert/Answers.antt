@@ -1,4 +1,3 @@
-use mathlib.Core.Path.{◌∙◌}
 use Rattle.aut_st_insert.proofs.Walking as walking
 use Rattle.aut_st_insert.proofs.st_insert.Goals as goal
 
@@ -25,18 +24,6 @@ st_insert_helper-requires c =
 pub returns-in-Refused : goal.returns-in-Refused
 returns-in-Refused c =
     walking.no_walk c.args.config.fields c.args.config.limits c.args.nodes.now c.args.states.now c.args.members.now c.args.scratch.now c.args.c c.args.s c.args.l.0 c.args.m c.requires.0 c.requires.1 c.copy.new.words c.copy.ensures c.copy.auto.words c.walk-met.result c.walk-met.new.nodes c.walk-met.new.states c.walk-met.new.members c.walk-met.new.scratch c.walk-met.ensures c.walk-met.auto.scratch _ c.in-Refused.is
-
-pub shape_of-nodes-in-Node : goal.shape_of-nodes-in-Node
-shape_of-nodes-in-Node c = c.st_insert_helper.auto.nodes ∙ c.apply.auto.nodes ∙ c.walk-met.auto.nodes
-
-pub shape_of-states-in-Node : goal.shape_of-states-in-Node
-shape_of-states-in-Node c = c.st_insert_helper.auto.states ∙ c.walk-met.auto.states
-
-pub shape_of-members-in-Node : goal.shape_of-members-in-Node
-shape_of-members-in-Node c = c.walk-met.auto.members
-
-pub shape_of-scratch-in-Node : goal.shape_of-scratch-in-Node
-shape_of-scratch-in-Node c = c.st_insert_helper.auto.scratch ∙ c.apply.auto.scratch ∙ c.walk-met.auto.scratch ∙ c.copy.auto.words
 
 pub returns-in-Node : goal.returns-in-Node
 returns-in-Node c =

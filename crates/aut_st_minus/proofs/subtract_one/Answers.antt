@@ -1,4 +1,3 @@
-use mathlib.Core.Path.{◌∙◌}
 use Rattle.aut_st_minus.proofs.Single as one
 use Rattle.aut_st_minus.proofs.subtract_one.Goals as goal
 
@@ -25,31 +24,9 @@ st_insert-listed-requires c =
 pub returns-in-Refused : goal.returns-in-Refused
 returns-in-Refused c = one.not_1 c.args.c c.requires c.mk_difference-state.ensures c.in-Refused.is
 
-pub shape_of-nodes-in-Refused-listed : goal.shape_of-nodes-in-Refused-listed
-shape_of-nodes-in-Refused-listed c =
-    c.st_insert-listed.auto.nodes ∙ c.apply-in-Is.auto.nodes ∙ c.apply.auto.nodes ∙ c.mk_difference-state.auto.nodes
-
-pub shape_of-states-in-Refused-listed : goal.shape_of-states-in-Refused-listed
-shape_of-states-in-Refused-listed c = c.st_insert-listed.auto.states ∙ c.mk_difference-state.auto.states
-
-pub shape_of-scratch-in-Refused-listed : goal.shape_of-scratch-in-Refused-listed
-shape_of-scratch-in-Refused-listed c =
-    c.st_insert-listed.auto.scratch ∙ c.apply-in-Is.auto.scratch ∙ c.apply.auto.scratch ∙ c.mk_difference-state.auto.scratch
-
 pub returns-in-Refused-listed : goal.returns-in-Refused-listed
 returns-in-Refused-listed c =
     one.not_4 c.args.c c.requires c.mk_difference-state.ensures c.in-Is.is c.mk_difference-state.auto.scratch c.apply.ensures c.in-Node.is c.apply.auto.scratch c.apply-in-Is.ensures c.in-Node-apply.is c.apply-in-Is.auto.scratch c.st_insert-listed.ensures c.in-Refused-listed.is
-
-pub shape_of-nodes-in-List : goal.shape_of-nodes-in-List
-shape_of-nodes-in-List c =
-    c.st_insert-listed.auto.nodes ∙ c.apply-in-Is.auto.nodes ∙ c.apply.auto.nodes ∙ c.mk_difference-state.auto.nodes
-
-pub shape_of-states-in-List : goal.shape_of-states-in-List
-shape_of-states-in-List c = c.st_insert-listed.auto.states ∙ c.mk_difference-state.auto.states
-
-pub shape_of-scratch-in-List : goal.shape_of-scratch-in-List
-shape_of-scratch-in-List c =
-    c.st_insert-listed.auto.scratch ∙ c.apply-in-Is.auto.scratch ∙ c.apply.auto.scratch ∙ c.mk_difference-state.auto.scratch
 
 pub returns-in-List : goal.returns-in-List
 returns-in-List c =

@@ -1,6 +1,3 @@
-use mathlib.Core.Path.{◌≡◌}
-use Prim.Native.Nat.{◌-◌}
-use lib.ListN.{length}
 use Rattle.aut_st_steps.specs.ListSpec.{SumAt}
 use Rattle.aut_states.specs.Clauses.{limits_of}
 use Rattle.aut_relations.specs.Clauses.{aut_of}
@@ -14,7 +11,3 @@ abbrev pub invariant-loop-i : goal.invariant-loop-i
 invariant-loop-i l =
     Turning l.config.fields l.config.limits (SumAt l.config.fields (limits_of l.config.limits)) (row l.config.fields l.config.limits (edge_of l.t)) l.transitions l.second (aut_of l.initial.nodes l.initial.states l.initial.members l.initial.d) l.initial.d l.initial.scratch (sum_of l.config.fields l.config.limits l.initial.scratch l.initial.h.0 l.initial.n)
     (aut_of l.nodes l.states l.members l.d) l.d l.scratch (sum_of l.config.fields l.config.limits l.scratch l.h.0 l.n) l.i
-    × (length l.nodes ≡ length l.initial.nodes) × (length l.states ≡ length l.initial.states) × (length l.members ≡ length l.initial.members) × (length l.scratch ≡ length l.initial.scratch)
-
-abbrev pub decreases-loop-i : goal.decreases-loop-i
-decreases-loop-i l = l.second.length - l.i

@@ -1,9 +1,7 @@
-use mathlib.Core.Path.{refl, ◌∙◌}
-use Prim.Native.Nat.{◌-◌}
-use native.Mathlib.Omega.{arith}
+use mathlib.Core.Path.{refl}
 use Rattle.aut_st_stage.proofs.Loops.{turn_begin, turn_read, turn_edge, turn_stuck, turn_again, turn_end, turn_row}
 use Rattle.aut_st_source.specs.Clauses.{edge_of, source_of}
-use Rattle.aut_st_source.proofs.Sources.{length_few, walked_later}
+use Rattle.aut_st_source.proofs.Sources.{walked_later}
 use Rattle.aut_st_minus.specs.declared.Summed.TheVariants as next
 use Rattle.aut_st_minus.specs.Clauses.{sum_of}
 use Rattle.aut_st_minus.proofs.Readings.{sum_kind}
@@ -12,55 +10,24 @@ use Rattle.aut_st_minus.proofs.subtract_rows.Goals as goal
 
 pub loop-i-init : goal.loop-i-init
 loop-i-init c =
-    (turn_begin (sum_kind c.args.config.fields c.args.config.limits c.requires.list.limit) (rows_folds c.args.config.fields c.args.config.limits (source_of c.args.second c.args.transitions.now c.args.scratch.now)) c.requires.first c.requires.list.ready (record { sum = c.requires.sum; result = c.requires.list.list }), refl, refl, refl, refl)
+    turn_begin (sum_kind c.args.config.fields c.args.config.limits c.requires.list.limit) (rows_folds c.args.config.fields c.args.config.limits (source_of c.args.second c.args.transitions.now c.args.scratch.now)) c.requires.first c.requires.list.ready (record { sum = c.requires.sum; result = c.requires.list.list })
 
 pub read-t-requires : goal.read-t-requires
 read-t-requires c =
-    turn_read (sum_kind c.args.config.fields c.args.config.limits c.requires.list.limit) (rows_folds c.args.config.fields c.args.config.limits (source_of c.args.second c.args.transitions.now c.args.scratch.now)) c.requires.first c.loop-i.invariant.0 c.loop-i-test.true
+    turn_read (sum_kind c.args.config.fields c.args.config.limits c.requires.list.limit) (rows_folds c.args.config.fields c.args.config.limits (source_of c.args.second c.args.transitions.now c.args.scratch.now)) c.requires.first c.loop-i.invariant c.loop-i-test.true
 
 pub subtract_row-summed-requires : goal.subtract_row-summed-requires
 subtract_row-summed-requires c =
-    record { list = record { ready = c.loop-i.invariant.0.stage.ready; list = c.loop-i.invariant.0.holds.result; limit = c.requires.list.limit }; first = turn_edge (sum_kind c.args.config.fields c.args.config.limits c.requires.list.limit) (rows_folds c.args.config.fields c.args.config.limits (source_of c.args.second c.args.transitions.now c.args.scratch.now)) c.requires.first c.loop-i.invariant.0 c.loop-i-test.true c.read-t.ensures; second = walked_later c.loop-i.invariant.0.stage.frame c.args.transitions.now c.requires.second c.loop-i.invariant.0.stage.ext.grown; sum = c.loop-i.invariant.0.holds.sum }
-
-pub shape_of-nodes-in-Refused : goal.shape_of-nodes-in-Refused
-shape_of-nodes-in-Refused c = c.subtract_row-summed.auto.nodes ∙ c.loop-i.invariant.1
-
-pub shape_of-states-in-Refused : goal.shape_of-states-in-Refused
-shape_of-states-in-Refused c = c.subtract_row-summed.auto.states ∙ c.loop-i.invariant.2
-
-pub shape_of-members-in-Refused : goal.shape_of-members-in-Refused
-shape_of-members-in-Refused c = c.subtract_row-summed.auto.members ∙ c.loop-i.invariant.3
-
-pub shape_of-scratch-in-Refused : goal.shape_of-scratch-in-Refused
-shape_of-scratch-in-Refused c = c.subtract_row-summed.auto.scratch ∙ c.loop-i.invariant.4
+    record { list = record { ready = c.loop-i.invariant.stage.ready; list = c.loop-i.invariant.holds.result; limit = c.requires.list.limit }; first = turn_edge (sum_kind c.args.config.fields c.args.config.limits c.requires.list.limit) (rows_folds c.args.config.fields c.args.config.limits (source_of c.args.second c.args.transitions.now c.args.scratch.now)) c.requires.first c.loop-i.invariant c.loop-i-test.true c.read-t.ensures; second = walked_later c.loop-i.invariant.stage.frame c.args.transitions.now c.requires.second c.loop-i.invariant.stage.ext.grown; sum = c.loop-i.invariant.holds.sum }
 
 pub returns-in-Refused : goal.returns-in-Refused
 returns-in-Refused c =
-    turn_stuck (sum_kind c.args.config.fields c.args.config.limits c.requires.list.limit) (rows_folds c.args.config.fields c.args.config.limits (source_of c.args.second c.args.transitions.now c.args.scratch.now)) c.requires.first c.loop-i.invariant.0 c.loop-i-test.true c.read-t.ensures (turn_row (sum_kind c.args.config.fields c.args.config.limits c.requires.list.limit) (λ us. row c.args.config.fields c.args.config.limits (edge_of c.read-t.result) us (sum_of c.args.config.fields c.args.config.limits c.loop-i.scratch c.loop-i.h.0 c.loop-i.n)) c.loop-i.invariant.0.stage.frame c.requires.second c.subtract_row-summed.ensures) c.in-Refused.is refl
-
-pub overflow_add-i : goal.overflow_add-i
-overflow_add-i c =
-    omega (arith, c.loop-i-test.true, length_few c.args.transitions.now c.args.first c.requires.first.within)
-
-pub loop-i-smaller : goal.loop-i-smaller
-loop-i-smaller c = omega (arith, c.loop-i-test.true)
+    turn_stuck (sum_kind c.args.config.fields c.args.config.limits c.requires.list.limit) (rows_folds c.args.config.fields c.args.config.limits (source_of c.args.second c.args.transitions.now c.args.scratch.now)) c.requires.first c.loop-i.invariant c.loop-i-test.true c.read-t.ensures (turn_row (sum_kind c.args.config.fields c.args.config.limits c.requires.list.limit) (λ us. row c.args.config.fields c.args.config.limits (edge_of c.read-t.result) us (sum_of c.args.config.fields c.args.config.limits c.loop-i.scratch c.loop-i.h.0 c.loop-i.n)) c.loop-i.invariant.stage.frame c.requires.second c.subtract_row-summed.ensures) c.in-Refused.is refl
 
 pub loop-i-preserved : goal.loop-i-preserved
 loop-i-preserved c =
-    (turn_again (sum_kind c.args.config.fields c.args.config.limits c.requires.list.limit) (rows_folds c.args.config.fields c.args.config.limits (source_of c.args.second c.args.transitions.now c.args.scratch.now)) c.requires.first c.loop-i.invariant.0 c.loop-i-test.true c.read-t.ensures (turn_row (sum_kind c.args.config.fields c.args.config.limits c.requires.list.limit) (λ us. row c.args.config.fields c.args.config.limits (edge_of c.read-t.result) us (sum_of c.args.config.fields c.args.config.limits c.loop-i.scratch c.loop-i.h.0 c.loop-i.n)) c.loop-i.invariant.0.stage.frame c.requires.second c.subtract_row-summed.ensures) c.in-Next.is refl, c.subtract_row-summed.auto.nodes ∙ c.loop-i.invariant.1, c.subtract_row-summed.auto.states ∙ c.loop-i.invariant.2, c.subtract_row-summed.auto.members ∙ c.loop-i.invariant.3, c.subtract_row-summed.auto.scratch ∙ c.loop-i.invariant.4)
-
-pub shape_of-nodes : goal.shape_of-nodes
-shape_of-nodes c = c.loop-i.invariant.1
-
-pub shape_of-states : goal.shape_of-states
-shape_of-states c = c.loop-i.invariant.2
-
-pub shape_of-members : goal.shape_of-members
-shape_of-members c = c.loop-i.invariant.3
-
-pub shape_of-scratch : goal.shape_of-scratch
-shape_of-scratch c = c.loop-i.invariant.4
+    turn_again (sum_kind c.args.config.fields c.args.config.limits c.requires.list.limit) (rows_folds c.args.config.fields c.args.config.limits (source_of c.args.second c.args.transitions.now c.args.scratch.now)) c.requires.first c.loop-i.invariant c.loop-i-test.true c.read-t.ensures (turn_row (sum_kind c.args.config.fields c.args.config.limits c.requires.list.limit) (λ us. row c.args.config.fields c.args.config.limits (edge_of c.read-t.result) us (sum_of c.args.config.fields c.args.config.limits c.loop-i.scratch c.loop-i.h.0 c.loop-i.n)) c.loop-i.invariant.stage.frame c.requires.second c.subtract_row-summed.ensures) c.in-Next.is refl
 
 pub returns : goal.returns
 returns c =
-    turn_end (sum_kind c.args.config.fields c.args.config.limits c.requires.list.limit) (rows_folds c.args.config.fields c.args.config.limits (source_of c.args.second c.args.transitions.now c.args.scratch.now)) c.requires.first (next.Next c.loop-i.d c.loop-i.h c.loop-i.n) refl c.loop-i.invariant.0 c.loop-i-test.false
+    turn_end (sum_kind c.args.config.fields c.args.config.limits c.requires.list.limit) (rows_folds c.args.config.fields c.args.config.limits (source_of c.args.second c.args.transitions.now c.args.scratch.now)) c.requires.first (next.Next c.loop-i.d c.loop-i.h c.loop-i.n) refl c.loop-i.invariant c.loop-i-test.false
