@@ -70,8 +70,7 @@ fn walk(
     let marked = states[aut_states::STATE * i + aut_states::word::COUNT] as usize;
     let mut d = c;
     let mut m = n;
-    let mut j = 1;
-    while j < marked {
+    for j in 1..marked {
         let at = 2 * (start + j - 1);
         let target = transitions[at];
         let label = SPP(transitions[at + 1]);
@@ -87,7 +86,6 @@ fn walk(
                 m = m1;
             }
         }
-        j += 1;
     }
     Walked::On(d, m)
 }

@@ -23,7 +23,7 @@ use Rattle.aut_steps.proofs.Wf.{state_grown}
 use Rattle.aut_query_steps.specs.Tables.{Tables, ExtTables}
 use Rattle.aut_query_steps.specs.Search.{capacity}
 use Rattle.aut_query_steps.specs.Pending.{Pending, Entries}
-use Rattle.aut_empty_words.specs.Words.{entry_at, entries_of, seen_in, Stack, Rested, Emptied}
+use Rattle.aut_empty_words.specs.Words.{entry_at, entries_of, seen_in, Stack, Rested}
 
 -- one step after two others
 pub after_after : {S A B X : Type 0} (o : Outcome S A) (f : A → Step S B) (g : B → Step S X) → after (after o f) g ≡ after o (λ a σ. after (f a σ) g)
@@ -169,22 +169,3 @@ rested_more {st} {st'} {i} r l = record {
 
 pub rested_all : {st st' : List ℕ} {i n : ℕ} → Rested st i st' → i ≤ n → n ≤ i → Rested st n st'
 rested_all {st} {st'} {i} {n} r a b = subst (λ (k : ℕ). Rested st k st') {x = i} {y = n} (omega arith) r
-
--- the first i words are 0
-pub record Zeroes (p : List ℕ) (i : ℕ) (p' : List ℕ) : Type 0 where
-  pub zero : (j : ℕ) → j < i → get_or p' j 0 ≡ 0
-  pub beyond : (j : ℕ) → i ≤ j → get_or p' j 0 ≡ get_or p j 0
-
-pub zeroes_none : (p : List ℕ) → Zeroes p 0 p
-zeroes_none p = record { zero = λ j l. absurd (omega arith); beyond = λ j l. refl }
-
-pub zeroes_more : {p p' : List ℕ} {i : ℕ} → Zeroes p i p' → i < length p' → Zeroes p (i + 1) (set p' i 0)
-zeroes_more {p} {p'} {i} z l = record {
-  zero = λ j k. by_test (eqb j i)
-      (λ b. subst (λ (m : ℕ). get_or (set p' i 0) m 0 ≡ 0) (sym (eqb-true j i b)) (get_or-set_same p' i 0 0 l))
-      (λ b. get_or-set_other p' i j 0 0 (eqb-false j i b) ∙ z.zero j (omega (arith, eqb-false j i b)));
-  beyond = λ j k. get_or-set_other p' i j 0 0 (λ e. omega arith) ∙ z.beyond j (omega arith);
-}
-
-pub emptied : {p p' : List ℕ} {i n : ℕ} → Zeroes p i p' → i ≤ 2 * n → 2 * n ≤ i → Emptied p n p'
-emptied z a b = record { zero = λ j l. z.zero j (omega arith); beyond = λ j l. z.beyond j (omega arith) }

@@ -37,10 +37,8 @@ pub fn clear_seen(states: &mut [u32], count: usize)
     requires { 12 * count ≤ length states.old }
     ensures { Rested states.old count states.new }
 {
-    let mut i = 0;
-    while i < count {
+    for i in 0..count {
         states[aut_states::STATE * i + aut_states::word::SEEN] = 0;
-        i += 1;
     }
 }
 
@@ -49,9 +47,5 @@ pub fn clear_pending(pending: &mut [u32], n: usize)
     requires { 2 * n ≤ length pending.old }
     ensures { Emptied pending.old n pending.new }
 {
-    let mut i = 0;
-    while i < 2 * n {
-        pending[i] = 0;
-        i += 1;
-    }
+    pending[..2 * n].fill(0);
 }

@@ -1,5 +1,5 @@
 -- live_sets and live_packets: the walk and then the work list, by the rule for a run of calls (aut_stage); words 7 are written, words 9 and the entries cleared.
-use Rattle.std.specs.Prelude.{if◌then◌else◌}
+use Rattle.std.specs.Prelude.{Option, Some, None, if◌then◌else◌}
 use mathlib.Core.Path.{◌≡◌, refl, sym, ◌∙◌, ap, ap₂, subst, fun_ext}
 use mathlib.Core.Logic.{◌≢◌, ◌⊎◌, inl, inr}
 use mathlib.Core.Bool.{Bool}
@@ -46,8 +46,6 @@ use Rattle.aut_query_calls.specs.Working.{clear_of}
 use Rattle.aut_query_calls.proofs.Works.{working_begin}
 use Rattle.sp.specs.declared.SP.{SP}
 use Rattle.aut_live.specs.declared.Lived.TheVariants as lived
-use Rattle.aut_live_words.specs.declared.Room.{Room}
-use Rattle.aut_live_words.specs.declared.Room.TheVariants as room
 use Rattle.aut_live_words.specs.declared.Walked.{Walked}
 use Rattle.aut_live_words.specs.declared.Walked.TheVariants as walked
 use Rattle.aut_live_words.specs.Work.{work_of, live_by, seconds, stack, Held, Doubled, Reaches, there, new, full, keep_words, clear_words}
@@ -111,11 +109,11 @@ module _ {N : ℕ} {l : Limits} {sp t st mem tr : List ℕ} {c : Counts} {s p : 
     pub moved : Moved N l sp t st mem tr c s p 0 st1 p1 1
     pub entry : seconds p1 0 1 ≡ x ∷ []
 
-  first : {k : ℕ} {st1 p1 : List ℕ} → Reaches N (capacity lent) 0 x st p (room.At k) st1 p1 → First st1 p1
+  first : {k : ℕ} {st1 p1 : List ℕ} → Reaches N (capacity lent) 0 x st p (Some k) st1 p1 → First st1 p1
   first (there a) = absurd (omega (arith, resting x))
   first (new w r) = record { room = r; moved = reach_moved H₀ P.has (new w r); entry = seconds_new p 0 x (omega (arith, r)) ∙ ap (λ (a : List ℕ). a ++ x ∷ []) (no_seconds p) }
 
-  none : {st1 p1 : List ℕ} → Reaches N (capacity lent) 0 x st p room.Full st1 p1 → capacity lent ≤ 0
+  none : {st1 p1 : List ℕ} → Reaches N (capacity lent) 0 x st p None st1 p1 → capacity lent ≤ 0
   none (full w r) = r
 
   abbrev k1 : Found → Step Tables Found
@@ -127,14 +125,14 @@ module _ {N : ℕ} {l : Limits} {sp t st mem tr : List ℕ} {c : Counts} {s p : 
   abbrev none_left : Step Tables Found
   none_left τ = refused 24
 
-  module _ {r0 : Room} {st1 p1 : List ℕ} (A : Reaches N (capacity lent) 0 x st p r0 st1 p1) where
-    pub sets_full : r0 ≡ room.Full → live_sets N (limits_of l) lent x σ ≡ refused 24
+  module _ {r0 : Option ℕ} {st1 p1 : List ℕ} (A : Reaches N (capacity lent) 0 x st p r0 st1 p1) where
+    pub sets_full : r0 ≡ None → live_sets N (limits_of l) lent x σ ≡ refused 24
     unfolding live_sets
-    sets_full q = ap (λ (b : Bool). (if b then m1 else none_left) σ) (le-ltb 0 (capacity lent) (none (subst (λ (r : Room). Reaches N (capacity lent) 0 x st p r st1 p1) q A)))
+    sets_full q = ap (λ (b : Bool). (if b then m1 else none_left) σ) (le-ltb 0 (capacity lent) (none (subst (λ (r : Option ℕ). Reaches N (capacity lent) 0 x st p r st1 p1) q A)))
 
-    module _ {k : ℕ} (q0 : r0 ≡ room.At k) where
+    module _ {k : ℕ} (q0 : r0 ≡ Some k) where
       F : First st1 p1
-      F = first (subst (λ (r : Room). Reaches N (capacity lent) 0 x st p r st1 p1) q0 A)
+      F = first (subst (λ (r : Option ℕ). Reaches N (capacity lent) 0 x st p r st1 p1) q0 A)
 
       abbrev σ₁ : Tables
       σ₁ = tables_of sp t st1 mem tr c

@@ -4,7 +4,7 @@
 ghost use Rattle.aut_query_stage.specs.Layer.{tables_of, PreQuery};
 ghost use Rattle.aut_live.specs.Clauses.{PostLive, PostSets};
 
-use aut_live_words::{Room, Walked};
+use aut_live_words::Walked;
 use aut_states::{Config, Counts};
 use sp::SP;
 
@@ -37,7 +37,7 @@ pub fn live_sets(
         transitions.new) scratch.old scratch.new pending.old
         pending.new }
 {
-    let Room::At(_) = aut_live_words::reach(states, pending, config.fields, 0, x) else {
+    let Some(_) = aut_live_words::reach(states, pending, config.fields, 0, x) else {
         return Walked::Refused(aut_states::refusal::PENDING);
     };
     let walked = aut_live_reach::explore(

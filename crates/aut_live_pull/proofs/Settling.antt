@@ -1,5 +1,5 @@
 -- The work list of live_packets: labels, entries and sets as words; and one source pulled from, by the rule for a run of calls (aut_stage).
-use Rattle.std.specs.Prelude.{if◌then◌else◌}
+use Rattle.std.specs.Prelude.{Option, Some, None, if◌then◌else◌}
 use mathlib.Core.Path.{◌≡◌, refl, sym, ◌∙◌, ap, ap₂, subst, fun_ext}
 use mathlib.Core.Bool.{Bool, true, false}
 use mathlib.Core.List.{List, ◌∷◌}
@@ -44,8 +44,6 @@ use Rattle.aut_query_calls.specs.Working.{clear_of, Working}
 use Rattle.aut_query_calls.proofs.Working.{Ran, with_sets, SetIn}
 use Rattle.aut_query_calls.proofs.Calls.{asks_lead, asks_sets, pull_given, images_refused, union_given, sets_refused}
 use Rattle.aut_query_calls.proofs.Works.{clear_written, working_written}
-use Rattle.aut_live_words.specs.declared.Room.{Room}
-use Rattle.aut_live_words.specs.declared.Room.TheVariants as room
 use Rattle.aut_live_words.specs.Work.{work_of, live_by, seconds, stack, Held, Enlarges}
 use Rattle.aut_live_words.specs.Clauses.{Listed, PreEnlarge}
 use Rattle.aut_live_pull.specs.Clauses.{Source, Pulled}
@@ -302,11 +300,11 @@ module _ (sp t st mem tr : List ℕ) (c : Counts) {N : ℕ} {l : Limits} {s p : 
             enlarge_is a b e f = ap₂ (λ (a b : Bool). (if a then return w else (if b then return grown else (λ σ. refused 24))) κ2) e f
 
             -- what it comes to
-            abbrev pub PullsTo : Room → List ℕ → List ℕ → Type 0
-            PullsTo (room.At k) st3 p3 = Pulled N l whole σ c c2 n k (tables_of sp2 t st3 mem tr) s s2 p p3
-            PullsTo room.Full st3 p3 = whole ≡ refused 24
+            abbrev pub PullsTo : Option ℕ → List ℕ → List ℕ → Type 0
+            PullsTo (Some k) st3 p3 = Pulled N l whole σ c c2 n k (tables_of sp2 t st3 mem tr) s s2 p p3
+            PullsTo None st3 p3 = whole ≡ refused 24
 
-            pub pulls_to : {r3 : Room} {st3 p3 : List ℕ} → Enlarges (capacity lent) m x h2.0 st p r3 st3 p3 → PullsTo r3 st3 p3
+            pub pulls_to : {r3 : Option ℕ} {st3 p3 : List ℕ} → Enlarges (capacity lent) m x h2.0 st p r3 st3 p3 → PullsTo r3 st3 p3
             pulls_to (Enlarges.same e) = record {
               post = done (query_layer N l) 0 0 (λ d. clear_tables (tables_of sp2 t st mem tr d))
                   (instead (query_layer N l) 0 0 stage_2 (enlarge_is true (ltb (length (stack p m)) (capacity lent)) (eq-eqb h2.0 (live_by N st x) (e ∙ sym (live_reached N st x S.source))) refl)) tt;
@@ -329,9 +327,9 @@ module _ (sp t st mem tr : List ℕ) (c : Counts) {N : ℕ} {l : Limits} {s p : 
             pulls_to (Enlarges.full e k) = stage_2.is
                 ∙ enlarge_is false false (ne_eqb h2.0 (live_by N st x) (λ z. e (z ∙ live_reached N st x S.source))) (le-ltb (length (stack p m)) (capacity lent) (omega (arith, stack_length p m)))
 
-            module _ {r3 : Room} {st3 p3 : List ℕ} (E : Enlarges (capacity lent) m x h2.0 st p r3 st3 p3) where
-              pub enlarge_stuck : r3 ≡ room.Full → whole ≡ refused 24
-              enlarge_stuck e = subst (λ (r : Room). PullsTo r st3 p3) e (pulls_to E)
+            module _ {r3 : Option ℕ} {st3 p3 : List ℕ} (E : Enlarges (capacity lent) m x h2.0 st p r3 st3 p3) where
+              pub enlarge_stuck : r3 ≡ None → whole ≡ refused 24
+              enlarge_stuck e = subst (λ (r : Option ℕ). PullsTo r st3 p3) e (pulls_to E)
 
-              pub enlarged : {k : ℕ} → r3 ≡ room.At k → Pulled N l whole σ c c2 n k (tables_of sp2 t st3 mem tr) s s2 p p3
-              enlarged e = subst (λ (r : Room). PullsTo r st3 p3) e (pulls_to E)
+              pub enlarged : {k : ℕ} → r3 ≡ Some k → Pulled N l whole σ c c2 n k (tables_of sp2 t st3 mem tr) s s2 p p3
+              enlarged e = subst (λ (r : Option ℕ). PullsTo r st3 p3) e (pulls_to E)

@@ -58,7 +58,6 @@ module _ {N : ℕ} {l : Limits} {σ τ : Tables} {s s' p p' : List ℕ} {n m m' 
 
 -- i states are looked at
 pub record AllPulled (N : ℕ) (l : Limits) (whole : Outcome Tables Work) (σ τ : Tables) (c d : Counts) (y n m i : ℕ) (s s' p p' : List ℕ) : Type 0 where
-  pub most : i ≤ n
   pub stage : Stage (query_layer N l) 0 0 whole
       (M.pull_all N (limits_of l) (length p / 2) y (seconds p i (n - i)) (work (stack p' m) (live_by N τ.base.aut.states.words)) (clear_tables τ)) (clear_tables σ) (clear_tables τ) c d s s'
   pub held : Held N l τ s' p' n m
@@ -75,7 +74,6 @@ module _ (sp t st mem tr : List ℕ) (c : Counts) {N : ℕ} {l : Limits} {s p : 
 
   pub all_begin : AllPulled N l whole σ σ c c y n m 0 s s p p
   all_begin = record {
-    most = omega arith;
     stage = begin (query_layer N l) 0 0 R.held.working.ready
         (ap (λ (k : ℕ). M.pull_all N (limits_of l) (length p / 2) y (seconds p 0 k) (work (stack p m) (live_by N st)) (clear_of sp t st mem tr c)) {x = n} {y = n - 0} (omega arith));
     held = R.held;
@@ -127,7 +125,6 @@ module _ (sp t st mem tr : List ℕ) (c : Counts) {N : ℕ} {l : Limits} {s p : 
         all_again {e} {m2} q k =
             let G : PulledTo sp2 st2 s2 p2 (walked.To e m2) = subst (PulledTo sp2 st2 s2 p2) q D in
             record {
-              most = omega arith;
               stage = next (query_layer N l) 0 0 G.post (all_of 0 0) (M.pull_all N (limits_of l) (length p / 2) y rest) turned;
               held = G.held;
               second = λ j. G.second j ∙ v.second j;

@@ -3,7 +3,7 @@
 
 ghost use Rattle.aut_live_pull.specs.Clauses.{PrePull, PostPull, PrePullAll, PostPullAll, PreSettle, PostSettle};
 
-use aut_live_words::{Label, Room, Walked};
+use aut_live_words::Walked;
 use aut_states::{Config, Counts};
 use sp::SP;
 
@@ -29,8 +29,8 @@ fn pull_from(
 {
     let label = aut_live_words::label_to(states, transitions, t, s);
     match label {
-        Label::Nothing => Walked::To(c, m),
-        Label::By(l) => {
+        None => Walked::To(c, m),
+        Some(l) => {
             let i = aut_states::STATE * (t as usize) + aut_states::word::WORK;
             let ahead = SP(states[i] - 1);
             let sp::Made::Node(accepted, n1) = aut_sets::set_pull(
@@ -57,7 +57,7 @@ fn pull_from(
             ) else {
                 return Walked::Refused(aut_states::refusal::SP);
             };
-            let Room::At(m1) = aut_live_words::enlarge(states, pending, m, s, combined) else {
+            let Some(m1) = aut_live_words::enlarge(states, pending, m, s, combined) else {
                 return Walked::Refused(aut_states::refusal::PENDING);
             };
             Walked::To(Counts { sp: n2, ..c1 }, m1)
@@ -87,8 +87,7 @@ fn pull_all(
 {
     let mut d = c;
     let mut m = m;
-    let mut i = 0;
-    while i < n {
+    for i in 0..n {
         let s = pending[2 * i + 1];
         let walked = pull_from(
             sp,
@@ -112,7 +111,6 @@ fn pull_all(
                 m = m1;
             }
         }
-        i += 1;
     }
     Walked::To(d, m)
 }

@@ -1,5 +1,5 @@
 -- visit and explore: a state's calls, one after another, by the rule for a run of calls (aut_stage), and the loop over the states that wait.
-use Rattle.std.specs.Prelude.{if◌then◌else◌}
+use Rattle.std.specs.Prelude.{Option, Some, None, if◌then◌else◌}
 use mathlib.Core.Path.{◌≡◌, refl, sym, ◌∙◌, ap, ap₂, subst, fun_ext}
 use mathlib.Core.Bool.{Bool}
 use mathlib.Core.List.{List, [], ◌∷◌, ◌++◌, Memᴰ}
@@ -47,8 +47,6 @@ use Rattle.aut_query_calls.specs.Working.{clear_of, ListIn}
 use Rattle.aut_query_calls.proofs.Working.{Ran, with_sets, SetIn, RelIn}
 use Rattle.aut_query_calls.proofs.Works.{prepared, asks_epsilon, clear_written}
 use Rattle.aut_query_calls.proofs.Calls.{asks_image, bwd_given, images_refused, epsilon_ran, epsilon_stuck, delta_ran, delta_stuck}
-use Rattle.aut_live_words.specs.declared.Room.{Room}
-use Rattle.aut_live_words.specs.declared.Room.TheVariants as room
 use Rattle.aut_live_words.specs.declared.Walked.{Walked}
 use Rattle.aut_live_words.specs.declared.Walked.TheVariants as walked
 use Rattle.aut_live_words.specs.Work.{work_of, live_by, seconds, Held, Doubled, Enqueues}
@@ -232,21 +230,21 @@ module _ {N : ℕ} {l : Limits} {sp t st mem tr : List ℕ} {c : Counts} {s p : 
               parts : (seconds p 0 head ++ x ∷ []) ++ waiting ≡ seconds p 0 n
               parts = ap (λ (a : List ℕ). a ++ waiting) (seconds_to p head) ∙ seconds_parts p (head + 1) n (omega (arith, P.waits))
 
-              module _ {r4 : Room} {st4 p4 : List ℕ} (Q : PostEnqueue N n x r4 st3 tr3 p st4 p4) where
-                Q' : (z : Room) → r4 ≡ z → Enqueues N (capacity lent) es n st3 p z st4 p4
+              module _ {r4 : Option ℕ} {st4 p4 : List ℕ} (Q : PostEnqueue N n x r4 st3 tr3 p st4 p4) where
+                Q' : (z : Option ℕ) → r4 ≡ z → Enqueues N (capacity lent) es n st3 p z st4 p4
                 unfolding list_at
-                Q' z q = subst (λ (r : Room). Enqueues N (capacity lent) (edges tr3 (start_of st3 x) (count_of st3 x - 1)) n st3 p r st4 p4) q Q
+                Q' z q = subst (λ (r : Option ℕ). Enqueues N (capacity lent) (edges tr3 (start_of st3 x) (count_of st3 x - 1)) n st3 p r st4 p4) q Q
 
-                pub visit_stuck_4 : r4 ≡ room.Full → whole ≡ refused 24
+                pub visit_stuck_4 : r4 ≡ None → whole ≡ refused 24
                 visit_stuck_4 q = whole_4.is ∙ ap (λ (o : Outcome Tables (List ℕ)). after o (λ w. return (record { ends = h.0; waiting = w })))
-                    (enqueue_refused refl H4 targets (Q' room.Full q) (seconds p 0 head ++ x ∷ []) waiting parts (clear_of sp2 t3 st3 mem3 tr3 d))
+                    (enqueue_refused refl H4 targets (Q' None q) (seconds p 0 head ++ x ∷ []) waiting parts (clear_of sp2 t3 st3 mem3 tr3 d))
 
-                module _ {k : ℕ} (q4 : r4 ≡ room.At k) where
+                module _ {k : ℕ} (q4 : r4 ≡ Some k) where
                   Mv : Moved N l sp2 t3 st3 mem3 tr3 d s3 p n st4 p4 k
-                  Mv = enqueue_moved refl H4 targets (Q' (room.At k) q4)
+                  Mv = enqueue_moved refl H4 targets (Q' (Some k) q4)
 
                   ahead : (w : List ℕ) × ((seconds p 0 head ++ x ∷ []) ++ w ≡ seconds p4 0 k) × ((τ : Tables) → M.enqueue (capacity lent) es (seconds p 0 head ++ x ∷ []) waiting τ ≡ given τ w)
-                  ahead = enqueue_is refl H4 targets (Q' (room.At k) q4) (seconds p 0 head ++ x ∷ []) waiting parts
+                  ahead = enqueue_is refl H4 targets (Q' (Some k) q4) (seconds p 0 head ++ x ∷ []) waiting parts
 
                   -- the states up to x are as they were
                   before : seconds p4 0 (head + 1) ≡ seconds p 0 (head + 1)

@@ -5,7 +5,7 @@ ghost use Rattle.aut_query_stage.specs.Layer.{tables_of};
 ghost use Rattle.aut_live_reach.specs.Clauses.{PreVisit, PostVisit, PreExplore, PostExplore};
 
 use aut_delta::Worked;
-use aut_live_words::{Room, Walked};
+use aut_live_words::Walked;
 use aut_states::{Config, Counts};
 use spp::Made;
 
@@ -56,7 +56,7 @@ fn visit(
     match worked {
         Worked::Refused(e) => Walked::Refused(e),
         Worked::Done(d) => {
-            let Room::At(n3) = aut_live_words::enqueue(
+            let Some(n3) = aut_live_words::enqueue(
                 states,
                 transitions,
                 pending,

@@ -1,5 +1,5 @@
 -- How `Held` goes on: a word 9 is written, states are reached, a set grows, a call has run. And what the steps of the walk are in terms of entries.
-use Rattle.std.specs.Prelude.{if◌then◌else◌}
+use Rattle.std.specs.Prelude.{Some, None, if◌then◌else◌}
 use mathlib.Core.Path.{◌≡◌, refl, sym, ◌∙◌, ap, ap₂, subst}
 use mathlib.Core.Logic.{◌≢◌}
 use mathlib.Core.Bool.{Bool, true, false, ◌||◌}
@@ -35,7 +35,6 @@ use Rattle.aut_free.proofs.Clearing.{clear_set, clear_length}
 use Rattle.aut_query_calls.specs.Working.{Working}
 use Rattle.aut_query_calls.proofs.Working.{Unwritten}
 use Rattle.aut_query_calls.proofs.Works.{working_written}
-use Rattle.aut_live_words.specs.declared.Room.TheVariants as room
 use Rattle.aut_live_words.specs.Work.{work_of, live_by, seconds, Held, Doubled, Reaches, there, new, full, Enqueues, none, one, over}
 use Rattle.aut_live_words.proofs.Words.{seconds_length, seconds_same, seconds_split, seconds_one, second_in}
 
@@ -275,22 +274,22 @@ module _ {N : ℕ} {l : Limits} {sp t mem tr : List ℕ} {c : Counts} {s : List 
       f : 2 * n + 1 < length p
       f = omega (arith, r)
 
-  pub reach_moved : {st p : List ℕ} {n y k : ℕ} {st' p' : List ℕ} → Held N l (tables_of sp t st mem tr c) s p n n → y < c.states → Reaches N (capacity (length p / 2)) n y st p (room.At k) st' p'
+  pub reach_moved : {st p : List ℕ} {n y k : ℕ} {st' p' : List ℕ} → Held N l (tables_of sp t st mem tr c) s p n n → y < c.states → Reaches N (capacity (length p / 2)) n y st p (Some k) st' p'
       → Moved N l sp t st mem tr c s p n st' p' k
   reach_moved H a (there b) = moved_refl H
   reach_moved H a (new w r) = moved_new H a w r
 
   -- all targets of a list
   pub enqueue_moved : {most : ℕ} {es : List Edge} {st p : List ℕ} {n k : ℕ} {st' p' : List ℕ} → most ≡ capacity (length p / 2) → Held N l (tables_of sp t st mem tr c) s p n n → ((e : Edge) → Memᴰ e es → e.target < c.states)
-      → Enqueues N most es n st p (room.At k) st' p' → Moved N l sp t st mem tr c s p n st' p' k
+      → Enqueues N most es n st p (Some k) st' p' → Moved N l sp t st mem tr c s p n st' p' k
   enqueue_moved q H f none = moved_refl H
   enqueue_moved {most} {st = st} {p = p} {n = n} q H f (one {e = e} {k = j} {st₁ = st₁} {p₁ = p₁} R E) =
-      let a : Moved N l sp t st mem tr c s p n st₁ p₁ j = reach_moved H (f e (Memᴰ.head refl)) (subst (λ (m : ℕ). Reaches N m n e.target st p (room.At j) st₁ p₁) q R) in
+      let a : Moved N l sp t st mem tr c s p n st₁ p₁ j = reach_moved H (f e (Memᴰ.head refl)) (subst (λ (m : ℕ). Reaches N m n e.target st p (Some j) st₁ p₁) q R) in
       moved_trans a (enqueue_moved (q ∙ ap (λ (m : ℕ). capacity (m / 2)) (sym a.len)) a.held (λ d m. f d (Memᴰ.tail m)) E)
 
   -- .. as the step has it, from the states visited and those that wait
   pub enqueue_is : {most : ℕ} {es : List Edge} {st p : List ℕ} {n k : ℕ} {st' p' : List ℕ} → most ≡ capacity (length p / 2) → Held N l (tables_of sp t st mem tr c) s p n n → ((e : Edge) → Memᴰ e es → e.target < c.states)
-      → Enqueues N most es n st p (room.At k) st' p' → (visited waiting : List ℕ) → visited ++ waiting ≡ seconds p 0 n
+      → Enqueues N most es n st p (Some k) st' p' → (visited waiting : List ℕ) → visited ++ waiting ≡ seconds p 0 n
       → (waiting' : List ℕ) × (visited ++ waiting' ≡ seconds p' 0 k) × ((τ : Tables) → M.enqueue most es visited waiting τ ≡ given τ waiting')
   unfolding M.enqueue
   enqueue_is q H f none visited waiting e = (waiting, e, λ τ. refl)
@@ -313,7 +312,7 @@ module _ {N : ℕ} {l : Limits} {sp t mem tr : List ℕ} {c : Counts} {s : List 
       )
 
   pub enqueue_refused : {most : ℕ} {es : List Edge} {st p : List ℕ} {n : ℕ} {st' p' : List ℕ} → most ≡ capacity (length p / 2) → Held N l (tables_of sp t st mem tr c) s p n n → ((e : Edge) → Memᴰ e es → e.target < c.states)
-      → Enqueues N most es n st p room.Full st' p' → (visited waiting : List ℕ) → visited ++ waiting ≡ seconds p 0 n → (τ : Tables) → M.enqueue most es visited waiting τ ≡ refused 24
+      → Enqueues N most es n st p None st' p' → (visited waiting : List ℕ) → visited ++ waiting ≡ seconds p 0 n → (τ : Tables) → M.enqueue most es visited waiting τ ≡ refused 24
   unfolding M.enqueue
   enqueue_refused {most} {p = p} {n = n} q H f (one {e = g} {es = es} {st = st} {st₁ = st₁} {p₁ = p₁} (there a) E) visited waiting e τ =
       ap (λ (b : Bool). (if b then M.enqueue most es visited waiting else if ltb (length (visited ++ waiting)) most then M.enqueue most es visited (waiting ++ g.target ∷ []) else (λ σ. refused 24)) τ)

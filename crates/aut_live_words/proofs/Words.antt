@@ -1,11 +1,11 @@
 -- Entries of the pending table and words of states: what is written, and the loops over lists of states.
-use Rattle.std.specs.Prelude.{if◌then◌else◌}
+use Rattle.std.specs.Prelude.{Option, Some, None, if◌then◌else◌}
 use mathlib.Core.Path.{◌≡◌, refl, sym, ◌∙◌, ap, ap₂, subst}
 use mathlib.Core.List.{List, [], ◌∷◌, ◌++◌, Memᴰ}
 use Prim.Native.Nat.{ℕ, zero, suc, ◌+◌, ◌*◌, ◌-◌, ◌/◌, ◌≤◌, ◌<◌}
 use native.Mathlib.Omega.{arith}
 use lib.Dec.{eqb}
-use lib.ListN.{length, get_or, set, length-set}
+use lib.ListN.{length, get_or, set}
 use lib.Seq.{get_or-set_same, get_or-set_other}
 use borrow.Author.Tests.{eqb-true, eqb-false}
 use Rattle.netkat_steps.specs.ListSteps.{Edge}
@@ -16,8 +16,6 @@ use Rattle.aut_st_steps.specs.Places.{put_edge, seek_edge, seek_target}
 use Rattle.aut_st_steps.proofs.Places.{edge_at, edges_on, edges_done}
 use Rattle.aut_delta_steps.specs.Delta.{start_of, count_of}
 use Rattle.aut_query_steps.specs.Search.{capacity}
-use Rattle.aut_live_words.specs.declared.Room.{Room}
-use Rattle.aut_live_words.specs.declared.Room.TheVariants as room
 use Rattle.aut_live_words.specs.Work.{work_of, seconds, Reaches, there, new, full, Enqueues, none, one, over, keep_words, clear_words}
 use Rattle.aut_live_words.specs.Clauses.{PreReach, Listed, PreEnqueue, PostEnqueue, PostClear}
 use mathlib.Core.Bool.{Bool}
@@ -68,20 +66,20 @@ second_in p a (suc k) i l r = by_test (eqb i a)
 -- ---- reach
 
 module _ {N : ℕ} {st p : List ℕ} {n y : ℕ} where
-  pub reach_there : 0 < get_or st (12 * y + 9) 0 → Reaches N (capacity (length p / 2)) n y st p (room.At n) st p
+  pub reach_there : 0 < get_or st (12 * y + 9) 0 → Reaches N (capacity (length p / 2)) n y st p (Some n) st p
   unfolding work_of
   reach_there l = there l
 
-  pub reach_new : {z k : ℕ} → get_or st (12 * y + 9) 0 ≤ 0 → k ≡ capacity (length p / 2) → n < k → z ≡ Sp.zero_at N → Reaches N (capacity (length p / 2)) n y st p (room.At (n + 1)) (set st (12 * y + 9) (z + 1)) (put_edge p n y y)
+  pub reach_new : {z k : ℕ} → get_or st (12 * y + 9) 0 ≤ 0 → k ≡ capacity (length p / 2) → n < k → z ≡ Sp.zero_at N → Reaches N (capacity (length p / 2)) n y st p (Some (n + 1)) (set st (12 * y + 9) (z + 1)) (put_edge p n y y)
   unfolding work_of
-  reach_new {z} {k} w q l e = subst (λ (v : ℕ). Reaches N (capacity (length p / 2)) n y st p (room.At (n + 1)) (set st (12 * y + 9) (v + 1)) (put_edge p n y y)) (sym e) (new (omega (arith, w)) (omega (arith, q, l)))
+  reach_new {z} {k} w q l e = subst (λ (v : ℕ). Reaches N (capacity (length p / 2)) n y st p (Some (n + 1)) (set st (12 * y + 9) (v + 1)) (put_edge p n y y)) (sym e) (new (omega (arith, w)) (omega (arith, q, l)))
 
-  pub reach_full : {k : ℕ} → get_or st (12 * y + 9) 0 ≤ 0 → k ≡ capacity (length p / 2) → k ≤ n → Reaches N (capacity (length p / 2)) n y st p room.Full st p
+  pub reach_full : {k : ℕ} → get_or st (12 * y + 9) 0 ≤ 0 → k ≡ capacity (length p / 2) → k ≤ n → Reaches N (capacity (length p / 2)) n y st p None st p
   unfolding work_of
   reach_full w q l = full (omega (arith, w)) (omega (arith, q, l))
 
 -- there are no more entries than the table has
-pub reach_fits : {N n y m : ℕ} {st p st' p' : List ℕ} → n ≤ length p / 2 → Reaches N (capacity (length p / 2)) n y st p (room.At m) st' p' → m ≤ length p / 2
+pub reach_fits : {N n y m : ℕ} {st p st' p' : List ℕ} → n ≤ length p / 2 → Reaches N (capacity (length p / 2)) n y st p (Some m) st' p' → m ≤ length p / 2
 reach_fits f (there l) = f
 reach_fits f (new w l) = omega (arith, l)
 
@@ -100,8 +98,7 @@ module _ {st tr : List ℕ} {x : ℕ} (P : Listed st tr x) where
 
 -- i targets are reached, n states are there
 pub record Enqueueing (N : ℕ) (start k n₀ : ℕ) (st₀ tr p₀ st p : List ℕ) (n i : ℕ) : Type 0 where
-  pub most : i ≤ k
-  pub comes : (r : Room) (st' p' : List ℕ) → Enqueues N (capacity (length p₀ / 2)) (edges tr (start + i) (k - i)) n st p r st' p' → Enqueues N (capacity (length p₀ / 2)) (edges tr start k) n₀ st₀ p₀ r st' p'
+  pub comes : (r : Option ℕ) (st' p' : List ℕ) → Enqueues N (capacity (length p₀ / 2)) (edges tr (start + i) (k - i)) n st p r st' p' → Enqueues N (capacity (length p₀ / 2)) (edges tr start k) n₀ st₀ p₀ r st' p'
   pub fits : n ≤ length p₀ / 2
   pub len_st : length st ≡ length st₀
   pub len_p : length p ≡ length p₀
@@ -109,7 +106,6 @@ pub record Enqueueing (N : ℕ) (start k n₀ : ℕ) (st₀ tr p₀ st p : List 
 module _ {N : ℕ} {st₀ tr p₀ : List ℕ} {n₀ x : ℕ} (P : PreEnqueue N st₀ tr p₀ n₀ x) where
   pub enqueue_begin : Enqueueing N (get_or st₀ (12 * x + 5) 0) (get_or st₀ (12 * x + 6) 0 - 1) n₀ st₀ tr p₀ st₀ p₀ n₀ 0
   enqueue_begin = record {
-    most = omega arith;
     comes = λ r st' p' e. subst (λ (es : List Edge). Enqueues N (capacity (length p₀ / 2)) es n₀ st₀ p₀ r st' p')
         (ap₂ (λ (a k : ℕ). edges tr a k) {x = get_or st₀ (12 * x + 5) 0 + 0} {y = get_or st₀ (12 * x + 5) 0} {u = get_or st₀ (12 * x + 6) 0 - 1 - 0} {v = get_or st₀ (12 * x + 6) 0 - 1} (omega arith) (omega arith)) e;
     fits = P.fits;
@@ -126,48 +122,43 @@ module _ {N : ℕ} {st₀ tr p₀ : List ℕ} {n₀ x : ℕ} (P : PreEnqueue N s
       unfolding start_of count_of
       enqueue_asks = record { few = P.few; state = omega (arith, P.targets i lt, v.len_st); fits = subst (λ (m : ℕ). n ≤ m / 2) (sym v.len_p) v.fits }
 
-      module _ {r : Room} {st1 p1 : List ℕ} (A : Reaches N (capacity (length p / 2)) n y st p r st1 p1) where
-        A' : (z : Room) → r ≡ z → Reaches N (capacity (length p₀ / 2)) n y st p z st1 p1
-        A' z q = subst (λ (r : Room). Reaches N (capacity (length p₀ / 2)) n y st p r st1 p1) q (subst (λ (m : ℕ). Reaches N (capacity (m / 2)) n y st p r st1 p1) v.len_p A)
+      module _ {r : Option ℕ} {st1 p1 : List ℕ} (A : Reaches N (capacity (length p / 2)) n y st p r st1 p1) where
+        A' : (z : Option ℕ) → r ≡ z → Reaches N (capacity (length p₀ / 2)) n y st p z st1 p1
+        A' z q = subst (λ (r : Option ℕ). Reaches N (capacity (length p₀ / 2)) n y st p r st1 p1) q (subst (λ (m : ℕ). Reaches N (capacity (m / 2)) n y st p r st1 p1) v.len_p A)
 
         here : edges tr (get_or st₀ (12 * x + 5) 0 + i) (get_or st₀ (12 * x + 6) 0 - 1 - i) ≡ edge_at tr (get_or st₀ (12 * x + 5) 0 + i) ∷ edges tr (get_or st₀ (12 * x + 5) 0 + (i + 1)) (get_or st₀ (12 * x + 6) 0 - 1 - (i + 1))
         here = edges_on tr (get_or st₀ (12 * x + 5) 0) (get_or st₀ (12 * x + 6) 0 - 1) i lt
 
-        pub enqueue_full : r ≡ room.Full → PostEnqueue N n₀ x room.Full st₀ tr p₀ st1 p1
+        pub enqueue_full : r ≡ None → PostEnqueue N n₀ x None st₀ tr p₀ st1 p1
         unfolding start_of count_of
-        enqueue_full q = v.comes room.Full st1 p1 (subst (λ (es : List Edge). Enqueues N (capacity (length p₀ / 2)) es n st p room.Full st1 p1) (sym here) (over (A' room.Full q)))
+        enqueue_full q = v.comes None st1 p1 (subst (λ (es : List Edge). Enqueues N (capacity (length p₀ / 2)) es n st p None st1 p1) (sym here) (over (A' None q)))
 
-        pub enqueue_again : {m : ℕ} → r ≡ room.At m → length st1 ≡ length st → length p1 ≡ length p → Enqueueing N (get_or st₀ (12 * x + 5) 0) (get_or st₀ (12 * x + 6) 0 - 1) n₀ st₀ tr p₀ st1 p1 m (i + 1)
+        pub enqueue_again : {m : ℕ} → r ≡ Some m → length st1 ≡ length st → length p1 ≡ length p → Enqueueing N (get_or st₀ (12 * x + 5) 0) (get_or st₀ (12 * x + 6) 0 - 1) n₀ st₀ tr p₀ st1 p1 m (i + 1)
         enqueue_again {m} q l1 l2 = record {
-          most = omega arith;
-          comes = λ r' st' p' e. v.comes r' st' p' (subst (λ (es : List Edge). Enqueues N (capacity (length p₀ / 2)) es n st p r' st' p') (sym here) (one (A' (room.At m) q) e));
-          fits = subst (λ (k : ℕ). m ≤ k / 2) v.len_p (reach_fits (subst (λ (k : ℕ). n ≤ k / 2) (sym v.len_p) v.fits) (subst (λ (r : Room). Reaches N (capacity (length p / 2)) n y st p r st1 p1) q A));
+          comes = λ r' st' p' e. v.comes r' st' p' (subst (λ (es : List Edge). Enqueues N (capacity (length p₀ / 2)) es n st p r' st' p') (sym here) (one (A' (Some m) q) e));
+          fits = subst (λ (k : ℕ). m ≤ k / 2) v.len_p (reach_fits (subst (λ (k : ℕ). n ≤ k / 2) (sym v.len_p) v.fits) (subst (λ (r : Option ℕ). Reaches N (capacity (length p / 2)) n y st p r st1 p1) q A));
           len_st = l1 ∙ v.len_st;
           len_p = l2 ∙ v.len_p;
         }
 
-    pub enqueue_end : get_or st₀ (12 * x + 6) 0 - 1 ≤ i → PostEnqueue N n₀ x (room.At n) st₀ tr p₀ st p
+    pub enqueue_end : get_or st₀ (12 * x + 6) 0 - 1 ≤ i → PostEnqueue N n₀ x (Some n) st₀ tr p₀ st p
     unfolding start_of count_of
-    enqueue_end le = v.comes (room.At n) st p (subst (λ (es : List Edge). Enqueues N (capacity (length p₀ / 2)) es n st p (room.At n) st p) (sym (edges_done tr (get_or st₀ (12 * x + 5) 0 + i) (get_or st₀ (12 * x + 6) 0 - 1) i le)) none)
+    enqueue_end le = v.comes (Some n) st p (subst (λ (es : List Edge). Enqueues N (capacity (length p₀ / 2)) es n st p (Some n) st p) (sym (edges_done tr (get_or st₀ (12 * x + 5) 0 + i) (get_or st₀ (12 * x + 6) 0 - 1) i le)) none)
 
 -- ---- keep
 
 pub record Keeping (n : ℕ) (st₀ p st : List ℕ) (i : ℕ) : Type 0 where
-  pub most : i ≤ n
   pub is : keep_words (seconds p i (n - i)) st ≡ keep_words (seconds p 0 n) st₀
-  pub len : length st ≡ length st₀
 
 module _ {st₀ p : List ℕ} {n : ℕ} where
   pub keep_begin : Keeping n st₀ p st₀ 0
-  keep_begin = record { most = omega arith; is = ap (λ (l : List ℕ). keep_words l st₀) (sym (seconds_all p n)); len = refl }
+  keep_begin = record { is = ap (λ (l : List ℕ). keep_words l st₀) (sym (seconds_all p n)) }
 
   module _ {st : List ℕ} {i : ℕ} (v : Keeping n st₀ p st i) where
     pub keep_again : i < n → Keeping n st₀ p (set st (12 * get_or p (2 * i + 1) 0 + 7) (get_or st (12 * get_or p (2 * i + 1) 0 + 9) 0)) (i + 1)
     unfolding keep_words work_of
     keep_again l = record {
-      most = omega arith;
       is = sym (ap (λ (l : List ℕ). keep_words l st) (seconds_on p n i l)) ∙ v.is;
-      len = length-set st (12 * get_or p (2 * i + 1) 0 + 7) (get_or st (12 * get_or p (2 * i + 1) 0 + 9) 0) ∙ v.len;
     }
 
     pub keep_end : n ≤ i → st ≡ keep_words (seconds p 0 n) st₀
@@ -177,31 +168,24 @@ module _ {st₀ p : List ℕ} {n : ℕ} where
 -- ---- clear
 
 pub record Clearing (n : ℕ) (st₀ p₀ st p : List ℕ) (i : ℕ) : Type 0 where
-  pub most : i ≤ n
   pub is : clear_words (seconds p i (n - i)) st ≡ clear_words (seconds p₀ 0 n) st₀
   pub first : (j : ℕ) → get_or p (2 * j) 0 ≡ get_or p₀ (2 * j) 0
   pub within : (j : ℕ) → j < i → get_or p (2 * j + 1) 0 ≡ 0
   pub beyond : (j : ℕ) → i ≤ j → get_or p (2 * j + 1) 0 ≡ get_or p₀ (2 * j + 1) 0
-  pub len_st : length st ≡ length st₀
-  pub len_p : length p ≡ length p₀
 
 module _ {st₀ p₀ : List ℕ} {n : ℕ} where
   pub clear_begin : Clearing n st₀ p₀ st₀ p₀ 0
   clear_begin = record {
-    most = omega arith;
     is = ap (λ (l : List ℕ). clear_words l st₀) (sym (seconds_all p₀ n));
     first = λ j. refl;
     within = λ j l. absurd (omega arith);
     beyond = λ j l. refl;
-    len_st = refl;
-    len_p = refl;
   }
 
   module _ {st p : List ℕ} {i : ℕ} (v : Clearing n st₀ p₀ st p i) where
     pub clear_again : i < n → 2 * i + 1 < length p → Clearing n st₀ p₀ (set st (12 * get_or p (2 * i + 1) 0 + 9) 0) (set p (2 * i + 1) 0) (i + 1)
     unfolding clear_words
     clear_again l f = record {
-      most = omega arith;
       is = ap (λ (xs : List ℕ). clear_words xs (set st (12 * get_or p (2 * i + 1) 0 + 9) 0)) (seconds_same p (set p (2 * i + 1) 0) (i + 1) (n - (i + 1)) (λ j a b. get_or-set_other p (2 * i + 1) (2 * j + 1) 0 0 (λ q. omega arith)))
           ∙ sym (ap (λ (l : List ℕ). clear_words l st) (seconds_on p n i l)) ∙ v.is;
       first = λ j. get_or-set_other p (2 * i + 1) (2 * j) 0 0 (λ q. omega arith) ∙ v.first j;
@@ -209,15 +193,13 @@ module _ {st₀ p₀ : List ℕ} {n : ℕ} where
           (λ t. ap (λ (j : ℕ). get_or (set p (2 * i + 1) 0) (2 * j + 1) 0) (eqb-true j i t) ∙ get_or-set_same p (2 * i + 1) 0 0 f)
           (λ t. let q : (j ≡ i → ⊥) = eqb-false j i t in get_or-set_other p (2 * i + 1) (2 * j + 1) 0 0 (λ e. omega (arith, q)) ∙ v.within j (omega (arith, q)));
       beyond = λ j a. get_or-set_other p (2 * i + 1) (2 * j + 1) 0 0 (λ e. omega arith) ∙ v.beyond j (omega arith);
-      len_st = length-set st (12 * get_or p (2 * i + 1) 0 + 9) 0 ∙ v.len_st;
-      len_p = length-set p (2 * i + 1) 0 ∙ v.len_p;
     }
 
-    pub clear_end : n ≤ i → PostClear n st₀ p₀ st p
+    pub clear_end : i ≤ n → n ≤ i → PostClear n st₀ p₀ st p
     unfolding clear_words
-    clear_end l = record {
+    clear_end m l = record {
       is = sym (ap (λ (l : List ℕ). clear_words l st) (seconds_done p i n i l)) ∙ v.is;
-      pending = record { first = v.first; within = λ j a. v.within j (omega arith); beyond = λ j a. v.beyond j (omega (arith, v.most)) };
+      pending = record { first = v.first; within = λ j a. v.within j (omega arith); beyond = λ j a. v.beyond j (omega arith) };
     }
 
 -- ---- the label of a transition

@@ -1,13 +1,10 @@
 -- 01, "Lent tables" (the pending table): what the functions on single words and entries ask and promise while live sets are worked out.
-use Rattle.std.specs.Prelude.{◌≡◌, List, ℕ, ◌+◌, ◌*◌, ◌-◌, ◌/◌, ◌≤◌, ◌<◌, length, get_or}
+use Rattle.std.specs.Prelude.{◌≡◌, List, ℕ, Option, Some, None, ◌+◌, ◌*◌, ◌-◌, ◌/◌, ◌≤◌, ◌<◌, length, get_or}
+use Rattle.spp.specs.declared.SPP.{SPP}
 use Rattle.aut_st_steps.specs.Edges.{edges}
-use Rattle.aut_steps.specs.Wf.{states}
 use Rattle.aut_delta_steps.specs.Delta.{start_of, count_of}
 use Rattle.aut_query_steps.specs.Search.{capacity}
 use Rattle.aut_query_steps.specs.Live as M
-use Rattle.aut_live_words.specs.declared.Room.{Room}
-use Rattle.aut_live_words.specs.declared.Label.{Label}
-use Rattle.aut_live_words.specs.declared.Label.TheVariants as label
 use Rattle.aut_live_words.specs.Work.{work_of, seconds, Enqueues, clear_words, Cleared}
 
 -- ---- the states reached
@@ -30,7 +27,7 @@ pub record PreEnqueue (N : ℕ) (st tr p : List ℕ) (n x : ℕ) : Type 0 where
   pub targets : (i : ℕ) → i < count_of st x - 1 → 12 * get_or tr (2 * (start_of st x + i)) 0 + 11 < length st
   pub fits : n ≤ length p / 2
 
-abbrev pub PostEnqueue : (N n x : ℕ) → Room → (st tr p st' p' : List ℕ) → Type 0
+abbrev pub PostEnqueue : (N n x : ℕ) → Option ℕ → (st tr p st' p' : List ℕ) → Type 0
 PostEnqueue N n x r st tr p st' p' = Enqueues N (capacity (length p / 2)) (edges tr (start_of st x) (count_of st x - 1)) n st p r st' p'
 
 -- ---- the work list
@@ -38,11 +35,11 @@ PostEnqueue N n x r st tr p st' p' = Enqueues N (capacity (length p / 2)) (edges
 abbrev pub PreLabel : List ℕ → List ℕ → ℕ → Type 0
 PreLabel st tr s = Listed st tr s
 
-abbrev pub label_of : Label → M.Label
-label_of (label.By h) = M.by h.0
-label_of label.Nothing = M.none
+abbrev pub label_of : Option SPP → M.Label
+label_of (Some h) = M.by h.0
+label_of None = M.none
 
-abbrev pub PostLabel : (st tr : List ℕ) → (t s : ℕ) → Label → Type 0
+abbrev pub PostLabel : (st tr : List ℕ) → (t s : ℕ) → Option SPP → Type 0
 PostLabel st tr t s r = M.label_to t (edges tr (start_of st s) (count_of st s - 1)) ≡ label_of r
 
 -- s is a state that is reached; a set's handle + 1 is a word

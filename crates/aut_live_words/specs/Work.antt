@@ -1,6 +1,6 @@
 -- 01, "Lent tables": while live sets are worked out, word 9 of a state is its set + 1 if it is reached, and 0 if not; the pending table holds `states` in the second words of its entries, in the order of
 -- the visits, and `todo` in the first words, the last on top. What single functions write, in words.
-use Rattle.std.specs.Prelude.{◌≡◌, ◌≢◌, List, [], ◌∷◌, ℕ, zero, suc, ◌+◌, ◌*◌, ◌-◌, ◌/◌, ◌≤◌, ◌<◌, eqb, ltb, length, get_or, set, if◌then◌else◌}
+use Rattle.std.specs.Prelude.{◌≡◌, ◌≢◌, List, [], ◌∷◌, ℕ, zero, suc, ◌+◌, ◌*◌, ◌-◌, ◌/◌, ◌≤◌, ◌<◌, eqb, ltb, length, get_or, set, Option, Some, None, if◌then◌else◌}
 use Rattle.common.specs.Packets.{any}
 use Rattle.netkat_steps.specs.ListSteps.{Edge}
 use Rattle.sp_steps.specs.Model as Sp
@@ -10,8 +10,6 @@ use Rattle.aut_query_steps.specs.Tables.{Tables}
 use Rattle.aut_query_steps.specs.Search.{capacity}
 use Rattle.aut_states.specs.declared.Limits.{Limits}
 use Rattle.aut_query_calls.specs.Working.{Working}
-use Rattle.aut_live_words.specs.declared.Room.{Room}
-use Rattle.aut_live_words.specs.declared.Room.TheVariants as room
 
 -- ---- states and pending entries
 
@@ -50,22 +48,22 @@ Doubled p n = (i : ℕ) → i < n → get_or p (2 * i) 0 ≡ get_or p (2 * i + 1
 -- ---- what is written
 
 -- y is reached: it is there already, or it gets an entry and the empty set, or there is no entry for it
-pub data Reaches (N : ℕ) (most n y : ℕ) (st p : List ℕ) : Room → List ℕ → List ℕ → Type 0 where
-  there : 0 < work_of st y → Reaches N most n y st p (room.At n) st p
-  new : work_of st y ≡ 0 → n < most → Reaches N most n y st p (room.At (n + 1)) (set st (12 * y + 9) (Sp.zero_at N + 1)) (put_edge p n y y)
-  full : work_of st y ≡ 0 → most ≤ n → Reaches N most n y st p room.Full st p
+pub data Reaches (N : ℕ) (most n y : ℕ) (st p : List ℕ) : Option ℕ → List ℕ → List ℕ → Type 0 where
+  there : 0 < work_of st y → Reaches N most n y st p (Some n) st p
+  new : work_of st y ≡ 0 → n < most → Reaches N most n y st p (Some (n + 1)) (set st (12 * y + 9) (Sp.zero_at N + 1)) (put_edge p n y y)
+  full : work_of st y ≡ 0 → most ≤ n → Reaches N most n y st p None st p
 
 -- .. and all targets of a list
-pub data Enqueues (N : ℕ) (most : ℕ) : List Edge → ℕ → List ℕ → List ℕ → Room → List ℕ → List ℕ → Type 0 where
-  none : {n : ℕ} {st p : List ℕ} → Enqueues N most [] n st p (room.At n) st p
-  one : {e : Edge} {es : List Edge} {n k : ℕ} {st p st₁ p₁ st₂ p₂ : List ℕ} {r : Room} → Reaches N most n e.target st p (room.At k) st₁ p₁ → Enqueues N most es k st₁ p₁ r st₂ p₂ → Enqueues N most (e ∷ es) n st p r st₂ p₂
-  over : {e : Edge} {es : List Edge} {n : ℕ} {st p st₁ p₁ : List ℕ} → Reaches N most n e.target st p room.Full st₁ p₁ → Enqueues N most (e ∷ es) n st p room.Full st₁ p₁
+pub data Enqueues (N : ℕ) (most : ℕ) : List Edge → ℕ → List ℕ → List ℕ → Option ℕ → List ℕ → List ℕ → Type 0 where
+  none : {n : ℕ} {st p : List ℕ} → Enqueues N most [] n st p (Some n) st p
+  one : {e : Edge} {es : List Edge} {n k : ℕ} {st p st₁ p₁ st₂ p₂ : List ℕ} {r : Option ℕ} → Reaches N most n e.target st p (Some k) st₁ p₁ → Enqueues N most es k st₁ p₁ r st₂ p₂ → Enqueues N most (e ∷ es) n st p r st₂ p₂
+  over : {e : Edge} {es : List Edge} {n : ℕ} {st p st₁ p₁ : List ℕ} → Reaches N most n e.target st p None st₁ p₁ → Enqueues N most (e ∷ es) n st p None st₁ p₁
 
 -- the set of s is h: it was already, or s gets it and goes on `todo`, or there is no entry
-pub data Enlarges (most m s h : ℕ) (st p : List ℕ) : Room → List ℕ → List ℕ → Type 0 where
-  same : h ≡ work_of st s - 1 → Enlarges most m s h st p (room.At m) st p
-  more : (h ≡ work_of st s - 1 → ⊥) → m < most → Enlarges most m s h st p (room.At (m + 1)) (set st (12 * s + 9) (h + 1)) (set p (2 * m) s)
-  full : (h ≡ work_of st s - 1 → ⊥) → most ≤ m → Enlarges most m s h st p room.Full st p
+pub data Enlarges (most m s h : ℕ) (st p : List ℕ) : Option ℕ → List ℕ → List ℕ → Type 0 where
+  same : h ≡ work_of st s - 1 → Enlarges most m s h st p (Some m) st p
+  more : (h ≡ work_of st s - 1 → ⊥) → m < most → Enlarges most m s h st p (Some (m + 1)) (set st (12 * s + 9) (h + 1)) (set p (2 * m) s)
+  full : (h ≡ work_of st s - 1 → ⊥) → most ≤ m → Enlarges most m s h st p None st p
 
 -- words 7 from words 9
 unfoldable pub keep_words : List ℕ → List ℕ → List ℕ

@@ -11,13 +11,6 @@ use aut_states::Counts;
 use sp::SP;
 use spp::SPP;
 
-// so many entries are taken
-#[derive(Clone, Copy)]
-pub enum Room {
-    At(usize),
-    Full,
-}
-
 // counts, and a number of entries; or 01's number
 #[derive(Clone, Copy)]
 pub enum Walked {
@@ -25,31 +18,30 @@ pub enum Walked {
     Refused(u32),
 }
 
-// the label of a transition, if there is one
-#[derive(Clone, Copy)]
-pub enum Label {
-    By(SPP),
-    Nothing,
-}
-
-// y goes behind the n states, unless it is there
-pub fn reach(states: &mut [u32], pending: &mut [u32], fields: u32, n: usize, y: u32) -> Room
+// y goes behind the n states, unless it is there; how many there are then, or None if no entry is left
+pub fn reach(
+    states: &mut [u32],
+    pending: &mut [u32],
+    fields: u32,
+    n: usize,
+    y: u32,
+) -> Option<usize>
     requires { PreReach fields states.old pending.old n y }
     ensures { Reaches fields (M.capacity (length pending.old / 2)) n y states.old
         pending.old result states.new pending.new }
 {
     let i = aut_states::STATE * (y as usize) + aut_states::word::WORK;
     if states[i] > 0 {
-        return Room::At(n);
+        return Some(n);
     }
     if n < aut_query_calls::capacity(pending.len()) {
         let zero = sp::zero_at_depth(fields);
         states[i] = zero.0 + 1;
         pending[2 * n] = y;
         pending[2 * n + 1] = y;
-        return Room::At(n + 1);
+        return Some(n + 1);
     }
-    Room::Full
+    None
 }
 
 // the targets of x's stored list
@@ -60,7 +52,7 @@ pub fn enqueue(
     fields: u32,
     n: usize,
     x: u32,
-) -> Room
+) -> Option<usize>
     requires { PreEnqueue fields states.old transitions.now pending.old n x }
     ensures { PostEnqueue fields n x result states.old transitions.now pending.old
         states.new pending.new }
@@ -69,20 +61,18 @@ pub fn enqueue(
     let start = states[aut_states::STATE * j + aut_states::word::START] as usize;
     let k = states[aut_states::STATE * j + aut_states::word::COUNT] as usize - 1;
     let mut n = n;
-    let mut i = 0;
-    while i < k {
+    for i in 0..k {
         let y = transitions[2 * (start + i)];
-        let Room::At(n1) = reach(states, pending, fields, n, y) else {
-            return Room::Full;
+        let Some(n1) = reach(states, pending, fields, n, y) else {
+            return None;
         };
         n = n1;
-        i += 1;
     }
-    Room::At(n)
+    Some(n)
 }
 
-// the label of s's transition to t
-pub fn label_to(states: &[u32], transitions: &[u32], t: u32, s: u32) -> Label
+// the label of s's transition to t, if there is one
+pub fn label_to(states: &[u32], transitions: &[u32], t: u32, s: u32) -> Option<SPP>
     requires { PreLabel states.now transitions.now s }
     ensures { PostLabel states.now transitions.now t s result }
 {
@@ -91,27 +81,33 @@ pub fn label_to(states: &[u32], transitions: &[u32], t: u32, s: u32) -> Label
     let k = states[aut_states::STATE * j + aut_states::word::COUNT] as usize - 1;
     let i = aut_st_edges::seek_target(transitions, t, start, k);
     if i < k {
-        return Label::By(SPP(transitions[2 * (start + i) + 1]));
+        return Some(SPP(transitions[2 * (start + i) + 1]));
     }
-    Label::Nothing
+    None
 }
 
-// where the set of s grew, s is looked at again
-pub fn enlarge(states: &mut [u32], pending: &mut [u32], m: usize, s: u32, combined: SP) -> Room
+// where the set of s grew, s is looked at again; how many wait then, or None if no entry is left
+pub fn enlarge(
+    states: &mut [u32],
+    pending: &mut [u32],
+    m: usize,
+    s: u32,
+    combined: SP,
+) -> Option<usize>
     requires { PreEnlarge states.old pending.old m s combined.0 }
     ensures { Enlarges (M.capacity (length pending.old / 2)) m s combined.0 states.old
         pending.old result states.new pending.new }
 {
     let i = aut_states::STATE * (s as usize) + aut_states::word::WORK;
     if combined.0 == states[i] - 1 {
-        return Room::At(m);
+        return Some(m);
     }
     if m < aut_query_calls::capacity(pending.len()) {
         states[i] = combined.0 + 1;
         pending[2 * m] = s;
-        return Room::At(m + 1);
+        return Some(m + 1);
     }
-    Room::Full
+    None
 }
 
 // the sets of the n states are kept
@@ -119,12 +115,10 @@ pub fn keep(states: &mut [u32], pending: &[u32], n: usize)
     requires { PreKeep states.old pending.now n }
     ensures { states.new ≡ keep_words (seconds pending.now 0 n) states.old }
 {
-    let mut i = 0;
-    while i < n {
+    for i in 0..n {
         let at = aut_states::STATE * (pending[2 * i + 1] as usize);
         let live = states[at + aut_states::word::WORK];
         states[at + aut_states::word::LIVE] = live;
-        i += 1;
     }
 }
 
@@ -134,11 +128,9 @@ pub fn clear(states: &mut [u32], pending: &mut [u32], n: usize)
     ensures { PostClear n states.old pending.old states.new
         pending.new }
 {
-    let mut i = 0;
-    while i < n {
+    for i in 0..n {
         let at = aut_states::STATE * (pending[2 * i + 1] as usize) + aut_states::word::WORK;
         states[at] = 0;
         pending[2 * i + 1] = 0;
-        i += 1;
     }
 }

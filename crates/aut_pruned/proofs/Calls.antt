@@ -20,7 +20,6 @@ use Rattle.spp.specs.Clauses as Spp
 use Rattle.spp.specs.declared.SPP.{SPP}
 use Rattle.spp.specs.declared.Made.{Made}
 use Rattle.spp.specs.declared.Made.TheVariants.{Node, Full}
-use Rattle.spp_query.specs.Clauses.{lifted}
 use Rattle.aut_steps.specs.Relations as Rel
 use Rattle.aut_steps.specs.Tables.{put_nodes, on_nodes}
 use Rattle.aut_steps.specs.Wf.{states}
@@ -41,7 +40,7 @@ use Rattle.aut_relations.specs.Behind.{Modifies}
 use Rattle.aut_relations.specs.Clauses.{MadeLeft, Relates, RelateReady}
 use Rattle.aut_stage.specs.Stage.{gave, Post}
 use Rattle.aut_stage.specs.OnNodes.{with_nodes}
-use Rattle.aut_sets.specs.Clauses.{PreLift, LiftNotes, PostLift}
+use Rattle.aut_sets.specs.Clauses.{PreLift, LiftNotes, PostLift, lifted}
 use Rattle.aut_delta.specs.Clauses.{PreDelta, PostDelta}
 use Rattle.aut_delta.specs.declared.Worked.{Worked}
 use Rattle.aut_delta.specs.declared.Worked.TheVariants as worked
@@ -92,11 +91,11 @@ module _ {N : ℕ} {l : Limits} {sp t st mem tr : List ℕ} {c : Counts} {s : Li
       pub meet_given : {h : SPP} {n : ℕ} → r ≡ Node h n → length s' ≡ length s
           → Post (query_layer N l) 0 0 (λ τ h. ValidAt τ.base.aut.nodes N h) (on_base (on_aut (on_nodes (Rel.intersect N a b))) σ) σ c (gave (with_nodes c n) h.0) (tables_of sp t' st mem tr) s s'
       meet_given {n = n} q len = by_ends R meet_ends (tables_of sp t' st mem tr)
-          (ap (λ o. placed put_base σ (placed put_aut σ.base (placed put_nodes σ.base.aut o))) (A.gives ∙ ap (λ (r : Made). Spp.seen r t') q))
+          (ap (λ o. placed put_base σ (placed put_aut σ.base (placed put_nodes σ.base.aut o))) (A.gives ∙ ap (λ (r : Made). Spp.seen_made r t') q))
           (left_leaves (tables_of sp t' st mem tr (with_nodes c n)) (subst (λ (r : Made). MadeLeft N r t' s s') q A.left)) len
 
       pub meet_refused : r ≡ Full → on_base (on_aut (on_nodes (Rel.intersect N a b))) σ ≡ refused 21
-      meet_refused q = ap (λ o. placed put_base σ (placed put_aut σ.base (placed put_nodes σ.base.aut o))) (A.gives ∙ ap (λ (r : Made). Spp.seen r t') q)
+      meet_refused q = ap (λ o. placed put_base σ (placed put_aut σ.base (placed put_nodes σ.base.aut o))) (A.gives ∙ ap (λ (r : Made). Spp.seen_made r t') q)
 
   -- ---- delta
 

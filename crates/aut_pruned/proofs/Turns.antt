@@ -131,8 +131,6 @@ pub record Cutting (N : ℕ) (l : Limits) (sp t₀ st tr s₀ : List ℕ) (c : C
       → Turned (query_layer N l) 0 1088 (prune_onto N) (λ i. edges tr (start + i) (k - i)) k (λ τ es. EdgesAt N τ.base.aut es) (M.prune N (list_at (tables_of sp t₀ st mem tr c).base x) (tables_of sp t₀ st mem tr c))
       (tables_of sp t₀ st mem tr c) (tables_of sp t st mem tr (with_nodes c n)) c (with_nodes c n) s₀ s (edges s RESULT m) i
   pub few : m ≤ i
-  pub len_t : length t ≡ length t₀
-  pub len_s : length s ≡ length s₀
 
 module _ {N : ℕ} {l : Limits} {sp t₀ st tr s₀ : List ℕ} {c : Counts} {x : ℕ} where
   -- what holds of the list
@@ -189,8 +187,6 @@ module _ {N : ℕ} {l : Limits} {sp t₀ st tr s₀ : List ℕ} {c : Counts} {x 
       holds = none;
     };
     few = omega arith;
-    len_t = refl;
-    len_s = refl;
   }
 
   module _ {t s : List ℕ} {n m i : ℕ} (v : Cutting N l sp t₀ st tr s₀ c x (get_or st (12 * x + 5) 0) (get_or st (12 * x + 6) 0 - 1) t s n m i) where
@@ -236,7 +232,7 @@ module _ {N : ℕ} {l : Limits} {sp t₀ st tr s₀ : List ℕ} {c : Counts} {x 
         pub prune_stuck : r ≡ Full → PostPrune N l sp t₀ st tr s₀ c x (pruned.Refused 21) t1 s1
         prune_stuck q mem P = stuck (query_layer N l) 0 1088 (viable_post Full q mem P).is _ (turning mem P)
 
-        module _ {h : SPP} {n1 : ℕ} (q : r ≡ Node h n1) (len-t1 : length t1 ≡ length t) (len-s1 : length s1 ≡ length s) where
+        module _ {h : SPP} {n1 : ℕ} (q : r ≡ Node h n1) where
           pub prune_keep : {mem : List ℕ} → Pruning N l (tables_of sp t₀ st mem tr c) s₀ x → PreKeep N s1 m
           prune_keep {mem} P = record { few = P.ready.ready.few; room = (viable_post (Node h n1) q mem P).then.ready.ready.room; least = omega (arith, prune_short P, v.few) }
 
@@ -265,8 +261,6 @@ module _ {N : ℕ} {l : Limits} {sp t₀ st tr s₀ : List ℕ} {c : Counts} {x 
                         (kept_at τ.base.aut (edges s RESULT m) (edges_grown u.then.ext.grown w.holds) (record { state = (entry_known P lt).state; relation = u.then.holds }) (eqb h.0 (Rel.zero_at N)));
                   };
               few = omega (arith, v.few, K.most);
-              len_t = len-t1 ∙ v.len_t;
-              len_s = len-s2 ∙ len-s1 ∙ v.len_s;
             }
 
     pub prune_end : get_or st (12 * x + 6) 0 - 1 ≤ i → PostPrune N l sp t₀ st tr s₀ c x (pruned.List (with_nodes c n) m) t s

@@ -77,8 +77,7 @@ fn prune(
     let k = states[aut_states::STATE * j + aut_states::word::COUNT] as usize - 1;
     let mut n = c.spp;
     let mut m = 0;
-    let mut i = 0;
-    while i < k {
+    for i in 0..k {
         let target = transitions[2 * (start + i)];
         let label = SPP(transitions[2 * (start + i) + 1]);
         let Made::Node(h, n1) = viable(
@@ -95,7 +94,6 @@ fn prune(
         };
         m = keep(scratch, config.fields, m, target, h);
         n = n1;
-        i += 1;
     }
     Pruned::List(Counts { spp: n, ..c }, m)
 }

@@ -30,9 +30,8 @@ use Rattle.spp_steps.proofs.Images.{push_exact, pull_exact, bwd_exact, ifwd_exac
 use Rattle.spp.specs.Clauses as SppSeen
 use Rattle.spp.specs.declared.SPP.{SPP}
 use Rattle.spp.specs.declared.Made as relations
-use Rattle.spp_image.specs.Clauses as Img
 use Rattle.spp_image.specs.Reuse.{Written, Kept, Counted}
-use Rattle.spp_query.specs.Clauses as Lifts
+use Rattle.aut_sets.specs.Clauses as Behind
 use Rattle.aut_steps.specs.Relations as Rel
 use Rattle.aut_steps.proofs.RelationLaws.{intersect_made}
 use Rattle.aut_steps.specs.Tables.{Aut, on_nodes, put_nodes}
@@ -127,7 +126,7 @@ module _ (t st mem tr : List ℕ) (c : Counts) {N : ℕ} {l : Limits} {sp s : Li
 
       module _ {r : sets.Made} {sp' s' : List ℕ} {h : SP} {n : ℕ} (q : r ≡ sets.Made.Node h n) (len : length s' ≡ length s) where
         by_sets : {o : Step Table ℕ} → PostSets o (table sp c.sp) r sp' s s' → Ends N (limits_of l) 0 (Steps N (limits_of l) (SetIn N) C) C (on_sets o C) → Ran N l 0 0 (SetIn N) (on_sets o C) σ c (with_sets c n) h.0 (tables_of sp' t st mem tr) s s'
-        by_sets A E = ran W E (tables_of sp' t st mem tr) (ap (placed put_sets C) (A.gives ∙ ap (λ (r : sets.Made). Sets.seen r sp') q))
+        by_sets A E = ran W E (tables_of sp' t st mem tr) (ap (placed put_sets C) (A.gives ∙ ap (λ (r : sets.Made). Sets.seen_made r sp') q))
             (leaves_sets (clear_tables (tables_of sp' t st mem tr (with_sets c n))) (subst (λ (r : sets.Made). SetNotes r sp' s s') q A.left)) len W.fresh (λ x w i j. refl)
 
         pub difference_given : PostSets (Sp.difference N a b) (table sp c.sp) r sp' s s' → Ran N l 0 0 (SetIn N) (on_sets (Sp.difference N a b) C) σ c (with_sets c n) h.0 (tables_of sp' t st mem tr) s s'
@@ -141,7 +140,7 @@ module _ (t st mem tr : List ℕ) (c : Counts) {N : ℕ} {l : Limits} {sp s : Li
             (SpRefused.union_stops N N (omega arith) (table sp c.sp) a b _ _ order.sets (SpLawsProofs.den_mem x) (SpLawsProofs.den_mem y))))
 
   pub sets_refused : {o : Step Table ℕ} {r : sets.Made} {sp' s' : List ℕ} → PostSets o (table sp c.sp) r sp' s s' → r ≡ sets.Made.Full → on_sets o C ≡ refused 20
-  sets_refused {sp' = sp'} A q = ap (placed put_sets C) (A.gives ∙ ap (λ (r : sets.Made). Sets.seen r sp') q)
+  sets_refused {sp' = sp'} A q = ap (placed put_sets C) (A.gives ∙ ap (λ (r : sets.Made). Sets.seen_made r sp') q)
 
   -- ---- images
 
@@ -162,7 +161,7 @@ module _ (t st mem tr : List ℕ) (c : Counts) {N : ℕ} {l : Limits} {sp s : Li
 
     module _ {r : sets.Made} {sp' s' : List ℕ} {h : SP} {n : ℕ} (q : r ≡ sets.Made.Node h n) (len : length s' ≡ length s) where
       by_images : {o : Step Stores ℕ} → PostImage N o (diagrams C) r sp' s s' → Ends N (limits_of l) 0 (Steps N (limits_of l) (SetIn N) C) C (making_sets o C) → Ran N l 0 0 (SetIn N) (making_sets o C) σ c (with_sets c n) h.0 (tables_of sp' t st mem tr) s s'
-      by_images A E = ran W E (tables_of sp' t st mem tr) (ap (placed (λ s σ. put_sets s.sp σ) C) (A.gives ∙ ap (λ (r : sets.Made). Img.seen r sp' (table t c.spp)) q))
+      by_images A E = ran W E (tables_of sp' t st mem tr) (ap (placed (λ s σ. put_sets s.sp σ) C) (A.gives ∙ ap (λ (r : sets.Made). Behind.seen_image r sp' (table t c.spp)) q))
           (leaves_images (clear_tables (tables_of sp' t st mem tr (with_sets c n))) (subst (λ (r : sets.Made). ImageNotes N r sp' (table t c.spp) s s') q A.left)) len W.fresh (λ x w i j. refl)
 
       pub bwd_given : PostImage N (Images.bwd N e) (diagrams C) r sp' s s' → Ran N l 0 0 (SetIn N) (making_sets (Images.bwd N e) C) σ c (with_sets c n) h.0 (tables_of sp' t st mem tr) s s'
@@ -195,27 +194,27 @@ module _ (t st mem tr : List ℕ) (c : Counts) {N : ℕ} {l : Limits} {sp s : Li
       intersect_given {r} {t'} {s'} {h} {n} q len A = ran W
           (ends_map (λ τ h v. record { gone = v.gone; ordered = v.ordered; holds = v.holds.at }) (goes_ends order (nodes_goes order.worked.good (intersect_made N (table t c.spp) order.worked.good.nodes e f y z))))
           (tables_of sp t' st mem tr)
-          (ap (λ (o : Outcome Table ℕ). placed put_base C (placed put_aut C.base (placed put_nodes C.base.aut o))) (A.gives ∙ ap (λ (r : relations.Made). SppSeen.seen r t') q))
+          (ap (λ (o : Outcome Table ℕ). placed put_base C (placed put_aut C.base (placed put_nodes C.base.aut o))) (A.gives ∙ ap (λ (r : relations.Made). SppSeen.seen_made r t') q))
           (leaves_left (clear_tables (tables_of sp t' st mem tr (with_nodes c n))) (subst (λ (r : relations.Made). MadeLeft N r t' s s') q A.left)) len W.fresh (λ x w i j. refl)
 
   pub images_refused : {o : Step Stores ℕ} {r : sets.Made} {sp' s' : List ℕ} → PostImage N o (diagrams C) r sp' s s' → r ≡ sets.Made.Full → making_sets o C ≡ refused 20
-  images_refused {sp' = sp'} A q = ap (placed (λ s σ. put_sets s.sp σ) C) (A.gives ∙ ap (λ (r : sets.Made). Img.seen r sp' (table t c.spp)) q)
+  images_refused {sp' = sp'} A q = ap (placed (λ s σ. put_sets s.sp σ) C) (A.gives ∙ ap (λ (r : sets.Made). Behind.seen_image r sp' (table t c.spp)) q)
 
   -- ---- relations
 
   pub relations_refused : {o : Step Table ℕ} {r : relations.Made} {t' s' : List ℕ} → Relates N o (table t c.spp) r t' s s' → r ≡ relations.Made.Full → on_base (on_aut (on_nodes o)) C ≡ refused 21
-  relations_refused {t' = t'} A q = ap (λ (o : Outcome Table ℕ). placed put_base C (placed put_aut C.base (placed put_nodes C.base.aut o))) (A.gives ∙ ap (λ (r : relations.Made). SppSeen.seen r t') q)
+  relations_refused {t' = t'} A q = ap (λ (o : Outcome Table ℕ). placed put_base C (placed put_aut C.base (placed put_nodes C.base.aut o))) (A.gives ∙ ap (λ (r : relations.Made). SppSeen.seen_made r t') q)
 
   pub ifwd_given : (a : ℕ) → SpLaws.ValidAt (table sp c.sp) N a → {r : relations.Made} {t' s' : List ℕ} {h : SPP} {n : ℕ} → r ≡ relations.Made.Node h n → length s' ≡ length s → PostLift N (Images.ifwd N a) (diagrams C) r t' s s'
       → Ran N l 0 0 (RelIn N) (making_relations (Images.ifwd N a) C) σ c (with_nodes c n) h.0 (tables_of sp t' st mem tr) s s'
   ifwd_given a x {r} {t'} {s'} {h} {n} q len A = ran W
       (ends_map (λ τ h v. record { gone = v.gone; ordered = v.ordered; holds = v.holds.at }) (relations_step order (λ u v. Denotes u N v _) (ifwd_exact N N (diagrams C) a _ (both_wf order) (SpLawsProofs.den_mem x))))
       (tables_of sp t' st mem tr)
-      (ap (placed (λ s σ. put_relations s.spp σ) C) (A.gives ∙ ap (λ (r : relations.Made). Lifts.lifted r t' (table sp c.sp)) q))
+      (ap (placed (λ s σ. put_relations s.spp σ) C) (A.gives ∙ ap (λ (r : relations.Made). Behind.lifted r t' (table sp c.sp)) q))
       (leaves_lifts (clear_tables (tables_of sp t' st mem tr (with_nodes c n))) (subst (λ (r : relations.Made). LiftNotes N r t' (table sp c.sp) s s') q A.left)) len W.fresh (λ x w i j. refl)
 
   pub lifts_refused : {o : Step Stores ℕ} {r : relations.Made} {t' s' : List ℕ} → PostLift N o (diagrams C) r t' s s' → r ≡ relations.Made.Full → making_relations o C ≡ refused 21
-  lifts_refused {t' = t'} A q = ap (placed (λ s σ. put_relations s.spp σ) C) (A.gives ∙ ap (λ (r : relations.Made). Lifts.lifted r t' (table sp c.sp)) q)
+  lifts_refused {t' = t'} A q = ap (placed (λ s σ. put_relations s.spp σ) C) (A.gives ∙ ap (λ (r : relations.Made). Behind.lifted r t' (table sp c.sp)) q)
 
   -- ---- epsilon
 

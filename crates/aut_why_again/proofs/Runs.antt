@@ -77,8 +77,8 @@ module _ (sp t st mem tr : List ℕ) (c : Counts) {N : ℕ} {l : Limits} {s p : 
       len = W.len ∙ R.len;
     }
 
-    pub run_end : n ≤ i → Turned N (tables_of sp t st mem tr c) p n next sp st s sp1 st1 s1
-    run_end k = record { sets = R.sets; fills = fill_end 9 (λ x. next x + 1) R.filling k; frame = R.frame; len = R.len }
+    pub run_end : i ≤ n → n ≤ i → Turned N (tables_of sp t st mem tr c) p n next sp st s sp1 st1 s1
+    run_end m k = record { sets = R.sets; fills = fill_end 9 (λ x. next x + 1) R.filling m k; frame = R.frame; len = R.len }
 
 -- ---- round 0
 

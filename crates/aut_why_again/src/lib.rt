@@ -97,11 +97,9 @@ fn turns(
         states.old transitions.now scratch.old pending.now c n
         sp.new states.new scratch.new }
 {
-    let mut i = 0;
-    while i < n {
+    for i in 0..n {
         let s = pending[2 * i + 1];
         turn_again(sp, nodes, states, transitions, scratch, c, config, s);
-        i += 1;
     }
 }
 
@@ -125,8 +123,7 @@ fn forward(
         states.old transitions.now scratch.old pending.now c n from to
         sp.new states.new scratch.new }
 {
-    let mut k = from;
-    while k < to {
+    for _ in from..to {
         turns(
             sp,
             nodes,
@@ -139,7 +136,6 @@ fn forward(
             n,
         );
         aut_why_marks::renew(states, pending, n);
-        k += 1;
     }
 }
 

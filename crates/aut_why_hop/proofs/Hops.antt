@@ -1,5 +1,6 @@
 -- The choice of a hop, one transition at a time.
 use Rattle.std.specs.Prelude.{if◌then◌else◌}
+use Rattle.std.specs.Prelude as code
 use mathlib.Core.Path.{◌≡◌, refl, sym, ◌∙◌, ap, subst}
 use mathlib.Core.Bool.{Bool, true, false, ◌&&◌, ◌||◌}
 use mathlib.Core.Logic.{◌⊎◌, inl, inr}
@@ -26,8 +27,6 @@ use Rattle.aut_sets.specs.Clauses.{NotesBehind}
 use Rattle.spp_least.specs.Clauses.{word_of, LeastNoted}
 use Rattle.aut_why_least.specs.Clauses.{PostLed}
 use Rattle.aut_why_hop.specs.Clauses.{aheads, ahead_of, leading, sooner, LeastReady, PreLed, PreHop, Hops, PostHop}
-use Rattle.aut_why_hop.specs.declared.Hopped.{Hopped}
-use Rattle.aut_why_hop.specs.declared.Hopped.TheVariants as hopped
 
 -- ---- two numbers, + 1 and 0 for none
 
@@ -134,12 +133,11 @@ module _ (N : ℕ) (σ : Stores) (st tr : List ℕ) (packet start k : ℕ) where
   -- i transitions are done: the least hop by them is in `best` and `to`
   pub record Hopping (s₀ s : List ℕ) (best to i : ℕ) : Type 0 where
     pub ready : LeastReady N σ s
-    pub len : length s ≡ length s₀
     pub left : Noted N σ s₀ s
     pub is : (p : Packet N) → value p ≡ packet → (o : Option (Hop N)) × Best best to o × (hop all (aheads N σ st) p none ≡ hop (from i) (aheads N σ st) p o)
 
   pub hop_begin : {s : List ℕ} → LeastReady N σ s → Hopping s s 0 0 0
-  hop_begin {s} R = record { ready = R; len = refl; left = noted_none N σ; is = λ p e. (none, nothing refl, ap (λ (es : List Edge). hop (Lists.map (leading N σ) es) (aheads N σ st) p none) same) }
+  hop_begin {s} R = record { ready = R; left = noted_none N σ; is = λ p e. (none, nothing refl, ap (λ (es : List Edge). hop (Lists.map (leading N σ) es) (aheads N σ st) p none) same) }
     where
       same : edges tr start k ≡ edges tr (start + 0) (k - 0)
       same = ap (λ (a : ℕ). edges tr a k) {x = start} {y = start + 0} (omega arith) ∙ ap (edges tr (start + 0)) {x = k} {y = k - 0} (omega arith)
@@ -161,7 +159,6 @@ module _ (N : ℕ) (σ : Stores) (st tr : List ℕ) (packet start k : ℕ) where
     hop_lower : sooner r best ≡ true → Hopping s₀ s' r target (i + 1)
     hop_lower q = record {
       ready = ready_noted N σ v.ready P.left len;
-      len = len ∙ v.len;
       left = noted_on N σ v.left P.left;
       is = λ p e. let (o, b, w) = v.is p e in (lower_hop o (this p), lower b (this_is p e) q, w ∙ next p o);
     }
@@ -169,7 +166,6 @@ module _ (N : ℕ) (σ : Stores) (st tr : List ℕ) (packet start k : ℕ) where
     hop_kept : sooner r best ≡ false → Hopping s₀ s' best to (i + 1)
     hop_kept q = record {
       ready = ready_noted N σ v.ready P.left len;
-      len = len ∙ v.len;
       left = noted_on N σ v.left P.left;
       is = λ p e. let (o, b, w) = v.is p e in (lower_hop o (this p), kept b (this_is p e) q, w ∙ next p o);
     }
@@ -182,10 +178,10 @@ module _ (N : ℕ) (σ : Stores) (st tr : List ℕ) (packet start k : ℕ) where
     ended : (p : Packet N) → value p ≡ packet → Best best to (hop all (aheads N σ st) p none)
     ended p e = let (o, b, w) = v.is p e in subst (Best best to) (sym (w ∙ ap (λ (es : List Edge). hop (Lists.map (leading N σ) es) (aheads N σ st) p o) (edges_done tr (start + i) k i l) ∙ at_end (aheads N σ st) p o)) b
 
-    pub hop_found : 0 < best → (p : Packet N) → value p ≡ packet → Hops (hopped.To (best - 1) to) (hop all (aheads N σ st) p none)
+    pub hop_found : 0 < best → (p : Packet N) → value p ≡ packet → Hops (code.Some (best - 1, to)) (hop all (aheads N σ st) p none)
     hop_found m p e = found_is (ended p e) m
 
-    pub hop_none : best ≤ 0 → (p : Packet N) → value p ≡ packet → Hops hopped.Nothing (hop all (aheads N σ st) p none)
+    pub hop_none : best ≤ 0 → (p : Packet N) → value p ≡ packet → Hops code.None (hop all (aheads N σ st) p none)
     hop_none m p e = none_is (ended p e) m
 
 -- ---- what is asked of a transition
@@ -195,6 +191,6 @@ module _ {N : ℕ} {σ : Stores} {st tr s₀ : List ℕ} {x packet : ℕ} (P : P
   unfolding start_of count_of
   hop_asks {i = i} R l = record { ready = R; inside = omega (arith, P.list.inside, l); ahead = P.aheads i l; small = P.small }
 
-  pub hop_ends : {r : Hopped} {s : List ℕ} → ((p : Packet N) → value p ≡ packet → Hops r (hop (all N σ st tr packet (get_or st (12 * x + 5) 0) (get_or st (12 * x + 6) 0 - 1)) (aheads N σ st) p none)) → Noted N σ s₀ s → PostHop N σ st tr x packet r s₀ s
+  pub hop_ends : {r : code.Option (ℕ × ℕ)} {s : List ℕ} → ((p : Packet N) → value p ≡ packet → Hops r (hop (all N σ st tr packet (get_or st (12 * x + 5) 0) (get_or st (12 * x + 6) 0 - 1)) (aheads N σ st) p none)) → Noted N σ s₀ s → PostHop N σ st tr x packet r s₀ s
   unfolding start_of count_of
   hop_ends f n = record { is = f; left = n }

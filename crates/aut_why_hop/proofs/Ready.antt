@@ -8,6 +8,7 @@ use mathlib.Core.Option.{Option, none, some, some-injective, none-ne-some}
 use Prim.Native.Nat.{ℕ, ◌+◌, ◌*◌, ◌-◌, ◌^◌, ◌<◌}
 use native.Mathlib.Omega.{arith}
 use lib.ListN.{get_or}
+use Rattle.std.specs.Prelude as code
 use Rattle.common.specs.Packets.{Packet, Set}
 use Rattle.common.specs.Runs.{table}
 use Rattle.netkat.specs.Lists.{State, Transition}
@@ -38,8 +39,6 @@ use Rattle.aut_live_words.specs.Clauses.{Listed}
 use Rattle.aut_why_words.specs.Walk.{Walk, HasSets}
 use Rattle.aut_why_words.proofs.Walks.{walk_known, walk_there}
 use Rattle.aut_why_hop.specs.Clauses.{aheads, ahead_of, leading, list_of, LeastReady, Ahead, PreHop, Hops, PostHop}
-use Rattle.aut_why_hop.specs.declared.Hopped.{Hopped}
-use Rattle.aut_why_hop.specs.declared.Hopped.TheVariants as hopped
 
 -- sets that agree on the targets
 hop_alike : {N : ℕ} (ts : List (Transition State N)) (live live' : State → Set N) (p : Packet N) (o : Option (Hop N)) → ((t : Transition State N) → Memᴰ t ts → live t.target ≡ live' t.target)
@@ -119,14 +118,14 @@ module _ (sp t st mem tr : List ℕ) (c : Counts) {N : ℕ} {l : Limits} {s p : 
           (λ u k. let (e, i, f) = map_in (decoded N C.base.aut) (list_at C.base x) k in
           ap (Sp.mem sp N) (ahead_is u.target (subst (λ (y : ℕ). Memᴰ y (seconds p 0 n)) (sym (ap (λ (u : Transition State N). u.target) f)) ((K.links x m).leads e i))))
 
-      module _ {packet : ℕ} {r : Hopped} {s' : List ℕ} (P : PostHop N σ st tr x packet r s s') (q : Packet N) (is : value q ≡ packet) {h : Hop N}
+      module _ {packet : ℕ} {r : code.Option (ℕ × ℕ)} {s' : List ℕ} (P : PostHop N σ st tr x packet r s s') (q : Packet N) (is : value q ≡ packet) {h : Hop N}
           (E : hop (Lists.map (decoded N C.base.aut) (list_at C.base x)) (λ y. Sp.mem sp N (before y)) q none ≡ some h) where
-        pub hop_there : r ≡ hopped.Nothing → ⊥
-        hop_there e = none-ne-some h (sym (subst (λ (r : Hopped). Hops r (hop (Lists.map (leading N σ) (list_of st tr x)) (aheads N σ st) q none)) e (P.is q is)) ∙ hop_is q ∙ E)
+        pub hop_there : r ≡ code.None → ⊥
+        hop_there e = none-ne-some h (sym (subst (λ (r : code.Option (ℕ × ℕ)). Hops r (hop (Lists.map (leading N σ) (list_of st tr x)) (aheads N σ st) q none)) e (P.is q is)) ∙ hop_is q ∙ E)
 
-        pub hop_to_lem : {a b : ℕ} → r ≡ hopped.To a b → (a ≡ value h.packet) × (b ≡ h.target)
+        pub hop_to_lem : {a b : ℕ} → r ≡ code.Some (a, b) → (a ≡ value h.packet) × (b ≡ h.target)
         hop_to_lem {a} {b} e =
-            let (g, f, i, j) = subst (λ (r : Hopped). Hops r (hop (Lists.map (leading N σ) (list_of st tr x)) (aheads N σ st) q none)) e (P.is q is) in
+            let (g, f, i, j) = subst (λ (r : code.Option (ℕ × ℕ)). Hops r (hop (Lists.map (leading N σ) (list_of st tr x)) (aheads N σ st) q none)) e (P.is q is) in
             let z : h ≡ g = some-injective h g (sym E ∙ sym (hop_is q) ∙ f) in
             (i ∙ ap (λ (h : Hop N). value h.packet) (sym z), j ∙ ap (λ (h : Hop N). h.target) (sym z))
 

@@ -1,6 +1,7 @@
 -- 02 (i): "It picks the fewest hops, then the smallest start, then the hops in order": what the choice of one hop asks and promises. Word 8 of a transition's target is the set (+ 1) of packets
 -- from which the rest can still be had.
 use Rattle.std.specs.Prelude.{◌≡◌, Bool, ◌&&◌, ◌||◌, List, map, ℕ, ◌+◌, ◌*◌, ◌-◌, ◌^◌, ◌≤◌, ◌<◌, eqb, ltb, length, get_or}
+use Rattle.std.specs.Prelude as code
 use Rattle.std.proofs.Math.Option.{Option, none, some}
 use Rattle.common.specs.Packets.{Packet, Set}
 use Rattle.cache.specs.Cache.{Sound}
@@ -20,8 +21,6 @@ use Rattle.aut_relations.specs.Behind.{LISTS, cached}
 use Rattle.aut_live_words.specs.Clauses.{Listed}
 use Rattle.aut_sets.specs.Clauses.{NotesBehind}
 use Rattle.spp_least.specs.Clauses.{LeastRead, LeastNoted}
-use Rattle.aut_why_hop.specs.declared.Hopped.{Hopped}
-use Rattle.aut_why_hop.specs.declared.Hopped.TheVariants as hopped
 
 -- the handle in word 8 of a state
 abbrev pub ahead_of : List ℕ → ℕ → ℕ
@@ -76,10 +75,10 @@ pub record PreHop (N : ℕ) (σ : Stores) (st tr s : List ℕ) (x packet : ℕ) 
   pub aheads : (i : ℕ) → i < count_of st x - 1 → Ahead N σ st (get_or tr (2 * (start_of st x + i)) 0) (get_or tr (2 * (start_of st x + i) + 1) 0)
   pub small : packet < 2 ^ N
 
-abbrev pub Hops : {N : ℕ} → Hopped → Option (Hop N) → Type 0
-Hops {N} (hopped.To p t) o = (h : Hop N) × (o ≡ some h) × (p ≡ value h.packet) × (t ≡ h.target)
-Hops hopped.Nothing o = o ≡ none
+abbrev pub Hops : {N : ℕ} → code.Option (ℕ × ℕ) → Option (Hop N) → Type 0
+Hops {N} (code.Some (p, t)) o = (h : Hop N) × (o ≡ some h) × (p ≡ value h.packet) × (t ≡ h.target)
+Hops code.None o = o ≡ none
 
-pub record PostHop (N : ℕ) (σ : Stores) (st tr : List ℕ) (x packet : ℕ) (r : Hopped) (s s' : List ℕ) : Type 0 where
+pub record PostHop (N : ℕ) (σ : Stores) (st tr : List ℕ) (x packet : ℕ) (r : code.Option (ℕ × ℕ)) (s s' : List ℕ) : Type 0 where
   pub is : (p : Packet N) → value p ≡ packet → Hops r (hop (map (leading N σ) (list_of st tr x)) (aheads N σ st) p none)
   pub left : NotesBehind (LeastNoted σ) s s'

@@ -11,13 +11,6 @@ use aut_states::Counts;
 use sp::SP;
 use spp::SPP;
 
-// the packet, and the state that it leads to
-#[derive(Clone, Copy)]
-pub enum Hopped {
-    To(u32, u32),
-    Nothing,
-}
-
 // by transition i of the table
 fn led(
     sp: &[u32],
@@ -49,6 +42,7 @@ fn is_lower(r: u32, best: u32) -> bool
     r > 0 && (best == 0 || r < best)
 }
 
+// the packet, and the state that it leads to
 pub fn hop(
     sp: &[u32],
     nodes: &[u32],
@@ -59,7 +53,7 @@ pub fn hop(
     fields: u32,
     x: u32,
     packet: u32,
-) -> Hopped
+) -> Option<(u32, u32)>
     requires { PreHop fields (stores (table sp.now c.sp) (table nodes.now c.spp)) states.now
         transitions.now scratch.old x packet }
     ensures { PostHop fields (stores (table sp.now c.sp) (table nodes.now c.spp))
@@ -70,8 +64,7 @@ pub fn hop(
     let k = states[aut_states::STATE * j + aut_states::word::COUNT] as usize - 1;
     let mut best = 0;
     let mut to = 0;
-    let mut i = 0;
-    while i < k {
+    for i in 0..k {
         let r = led(
             sp,
             nodes,
@@ -87,10 +80,9 @@ pub fn hop(
             best = r;
             to = transitions[2 * (start + i)];
         }
-        i += 1;
     }
     if best == 0 {
-        return Hopped::Nothing;
+        return None;
     }
-    Hopped::To(best - 1, to)
+    Some((best - 1, to))
 }

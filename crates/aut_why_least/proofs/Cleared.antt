@@ -1,40 +1,32 @@
--- The words behind the lists zeroed one after another.
-use mathlib.Core.Path.{◌≡◌, refl, ◌∙◌, ap}
-use mathlib.Core.Logic.{⊎_elim}
-use mathlib.Core.List.{List}
-use Prim.Native.Nat.{ℕ, ◌+◌, ◌≤◌, ◌<◌}
+-- The words behind the lists zeroed.
+use mathlib.Core.Path.{◌≡◌, ◌∙◌, ap}
+use mathlib.Core.List.{List, ◌++◌, append-nil}
+use Prim.Native.Nat.{ℕ, zero, ◌-◌, ◌≤◌, ◌<◌}
 use native.Mathlib.Omega.{arith}
 use native.Mathlib.Decide.{dec_lt}
-use native.Mathlib.Nat.{eq-or-lt_of_le}
-use lib.ListN.{length, get_or, set, length-set, get_or-eq_default}
-use lib.Seq.{get_or-set_same, get_or-set_other}
+use lib.ListN.{length, get_or, take, drop, replicate, length-drop, length-replicate, get_or-replicate, get_or-eq_default}
+use Rattle.std.proofs.lemmas.List.{length-take-le, get_or_append_left, get_or-append_right, get_or-take, drop_all}
+use borrow.Rule.Slice.PartMut.{put_mid, mid_of, post_of}
 use Rattle.aut_relations.specs.Behind.{LISTS}
 use Rattle.aut_why_least.specs.Clauses.{Forgotten}
 
--- the words from LISTS up to i are zeroed
-pub record Clearing (s s' : List ℕ) (i : ℕ) : Type 0 where
-  pub len : length s' ≡ length s
-  pub from : LISTS ≤ i
-  pub below : (j : ℕ) → j < LISTS → get_or s' j 0 ≡ get_or s j 0
-  pub zero : (j : ℕ) → LISTS ≤ j → j < i → get_or s' j 0 ≡ 0
+module _ (s : List ℕ) (a : ℕ) (l : a ≤ length s) where
+  below : (ys : List ℕ) (i : ℕ) → i < a → get_or (put_mid a (length s - a) s ys) i 0 ≡ get_or s i 0
+  below ys i h = get_or_append_left (take a s) (ys ++ post_of a (length s - a) s) 0 i (omega (arith, length-take-le a s l)) ∙ get_or-take a s i 0 h
 
-pub clear_begin : (s : List ℕ) → Clearing s s LISTS
-clear_begin s = record { len = refl; from = omega arith; below = λ j l. refl; zero = λ j l h. absurd (omega arith) }
+  behind : (i : ℕ) → a ≤ i → get_or (put_mid a (length s - a) s (replicate (length s - a) 0)) i 0 ≡ 0
+  behind i h =
+      get_or-append_right (take a s) (replicate (length s - a) 0 ++ post_of a (length s - a) s) a i 0 (length-take-le a s l) h
+      ∙ ap (λ (z : List ℕ). get_or (replicate (length s - a) 0 ++ z) (i - a) 0) (drop_all (length s - a) (drop a s) (omega (arith, length-drop a s)))
+      ∙ ap (λ (z : List ℕ). get_or z (i - a) 0) (append-nil (replicate (length s - a) 0))
+      ∙ at (dec_lt (i - a) (length s - a))
+    where
+      at : Dec (i - a < length s - a) → get_or (replicate (length s - a) 0) (i - a) zero ≡ zero
+      at (yes k) = get_or-replicate {A = ℕ} (length s - a) (i - a) 0 0 k
+      at (no k) = get_or-eq_default (replicate (length s - a) 0) 0 (omega (arith, length-replicate {A = ℕ} (length s - a) 0))
 
-pub clear_again : {s s' : List ℕ} {i : ℕ} → Clearing s s' i → i < length s' → Clearing s (set s' i 0) (i + 1)
-clear_again {s} {s'} {i} v l = record {
-  len = length-set s' i 0 ∙ v.len;
-  from = omega (arith, v.from);
-  below = λ j k. get_or-set_other s' i j 0 0 (λ e. omega (arith, v.from)) ∙ v.below j k;
-  zero = λ j h k. ⊎_elim
-      (λ e. ap (λ (z : ℕ). get_or (set s' i 0) z 0) e ∙ get_or-set_same s' i 0 0 l)
-      (λ n. get_or-set_other s' i j 0 0 (λ e. omega arith) ∙ v.zero j h n)
-      (eq-or-lt_of_le (let x : j ≤ i = omega arith in x));
-}
-
-pub clear_end : {s s' : List ℕ} {i : ℕ} → Clearing s s' i → length s' ≤ i → Forgotten s s'
-clear_end {s} {s'} {i} v l = record { below = v.below; zeroed = λ j h. at j h (dec_lt j i) }
+pub forgotten : {s ys : List ℕ} → LISTS ≤ length s → ys ≡ replicate (length (mid_of LISTS (length s - LISTS) s)) 0 → Forgotten s (put_mid LISTS (length s - LISTS) s ys)
+forgotten {s} {ys} l e = record { below = below s LISTS l ys; zeroed = λ i h. ap (λ (z : List ℕ). get_or (put_mid LISTS (length s - LISTS) s z) i 0) whole ∙ behind s LISTS l i h }
   where
-    at : (j : ℕ) → LISTS ≤ j → Dec (j < i) → get_or s' j 0 ≡ 0
-    at j h (yes k) = v.zero j h k
-    at j h (no k) = get_or-eq_default s' 0 (omega arith)
+    whole : ys ≡ replicate (length s - LISTS) 0
+    whole = e ∙ ap (λ (n : ℕ). replicate n 0) (length-take-le (length s - LISTS) (drop LISTS s) (omega (arith, length-drop LISTS s)))

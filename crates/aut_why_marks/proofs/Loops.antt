@@ -29,7 +29,6 @@ use Rattle.aut_why_marks.proofs.Columns.{writes_none, writes_then, writes_wide, 
 
 -- words w of the first i states are f's
 pub record Filling (w : ℕ) (f : ℕ → ℕ) (n : ℕ) (p st₀ st : List ℕ) (i : ℕ) : Type 0 where
-  pub most : i ≤ n
   pub is : (x : ℕ) → Memᴰ x (seconds p 0 i) → get_or st (12 * x + w) 0 ≡ f x
   pub words : Writes (λ v. v ≡ w) (seconds p 0 n) st₀ st
 
@@ -41,7 +40,7 @@ next_second p i x m z = ⊎_elim (λ k. k)
 module _ (w : ℕ) (f : ℕ → ℕ) {n : ℕ} {p st₀ : List ℕ} where
   pub fill_begin : Filling w f n p st₀ st₀ 0
   unfolding seconds
-  fill_begin = record { most = omega arith; is = λ x m. absurd (Memᴰ.not-nil m); words = writes_none (λ v. v ≡ w) (seconds p 0 n) st₀ }
+  fill_begin = record { is = λ x m. absurd (Memᴰ.not-nil m); words = writes_none (λ v. v ≡ w) (seconds p 0 n) st₀ }
 
   module _ {st : List ℕ} {i : ℕ} (F : Filling w f n p st₀ st i) where
     abbrev y : ℕ
@@ -49,15 +48,14 @@ module _ (w : ℕ) (f : ℕ → ℕ) {n : ℕ} {p st₀ : List ℕ} where
 
     pub fill_again : {v : ℕ} → i < n → w < 12 → 12 * get_or p (2 * i + 1) 0 + 11 < length st₀ → v ≡ f (get_or p (2 * i + 1) 0) → Filling w f n p st₀ (set st (12 * get_or p (2 * i + 1) 0 + w) v) (i + 1)
     fill_again {v} l k b q = record {
-      most = omega arith;
       is = λ x m. by_test (eqb x y)
           (λ t. let e : x ≡ y = eqb-true x y t in ap (λ (z : ℕ). get_or (set st (12 * y + w) v) (12 * z + w) 0) e ∙ get_or-set_same st (12 * y + w) v 0 (omega (arith, F.words.len)) ∙ q ∙ ap f (sym e))
           (λ t. let e : (x ≡ y → ⊥) = eqb-false x y t in get_or-set_other st (12 * y + w) (12 * x + w) v 0 (λ z. e (omega arith)) ∙ F.is x (next_second p i x m e));
       words = writes_then F.words (writes_one (λ v. v ≡ w) (seconds p 0 n) st y w v (second_in p 0 n i (omega arith) (omega arith)) refl k);
     }
 
-    pub fill_end : n ≤ i → Fills w f (seconds p 0 n) st₀ st
-    fill_end l = record { is = subst (λ (k : ℕ). (x : ℕ) → Memᴰ x (seconds p 0 k) → get_or st (12 * x + w) 0 ≡ f x) {x = i} {y = n} (omega (arith, F.most)) F.is; words = F.words }
+    pub fill_end : i ≤ n → n ≤ i → Fills w f (seconds p 0 n) st₀ st
+    fill_end m l = record { is = subst (λ (k : ℕ). (x : ℕ) → Memᴰ x (seconds p 0 k) → get_or st (12 * x + w) 0 ≡ f x) {x = i} {y = n} (omega arith) F.is; words = F.words }
 
     -- another column is as it was
     pub fill_other : (x v : ℕ) → v < 12 → (v ≡ w → ⊥) → get_or st (12 * x + v) 0 ≡ get_or st₀ (12 * x + v) 0
@@ -123,13 +121,12 @@ module _ {ss st st1 st2 : List ℕ} where
 
 -- no target among the first i has a word 11
 pub record Looking (st tr : List ℕ) (start k i : ℕ) : Type 0 where
-  pub most : i ≤ k
   pub is : changed_by st (edges tr start k) ≡ changed_by st (edges tr (start + i) (k - i))
   pub targets : (e : Edge) → Memᴰ e (edges tr (start + i) (k - i)) → 12 * e.target + 11 < length st
 
 module _ {st tr : List ℕ} {start k : ℕ} where
   look_begin : ((e : Edge) → Memᴰ e (edges tr start k) → 12 * e.target + 11 < length st) → Looking st tr start k 0
-  look_begin f = record { most = omega arith; is = ap (changed_by st) all; targets = λ e m. f e (subst (λ (es : List Edge). Memᴰ e es) (sym all) m) }
+  look_begin f = record { is = ap (changed_by st) all; targets = λ e m. f e (subst (λ (es : List Edge). Memᴰ e es) (sym all) m) }
     where
       all : edges tr start k ≡ edges tr (start + 0) (k - 0)
       all = ap₂ (edges tr) {x = start} {y = start + 0} {u = k} {v = k - 0} (omega arith) (omega arith)
@@ -149,7 +146,6 @@ module _ {st tr : List ℕ} {start k : ℕ} where
 
     pub look_again : i < k → get_or st (12 * t + 11) 0 ≤ 0 → Looking st tr start k (i + 1)
     look_again l h = record {
-      most = omega arith;
       is = on false (le-ltb 0 (get_or st (12 * t + 11) 0) h) l;
       targets = λ e m. v.targets e (subst (λ (es : List Edge). Memᴰ e es) (sym (edges_on tr start k i l)) (Memᴰ.tail m));
     }

@@ -15,11 +15,9 @@ fn fill(states: &mut [u32], pending: &[u32], n: usize, w: usize, v: u32)
     ensures { Fills w (λ x. v) (seconds pending.now 0 n) states.old
         states.new }
 {
-    let mut i = 0;
-    while i < n {
+    for i in 0..n {
         let at = aut_states::STATE * (pending[2 * i + 1] as usize) + w;
         states[at] = v;
-        i += 1;
     }
 }
 
@@ -40,12 +38,10 @@ fn differ(states: &mut [u32], pending: &[u32], n: usize)
     ensures { Fills 11 (λ x. moved_at states.old x) (seconds pending.now 0 n)
         states.old states.new }
 {
-    let mut i = 0;
-    while i < n {
+    for i in 0..n {
         let x = pending[2 * i + 1];
         let v = moved(states, x);
         states[aut_states::STATE * (x as usize) + word::MOVED] = v;
-        i += 1;
     }
 }
 
@@ -75,13 +71,11 @@ pub fn changed(states: &[u32], transitions: &[u32], x: u32) -> bool
     let j = x as usize;
     let start = states[aut_states::STATE * j + aut_states::word::START] as usize;
     let k = states[aut_states::STATE * j + aut_states::word::COUNT] as usize - 1;
-    let mut i = 0;
-    while i < k {
+    for i in 0..k {
         let t = transitions[2 * (start + i)] as usize;
         if states[aut_states::STATE * t + word::MOVED] > 0 {
             return true;
         }
-        i += 1;
     }
     false
 }

@@ -76,7 +76,6 @@ module _ (sp t st mem tr : List ℕ) (c : Counts) {N : ℕ} {l : Limits} {first 
   -- i states have their sets
   pub record Passed (sp1 st1 : List ℕ) (m i : ℕ) (s1 : List ℕ) : Type 0 where
     pub now : Sets
-    pub most : i ≤ n
     pub stage : Stage (query_layer N l) 0 0 whole (each f (seconds p i (n - i)) now (clear_of sp1 t st1 mem tr (with_sets c m))) κ (clear_of sp1 t st1 mem tr (with_sets c m)) c (with_sets c m) s s1
     pub walk : Walk N l (tables_of sp1 t st1 mem tr (with_sets c m)) s1 p n
     pub valid : SetsOn N ss (tables_of sp1 t st1 mem tr (with_sets c m)) now
@@ -86,7 +85,6 @@ module _ (sp t st mem tr : List ℕ) (c : Counts) {N : ℕ} {l : Limits} {first 
   pub pass_begin : Passed sp st c.sp 0 s
   pass_begin = record {
     now = start_of N first before;
-    most = omega arith;
     stage = begin (query_layer N l) 0 0 R.walk.working.ready (ap (λ (xs : List ℕ). each f xs (start_of N first before) κ) (seconds_all p n));
     walk = R.walk;
     valid = start_valid N first before ss (tables_of sp t st mem tr c) R.walk.working.ready.ordered.sets R.valid;
@@ -163,7 +161,6 @@ module _ (sp t st mem tr : List ℕ) (c : Counts) {N : ℕ} {l : Limits} {first 
           pub pass_again : Passed sp2 st2 m2 (i + 1) s2
           pass_again = record {
             now = new;
-            most = omega arith;
             stage = subst (λ (τ : Tables). Stage (query_layer N l) 0 0 whole (each f rest new τ) κ τ c (with_sets c m2) s s2) (sym (clear_written sp2 t st1 mem tr (with_sets c m2) y 9 (h.0 + 1) (omega arith) (omega arith)))
                 (next (query_layer N l) 0 0 P (all_of 0 0) (λ u. each f rest (live_at y u v.now)) turned);
             walk = walk_written walk_2 y 9 (h.0 + 1) (omega arith) (omega arith) pass_in;

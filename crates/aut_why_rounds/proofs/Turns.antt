@@ -195,14 +195,12 @@ module _ (sp t st mem tr : List ℕ) (c : Counts) {N : ℕ} {l : Limits} {s p : 
 
     -- i transitions are joined
     pub record Joined (sp1 : List ℕ) (m u1 i : ℕ) (s1 : List ℕ) : Type 0 where
-      pub most : i ≤ k
       pub stage : Stage (query_layer N l) 0 0 all (joins N (edges tr (start + i) (k - i)) before u1 (clear_of sp1 t st mem tr (with_sets c m))) κ (clear_of sp1 t st mem tr (with_sets c m)) c (with_sets c m) s s1
       pub turning : Turning N l (tables_of sp1 t st mem tr (with_sets c m)) s1 p n before x
       pub at : SpLaws.ValidAt (table sp1 m) N u1
 
     pub join_begin : Joined sp c.sp u 0 s
     join_begin = record {
-      most = omega arith;
       stage = begin (query_layer N l) 0 0 T.walk.working.ready
           (ap (λ (es : List Edge). joins N es before u κ) (list_is ∙ ap₂ (λ (a k : ℕ). edges tr a k) {x = start} {y = start + 0} {u = k} {v = k - 0} (omega arith) (omega arith)));
       turning = T;
@@ -262,7 +260,6 @@ module _ (sp t st mem tr : List ℕ) (c : Counts) {N : ℕ} {l : Limits} {s p : 
               let P : OneBy sp2 s2 (sets.Made.Node h m2) = subst (OneBy sp2 s2) q A in
               let g = next (query_layer N l) 0 0 P (all_of 0 0) (joins N (edges tr (start + (i + 1)) (k - (i + 1))) before) turned in
               record {
-                most = omega arith;
                 stage = g;
                 turning = turn_made (record { ready = P.then.ready; fresh = T.walk.working.fresh }) g.ext.sets;
                 at = P.then.holds;

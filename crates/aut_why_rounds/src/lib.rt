@@ -95,8 +95,7 @@ fn join_all(
     let k = states[aut_states::STATE * j + aut_states::word::COUNT] as usize - 1;
     let mut u = u;
     let mut m = c.sp;
-    let mut i = 0;
-    while i < k {
+    for i in 0..k {
         let t = transitions[2 * (start + i)];
         let label = SPP(transitions[2 * (start + i) + 1]);
         let d = Counts { sp: m, ..c };
@@ -106,7 +105,6 @@ fn join_all(
         };
         u = u1;
         m = m1;
-        i += 1;
     }
     sp::Made::Node(u, m)
 }
@@ -179,8 +177,7 @@ pub fn round(
         sp.new states.new scratch.new }
 {
     let mut m = c.sp;
-    let mut i = 0;
-    while i < n {
+    for i in 0..n {
         let s = pending[2 * i + 1];
         let d = Counts { sp: m, ..c };
         let sp::Made::Node(h, m1) = set_of(
@@ -198,7 +195,6 @@ pub fn round(
         };
         states[aut_states::STATE * (s as usize) + 9] = h.0 + 1;
         m = m1;
-        i += 1;
     }
     Nodes::At(m)
 }

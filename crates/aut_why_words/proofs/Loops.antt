@@ -17,12 +17,11 @@ use Rattle.aut_why_words.specs.Words.{same_words, copy_words, zero_words, clear_
 
 -- i states have equal sets
 pub record Comparing (n : ℕ) (st p : List ℕ) (i : ℕ) : Type 0 where
-  pub most : i ≤ n
   pub is : same_words (seconds p 0 n) st ≡ same_words (seconds p i (n - i)) st
 
 module _ {st p : List ℕ} {n : ℕ} where
   pub same_begin : Comparing n st p 0
-  same_begin = record { most = omega arith; is = ap (λ (l : List ℕ). same_words l st) (seconds_all p n) }
+  same_begin = record { is = ap (λ (l : List ℕ). same_words l st) (seconds_all p n) }
 
   module _ {i : ℕ} (v : Comparing n st p i) where
     module _ (l : i < n) where
@@ -38,7 +37,6 @@ module _ {st p : List ℕ} {n : ℕ} where
 
       pub same_again : get_or st (12 * x + 8) 0 ≡ get_or st (12 * x + 9) 0 → Comparing n st p (i + 1)
       same_again q = record {
-        most = omega arith;
         is = v.is ∙ here ∙ ap (λ (b : Bool). b && same_words (seconds p (i + 1) (n - (i + 1))) st) (eq-eqb (get_or st (12 * x + 8) 0) (get_or st (12 * x + 9) 0) q);
       }
 
@@ -49,21 +47,17 @@ module _ {st p : List ℕ} {n : ℕ} where
 -- ---- copy
 
 pub record Copying (n a b : ℕ) (st₀ p st : List ℕ) (i : ℕ) : Type 0 where
-  pub most : i ≤ n
   pub is : copy_words a b (seconds p i (n - i)) st ≡ copy_words a b (seconds p 0 n) st₀
-  pub len : length st ≡ length st₀
 
 module _ {st₀ p : List ℕ} {n a b : ℕ} where
   pub copy_begin : Copying n a b st₀ p st₀ 0
-  copy_begin = record { most = omega arith; is = ap (λ (l : List ℕ). copy_words a b l st₀) (sym (seconds_all p n)); len = refl }
+  copy_begin = record { is = ap (λ (l : List ℕ). copy_words a b l st₀) (sym (seconds_all p n)) }
 
   module _ {st : List ℕ} {i : ℕ} (v : Copying n a b st₀ p st i) where
     pub copy_again : i < n → Copying n a b st₀ p (set st (12 * get_or p (2 * i + 1) 0 + b) (get_or st (12 * get_or p (2 * i + 1) 0 + a) 0)) (i + 1)
     unfolding copy_words
     copy_again l = record {
-      most = omega arith;
       is = sym (ap (λ (l : List ℕ). copy_words a b l st) (seconds_on p n i l)) ∙ v.is;
-      len = length-set st (12 * get_or p (2 * i + 1) 0 + b) (get_or st (12 * get_or p (2 * i + 1) 0 + a) 0) ∙ v.len;
     }
 
     pub copy_end : n ≤ i → st ≡ copy_words a b (seconds p 0 n) st₀
@@ -80,24 +74,18 @@ zero_length st x =
     ∙ length-set st (12 * x + 8) 0
 
 pub record Clearing (n : ℕ) (st₀ p₀ st p : List ℕ) (i : ℕ) : Type 0 where
-  pub most : i ≤ n
   pub is : clear_all (seconds p i (n - i)) st ≡ clear_all (seconds p₀ 0 n) st₀
   pub first : (j : ℕ) → get_or p (2 * j) 0 ≡ get_or p₀ (2 * j) 0
   pub within : (j : ℕ) → j < i → get_or p (2 * j + 1) 0 ≡ 0
   pub beyond : (j : ℕ) → i ≤ j → get_or p (2 * j + 1) 0 ≡ get_or p₀ (2 * j + 1) 0
-  pub len_st : length st ≡ length st₀
-  pub len_p : length p ≡ length p₀
 
 module _ {st₀ p₀ : List ℕ} {n : ℕ} where
   pub clear_begin : Clearing n st₀ p₀ st₀ p₀ 0
   clear_begin = record {
-    most = omega arith;
     is = ap (λ (l : List ℕ). clear_all l st₀) (sym (seconds_all p₀ n));
     first = λ j. refl;
     within = λ j l. absurd (omega arith);
     beyond = λ j l. refl;
-    len_st = refl;
-    len_p = refl;
   }
 
   module _ {st p : List ℕ} {i : ℕ} (v : Clearing n st₀ p₀ st p i) where
@@ -107,7 +95,6 @@ module _ {st₀ p₀ : List ℕ} {n : ℕ} where
     pub clear_again : i < n → 2 * i + 1 < length p → Clearing n st₀ p₀ (zero_words st y) (set p (2 * i + 1) 0) (i + 1)
     unfolding clear_all
     clear_again l f = record {
-      most = omega arith;
       is = ap (λ (xs : List ℕ). clear_all xs (zero_words st y)) (seconds_same p (set p (2 * i + 1) 0) (i + 1) (n - (i + 1)) (λ j a b. get_or-set_other p (2 * i + 1) (2 * j + 1) 0 0 (λ q. omega arith)))
           ∙ sym (ap (λ (l : List ℕ). clear_all l st) (seconds_on p n i l)) ∙ v.is;
       first = λ j. get_or-set_other p (2 * i + 1) (2 * j) 0 0 (λ q. omega arith) ∙ v.first j;
@@ -115,13 +102,11 @@ module _ {st₀ p₀ : List ℕ} {n : ℕ} where
           (λ t. ap (λ (j : ℕ). get_or (set p (2 * i + 1) 0) (2 * j + 1) 0) (eqb-true j i t) ∙ get_or-set_same p (2 * i + 1) 0 0 f)
           (λ t. let q : (j ≡ i → ⊥) = eqb-false j i t in get_or-set_other p (2 * i + 1) (2 * j + 1) 0 0 (λ e. omega (arith, q)) ∙ v.within j (omega (arith, q)));
       beyond = λ j a. get_or-set_other p (2 * i + 1) (2 * j + 1) 0 0 (λ e. omega arith) ∙ v.beyond j (omega arith);
-      len_st = zero_length st y ∙ v.len_st;
-      len_p = length-set p (2 * i + 1) 0 ∙ v.len_p;
     }
 
-    pub clear_end : n ≤ i → PostClear n st₀ p₀ st p
+    pub clear_end : i ≤ n → n ≤ i → PostClear n st₀ p₀ st p
     unfolding clear_all
-    clear_end l = record {
+    clear_end m l = record {
       is = sym (ap (λ (l : List ℕ). clear_all l st) (seconds_done p i n i l)) ∙ v.is;
-      pending = record { first = v.first; within = λ j a. v.within j (omega arith); beyond = λ j a. v.beyond j (omega (arith, v.most)) };
+      pending = record { first = v.first; within = λ j a. v.within j (omega arith); beyond = λ j a. v.beyond j (omega arith) };
     }

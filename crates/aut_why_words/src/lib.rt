@@ -28,13 +28,11 @@ pub fn same_sets(states: &[u32], pending: &[u32], n: usize) -> bool
     requires { PreKeep states.now pending.now n }
     ensures { same_words (seconds pending.now 0 n) states.now ≡ result }
 {
-    let mut i = 0;
-    while i < n {
+    for i in 0..n {
         let at = aut_states::STATE * (pending[2 * i + 1] as usize);
         if states[at + 8] != states[at + 9] {
             return false;
         }
-        i += 1;
     }
     true
 }
@@ -45,12 +43,10 @@ pub fn copy_sets(states: &mut [u32], pending: &[u32], n: usize, from: usize, to:
     ensures { states.new ≡
         copy_words from to (seconds pending.now 0 n) states.old }
 {
-    let mut i = 0;
-    while i < n {
+    for i in 0..n {
         let at = aut_states::STATE * (pending[2 * i + 1] as usize);
         let set = states[at + from];
         states[at + to] = set;
-        i += 1;
     }
 }
 
@@ -60,14 +56,12 @@ pub fn clear(states: &mut [u32], pending: &mut [u32], n: usize)
     ensures { PostClear n states.old pending.old states.new
         pending.new }
 {
-    let mut i = 0;
-    while i < n {
+    for i in 0..n {
         let at = aut_states::STATE * (pending[2 * i + 1] as usize);
         states[at + 8] = 0;
         states[at + 9] = 0;
         states[at + 10] = 0;
         states[at + 11] = 0;
         pending[2 * i + 1] = 0;
-        i += 1;
     }
 }

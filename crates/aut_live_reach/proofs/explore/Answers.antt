@@ -1,5 +1,4 @@
 use mathlib.Core.Path.{refl, ◌∙◌}
-use Prim.Native.Nat.{◌-◌}
 use native.Mathlib.Omega.{arith}
 use Rattle.aut_query_stage.specs.Layer.{tables_of}
 use Rattle.aut_live_reach.proofs.Visiting as visiting

@@ -74,18 +74,18 @@ pub returns-in-Refused : goal.returns-in-Refused
 returns-in-Refused c =
     visiting.visit_stuck_3 c.requires c.epsilon.ensures c.in-Node.is c.epsilon.auto.scratch c.set_bwd.ensures c.in-Node-set_bwd.is c.set_bwd.auto.scratch c.delta-worked.ensures c.in-Refused.is
 
-pub shape_of-sp-in-At : goal.shape_of-sp-in-At
-shape_of-sp-in-At c = c.set_bwd.auto.sp
+pub shape_of-sp-in-Some : goal.shape_of-sp-in-Some
+shape_of-sp-in-Some c = c.set_bwd.auto.sp
 
-pub shape_of-nodes-in-At : goal.shape_of-nodes-in-At
-shape_of-nodes-in-At c = c.delta-worked.auto.nodes ∙ c.epsilon.auto.nodes
+pub shape_of-nodes-in-Some : goal.shape_of-nodes-in-Some
+shape_of-nodes-in-Some c = c.delta-worked.auto.nodes ∙ c.epsilon.auto.nodes
 
-pub shape_of-states-in-At : goal.shape_of-states-in-At
-shape_of-states-in-At c = c.enqueue.auto.states ∙ (simp length-set at c.delta-worked.auto.states) ∙ c.epsilon.auto.states
+pub shape_of-states-in-Some : goal.shape_of-states-in-Some
+shape_of-states-in-Some c = c.enqueue.auto.states ∙ (simp length-set at c.delta-worked.auto.states) ∙ c.epsilon.auto.states
 
-pub shape_of-scratch-in-At : goal.shape_of-scratch-in-At
-shape_of-scratch-in-At c = c.delta-worked.auto.scratch ∙ c.set_bwd.auto.scratch ∙ c.epsilon.auto.scratch
+pub shape_of-scratch-in-Some : goal.shape_of-scratch-in-Some
+shape_of-scratch-in-Some c = c.delta-worked.auto.scratch ∙ c.set_bwd.auto.scratch ∙ c.epsilon.auto.scratch
 
-pub returns-in-At : goal.returns-in-At
-returns-in-At c =
-    visiting.visit_done c.requires c.epsilon.ensures c.in-Node.is c.epsilon.auto.scratch c.set_bwd.ensures c.in-Node-set_bwd.is c.set_bwd.auto.scratch c.delta-worked.ensures c.in-Done.is c.delta-worked.auto.scratch c.enqueue.ensures c.in-At.is
+pub returns-in-Some : goal.returns-in-Some
+returns-in-Some c =
+    visiting.visit_done c.requires c.epsilon.ensures c.in-Node.is c.epsilon.auto.scratch c.set_bwd.ensures c.in-Node-set_bwd.is c.set_bwd.auto.scratch c.delta-worked.ensures c.in-Done.is c.delta-worked.auto.scratch c.enqueue.ensures c.in-Some.is

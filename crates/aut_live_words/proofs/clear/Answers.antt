@@ -1,4 +1,3 @@
-use Prim.Native.Nat.{◌+◌, ◌*◌, ◌-◌}
 use native.Mathlib.Omega.{arith}
 use Rattle.aut_live_words.proofs.Words as words
 use Rattle.aut_live_words.proofs.clear.Goals as goal
@@ -6,73 +5,9 @@ use Rattle.aut_live_words.proofs.clear.Goals as goal
 pub loop-i-init : goal.loop-i-init
 loop-i-init c = words.clear_begin
 
-pub overflow_mul-at : goal.overflow_mul-at
-overflow_mul-at c =
-    omega (arith, c.requires.fits, c.loop-i-test.true, c.requires.states c.loop-i.i c.loop-i-test.true, c.loop-i.invariant.beyond c.loop-i.i (omega arith), c.loop-i.invariant.len_st, c.loop-i.invariant.len_p)
-
-pub overflow_add-at : goal.overflow_add-at
-overflow_add-at c =
-    omega (arith, c.requires.fits, c.loop-i-test.true, c.requires.states c.loop-i.i c.loop-i-test.true, c.loop-i.invariant.beyond c.loop-i.i (omega arith), c.loop-i.invariant.len_st, c.loop-i.invariant.len_p)
-
-pub offset_bounds-pending-i : goal.offset_bounds-pending-i
-offset_bounds-pending-i c =
-    omega (arith, c.requires.fits, c.loop-i-test.true, c.requires.states c.loop-i.i c.loop-i-test.true, c.loop-i.invariant.beyond c.loop-i.i (omega arith), c.loop-i.invariant.len_st, c.loop-i.invariant.len_p)
-
-pub bounds-pending-i : goal.bounds-pending-i
-bounds-pending-i c =
-    omega (arith, c.requires.fits, c.loop-i-test.true, c.requires.states c.loop-i.i c.loop-i-test.true, c.loop-i.invariant.beyond c.loop-i.i (omega arith), c.loop-i.invariant.len_st, c.loop-i.invariant.len_p)
-
-pub overflow_cast-at : goal.overflow_cast-at
-overflow_cast-at c = omega (arith, c.slice_known-1.given (2 * c.loop-i.i + 1))
-
-pub overflow_mul-at-in-loop-i : goal.overflow_mul-at-in-loop-i
-overflow_mul-at-in-loop-i c =
-    omega (arith, c.requires.fits, c.loop-i-test.true, c.requires.states c.loop-i.i c.loop-i-test.true, c.loop-i.invariant.beyond c.loop-i.i (omega arith), c.loop-i.invariant.len_st, c.loop-i.invariant.len_p)
-
-pub overflow_add-at-in-loop-i : goal.overflow_add-at-in-loop-i
-overflow_add-at-in-loop-i c =
-    omega (arith, c.requires.fits, c.loop-i-test.true, c.requires.states c.loop-i.i c.loop-i-test.true, c.loop-i.invariant.beyond c.loop-i.i (omega arith), c.loop-i.invariant.len_st, c.loop-i.invariant.len_p)
-
-pub offset_bounds-states-at : goal.offset_bounds-states-at
-offset_bounds-states-at c =
-    omega (arith, c.requires.fits, c.loop-i-test.true, c.requires.states c.loop-i.i c.loop-i-test.true, c.loop-i.invariant.beyond c.loop-i.i (omega arith), c.loop-i.invariant.len_st, c.loop-i.invariant.len_p)
-
-pub bounds-states-at : goal.bounds-states-at
-bounds-states-at c =
-    omega (arith, c.requires.fits, c.loop-i-test.true, c.requires.states c.loop-i.i c.loop-i-test.true, c.loop-i.invariant.beyond c.loop-i.i (omega arith), c.loop-i.invariant.len_st, c.loop-i.invariant.len_p)
-
-pub overflow_mul-pending : goal.overflow_mul-pending
-overflow_mul-pending c =
-    omega (arith, c.requires.fits, c.loop-i-test.true, c.requires.states c.loop-i.i c.loop-i-test.true, c.loop-i.invariant.beyond c.loop-i.i (omega arith), c.loop-i.invariant.len_st, c.loop-i.invariant.len_p)
-
-pub overflow_add-pending : goal.overflow_add-pending
-overflow_add-pending c =
-    omega (arith, c.requires.fits, c.loop-i-test.true, c.requires.states c.loop-i.i c.loop-i-test.true, c.loop-i.invariant.beyond c.loop-i.i (omega arith), c.loop-i.invariant.len_st, c.loop-i.invariant.len_p)
-
-pub offset_bounds-pending-i-in-loop-i : goal.offset_bounds-pending-i-in-loop-i
-offset_bounds-pending-i-in-loop-i c =
-    omega (arith, c.requires.fits, c.loop-i-test.true, c.requires.states c.loop-i.i c.loop-i-test.true, c.loop-i.invariant.beyond c.loop-i.i (omega arith), c.loop-i.invariant.len_st, c.loop-i.invariant.len_p)
-
-pub bounds-pending-i-in-loop-i : goal.bounds-pending-i-in-loop-i
-bounds-pending-i-in-loop-i c =
-    omega (arith, c.requires.fits, c.loop-i-test.true, c.requires.states c.loop-i.i c.loop-i-test.true, c.loop-i.invariant.beyond c.loop-i.i (omega arith), c.loop-i.invariant.len_st, c.loop-i.invariant.len_p)
-
-pub overflow_add-i : goal.overflow_add-i
-overflow_add-i c =
-    omega (arith, c.requires.fits, c.loop-i-test.true, c.requires.states c.loop-i.i c.loop-i-test.true, c.loop-i.invariant.beyond c.loop-i.i (omega arith), c.loop-i.invariant.len_st, c.loop-i.invariant.len_p)
-
-pub loop-i-smaller : goal.loop-i-smaller
-loop-i-smaller c = omega (arith, c.loop-i-test.true)
-
 pub loop-i-preserved : goal.loop-i-preserved
 loop-i-preserved c =
-    words.clear_again c.loop-i.invariant c.loop-i-test.true (omega (arith, c.requires.fits, c.loop-i-test.true, c.loop-i.invariant.len_p))
-
-pub shape_of-states : goal.shape_of-states
-shape_of-states c = c.loop-i.invariant.len_st
-
-pub shape_of-pending : goal.shape_of-pending
-shape_of-pending c = c.loop-i.invariant.len_p
+    words.clear_again c.loop-i.invariant c.loop-i-test.true (omega (arith, c.requires.fits))
 
 pub returns : goal.returns
-returns c = words.clear_end c.loop-i.invariant c.loop-i-test.false
+returns c = words.clear_end c.loop-i.invariant c.loop-i.auto.i-end c.loop-i-test.false

@@ -1,60 +1,13 @@
-use Prim.Native.Nat.{◌+◌, ◌*◌, ◌-◌}
 use mathlib.Core.Path.{refl}
-use native.Mathlib.Omega.{arith}
 use Rattle.aut_why_marks.proofs.Loops as loops
 use Rattle.aut_why_marks.proofs.fill.Goals as goal
 
 pub loop-i-init : goal.loop-i-init
 loop-i-init c = loops.fill_begin c.args.w (λ x. c.args.v)
 
-pub overflow_mul-at : goal.overflow_mul-at
-overflow_mul-at c =
-    omega (arith, c.requires.states.fits, c.requires.word, c.loop-i-test.true, c.requires.states.states c.loop-i.i c.loop-i-test.true, c.loop-i.invariant.words.len)
-
-pub overflow_add-at : goal.overflow_add-at
-overflow_add-at c =
-    omega (arith, c.requires.states.fits, c.requires.word, c.loop-i-test.true, c.requires.states.states c.loop-i.i c.loop-i-test.true, c.loop-i.invariant.words.len)
-
-pub offset_bounds-pending-i : goal.offset_bounds-pending-i
-offset_bounds-pending-i c =
-    omega (arith, c.requires.states.fits, c.requires.word, c.loop-i-test.true, c.requires.states.states c.loop-i.i c.loop-i-test.true, c.loop-i.invariant.words.len)
-
-pub bounds-pending-i : goal.bounds-pending-i
-bounds-pending-i c =
-    omega (arith, c.requires.states.fits, c.requires.word, c.loop-i-test.true, c.requires.states.states c.loop-i.i c.loop-i-test.true, c.loop-i.invariant.words.len)
-
-pub overflow_cast-at : goal.overflow_cast-at
-overflow_cast-at c = omega (arith, c.shared_slice_known-1.given (2 * c.loop-i.i + 1))
-
-pub overflow_mul-at-in-loop-i : goal.overflow_mul-at-in-loop-i
-overflow_mul-at-in-loop-i c =
-    omega (arith, c.requires.states.fits, c.requires.word, c.loop-i-test.true, c.requires.states.states c.loop-i.i c.loop-i-test.true, c.loop-i.invariant.words.len)
-
-pub overflow_add-at-in-loop-i : goal.overflow_add-at-in-loop-i
-overflow_add-at-in-loop-i c =
-    omega (arith, c.requires.states.fits, c.requires.word, c.loop-i-test.true, c.requires.states.states c.loop-i.i c.loop-i-test.true, c.loop-i.invariant.words.len)
-
-pub offset_bounds-states-at : goal.offset_bounds-states-at
-offset_bounds-states-at c =
-    omega (arith, c.requires.states.fits, c.requires.word, c.loop-i-test.true, c.requires.states.states c.loop-i.i c.loop-i-test.true, c.loop-i.invariant.words.len)
-
-pub bounds-states-at : goal.bounds-states-at
-bounds-states-at c =
-    omega (arith, c.requires.states.fits, c.requires.word, c.loop-i-test.true, c.requires.states.states c.loop-i.i c.loop-i-test.true, c.loop-i.invariant.words.len)
-
-pub overflow_add-i : goal.overflow_add-i
-overflow_add-i c =
-    omega (arith, c.requires.states.fits, c.requires.word, c.loop-i-test.true, c.requires.states.states c.loop-i.i c.loop-i-test.true, c.loop-i.invariant.words.len)
-
-pub loop-i-smaller : goal.loop-i-smaller
-loop-i-smaller c = omega (arith, c.loop-i-test.true)
-
 pub loop-i-preserved : goal.loop-i-preserved
 loop-i-preserved c =
     loops.fill_again c.args.w (λ x. c.args.v) c.loop-i.invariant c.loop-i-test.true c.requires.word (c.requires.states.states c.loop-i.i c.loop-i-test.true) refl
 
-pub shape_of-states : goal.shape_of-states
-shape_of-states c = c.loop-i.invariant.words.len
-
 pub returns : goal.returns
-returns c = loops.fill_end c.args.w (λ x. c.args.v) c.loop-i.invariant c.loop-i-test.false
+returns c = loops.fill_end c.args.w (λ x. c.args.v) c.loop-i.invariant c.loop-i.auto.i-end c.loop-i-test.false

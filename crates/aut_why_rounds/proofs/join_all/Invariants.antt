@@ -1,7 +1,5 @@
-use mathlib.Core.Path.{◌≡◌}
 use mathlib.Core.List.{List}
-use Prim.Native.Nat.{ℕ, ◌-◌}
-use lib.ListN.{length}
+use Prim.Native.Nat.{ℕ}
 use Rattle.common.specs.Runs.{table}
 use Rattle.sp_steps.specs.Wf as SpLaws
 use Rattle.aut_why_steps.specs.Why.{Sets}
@@ -12,9 +10,5 @@ use Rattle.aut_why_rounds.proofs.join_all.Given as goal
 
 abbrev pub invariant-loop-i : goal.invariant-loop-i
 invariant-loop-i l =
-    ((mem p : List ℕ) (n : ℕ) (before : Sets) (T : Turning l.config.fields l.config.limits (tables_of l.initial.sp l.nodes l.states mem l.transitions l.c) l.initial.scratch p n before l.s) (U : SpLaws.ValidAt (table l.initial.sp l.c.sp) l.config.fields l.initial.u.0)
-    → Joined l.initial.sp l.nodes l.states mem l.transitions l.c T l.initial.u.0 U l.sp l.m l.u.0 l.i l.scratch)
-    × (length l.sp ≡ length l.initial.sp) × (length l.scratch ≡ length l.initial.scratch)
-
-abbrev pub decreases-loop-i : goal.decreases-loop-i
-decreases-loop-i l = l.k - l.i
+    (mem p : List ℕ) (n : ℕ) (before : Sets) (T : Turning l.config.fields l.config.limits (tables_of l.initial.sp l.nodes l.states mem l.transitions l.c) l.initial.scratch p n before l.s) (U : SpLaws.ValidAt (table l.initial.sp l.c.sp) l.config.fields l.initial.u.0)
+    → Joined l.initial.sp l.nodes l.states mem l.transitions l.c T l.initial.u.0 U l.sp l.m l.u.0 l.i l.scratch

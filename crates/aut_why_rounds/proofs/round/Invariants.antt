@@ -1,7 +1,5 @@
-use mathlib.Core.Path.{◌≡◌}
 use mathlib.Core.List.{List}
-use Prim.Native.Nat.{ℕ, ◌-◌}
-use lib.ListN.{length}
+use Prim.Native.Nat.{ℕ}
 use Rattle.aut_why_steps.specs.Why.{Sets}
 use Rattle.aut_query_stage.specs.Layer.{tables_of}
 use Rattle.aut_why_rounds.specs.Clauses.{Rounding}
@@ -10,8 +8,4 @@ use Rattle.aut_why_rounds.proofs.round.Given as goal
 
 abbrev pub invariant-loop-i : goal.invariant-loop-i
 invariant-loop-i l =
-    ((mem : List ℕ) (before : Sets) (R : Rounding l.config.fields l.config.limits l.first (tables_of l.initial.sp l.nodes l.initial.states mem l.transitions l.c) l.initial.scratch l.pending l.n before) → Passed l.initial.sp l.nodes l.initial.states mem l.transitions l.c R l.sp l.states l.m l.i l.scratch)
-    × (length l.sp ≡ length l.initial.sp) × (length l.states ≡ length l.initial.states) × (length l.scratch ≡ length l.initial.scratch)
-
-abbrev pub decreases-loop-i : goal.decreases-loop-i
-decreases-loop-i l = l.n - l.i
+    (mem : List ℕ) (before : Sets) (R : Rounding l.config.fields l.config.limits l.first (tables_of l.initial.sp l.nodes l.initial.states mem l.transitions l.c) l.initial.scratch l.pending l.n before) → Passed l.initial.sp l.nodes l.initial.states mem l.transitions l.c R l.sp l.states l.m l.i l.scratch
