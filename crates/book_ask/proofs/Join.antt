@@ -44,8 +44,7 @@ use Rattle.aut_pruned.specs.declared.Pruned.TheVariants as pruned
 use Rattle.sp.specs.declared.SP.{SP}
 use Rattle.book_writer.specs.Clauses.{Put, Answers}
 use Rattle.book_writer.proofs.Contracts.{put_take}
-use Rattle.book_writer.specs.declared.Answered.{Answered}
-use Rattle.book_writer.specs.declared.Answered.TheVariants as answered
+use Rattle.std.specs.Prelude as code
 use Rattle.book_place.specs.declared.Setting.{Setting}
 use Rattle.book_ask.specs.declared.Asked.TheVariants as asked
 use Rattle.book_pruned.specs.Clauses.{told, PrePairs, PostPruned}
@@ -69,15 +68,15 @@ module _ (S : Setting) (q : Reader.Query) (pos : ℕ) (name : List ℕ) (x : ℕ
       ∙ ap (λ (b : Bool). if b then given (place τ (lines ++ none ∷ []) (take pos out ++ bs)) 0 else refused 27) f
 
 pub ask_full : (S : Setting) (q : Reader.Query) (pos : ℕ) (name : List ℕ) (x : ℕ) (σ : Tables) (at : Counts → Tables) {s' p p' out : List ℕ} {τ : Tables} {bs : List ℕ} → query (setting_of S (length p / 2) (length out)) q name x σ ≡ given τ bs → pos ≤ length out
-    → {r : Answered} {out' : List ℕ} → r ≡ answered.Full → Answers bs pos r out out' → PostAsk S q pos name x σ (asked.Refused 27) at s' p p' out out'
-ask_full S q pos name x σ at {s'} {p} {p'} {out} {τ} {bs} e l {r} {out'} f a = go (subst (λ (v : Answered). Answers bs pos v out out') f a)
+    → {r : code.Option ℕ} {out' : List ℕ} → r ≡ code.None → Answers bs pos r out out' → PostAsk S q pos name x σ (asked.Refused 27) at s' p p' out out'
+ask_full S q pos name x σ at {s'} {p} {p'} {out} {τ} {bs} e l {r} {out'} f a = go (subst (λ (v : code.Option ℕ). Answers bs pos v out out') f a)
   where
     go : (length out < pos + length bs) × (out' ≡ out) → PostAsk S q pos name x σ (asked.Refused 27) at s' p p' out out'
     go (m, w) = record { is = λ lines. asking S q pos name x σ p out e lines (lt-leb (length (take pos out ++ bs)) (length out) (omega (arith, size pos out bs l))); then = w }
 
 pub ask_told : (S : Setting) (q : Reader.Query) (pos : ℕ) (name : List ℕ) (x : ℕ) (σ : Tables) (at : Counts → Tables) {s' p p' out : List ℕ} {d : Counts} {bs : List ℕ} → query (setting_of S (length p / 2) (length out)) q name x σ ≡ given (at d) bs → ExtTables σ (at d)
-    → QueryReady S.config.fields S.config.limits (at d) s' → Zeroed p' → {r : Answered} {end : ℕ} {out' : List ℕ} → r ≡ answered.At end → Answers bs pos r out out' → PostAsk S q pos name x σ (asked.Told d end) at s' p p' out out'
-ask_told S q pos name x σ at {s'} {p} {p'} {out} {d} {bs} e w R z {r} {end} {out'} f a = go (subst (λ (v : Answered). Answers bs pos v out out') f a)
+    → QueryReady S.config.fields S.config.limits (at d) s' → Zeroed p' → {r : code.Option ℕ} {end : ℕ} {out' : List ℕ} → r ≡ code.Some end → Answers bs pos r out out' → PostAsk S q pos name x σ (asked.Told d end) at s' p p' out out'
+ask_told S q pos name x σ at {s'} {p} {p'} {out} {d} {bs} e w R z {r} {end} {out'} f a = go (subst (λ (v : code.Option ℕ). Answers bs pos v out out') f a)
   where
     go : Put pos bs end out out' → PostAsk S q pos name x σ (asked.Told d end) at s' p p' out out'
     go u =
@@ -125,11 +124,11 @@ module _ (S : Setting) {x : ℕ} {σ : Tables} {c : Counts} {at : Counts → Tab
     live_noted : Leaves S.config.fields 0 0 (at d) s' s''
     live_noted = record { below = λ i m. absurd (omega arith); above = λ i m k. Z.left.below i k; notes = notes_map (λ op x y r v. inr (inl (inl v))) Z.left.notes }
 
-    pub live_full : {pos : ℕ} {name : List ℕ} {out : List ℕ} → pos ≤ length out → {t : Answered} {out' : List ℕ} → t ≡ answered.Full → Answers (live_answer S.config.fields name k) pos t out out'
+    pub live_full : {pos : ℕ} {name : List ℕ} {out : List ℕ} → pos ≤ length out → {t : code.Option ℕ} {out' : List ℕ} → t ≡ code.None → Answers (live_answer S.config.fields name k) pos t out out'
         → PostAsk S Reader.live pos name x σ (asked.Refused 27) at s'' p p' out out'
     live_full {pos} {name} {out} l f a = ask_full S Reader.live pos name x σ at (live_is name out) l f a
 
-    pub live_told : {pos : ℕ} {name : List ℕ} {out : List ℕ} → length s'' ≡ length s' → {t : Answered} {end : ℕ} {out' : List ℕ} → t ≡ answered.At end → Answers (live_answer S.config.fields name k) pos t out out'
+    pub live_told : {pos : ℕ} {name : List ℕ} {out : List ℕ} → length s'' ≡ length s' → {t : code.Option ℕ} {end : ℕ} {out' : List ℕ} → t ≡ code.Some end → Answers (live_answer S.config.fields name k) pos t out out'
         → PostAsk S Reader.live pos name x σ (asked.Told d end) at s'' p p' out out'
     live_told {pos} {name} {out} len f a = ask_told S Reader.live pos name x σ at (live_is name out) live_post.then.ext
         (query_ready live_post.then.ready (later_refl (at d)) live_post.then.ready.ordered live_noted len) (subst (λ (v : Lived). Live.ZeroedBy v p') e P.pending) f a
@@ -162,16 +161,16 @@ module _ (S : Setting) {x : ℕ} {σ : Tables} {c : Counts} {at : Counts → Tab
         labels = λ i l. (edge_at_lem s' RESULT m i l pruned_post.then.holds.edges).relation;
       }
 
-  module _ {pos : ℕ} {name : List ℕ} {t : Answered} {s'' out out' : List ℕ} (Z : PostPruned S.config.fields (at d).base.aut.nodes pos name m t s' s'' out out') where
+  module _ {pos : ℕ} {name : List ℕ} {t : code.Option ℕ} {s'' out out' : List ℕ} (Z : PostPruned S.config.fields (at d).base.aut.nodes pos name m t s' s'' out out') where
     pruned_is : query (setting_of S (length p / 2) (length out)) Reader.pruned name x σ ≡ given (at d) (pruned_answer name (told S.config.fields (at d).base.aut.nodes (edges s' RESULT m)))
     pruned_is = ap (tells_pruned S.config.fields name) pruned_post.is
 
     pruned_noted : Leaves S.config.fields 0 0 (at d) s' s''
     pruned_noted = record { below = λ i m. absurd (omega arith); above = λ i m k. Z.left.below i k; notes = notes_map (λ op x y r v. inr (inr v)) Z.left.notes }
 
-    pub pruned_full : pos ≤ length out → t ≡ answered.Full → PostAsk S Reader.pruned pos name x σ (asked.Refused 27) at s'' p p' out out'
+    pub pruned_full : pos ≤ length out → t ≡ code.None → PostAsk S Reader.pruned pos name x σ (asked.Refused 27) at s'' p p' out out'
     pruned_full l f = ask_full S Reader.pruned pos name x σ at pruned_is l f Z.answers
 
-    pub pruned_told : {end : ℕ} → length s'' ≡ length s' → t ≡ answered.At end → PostAsk S Reader.pruned pos name x σ (asked.Told d end) at s'' p p' out out'
+    pub pruned_told : {end : ℕ} → length s'' ≡ length s' → t ≡ code.Some end → PostAsk S Reader.pruned pos name x σ (asked.Told d end) at s'' p p' out out'
     pruned_told len f = ask_told S Reader.pruned pos name x σ at pruned_is pruned_post.then.ext
         (query_ready pruned_post.then.ready (later_refl (at d)) pruned_post.then.ready.ordered pruned_noted len) (subst (λ (v : Pruned). Prune.ZeroedBy v p') e P.pending) f Z.answers

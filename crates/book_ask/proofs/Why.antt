@@ -31,8 +31,7 @@ use Rattle.book_steps.specs.Answers.{why_answer}
 use Rattle.book_steps.specs.Reader as Reader
 use Rattle.book_steps.specs.Run.{query}
 use Rattle.book_writer.specs.Clauses.{Answers}
-use Rattle.book_writer.specs.declared.Answered.{Answered}
-use Rattle.book_writer.specs.declared.Answered.TheVariants as answered
+use Rattle.std.specs.Prelude as code
 use Rattle.book_place.specs.declared.Setting.{Setting}
 use Rattle.book_ask.specs.declared.Asked.TheVariants as asked
 use Rattle.book_place.specs.Clauses.{setting_of}
@@ -92,8 +91,8 @@ module _ (S : Setting) (name : List ℕ) {x : ℕ} {σ : Tables} {c d : Counts} 
   why_is : (out : List ℕ) → query (setting_of S (length p / 2) (length out)) Reader.why name x σ ≡ given (clear_of sp t st mem tr d) told
   why_is out = why_by S name x σ p out ∙ ap (tells_why S.config.fields x) A.post.is
 
-  module _ {pos : ℕ} {r : Answered} {sp' st' s'' out out' : List ℕ} (B : WhyAnswered S.config.fields S.config.limits sp t st mem tr d p' n A.sets x pos r sp' st' s'' out out') where
-    why_full : (at : Counts → Tables) {p'' : List ℕ} → pos ≤ length out → r ≡ answered.Full → PostAsk S Reader.why pos name x σ (asked.Refused 27) at s'' p p'' out out'
+  module _ {pos : ℕ} {r : code.Option ℕ} {sp' st' s'' out out' : List ℕ} (B : WhyAnswered S.config.fields S.config.limits sp t st mem tr d p' n A.sets x pos r sp' st' s'' out out') where
+    why_full : (at : Counts → Tables) {p'' : List ℕ} → pos ≤ length out → r ≡ code.None → PostAsk S Reader.why pos name x σ (asked.Refused 27) at s'' p p'' out out'
     why_full at l e = ask_full S Reader.why pos name x σ at (why_is out) l e B.answers
 
     why_keeps : PreKeep st' p' n
@@ -103,7 +102,7 @@ module _ (S : Setting) (name : List ℕ) {x : ℕ} {σ : Tables} {c d : Counts} 
       rests : tables_of sp' t st'' mem tr d ≡ clear_of sp t st mem tr d
       rests = walk_cleared B.standing.walk E ∙ ap₂ (λ (a b : List ℕ). tables_of a t b mem tr d) B.unmade.sets B.unmade.states
 
-      why_told : {end : ℕ} → r ≡ answered.At end → PostAsk S Reader.why pos name x σ (asked.Told d end) (tables_of sp' t st'' mem tr) s'' p p'' out out'
+      why_told : {end : ℕ} → r ≡ code.Some end → PostAsk S Reader.why pos name x σ (asked.Told d end) (tables_of sp' t st'' mem tr) s'' p p'' out out'
       why_told e = ask_told S Reader.why pos name x σ (tables_of sp' t st'' mem tr) (why_is out ∙ ap (λ (τ : Tables). given τ told) (sym rests)) (subst (ExtTables σ) (sym rests) A.post.then.ext)
           (subst (λ (τ : Tables). QueryReady S.config.fields S.config.limits τ s'') (sym (walk_cleared B.standing.walk E)) B.standing.walk.working.ready) (walk_zeroed B.standing.walk E) e B.answers
 
@@ -124,15 +123,15 @@ module _ (S : Setting) (x : ℕ) (c : Counts) (sp₀ t₀ st₀ mem₀ tr₀ s�
     pub why_asks : PreQuery S.config.fields S.config.limits σ₀ s₀ p₀ x → {pos : ℕ} {out : List ℕ} → pos ≤ length out → PreAnswer S.config.fields S.config.limits sp t st tr s p d n f x pos out
     why_asks Q l = record { members = mem; rounds = (by_case e).sets; answering = why_answering Q (by_case e); room = l }
 
-    module _ (Q : PreQuery S.config.fields S.config.limits σ₀ s₀ p₀ x) {pos : ℕ} {v : Answered} {sp' st' s' out out' : List ℕ} (B : PostAnswer S.config.fields S.config.limits sp t st tr s p d n f x pos v sp' st' s' out out') where
+    module _ (Q : PreQuery S.config.fields S.config.limits σ₀ s₀ p₀ x) {pos : ℕ} {v : code.Option ℕ} {sp' st' s' out out' : List ℕ} (B : PostAnswer S.config.fields S.config.limits sp t st tr s p d n f x pos v sp' st' s' out out') where
       answered_so : WhyAnswered S.config.fields S.config.limits sp t st mem tr d p n (by_case e).sets x pos v sp' st' s' out out'
       answered_so = B mem (by_case e).sets (why_answering Q (by_case e))
 
-      pub full : (at : Counts → Tables) {p'' : List ℕ} → pos ≤ length out → v ≡ answered.Full → Asked.PostWhy S pos x σ₀ (asked.Refused 27) at s' p₀ p'' out out'
+      pub full : (at : Counts → Tables) {p'' : List ℕ} → pos ≤ length out → v ≡ code.None → Asked.PostWhy S pos x σ₀ (asked.Refused 27) at s' p₀ p'' out out'
       full at l q = λ name. why_full S name (by_case e) answered_so at l q
 
       pub keeps : PreKeep st' p n
       keeps = why_keeps S [] (by_case e) answered_so
 
-      pub at_rest : {st'' p'' : List ℕ} → PostClear n st' p st'' p'' → {end : ℕ} → v ≡ answered.At end → Asked.PostWhy S pos x σ₀ (asked.Told d end) (tables_of sp' t st'' mem tr) s' p₀ p'' out out'
+      pub at_rest : {st'' p'' : List ℕ} → PostClear n st' p st'' p'' → {end : ℕ} → v ≡ code.Some end → Asked.PostWhy S pos x σ₀ (asked.Told d end) (tables_of sp' t st'' mem tr) s' p₀ p'' out out'
       at_rest E q = λ name. why_told S name (by_case e) answered_so E q

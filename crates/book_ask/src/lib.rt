@@ -10,7 +10,6 @@ use aut_pruned::Pruned;
 use aut_states::Counts;
 use aut_why_rounds::Whys;
 use book_place::Setting;
-use book_writer::Answered;
 
 // the records in use, and the place behind the answer in the output; or 01's number
 #[derive(Clone, Copy)]
@@ -63,8 +62,8 @@ pub fn ask_live(
             let k = aut_sets::set_size(sp, scratch, d, fields, h);
             let told = book_writer::live_answer(output, at, name, k, fields);
             match told {
-                Answered::Full => Asked::Refused(27),
-                Answered::At(end) => Asked::Told(d, end),
+                None => Asked::Refused(27),
+                Some(end) => Asked::Told(d, end),
             }
         }
     }
@@ -113,8 +112,8 @@ pub fn ask_pruned(
         Pruned::List(d, m) => {
             let told = book_pruned::pruned_answer(nodes, scratch, output, d, fields, at, name, m);
             match told {
-                Answered::Full => Asked::Refused(27),
-                Answered::At(end) => Asked::Told(d, end),
+                None => Asked::Refused(27),
+                Some(end) => Asked::Told(d, end),
             }
         }
     }
@@ -176,8 +175,8 @@ pub fn ask_why(
                 x,
             );
             match told {
-                Answered::Full => Asked::Refused(27),
-                Answered::At(end) => {
+                None => Asked::Refused(27),
+                Some(end) => {
                     aut_why_words::clear(states, pending, n);
                     Asked::Told(d, end)
                 }

@@ -13,19 +13,12 @@ use lib.Seq.{get_or-drop}
 use borrow.Author.Tests.{le-ltb, le-leb, lt-leb}
 use Rattle.common.specs.Outcome.{Outcome, refused, given}
 use Rattle.common.specs.Runs.{Table, table}
+use Rattle.refusal.specs.declared.Refusal.TheVariants as refusal
 use Rattle.cache.specs.Cache.{Sound}
 use Rattle.cache.proofs.Cache.{sound_zero, sound_map}
 use Rattle.sp_steps.specs.Model as Sp
 use Rattle.sp_steps.proofs.Reuse.{valid_not, code_range}
-use Rattle.sp.specs.Clauses as Sets
-use Rattle.sp.specs.declared.Made as sets
-use Rattle.sp.specs.declared.Made.TheVariants as set-made
-use Rattle.sp.specs.declared.SP.{SP}
 use Rattle.spp_steps.specs.Model as Spp
-use Rattle.spp.specs.Clauses as Relations
-use Rattle.spp.specs.declared.Started.{Started}
-use Rattle.spp.specs.declared.Started.TheVariants as started
-use Rattle.spp.specs.declared.Constants.{Constants}
 use Rattle.aut_steps.specs.Tables.{aut}
 use Rattle.aut_delta_steps.specs.Delta.{store}
 use Rattle.aut_query_steps.specs.Tables.{Tables, tables, WfTables}
@@ -39,13 +32,11 @@ use Rattle.book_steps.specs.Run as Run
 use Rattle.book_steps.specs.Run.{Lent, zeroed, place}
 use Rattle.book_writer.specs.Clauses.{Put, Answers}
 use Rattle.book_writer.proofs.Contracts.{put_take}
-use Rattle.book_writer.specs.declared.Answered.{Answered}
-use Rattle.book_writer.specs.declared.Answered.TheVariants as answered
+use Rattle.std.specs.Prelude as code
 use Rattle.book_place.specs.declared.Place.{Place}
 use Rattle.book_place.specs.Clauses.{WORK, work, lines_of, tables_at, Standing}
 use Rattle.book_place.proofs.Scratch.{line_beyond}
 use Rattle.book_begin.specs.declared.Header.{Header}
-use Rattle.book_begin.specs.declared.Begun.TheVariants as begun
 use Rattle.book_begin.specs.Clauses.{header_of, limits, setting_for, PreBegin, fresh, PostBegin}
 use Rattle.book_begin.proofs.Zero.{zeros}
 
@@ -108,50 +99,42 @@ module _ (h : Header) (sp nodes out : List ℕ) (P : PreBegin sp nodes h) where
       (ap (λ (t : List ℕ). Sp.constants h.fields (table t 0)) (ap zeroed u ∙ sym P.sp) ∙ e)
       (ap (λ (t : List ℕ). Spp.constants h.fields (table t 0)) (ap zeroed v ∙ sym P.nodes) ∙ f)
 
-  module _ {r : sets.Made} (sp' : List ℕ) (E : Sp.constants h.fields (table sp 0) ≡ Sets.seen r sp') where
-    pub begin_no_sets : {nodes' : List ℕ} → r ≡ set-made.Full → PostBegin h (begun.Refused 20) sp nodes out sp' nodes' out
-    begin_no_sets q = record { is = λ lent u v w. begin_by lent u v (E ∙ ap (λ (z : sets.Made). Sets.seen z sp') q) refl; then = λ lent. refl }
+  pub begin_no_sets : {sp' nodes' : List ℕ} → Sp.constants h.fields (table sp 0) ≡ refused 20 → PostBegin h (code.Err refusal.Sp) sp nodes out sp' nodes' out
+  begin_no_sets e = record { is = λ lent u v w. begin_by lent u v e refl; then = λ lent. refl }
 
-    module _ {x : SP} {a : ℕ} (q : r ≡ set-made.Node x a) where
-      sets_are : Sp.constants h.fields (table sp 0) ≡ given (table sp' a) x.0
-      sets_are = E ∙ ap (λ (z : sets.Made). Sets.seen z sp') q
+  module _ {x a : ℕ} (sp' : List ℕ) (sets_are : Sp.constants h.fields (table sp 0) ≡ given (table sp' a) x) where
+    pub begin_no_relations : {nodes' : List ℕ} → Spp.constants h.fields (table nodes 0) ≡ refused 21 → PostBegin h (code.Err refusal.Spp) sp nodes out sp' nodes' out
+    begin_no_relations f = record { is = λ lent u v w. begin_by lent u v sets_are f; then = λ lent. refl }
 
-      module _ {s : Started} (nodes' : List ℕ) (F : Spp.constants h.fields (table nodes 0) ≡ Relations.seen_start s nodes') where
-        pub begin_no_relations : s ≡ started.Short → PostBegin h (begun.Refused 21) sp nodes out sp' nodes' out
-        begin_no_relations g = record { is = λ lent u v w. begin_by lent u v sets_are (F ∙ ap (λ (z : Started). Relations.seen_start z nodes') g); then = λ lent. refl }
+    module _ {y : Spp.Constants} {b : ℕ} (nodes' : List ℕ) (relations_are : Spp.constants h.fields (table nodes 0) ≡ given (table nodes' b) y) where
+      both_by : (lent : Lent) → lent.sp ≡ length sp → lent.spp ≡ length nodes → {t : Bool} → leb (length (fields_answer h.fields)) lent.output ≡ t
+          → Run.begin lent (header_of h)
+          ≡ (if t then given (place (tables (table sp' a) (store (aut (table nodes' b) (table (zeroed lent.states) 0) (table (zeroed lent.members) 0)) (table (zeroed lent.transitions) 0))) [] (fields_answer h.fields)) 0 else refused 27)
+      both_by lent u v w =
+          begin_by lent u v sets_are relations_are
+          ∙ ap (λ (t : Bool). if t then given (place (tables (table sp' a) (store (aut (table nodes' b) (table (zeroed lent.states) 0) (table (zeroed lent.members) 0)) (table (zeroed lent.transitions) 0))) [] (fields_answer h.fields)) 0 else refused 27) w
 
-        module _ {y : Constants} {b : ℕ} (g : s ≡ started.Store y b) where
-          relations_are : Spp.constants h.fields (table nodes 0) ≡ given (table nodes' b) (record { zero = y.zero.0; one = y.one.0; top = y.top.0 })
-          relations_are = F ∙ ap (λ (z : Started). Relations.seen_start z nodes') g
+      module _ {k : code.Option ℕ} (out' : List ℕ) (A : Answers (fields_answer h.fields) 0 k out out') where
+        pub begin_full : k ≡ code.None → PostBegin h (code.Err refusal.Output) sp nodes out sp' nodes' out'
+        begin_full i = let (l, w) = subst (λ (z : code.Option ℕ). Answers (fields_answer h.fields) 0 z out out') i A in record {
+          is = λ lent u v o. both_by lent u v (lt-leb (length (fields_answer h.fields)) lent.output (omega (arith, o)));
+          then = λ lent. w;
+        }
 
-          both_by : (lent : Lent) → lent.sp ≡ length sp → lent.spp ≡ length nodes → {t : Bool} → leb (length (fields_answer h.fields)) lent.output ≡ t
-              → Run.begin lent (header_of h)
-              ≡ (if t then given (place (tables (table sp' a) (store (aut (table nodes' b) (table (zeroed lent.states) 0) (table (zeroed lent.members) 0)) (table (zeroed lent.transitions) 0))) [] (fields_answer h.fields)) 0 else refused 27)
-          both_by lent u v w =
-              begin_by lent u v sets_are relations_are
-              ∙ ap (λ (t : Bool). if t then given (place (tables (table sp' a) (store (aut (table nodes' b) (table (zeroed lent.states) 0) (table (zeroed lent.members) 0)) (table (zeroed lent.transitions) 0))) [] (fields_answer h.fields)) 0 else refused 27) w
+        module _ {end : ℕ} (i : k ≡ code.Some end) where
+          put : Put 0 (fields_answer h.fields) end out out'
+          put = subst (λ (z : code.Option ℕ). Answers (fields_answer h.fields) 0 z out out') i A
 
-          module _ {k : Answered} (out' : List ℕ) (A : Answers (fields_answer h.fields) 0 k out out') where
-            pub begin_full : k ≡ answered.Full → PostBegin h (begun.Refused 27) sp nodes out sp' nodes' out'
-            begin_full i = let (l, w) = subst (λ (z : Answered). Answers (fields_answer h.fields) 0 z out out') i A in record {
-              is = λ lent u v o. both_by lent u v (lt-leb (length (fields_answer h.fields)) lent.output (omega (arith, o)));
-              then = λ lent. w;
-            }
+          told : take end out' ≡ fields_answer h.fields
+          told = put_take put
 
-            module _ {end : ℕ} (i : k ≡ answered.At end) where
-              put : Put 0 (fields_answer h.fields) end out out'
-              put = subst (λ (z : Answered). Answers (fields_answer h.fields) 0 z out out') i A
-
-              told : take end out' ≡ fields_answer h.fields
-              told = put_take put
-
-              pub begin_given : PostBegin h (begun.At (place_at a b end)) sp nodes out sp' nodes' out'
-              begin_given = record {
-                is = λ lent u v o. both_by lent u v (le-leb (length (fields_answer h.fields)) lent.output (omega (arith, o, put.behind, put.room)))
-                    ∙ ap₂ (λ (ls : List (Option ℕ)) (bs : List ℕ). given (place (tables_at (fresh lent sp' nodes' out') (counts_of a b)) ls bs) 0) (sym (no_lines (zeroed lent.scratch))) (sym told);
-                then = λ lent. record {
-                  standing = λ room. begins_standing h P.few sp nodes sets_are relations_are lent out' end (omega (arith, put.room, put.wrote.len)) room;
-                  lines = refl;
-                  wrote = record { fits = put.room; beyond = λ j l. put.wrote.above j (omega (arith, put.behind)) };
-                };
-              }
+          pub begin_given : PostBegin h (code.Ok (place_at a b end)) sp nodes out sp' nodes' out'
+          begin_given = record {
+            is = λ lent u v o. both_by lent u v (le-leb (length (fields_answer h.fields)) lent.output (omega (arith, o, put.behind, put.room)))
+                ∙ ap₂ (λ (ls : List (Option ℕ)) (bs : List ℕ). given (place (tables_at (fresh lent sp' nodes' out') (counts_of a b)) ls bs) 0) (sym (no_lines (zeroed lent.scratch))) (sym told);
+            then = λ lent. record {
+              standing = λ room. begins_standing h P.few sp nodes sets_are relations_are lent out' end (omega (arith, put.room, put.wrote.len)) room;
+              lines = refl;
+              wrote = record { fits = put.room; beyond = λ j l. put.wrote.above j (omega (arith, put.behind)) };
+            };
+          }

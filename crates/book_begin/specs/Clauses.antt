@@ -1,6 +1,8 @@
 -- 01, "Lent tables" ("Every table is zeroed first") and "The book and its answers" (the first line), with the limits of "Who can cause a refusal": what zeroing and the beginning of a run ask and promise.
-use Rattle.std.specs.Prelude.{◌≡◌, List, ℕ, ◌+◌, ◌≤◌, length, get_or}
+use Rattle.std.specs.Prelude.{◌≡◌, List, ℕ, ◌+◌, ◌≤◌, length, get_or, Result, Ok, Err}
 use Rattle.common.specs.Outcome.{Outcome, refused, given}
+use Rattle.refusal.specs.declared.Refusal.{Refusal}
+use Rattle.refusal.specs.Numbers.{number_of}
 use Rattle.book_steps.specs.Reader as Reader
 use Rattle.book_steps.specs.Run as Run
 use Rattle.book_steps.specs.Run.{Lent, zeroed}
@@ -10,8 +12,6 @@ use Rattle.book_place.specs.declared.Setting.{Setting}
 use Rattle.book_place.specs.declared.Place.{Place}
 use Rattle.book_place.specs.Clauses.{WORK, Memory, memory, place_of, Standing}
 use Rattle.book_begin.specs.declared.Header.{Header}
-use Rattle.book_begin.specs.declared.Begun.{Begun}
-use Rattle.book_begin.specs.declared.Begun.TheVariants as begun
 
 -- ---- zeroing
 
@@ -47,9 +47,9 @@ pub record PreBegin (a b : List ℕ) (h : Header) : Type 0 where
 abbrev pub fresh : Lent → (sp nodes output : List ℕ) → Memory
 fresh lent sp nodes output = memory sp nodes (zeroed lent.states) (zeroed lent.members) (zeroed lent.transitions) (zeroed lent.pending) (zeroed lent.scratch) output
 
-abbrev pub begun_of : Begun → Memory → Outcome Run.RunState ℕ
-begun_of (begun.At p) m = given (place_of m p) 0
-begun_of (begun.Refused e) m = refused e
+abbrev pub begun_of : Result Place Refusal → Memory → Outcome Run.RunState ℕ
+begun_of (Ok p) m = given (place_of m p) 0
+begun_of (Err e) m = refused (number_of e)
 
 -- of the output, only bytes up to n are written
 pub record Wrote (n : ℕ) (out out' : List ℕ) : Type 0 where
@@ -61,10 +61,10 @@ pub record Begins (h : Header) (p : Place) (lent : Lent) (sp' nodes' out out' : 
   pub lines : p.lines ≡ 0
   pub wrote : Wrote p.output out out'
 
-abbrev pub BeginsBy : Header → Begun → Lent → (sp' nodes' out out' : List ℕ) → Type 0
-BeginsBy h (begun.At p) lent sp' nodes' out out' = Begins h p lent sp' nodes' out out'
-BeginsBy h (begun.Refused e) lent sp' nodes' out out' = out' ≡ out
+abbrev pub BeginsBy : Header → Result Place Refusal → Lent → (sp' nodes' out out' : List ℕ) → Type 0
+BeginsBy h (Ok p) lent sp' nodes' out out' = Begins h p lent sp' nodes' out out'
+BeginsBy h (Err e) lent sp' nodes' out out' = out' ≡ out
 
-pub record PostBegin (h : Header) (r : Begun) (sp nodes out sp' nodes' out' : List ℕ) : Type 0 where
+pub record PostBegin (h : Header) (r : Result Place Refusal) (sp nodes out sp' nodes' out' : List ℕ) : Type 0 where
   pub is : (lent : Lent) → lent.sp ≡ length sp → lent.spp ≡ length nodes → lent.output ≡ length out → Run.begin lent (header_of h) ≡ begun_of r (fresh lent sp' nodes' out')
   pub then : (lent : Lent) → BeginsBy h r lent sp' nodes' out out'

@@ -7,7 +7,9 @@ ghost use Rattle.book_begin.specs.Clauses as Its;
 
 use aut_states::{Config, Counts, Limits};
 use book_place::{Place, Setting};
-use book_writer::Answered;
+use refusal::Refusal;
+use sp::SPstore;
+use spp::SPPstore;
 
 // everything that stands before the instructions
 #[derive(Clone, Copy)]
@@ -16,22 +18,12 @@ pub struct Header {
     pub budget: u64,
 }
 
-#[derive(Clone, Copy)]
-pub enum Begun {
-    At(Place),
-    Refused(u32),
-}
-
 // ---- zeroing
 
 fn clear(table: &mut [u32])
     ensures { table.new ≡ zeroed (length table.old) }
 {
-    let mut i = 0;
-    while i < table.len() {
-        table[i] = 0;
-        i += 1;
-    }
+    table.fill(0);
 }
 
 pub fn clear_tables(
@@ -81,24 +73,38 @@ pub fn setting_of(h: Header) -> Setting
 }
 
 // the constants in zeroed tables, and the line `fields N`
-pub fn begin(sp: &mut [u32], nodes: &mut [u32], output: &mut [u8], h: Header) -> Begun
+pub fn begin(
+    sp: &mut [u32],
+    nodes: &mut [u32],
+    output: &mut [u8],
+    h: Header,
+) -> Result<Place, Refusal>
     requires { Its.PreBegin sp.old nodes.old h }
     ensures { Its.PostBegin h result sp.old nodes.old output.old sp.new
         nodes.new output.new }
 {
-    let sp::Made::Node(_, a) = sp::start(sp, h.fields) else {
-        return Begun::Refused(20);
+    let mut sets = SPstore {
+        nodes: sp,
+        count: 0,
     };
-    let spp::Started::Store(_, b) = spp::start(nodes, h.fields) else {
-        return Begun::Refused(21);
+    let Ok(_) = sets.start(h.fields) else {
+        return Err(Refusal::Sp);
     };
-    let Answered::At(end) = book_writer::fields_answer(output, 0, h.fields) else {
-        return Begun::Refused(27);
+    let mut relations = SPPstore {
+        nodes,
+        count: 0,
+        fields: h.fields,
+    };
+    let Ok(_) = relations.start() else {
+        return Err(Refusal::Spp);
+    };
+    let Some(end) = book_writer::fields_answer(output, 0, h.fields) else {
+        return Err(Refusal::Output);
     };
     let place = Place {
         counts: Counts {
-            sp: a,
-            spp: b,
+            sp: sets.count,
+            spp: relations.count,
             states: 0,
             members: 0,
             transitions: 0,
@@ -106,5 +112,5 @@ pub fn begin(sp: &mut [u32], nodes: &mut [u32], output: &mut [u8], h: Header) ->
         lines: 0,
         output: end,
     };
-    Begun::At(place)
+    Ok(place)
 }

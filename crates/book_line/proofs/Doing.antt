@@ -40,6 +40,7 @@ use Rattle.book_reader.specs.Clauses.{rest, query_of, Says}
 use Rattle.book_reader.specs.declared.Cursor.{Cursor}
 use Rattle.book_reader.specs.declared.Query.{Query}
 use Rattle.book_reader.specs.declared.Said.{Said}
+use Rattle.std.specs.Prelude as code
 use Rattle.aut_query_stage.specs.Layer.{QueryReady}
 use Rattle.aut_query_stage.proofs.Layer.{Leaves, query_layer, by_ends}
 use Rattle.book_writer.specs.Clauses.{Put}
@@ -252,7 +253,7 @@ module _ (S : Setting) (m : Memory) (p : Place) (t : Told) (P : PrePerform S m p
 
 -- ---- a line that is read
 
-module _ (book : List ℕ) (S : Setting) (m : Memory) (p : Place) (c : Cursor) (P : PreObey book S m p c) {r : Said} (R : Says book (Reader.parse (rest book c)) r) where
+module _ (book : List ℕ) (S : Setting) (m : Memory) (p : Place) (c : Cursor) (P : PreObey book S m p c) {r : code.Option Said} (R : Says book (Reader.parse (rest book c)) r) where
   pub obey_told : PreTold book m.scratch p.lines S.config r
   obey_told = record { lines = P.standing.lines; room = omega (arith, P.standing.ready.ready.room, length-drop WORK m.scratch); few = P.standing.ready.ready.list; listed = R.listed }
 

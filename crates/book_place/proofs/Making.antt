@@ -5,8 +5,6 @@ use mathlib.Core.Option.{Option}
 use Prim.Native.Nat.{ℕ, ◌+◌, ◌≤◌, ◌<◌}
 use native.Mathlib.Omega.{arith}
 use lib.ListN.{length, set, length-drop}
-use Rattle.aut_steps.specs.Wf.{states}
-use Rattle.aut_steps.proofs.Meaning.{Is}
 use Rattle.aut_states.specs.declared.Config.{Config}
 use Rattle.aut_states.specs.declared.Counts.{Counts}
 use Rattle.aut_states.specs.declared.State.{State}

@@ -3,12 +3,12 @@ use mathlib.Core.Path.{◌≡◌, refl, sym, ◌∙◌, ap, subst}
 use mathlib.Core.Bool.{true, false}
 use mathlib.Core.List.{List, [], ◌∷◌, ◌++◌, append-nil, append_assoc}
 use mathlib.Core.Option.{Option, none, some}
-use Prim.Native.Nat.{ℕ, ◌+◌, ◌-◌, ◌≤◌, ◌<◌}
+use Prim.Native.Nat.{ℕ, ◌+◌, ◌≤◌, ◌<◌}
 use native.Mathlib.Omega.{arith}
 use lib.Dec.{ltb}
 use borrow.Author.Tests.{ltb-true, ltb-false}
 use Rattle.spp_steps.proofs.Laws.{by_test}
-use lib.ListN.{length, get_or, set, drop, length-append, length-drop}
+use lib.ListN.{length, get_or, set, length-append, length-drop}
 use lib.Seq.{drop-set-add}
 use Rattle.aut_steps.specs.Tables.{words}
 use Rattle.aut_steps.specs.Ascending.{All}
@@ -17,16 +17,11 @@ use Rattle.aut_steps.specs.Scratch.{Kept}
 use Rattle.aut_steps.proofs.Scratch.{kept_refl, kept_trans, kept_sets, words_append}
 use Rattle.book_steps.specs.Reader as Reader
 use Rattle.book_steps.specs.Reader.{given, giving, numbers, refuses}
-use Rattle.book_reader.specs.Clauses.{rest, behind, bad, taken, TakesNumber, counted}
-use Rattle.book_reader.specs.declared.Number.{Number}
-use Rattle.book_reader.specs.declared.Number.TheVariants as number_read
+use Rattle.book_reader.specs.Clauses.{rest, behind, bad, taken, TakesNumber}
+use Rattle.std.specs.Prelude as code
 use Rattle.book_reader.specs.declared.Cursor.{Cursor}
-use Rattle.book_reader.proofs.Saying.{number_by, number_within, numbers_behind, numbers_bad, list_is}
-use Rattle.book_place.specs.declared.Named.{Named}
-use Rattle.book_place.specs.declared.Named.TheVariants as named
-use Rattle.book_place.specs.declared.Operand.{Operand}
-use Rattle.book_place.specs.declared.Operand.TheVariants as operand
-use Rattle.book_place.specs.Clauses.{WORK, work, lines_of, Below, named_of, NamedIs, PreOperand, Took, Missed, no_number, no_line, PostOperand, PreOperands, PostOperands}
+use Rattle.book_reader.proofs.Saying.{numbers_behind, numbers_bad, list_is}
+use Rattle.book_place.specs.Clauses.{WORK, work, lines_of, Below, PreOperand, Took, Missed, no_number, no_line, PreOperands, PostOperands}
 use Rattle.book_place.proofs.Scratch.{kept_lines}
 
 -- ---- what follows of all names
@@ -85,7 +80,6 @@ none_left (a ∷ l) e = absurd (omega arith)
 pub record Reading (book : List ℕ) (k most : ℕ) (from : Cursor) (n : ℕ) (s₀ s : List ℕ) (c : Cursor) (i : ℕ) : Type 0 where
   pub pre : PreOperand book s k most c i
   pub kept : Kept WORK 64 s₀ s
-  pub len : length s ≡ length s₀
   pub states : List ℕ
   pub size : length states ≡ i
   pub all : List ℕ
@@ -102,7 +96,6 @@ unfolding words
 reading_begin {s = s} p = let l = list_is p.counted in record {
   pre = p.first;
   kept = kept_refl WORK 64 s;
-  len = refl;
   states = [];
   size = refl;
   all = l.list;
@@ -152,7 +145,6 @@ module _ {book : List ℕ} {k most : ℕ} {from : Cursor} {n : ℕ} {s₀ s : Li
     reading_again = record {
       pre = record { within = T.within; lines = v.pre.lines; room = omega (arith, v.pre.room); few = v.pre.few };
       kept = kept_trans v.kept kept_one;
-      len = len ∙ v.len;
       states = v.states ++ T.state ∷ [];
       size = omega (arith, length-append v.states (T.state ∷ []), v.size);
       all = v.all;
@@ -197,21 +189,12 @@ module _ {book : List ℕ} {k most : ℕ} {from : Cursor} {n : ℕ} {s₀ s : Li
 
 -- ---- one operand
 
-pub operand_no_number : {book : List ℕ} {k : ℕ} {c : Cursor} {s : List ℕ} {r : Number} → TakesNumber book c r → r ≡ number_read.Bad → Missed book k c s × (s ≡ s)
-operand_no_number T e = (no_number (number_by T e), refl)
+pub operand_no_line : {book : List ℕ} {k : ℕ} {c : Cursor} {s : List ℕ} {a : ℕ} {d : Cursor} → TakesNumber book c (code.Some (a, d)) → get_or (lines_of s k) a none ≡ none → Missed book k c s × (s ≡ s)
+operand_no_line T L = (no_line T.is L, refl)
 
-pub operand_no_line : {book : List ℕ} {k : ℕ} {c : Cursor} {s : List ℕ} {r : Number} → TakesNumber book c r → {a : ℕ} {d : Cursor} → r ≡ number_read.Is a d → {n : Named} → NamedIs s k a n → n ≡ named.Nothing → Missed book k c s × (s ≡ s)
-operand_no_line T e L f = (no_line (number_by T e) (L ∙ ap named_of f), refl)
-
-module _ {book : List ℕ} {k most i : ℕ} {c : Cursor} {s : List ℕ} {r : Number} (T : TakesNumber book c r) {a : ℕ} {d : Cursor} (e : r ≡ number_read.Is a d) {n : Named} (L : NamedIs s k a n) {x : ℕ} (f : n ≡ named.State x) where
+module _ {book : List ℕ} {k most i : ℕ} {c : Cursor} {s : List ℕ} {a : ℕ} {d : Cursor} (T : TakesNumber book c (code.Some (a, d))) {x : ℕ} (L : get_or (lines_of s k) a none ≡ some x) where
   pub operand_wrote : i < most → Took book k most c d i s (set s (WORK + i) x)
-  operand_wrote l = record { number = a; state = x; read = number_by T e; within = number_within T e; named = L ∙ ap named_of f; wrote = λ h. refl; left = λ h. absurd (omega arith) }
+  operand_wrote l = record { number = a; state = x; read = T.is; within = T.within; named = L; wrote = λ h. refl; left = λ h. absurd (omega arith) }
 
   pub operand_left : most ≤ i → Took book k most c d i s s
-  operand_left l = record { number = a; state = x; read = number_by T e; within = number_within T e; named = L ∙ ap named_of f; wrote = λ h. absurd (omega arith); left = λ h. refl }
-
-pub operand_bad : (book : List ℕ) (k most i : ℕ) (c : Cursor) (s s' : List ℕ) (r : Operand) → PostOperand book k most c i r s s' → r ≡ operand.Bad → Missed book k c s × (s' ≡ s)
-operand_bad book k most i c s s' r P e = subst (λ (x : Operand). PostOperand book k most c i x s s') e P
-
-pub operand_next : (book : List ℕ) (k most i : ℕ) (c : Cursor) (s s' : List ℕ) (r : Operand) → PostOperand book k most c i r s s' → {d : Cursor} → r ≡ operand.Next d → Took book k most c d i s s'
-operand_next book k most i c s s' r P e = subst (λ (x : Operand). PostOperand book k most c i x s s') e P
+  operand_left l = record { number = a; state = x; read = T.is; within = T.within; named = L; wrote = λ h. absurd (omega arith); left = λ h. refl }

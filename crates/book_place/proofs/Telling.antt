@@ -4,14 +4,14 @@ use mathlib.Core.Path.{◌≡◌, refl, sym, ◌∙◌, ap, ap₂, subst}
 use mathlib.Core.Bool.{Bool, true, false, ◌&&◌}
 use mathlib.Core.List.{List}
 use mathlib.Core.Option.{Option, none, some}
-use Prim.Native.Nat.{ℕ, zero, ◌+◌, ◌-◌, ◌≤◌, ◌<◌}
+use Prim.Native.Nat.{ℕ, ◌+◌, ◌-◌, ◌≤◌, ◌<◌}
 use native.Mathlib.Omega.{arith}
 use lib.Dec.{ltb, eqb}
 use lib.ListN.{length, get_or}
 use borrow.Author.Tests.{lt-ltb, le-ltb}
 use Rattle.common.specs.Outcome.{Outcome, refused}
 use Rattle.common.specs.Runs.{placed}
-use Rattle.aut_steps.specs.Tables.{Limits, Aut, words}
+use Rattle.aut_steps.specs.Tables.{Limits, Aut}
 use Rattle.aut_steps.specs.Ascending.{All}
 use Rattle.aut_steps.specs.Constructors.{mk_union_n, mk_intersect_n}
 use Rattle.aut_steps.proofs.Scratch.{kept_refl}
@@ -36,23 +36,22 @@ use Rattle.book_reader.specs.declared.Cursor.{Cursor}
 use Rattle.book_reader.specs.declared.Query.{Query}
 use Rattle.book_reader.specs.declared.Said.{Said}
 use Rattle.book_reader.specs.declared.Said.TheVariants as said
+use Rattle.std.specs.Prelude as code
 use Rattle.book_reader.proofs.Saying.{list_is}
-use Rattle.book_place.specs.declared.Named.{Named}
-use Rattle.book_place.specs.declared.Named.TheVariants as named
 use Rattle.book_place.specs.declared.Told.{Told}
 use Rattle.book_place.specs.declared.Told.TheVariants as told
-use Rattle.book_place.specs.Clauses.{LINES, WORK, work, lines_of, Below, named_of, NamedIs, Found, FoundBy, PreOperands, PostOperands, told_of, ToldReady, setting_by, Alike, TellsBit, TellsPair, TellsList, PreTold, PostTold}
+use Rattle.book_place.specs.Clauses.{LINES, WORK, work, lines_of, Below, NamedIs, Found, FoundBy, PreOperands, PostOperands, told_of, ToldReady, setting_by, Alike, TellsBit, TellsPair, TellsList, PreTold, PostTold}
 use Rattle.book_place.proofs.Scratch.{line_beyond, line_named, stands_zero, stands_some}
 
 -- ---- a name
 
-pub not_yet : (s : List ℕ) (k a : ℕ) → k ≤ a → NamedIs s k a named.Nothing
+pub not_yet : (s : List ℕ) (k a : ℕ) → k ≤ a → NamedIs s k a code.None
 not_yet s k a l = line_beyond s k a l
 
-pub a_query : (s : List ℕ) (k a : ℕ) → a < k → get_or s (LINES + a) 0 ≡ 0 → NamedIs s k a named.Nothing
+pub a_query : (s : List ℕ) (k a : ℕ) → a < k → get_or s (LINES + a) 0 ≡ 0 → NamedIs s k a code.None
 a_query s k a l e = line_named s k a l ∙ stands_zero (get_or s (LINES + a) 0) e
 
-pub a_state : (s : List ℕ) (k a : ℕ) → a < k → (get_or s (LINES + a) 0 ≡ 0 → ⊥) → NamedIs s k a (named.State (get_or s (LINES + a) 0 - 1))
+pub a_state : (s : List ℕ) (k a : ℕ) → a < k → (get_or s (LINES + a) 0 ≡ 0 → ⊥) → NamedIs s k a (code.Some (get_or s (LINES + a) 0 - 1))
 a_state s k a l n = line_named s k a l ∙ stands_some (get_or s (LINES + a) 0) n
 
 -- ---- test, set
@@ -74,15 +73,6 @@ module _ (N : ℕ) (w : Bit) (f v : ℕ) where
     ready = λ n s. record { asked = record { states = tt; field = l }; short = tt };
   }
 
--- ---- one name
-
-module _ (s : List ℕ) (k a : ℕ) {r : Named} (M : NamedIs s k a r) where
-  found : {x : ℕ} → r ≡ named.State x → get_or (lines_of s k) a none ≡ some x
-  found e = M ∙ ap named_of e
-
-  missed : r ≡ named.Nothing → get_or (lines_of s k) a none ≡ none
-  missed e = M ∙ ap named_of e
-
 -- ---- two
 
 module _ (s : List ℕ) (k : ℕ) (w : Pair) (a b : ℕ) where
@@ -91,19 +81,18 @@ module _ (s : List ℕ) (k : ℕ) (w : Pair) (a b : ℕ) where
   unfolding resolve
   pair_by N e f = ap₂ (λ (o p : Option ℕ). given N (lines_of s k) o (λ x. given N (lines_of s k) p (λ y. makes (Lines.pair (pair_of w) x y)))) e f
 
-  module _ {q : Named} (A : NamedIs s k a q) where
-    pub pair_no_first : q ≡ named.Nothing → TellsPair s k w a b (told.Refuses 4)
-    pair_no_first e = record { is = λ N s'. pair_by N (missed s k a A e) refl; ready = λ N n s' B. tt }
+  pub pair_no_first : get_or (lines_of s k) a none ≡ none → TellsPair s k w a b (told.Refuses 4)
+  pair_no_first e = record { is = λ N s'. pair_by N e refl; ready = λ N n s' B. tt }
 
-    module _ {x : ℕ} (e : q ≡ named.State x) {r : Named} (C : NamedIs s k b r) where
-      pub pair_no_second : r ≡ named.Nothing → TellsPair s k w a b (told.Refuses 4)
-      pair_no_second f = record { is = λ N s'. pair_by N (found s k a A e) (missed s k b C f); ready = λ N n s' B. tt }
+  module _ {x : ℕ} (e : get_or (lines_of s k) a none ≡ some x) where
+    pub pair_no_second : get_or (lines_of s k) b none ≡ none → TellsPair s k w a b (told.Refuses 4)
+    pair_no_second f = record { is = λ N s'. pair_by N e f; ready = λ N n s' B. tt }
 
-      pub pair_makes : {y : ℕ} → r ≡ named.State y → TellsPair s k w a b (told.Makes (line.Pair w x y))
-      pair_makes {y} f = record {
-        is = λ N s'. pair_by N (found s k a A e) (found s k b C f);
-        ready = λ N n s' B. record { asked = record { states = (B a x (found s k a A e), (B b y (found s k b C f), tt)); field = tt }; short = tt };
-      }
+    pub pair_makes : {y : ℕ} → get_or (lines_of s k) b none ≡ some y → TellsPair s k w a b (told.Makes (line.Pair w x y))
+    pair_makes {y} f = record {
+      is = λ N s'. pair_by N e f;
+      ready = λ N n s' B. record { asked = record { states = (B a x e, (B b y f, tt)); field = tt }; short = tt };
+    }
 
 -- ---- any number
 
@@ -162,7 +151,7 @@ module _ (book : List ℕ) (k : ℕ) (config : Config) (s : List ℕ) where
   unfolding resolve
   query_by q a f = ap (λ (o : Option ℕ). given config.fields (lines_of s k) o (λ x. asks (query_of q) a x)) f
 
-  module _ {r : Said} where
+  module _ {r : code.Option Said} where
     -- a line that writes no list
     plain : {t : Told} (x : Reader.Instruction) → said_of book r ≡ some x → ((s' : List ℕ) → resolve config.fields (lines_of s k) x ≡ told_of s' t) → ((n : ℕ) → Below n (lines_of s k) → ToldReady config.fields n (work s) t)
         → PostTold book k config r t s s
@@ -173,31 +162,32 @@ module _ (book : List ℕ) (k : ℕ) (config : Config) (s : List ℕ) where
       ready = g;
     }
 
-    pub told_constant : {w : Constant} → r ≡ said.Constant w → PostTold book k config r (told.Makes (line.Constant w)) s s
+    pub told_constant : {w : Constant} → r ≡ code.Some (said.Constant w) → PostTold book k config r (told.Makes (line.Constant w)) s s
     unfolding resolve
     told_constant {w} e = plain (Reader.constant (constant_of w)) (ap (said_of book) e) (λ s'. refl) (λ n B. record { asked = record { states = tt; field = tt }; short = tt })
 
-    pub told_bit : {w : Bit} {f v : ℕ} {t : Told} → r ≡ said.Bit w f v → TellsBit config.fields w f v t → PostTold book k config r t s s
+    pub told_bit : {w : Bit} {f v : ℕ} {t : Told} → r ≡ code.Some (said.Bit w f v) → TellsBit config.fields w f v t → PostTold book k config r t s s
     told_bit {w} {f} {v} e T = plain (Reader.bit (bit_of w) f v) (ap (said_of book) e) (T.is (lines_of s k)) (λ n B. T.ready n (work s))
 
-    pub told_pair : {w : Pair} {a b : ℕ} {t : Told} → r ≡ said.Pair w a b → TellsPair s k w a b t → PostTold book k config r t s s
+    pub told_pair : {w : Pair} {a b : ℕ} {t : Told} → r ≡ code.Some (said.Pair w a b) → TellsPair s k w a b t → PostTold book k config r t s s
     told_pair {w} {a} {b} e T = plain (Reader.pair (pair_of w) a b) (ap (said_of book) e) (T.is config.fields) (λ n B. T.ready config.fields n (work s) B)
 
-    module _ {a : ℕ} {q : Named} (M : NamedIs s k a q) where
-      pub told_single : {w : Single} {x : ℕ} → r ≡ said.Single w a → q ≡ named.State x → PostTold book k config r (told.Makes (line.Single w x)) s s
-      told_single {w} {x} e f = plain (Reader.single (single_of w) a) (ap (said_of book) e) (λ s'. single_by w a (found s k a M f))
-          (λ n B. record { asked = record { states = (B a x (found s k a M f), tt); field = tt }; short = tt })
+    module _ {a : ℕ} {x : ℕ} (M : get_or (lines_of s k) a none ≡ some x) where
+      pub told_single : {w : Single} → r ≡ code.Some (said.Single w a) → PostTold book k config r (told.Makes (line.Single w x)) s s
+      told_single {w} e = plain (Reader.single (single_of w) a) (ap (said_of book) e) (λ s'. single_by w a M)
+          (λ n B. record { asked = record { states = (B a x M, tt); field = tt }; short = tt })
 
-      pub told_no_single : {w : Single} → r ≡ said.Single w a → q ≡ named.Nothing → PostTold book k config r (told.Refuses 4) s s
-      told_no_single {w} e f = plain (Reader.single (single_of w) a) (ap (said_of book) e) (λ s'. single_by w a (missed s k a M f)) (λ n B. tt)
+      pub told_query : {w : Query} → r ≡ code.Some (said.Query w a) → PostTold book k config r (told.Asks w a x) s s
+      told_query {w} e = plain (Reader.query (query_of w) a) (ap (said_of book) e) (λ s'. query_by w a M) (λ n B. B a x M)
 
-      pub told_query : {w : Query} {x : ℕ} → r ≡ said.Query w a → q ≡ named.State x → PostTold book k config r (told.Asks w a x) s s
-      told_query {w} {x} e f = plain (Reader.query (query_of w) a) (ap (said_of book) e) (λ s'. query_by w a (found s k a M f)) (λ n B. B a x (found s k a M f))
+    module _ {a : ℕ} (M : get_or (lines_of s k) a none ≡ none) where
+      pub told_no_single : {w : Single} → r ≡ code.Some (said.Single w a) → PostTold book k config r (told.Refuses 4) s s
+      told_no_single {w} e = plain (Reader.single (single_of w) a) (ap (said_of book) e) (λ s'. single_by w a M) (λ n B. tt)
 
-      pub told_no_query : {w : Query} → r ≡ said.Query w a → q ≡ named.Nothing → PostTold book k config r (told.Refuses 4) s s
-      told_no_query {w} e f = plain (Reader.query (query_of w) a) (ap (said_of book) e) (λ s'. query_by w a (missed s k a M f)) (λ n B. tt)
+      pub told_no_query : {w : Query} → r ≡ code.Some (said.Query w a) → PostTold book k config r (told.Refuses 4) s s
+      told_no_query {w} e = plain (Reader.query (query_of w) a) (ap (said_of book) e) (λ s'. query_by w a M) (λ n B. tt)
 
-    pub told_none : r ≡ said.Bad → PostTold book k config r (told.Refuses 3) s s
+    pub told_none : r ≡ code.None → PostTold book k config r (told.Refuses 3) s s
     told_none e = record {
       kept = kept_refl WORK 64 s;
       is = λ b i m τ out. ap (λ (o : Option Reader.Instruction). step (setting_by config.fields b (limits_of config.limits) i m) o (place τ (lines_of s k) out)) (ap (said_of book) e);
@@ -205,7 +195,7 @@ module _ (book : List ℕ) (k : ℕ) (config : Config) (s : List ℕ) where
     }
 
     -- a list
-    module _ {w : Listed} {c : Cursor} {n : ℕ} (e : r ≡ said.Listed w c n) (p : PreTold book s k config r) where
+    module _ {w : Listed} {c : Cursor} {n : ℕ} (e : r ≡ code.Some (said.Listed w c n)) (p : PreTold book s k config r) where
       pub list_ready : PreOperands book s k config.limits.list c n
       list_ready = let (a, b) = subst (SaidListed book) e p.listed in
           record { first = record { within = a; lines = p.lines; room = p.room; few = p.few }; counted = b }

@@ -1,5 +1,6 @@
 -- 01, "The book and its answers": a place of a book that runs, in code. What the table of lines says, when a place is in order, what a line is told to do by the names in it, and a constructor line.
 use Rattle.std.specs.Prelude.{◌≡◌, Bool, true, false, List, [], ◌∷◌, ◌++◌, ℕ, zero, suc, ◌+◌, ◌/◌, ◌≤◌, ◌<◌, length, get_or, set, take, drop}
+use Rattle.std.specs.Prelude as code
 use Rattle.std.proofs.Math.Option.{Option, none, some}
 use Rattle.aut_steps.specs.Tables.{Limits, Aut, words}
 use Rattle.aut_steps.specs.Wf.{states}
@@ -23,16 +24,12 @@ use Rattle.book_words.specs.declared.Bit.{Bit}
 use Rattle.book_words.specs.declared.Pair.{Pair}
 use Rattle.book_words.specs.declared.Listed.{Listed}
 use Rattle.book_construct.specs.declared.Line as line
-use Rattle.book_reader.specs.Clauses.{rest, Within, behind, bad, taken, counted, query_of, said_of, SaidListed}
+use Rattle.book_reader.specs.Clauses.{value_of, rest, Within, behind, bad, taken, counted, query_of, said_of, SaidListed}
 use Rattle.book_reader.specs.declared.Cursor.{Cursor}
 use Rattle.book_reader.specs.declared.Said.{Said}
 use Rattle.aut_query_stage.specs.Layer.{tables_of, QueryReady, Zeroed}
 use Rattle.book_place.specs.declared.Setting.{Setting}
 use Rattle.book_place.specs.declared.Place.{Place}
-use Rattle.book_place.specs.declared.Named.{Named}
-use Rattle.book_place.specs.declared.Named.TheVariants as named
-use Rattle.book_place.specs.declared.Operand.{Operand}
-use Rattle.book_place.specs.declared.Operand.TheVariants as operand
 use Rattle.book_place.specs.declared.Told.{Told}
 use Rattle.book_place.specs.declared.Told.TheVariants as told
 
@@ -63,12 +60,8 @@ Below n lines = (a x : ℕ) → get_or lines a none ≡ some x → x < n
 
 -- ---- names
 
-abbrev pub named_of : Named → Option ℕ
-named_of (named.State x) = some x
-named_of named.Nothing = none
-
-abbrev pub NamedIs : List ℕ → ℕ → ℕ → Named → Type 0
-NamedIs s k a r = get_or (lines_of s k) a none ≡ named_of r
+abbrev pub NamedIs : List ℕ → ℕ → ℕ → code.Option ℕ → Type 0
+NamedIs s k a r = get_or (lines_of s k) a none ≡ value_of r
 
 -- an operand at c can be read, and a word written
 pub record PreOperand (book s : List ℕ) (k most : ℕ) (c : Cursor) (i : ℕ) : Type 0 where
@@ -92,9 +85,9 @@ pub data Missed (book : List ℕ) (k : ℕ) (c : Cursor) (s : List ℕ) : Type 0
   no_number : taken (rest book c) ≡ bad → Missed book k c s
   no_line : {a : ℕ} {vs : List (List ℕ)} → taken (rest book c) ≡ behind a vs → get_or (lines_of s k) a none ≡ none → Missed book k c s
 
-abbrev pub PostOperand : List ℕ → ℕ → ℕ → Cursor → ℕ → Operand → List ℕ → List ℕ → Type 0
-PostOperand book k most c i (operand.Next d) s s' = Took book k most c d i s s'
-PostOperand book k most c i operand.Bad s s' = Missed book k c s × (s' ≡ s)
+abbrev pub PostOperand : List ℕ → ℕ → ℕ → Cursor → ℕ → code.Option Cursor → List ℕ → List ℕ → Type 0
+PostOperand book k most c i (code.Some d) s s' = Took book k most c d i s s'
+PostOperand book k most c i code.None s s' = Missed book k c s × (s' ≡ s)
 
 pub record PreOperands (book s : List ℕ) (k most : ℕ) (c : Cursor) (n : ℕ) : Type 0 where
   pub first : PreOperand book s k most c 0
@@ -150,13 +143,13 @@ pub record TellsList (book : List ℕ) (k most : ℕ) (w : Listed) (c : Cursor) 
   pub is : (N : ℕ) (L : Limits) (l : List ℕ) → L.list ≡ most → numbers (rest book c) ≡ some l → Alike N L (lines_of s k) (resolve N (lines_of s k) (Reader.listed (listed_of w) l)) (told_of (work s') r)
   pub ready : (N n : ℕ) → Below n (lines_of s k) → ToldReady N n (work s') r
 
-pub record PreTold (book s : List ℕ) (k : ℕ) (config : Config) (said : Said) : Type 0 where
+pub record PreTold (book s : List ℕ) (k : ℕ) (config : Config) (said : code.Option Said) : Type 0 where
   pub lines : LINES + k ≤ WORK
   pub room : WORK + 64 ≤ length s
   pub few : config.limits.list ≤ 64
   pub listed : SaidListed book said
 
-pub record PostTold (book : List ℕ) (k : ℕ) (config : Config) (said : Said) (r : Told) (s s' : List ℕ) : Type 0 where
+pub record PostTold (book : List ℕ) (k : ℕ) (config : Config) (said : code.Option Said) (r : Told) (s s' : List ℕ) : Type 0 where
   pub kept : Kept WORK 64 s s'
   pub is : (b e m : ℕ) (τ : Tables) (out : List ℕ) → step (setting_by config.fields b (limits_of config.limits) e m) (said_of book said) (place τ (lines_of s k) out)
       ≡ execute (setting_by config.fields b (limits_of config.limits) e m) (told_of (work s') r) (place τ (lines_of s k) out)

@@ -8,7 +8,7 @@ ghost use Rattle.book_place.specs.Clauses.{NamedIs, PreOperand, PostOperand, Pre
 
 use aut_states::{Config, Counts, State};
 use book_construct::Line;
-use book_reader::{Cursor, Number, Query, Said};
+use book_reader::{Cursor, Query, Said};
 use book_words::{Bit, Listed, Pair};
 
 // Two places in scratch: the table of lines, a constructor line's state + 1, a query's 0; and behind it told is lent on as the scratch of the steps.
@@ -31,19 +31,6 @@ pub struct Place {
     pub output: usize,
 }
 
-#[derive(Clone, Copy)]
-pub enum Named {
-    State(u32),
-    Nothing,
-}
-
-// behind the operand; or it is no earlier constructor line
-#[derive(Clone, Copy)]
-pub enum Operand {
-    Next(Cursor),
-    Bad,
-}
-
 // a constructor line; a query, of the line named, with its state; or 01's number
 #[derive(Clone, Copy)]
 pub enum Told {
@@ -54,23 +41,23 @@ pub enum Told {
 
 // ---- names
 
-// told line a stands for, of the first k lines
-fn look_up(scratch: &[u32], k: usize, a: u64) -> Named
+// the state that line a stands for, of the first k lines
+fn look_up(scratch: &[u32], k: usize, a: u64) -> Option<u32>
     requires { Its.LINES + k ≤ length scratch.now }
     ensures { NamedIs scratch.now k a result }
 {
     if a >= k as u64 {
-        return Named::Nothing;
+        return None;
     }
     let i = LINES + a as usize;
     let w = scratch[i];
     if w == 0 {
-        return Named::Nothing;
+        return None;
     }
-    Named::State(w - 1)
+    Some(w - 1)
 }
 
-// operand i of a list: its state is word i of the steps' scratch, as far as a list may be long
+// behind operand i of a list: its state is word i of the steps' scratch, as far as a list may be long; none if it is no earlier constructor line
 fn read_operand(
     book: &[u8],
     scratch: &mut [u32],
@@ -78,22 +65,18 @@ fn read_operand(
     most: usize,
     c: Cursor,
     i: usize,
-) -> Operand
+) -> Option<Cursor>
     requires { PreOperand book.now scratch.old k most c i }
     ensures { PostOperand book.now k most c i result scratch.old scratch.new }
 {
-    let Number::Is(a, next) = c.number(book) else {
-        return Operand::Bad;
-    };
-    let Named::State(x) = look_up(scratch, k, a) else {
-        return Operand::Bad;
-    };
+    let (a, next) = c.number(book)?;
+    let x = look_up(scratch, k, a)?;
     if i < most {
         let at = WORK + i;
         scratch[at] = x;
-        return Operand::Next(next);
+        return Some(next);
     }
-    Operand::Next(next)
+    Some(next)
 }
 
 // whether all of a list's n operands are earlier constructor lines
@@ -102,13 +85,11 @@ fn operands(book: &[u8], scratch: &mut [u32], k: usize, most: usize, from: Curso
     ensures { PostOperands book.now k most from n result scratch.old scratch.new }
 {
     let mut c = from;
-    let mut i = 0;
-    while i < n {
-        let Operand::Next(next) = read_operand(book, scratch, k, most, c, i) else {
+    for i in 0..n {
+        let Some(next) = read_operand(book, scratch, k, most, c, i) else {
             return false;
         };
         c = next;
-        i += 1;
     }
     true
 }
@@ -131,10 +112,10 @@ fn told_pair(scratch: &[u32], k: usize, w: Pair, a: u64, b: u64) -> Told
     requires { Its.LINES + k ≤ length scratch.now }
     ensures { Its.TellsPair scratch.now k w a b result }
 {
-    let Named::State(x) = look_up(scratch, k, a) else {
+    let Some(x) = look_up(scratch, k, a) else {
         return Told::Refuses(4);
     };
-    let Named::State(y) = look_up(scratch, k, b) else {
+    let Some(y) = look_up(scratch, k, b) else {
         return Told::Refuses(4);
     };
     Told::Makes(Line::Pair(w, x, y))
@@ -162,24 +143,26 @@ fn told_list(
     Told::Makes(Line::Listed(w, n))
 }
 
-pub fn tell(book: &[u8], scratch: &mut [u32], k: usize, config: Config, said: Said) -> Told
+pub fn tell(book: &[u8], scratch: &mut [u32], k: usize, config: Config, said: Option<Said>) -> Told
     requires { Its.PreTold book.now scratch.old k config said }
     ensures { PostTold book.now k config said result scratch.old scratch.new }
 {
+    let Some(said) = said else {
+        return Told::Refuses(3);
+    };
     match said {
         Said::Constant(w) => Told::Makes(Line::Constant(w)),
         Said::Bit(w, f, v) => told_bit(config.fields, w, f, v),
         Said::Single(w, a) => match look_up(scratch, k, a) {
-            Named::State(x) => Told::Makes(Line::Single(w, x)),
-            Named::Nothing => Told::Refuses(4),
+            Some(x) => Told::Makes(Line::Single(w, x)),
+            None => Told::Refuses(4),
         },
         Said::Pair(w, a, b) => told_pair(scratch, k, w, a, b),
         Said::Listed(w, c, n) => told_list(book, scratch, k, config.limits.list, w, c, n),
         Said::Query(q, a) => match look_up(scratch, k, a) {
-            Named::State(x) => Told::Asks(q, a as usize, x),
-            Named::Nothing => Told::Refuses(4),
+            Some(x) => Told::Asks(q, a as usize, x),
+            None => Told::Refuses(4),
         },
-        Said::Bad => Told::Refuses(3),
     }
 }
 

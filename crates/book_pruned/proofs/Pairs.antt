@@ -18,8 +18,7 @@ use Rattle.book_steps.specs.Answers.{pair_lines, pruned_answer}
 use Rattle.aut_sets.specs.Clauses.{NotesBehind}
 use Rattle.book_writer.specs.Clauses.{Put, Answers, pair_line, pruned_head}
 use Rattle.book_writer.proofs.Contracts.{put_append, pairs_are}
-use Rattle.book_writer.specs.declared.Answered.{Answered}
-use Rattle.book_writer.specs.declared.Answered.TheVariants as answered
+use Rattle.std.specs.Prelude.{Option, Some, None}
 use Rattle.book_pruned.specs.Clauses.{told, PrePairs, PostNumber, PostLength, PrePut, PostPairs, PostPruned}
 
 pub notes_none : {P : Valid} {s : List ℕ} → NotesBehind P s s
@@ -71,34 +70,30 @@ module _ (N : ℕ) (t : Table) (m : ℕ) where
   -- the lines of i transitions are `total` long
   pub record Summed (s₀ s : List ℕ) (total i : ℕ) : Type 0 where
     pub pairs : PrePairs N t s m
-    pub len : length s ≡ length s₀
     pub left : noted s₀ s
-    pub done : i ≤ m
     pub is : length (all s₀) ≡ total + length (from s₀ i)
     pub most : total ≤ 47 * i
 
   pub summed_begin : {s : List ℕ} → PrePairs N t s m → Summed s s 0 0
-  summed_begin {s} p = record { pairs = p; len = refl; left = notes_none; done = omega arith; is = omega (arith, ap length (from_all s)); most = omega arith }
+  summed_begin {s} p = record { pairs = p; left = notes_none; is = omega (arith, ap length (from_all s)); most = omega arith }
 
   pub summed_again : {s₀ s s' : List ℕ} {total i n r : ℕ} → Summed s₀ s total i → i < m → length s' ≡ length s → PostNumber N t i n s s'
       → (r ≡ length (pair_line (get_or s (2 * (RESULT + i)) 0) n)) × (r ≤ 47) → Summed s₀ s' (total + r) (i + 1)
   summed_again {s₀} {s} {s'} {total} {i} {n} {r} v l len P (a, b) = record {
     pairs = pairs_later v.pairs P.left len;
-    len = len ∙ v.len;
     left = notes_on v.left P.left;
-    done = omega arith;
     is = v.is ∙ omega (arith, ap length this, length-append (pair_line (get_or s (2 * (RESULT + i)) 0) n) (from s₀ (i + 1)), a);
     most = omega (arith, v.most, b);
   }
     where
       this : from s₀ i ≡ pair_line (get_or s (2 * (RESULT + i)) 0) n ++ from s₀ (i + 1)
-      this = sym (from_noted i v.pairs.most v.done v.left) ∙ from_next s i l ∙ ap (λ (k : ℕ). pair_line (get_or s (2 * (RESULT + i)) 0) k ++ from s (i + 1)) (sym P.is)
+      this = sym (from_noted i v.pairs.most (omega arith) v.left) ∙ from_next s i l ∙ ap (λ (k : ℕ). pair_line (get_or s (2 * (RESULT + i)) 0) k ++ from s (i + 1)) (sym P.is)
           ∙ ap (λ (bs : List ℕ). pair_line (get_or s (2 * (RESULT + i)) 0) n ++ bs) (from_noted (i + 1) v.pairs.most (omega arith) v.left)
 
-  pub summed_end : {s₀ s : List ℕ} {total i : ℕ} → Summed s₀ s total i → m ≤ i → PostLength N t m total s₀ s
-  summed_end {s₀} {s} {total} {i} v l = record {
+  pub summed_end : {s₀ s : List ℕ} {total i : ℕ} → Summed s₀ s total i → i ≤ m → m ≤ i → PostLength N t m total s₀ s
+  summed_end {s₀} {s} {total} {i} v d l = record {
     is = omega (arith, v.is, ap length (from_none s₀ i l));
-    most = omega (arith, v.most, v.done);
+    most = omega (arith, v.most);
     left = v.left;
   }
 
@@ -107,9 +102,7 @@ module _ (N : ℕ) (t : Table) (m : ℕ) where
   -- the lines of i transitions stand in the output, up to `end`
   pub record Placed (s₀ out₀ : List ℕ) (at : ℕ) (s out : List ℕ) (end i : ℕ) : Type 0 where
     pub pairs : PrePairs N t s m
-    pub len : length s ≡ length s₀
     pub left : noted s₀ s
-    pub done : i ≤ m
     pub bytes : List ℕ
     pub put : Put at bytes end out₀ out
     pub is : all s₀ ≡ bytes ++ from s₀ i
@@ -118,7 +111,7 @@ module _ (N : ℕ) (t : Table) (m : ℕ) where
   put_none at out l = record { behind = omega arith; room = l; wrote = record { len = refl; is = λ i k. absurd (omega arith); below = λ i k. refl; above = λ i k. refl } }
 
   pub placed_begin : {s out : List ℕ} {at : ℕ} → PrePut N t s out at m → Placed s out at s out at 0
-  placed_begin {s} {out} {at} p = record { pairs = p.pairs; len = refl; left = notes_none; done = omega arith; bytes = []; put = put_none at out (omega (arith, p.fits)); is = sym (from_all s) }
+  placed_begin {s} {out} {at} p = record { pairs = p.pairs; left = notes_none; bytes = []; put = put_none at out (omega (arith, p.fits)); is = sym (from_all s) }
 
   module _ {s₀ out₀ : List ℕ} {at : ℕ} {s out : List ℕ} {end i : ℕ} (p : PrePut N t s₀ out₀ at m) (v : Placed s₀ out₀ at s out end i) where
     module _ (l : i < m) {n : ℕ} {s' : List ℕ} (P : PostNumber N t i n s s') where
@@ -126,7 +119,7 @@ module _ (N : ℕ) (t : Table) (m : ℕ) where
       row = pair_line (get_or s (2 * (RESULT + i)) 0) n
 
       next : from s₀ i ≡ row ++ from s₀ (i + 1)
-      next = sym (from_noted i v.pairs.most v.done v.left) ∙ from_next s i l ∙ ap (λ (k : ℕ). pair_line (get_or s (2 * (RESULT + i)) 0) k ++ from s (i + 1)) (sym P.is)
+      next = sym (from_noted i v.pairs.most (omega arith) v.left) ∙ from_next s i l ∙ ap (λ (k : ℕ). pair_line (get_or s (2 * (RESULT + i)) 0) k ++ from s (i + 1)) (sym P.is)
           ∙ ap (λ (bs : List ℕ). row ++ bs) (from_noted (i + 1) v.pairs.most (omega arith) v.left)
 
       whole : all s₀ ≡ (v.bytes ++ row) ++ from s₀ (i + 1)
@@ -135,18 +128,16 @@ module _ (N : ℕ) (t : Table) (m : ℕ) where
       fits : end + length row ≤ length out
       fits = omega (arith, p.fits, ap length whole, length-append (v.bytes ++ row) (from s₀ (i + 1)), length-append v.bytes row, v.put.behind, v.put.wrote.len)
 
-      module _ {r : Answered} (out' : List ℕ) (A : Answers row end r out out') where
-        pub never_full : r ≡ answered.Full → ⊥
-        never_full f = let (a, b) = subst (λ (x : Answered). Answers row end x out out') f A in omega (arith, fits)
+      module _ {r : Option ℕ} (out' : List ℕ) (A : Answers row end r out out') where
+        pub never_full : r ≡ None → ⊥
+        never_full f = let (a, b) = subst (λ (x : Option ℕ). Answers row end x out out') f A in omega (arith, fits)
 
-        pub placed_again : {e : ℕ} → r ≡ answered.At e → length s' ≡ length s → Placed s₀ out₀ at s' out' e (i + 1)
+        pub placed_again : {e : ℕ} → r ≡ Some e → length s' ≡ length s → Placed s₀ out₀ at s' out' e (i + 1)
         placed_again {e} f len = record {
           pairs = pairs_later v.pairs P.left len;
-          len = len ∙ v.len;
           left = notes_on v.left P.left;
-          done = omega arith;
           bytes = v.bytes ++ row;
-          put = put_append v.put (subst (λ (x : Answered). Answers row end x out out') f A);
+          put = put_append v.put (subst (λ (x : Option ℕ). Answers row end x out out') f A);
           is = whole;
         }
 
@@ -173,16 +164,16 @@ module _ (N : ℕ) (t : Table) (at : ℕ) (name : List ℕ) (m : ℕ) (s out : L
     whole_size : length (pruned_answer name (told N t (edges s RESULT m))) ≡ h + n
     whole_size = ap length head_is ∙ omega (arith, length-append (pruned_head name m) (pair_lines (told N t (edges s RESULT m))), H.0, L.is)
 
-    pub pruned_short : length out < at + (h + n) → PostPruned N t at name m answered.Full s s' out out
+    pub pruned_short : length out < at + (h + n) → PostPruned N t at name m None s s' out out
     pruned_short l = record { answers = (omega (arith, whole_size), refl); left = L.left }
 
-    module _ (room : at + (h + n) ≤ length out) {r : Answered} (out' : List ℕ) (A : Answers (pruned_head name m) at r out out') where
-      pub head_fits_lem : r ≡ answered.Full → ⊥
-      head_fits_lem f = let (a, b) = subst (λ (x : Answered). Answers (pruned_head name m) at x out out') f A in omega (arith, H.0)
+    module _ (room : at + (h + n) ≤ length out) {r : Option ℕ} (out' : List ℕ) (A : Answers (pruned_head name m) at r out out') where
+      pub head_fits_lem : r ≡ None → ⊥
+      head_fits_lem f = let (a, b) = subst (λ (x : Option ℕ). Answers (pruned_head name m) at x out out') f A in omega (arith, H.0)
 
-      module _ {e : ℕ} (f : r ≡ answered.At e) (len : length s' ≡ length s) where
+      module _ {e : ℕ} (f : r ≡ Some e) (len : length s' ≡ length s) where
         head_put : Put at (pruned_head name m) e out out'
-        head_put = subst (λ (x : Answered). Answers (pruned_head name m) at x out out') f A
+        head_put = subst (λ (x : Option ℕ). Answers (pruned_head name m) at x out out') f A
 
         same : edges s' RESULT m ≡ edges s RESULT m
         same = edges_noted N t m p.most L.left
@@ -193,7 +184,7 @@ module _ (N : ℕ) (t : Table) (at : ℕ) (name : List ℕ) (m : ℕ) (s out : L
           fits = omega (arith, ap (λ (es : List Edge). length (pair_lines (told N t es))) same, L.is, H.0, head_put.behind, head_put.wrote.len);
         }
 
-        pub pruned_whole : {e' : ℕ} {s'' out'' : List ℕ} → PostPairs N t e m e' s' s'' out' out'' → PostPruned N t at name m (answered.At e') s s'' out out''
+        pub pruned_whole : {e' : ℕ} {s'' out'' : List ℕ} → PostPairs N t e m e' s' s'' out' out'' → PostPruned N t at name m (Some e') s s'' out out''
         pruned_whole {e'} {s''} {out''} Q = record {
           answers = subst (λ (bs : List ℕ). Put at bs e' out out'') (sym head_is)
               (put_append head_put (subst (λ (es : List Edge). Put e (pair_lines (told N t es)) e' out' out'') same Q.put));

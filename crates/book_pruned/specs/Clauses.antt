@@ -12,7 +12,7 @@ use Rattle.book_steps.specs.Answers.{Pairs, pair_lines, pruned_answer}
 use Rattle.aut_relations.specs.Behind.{LISTS, cached}
 use Rattle.aut_sets.specs.Clauses.{NotesBehind}
 use Rattle.book_writer.specs.Clauses.{Put, Answers}
-use Rattle.book_writer.specs.declared.Answered.{Answered}
+use Rattle.std.specs.Prelude.{Option}
 
 -- what the lines of the transitions tell
 abbrev pub told : ℕ → Table → List Edge → List Pairs
@@ -44,6 +44,6 @@ pub record PostPairs (N : ℕ) (t : Table) (at m r : ℕ) (s s' out out' : List 
   pub put : Put at (pair_lines (told N t (edges s RESULT m))) r out out'
   pub left : NotesBehind (OnlyCodes 17 17 (Counted t)) s s'
 
-pub record PostPruned (N : ℕ) (t : Table) (at : ℕ) (name : List ℕ) (m : ℕ) (r : Answered) (s s' out out' : List ℕ) : Type 0 where
+pub record PostPruned (N : ℕ) (t : Table) (at : ℕ) (name : List ℕ) (m : ℕ) (r : Option ℕ) (s s' out out' : List ℕ) : Type 0 where
   pub answers : Answers (pruned_answer name (told N t (edges s RESULT m))) at r out out'
   pub left : NotesBehind (OnlyCodes 17 17 (Counted t)) s s'

@@ -6,7 +6,6 @@ ghost use Rattle.common.specs.Runs.{table};
 ghost use Rattle.book_pruned.specs.Clauses.{PrePairs, PostNumber, PostLength, PrePut, PostPairs, PostPruned};
 
 use aut_states::Counts;
-use book_writer::Answered;
 use spp::SPP;
 
 // the number of packet pairs in the label of transition i
@@ -26,12 +25,10 @@ fn pairs_length(nodes: &[u32], scratch: &mut [u32], c: Counts, fields: u32, m: u
         scratch.new }
 {
     let mut total = 0;
-    let mut i = 0;
-    while i < m {
+    for i in 0..m {
         let target = scratch[2 * (aut_st_insert::RESULT + i)];
         let n = number_at(nodes, scratch, c, fields, m, i);
         total += book_writer::pair_length(target, n);
-        i += 1;
     }
     total
 }
@@ -51,15 +48,13 @@ fn put_pairs(
         scratch.new output.old output.new }
 {
     let mut end = at;
-    let mut i = 0;
-    while i < m {
+    for i in 0..m {
         let target = scratch[2 * (aut_st_insert::RESULT + i)];
         let n = number_at(nodes, scratch, c, fields, m, i);
-        let Answered::At(next) = book_writer::pair_line(output, end, target, n) else {
+        let Some(next) = book_writer::pair_line(output, end, target, n) else {
             return end;
         };
         end = next;
-        i += 1;
     }
     end
 }
@@ -74,18 +69,16 @@ pub fn pruned_answer(
     at: usize,
     name: &[u8],
     m: usize,
-) -> Answered
+) -> Option<usize>
     requires { PrePairs fields (table nodes.now c.spp) scratch.old m × (at ≤ length output.old) }
     ensures { PostPruned fields (table nodes.now c.spp) at name.now m result
         scratch.old scratch.new output.old output.new }
 {
     let n = book_writer::head_length(name, m) + pairs_length(nodes, scratch, c, fields, m);
     if output.len() - at < n {
-        return Answered::Full;
+        return None;
     }
-    let Answered::At(next) = book_writer::pruned_head(output, at, name, m) else {
-        return Answered::Full;
-    };
+    let next = book_writer::pruned_head(output, at, name, m)?;
     let end = put_pairs(nodes, scratch, output, c, fields, next, m);
-    Answered::At(end)
+    Some(end)
 }

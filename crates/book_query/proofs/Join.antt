@@ -22,8 +22,7 @@ use Rattle.aut_empty.specs.declared.Searched.TheVariants as searched
 use Rattle.book_writer.specs.Clauses.{Answers}
 use Rattle.book_writer.specs.Clauses as Writer
 use Rattle.book_writer.specs.declared.Verdict.{Verdict}
-use Rattle.book_writer.specs.declared.Answered.{Answered}
-use Rattle.book_writer.specs.declared.Answered.TheVariants as answered
+use Rattle.std.specs.Prelude as code
 use Rattle.book_place.specs.declared.Setting.{Setting}
 use Rattle.book_ask.specs.declared.Asked.{Asked}
 use Rattle.book_ask.specs.declared.Asked.TheVariants as asked
@@ -56,12 +55,12 @@ module _ (S : Setting) (name : List ℕ) (x : ℕ) (σ : Tables) (c : Counts) (a
 
 pub empty_full : {S : Setting} {pos : ℕ} {name : List ℕ} {x : ℕ} {σ : Tables} {c : Counts} {at : Counts → Tables} {s s' p p' out : List ℕ} {r : Searched} → PostSearch S.config.fields S.config.limits S.budget x σ c r at s s' p p'
     → {v : empty-verdict.Verdict} {k : ℕ} {d : Counts} → r ≡ searched.Answer v k d → (w : Verdict) → Writer.verdict_of w ≡ Empty.verdict_of v → pos ≤ length out
-    → {t : Answered} {out' : List ℕ} → t ≡ answered.Full → Answers (empty_answer name (Writer.verdict_of w) k) pos t out out' → PostAsk S Reader.empty pos name x σ (asked.Refused 27) at s' p p' out out'
+    → {t : code.Option ℕ} {out' : List ℕ} → t ≡ code.None → Answers (empty_answer name (Writer.verdict_of w) k) pos t out out' → PostAsk S Reader.empty pos name x σ (asked.Refused 27) at s' p p' out out'
 empty_full {S} {pos} {name} {x} {σ} {c} {at} {out = out} P e w f l g a = ask_full S Reader.empty pos name x σ at (empty_is S name x σ c at P e out w f) l g a
 
 pub empty_told : {S : Setting} {pos : ℕ} {name : List ℕ} {x : ℕ} {σ : Tables} {c : Counts} {at : Counts → Tables} {s s' p p' out : List ℕ} {r : Searched} → PostSearch S.config.fields S.config.limits S.budget x σ c r at s s' p p'
     → {v : empty-verdict.Verdict} {k : ℕ} {d : Counts} → r ≡ searched.Answer v k d → (w : Verdict) → Writer.verdict_of w ≡ Empty.verdict_of v
-    → {t : Answered} {end : ℕ} {out' : List ℕ} → t ≡ answered.At end → Answers (empty_answer name (Writer.verdict_of w) k) pos t out out' → PostAsk S Reader.empty pos name x σ (asked.Told d end) at s' p p' out out'
+    → {t : code.Option ℕ} {end : ℕ} {out' : List ℕ} → t ≡ code.Some end → Answers (empty_answer name (Writer.verdict_of w) k) pos t out out' → PostAsk S Reader.empty pos name x σ (asked.Told d end) at s' p p' out out'
 empty_told {S} {pos} {name} {x} {σ} {c} {at} {p' = p'} {out = out} P e w f g a =
     let q = empty_post S name x σ c at P e in
     ask_told S Reader.empty pos name x σ at (empty_is S name x σ c at P e out w f) q.then.ext q.then.ready (subst (λ (v : Searched). Empty.ZeroedBy v p') e P.pending) g a

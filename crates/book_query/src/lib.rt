@@ -14,7 +14,6 @@ use aut_states::Counts;
 use book_ask::Asked;
 use book_place::Setting;
 use book_reader::Query;
-use book_writer::Answered;
 
 fn verdict_of(v: aut_empty::Verdict) -> book_writer::Verdict
     ensures { Writer.verdict_of result ≡ Empty.verdict_of v }
@@ -69,8 +68,8 @@ pub fn ask_empty(
         Searched::Answer(v, k, d) => {
             let told = book_writer::empty_answer(output, at, name, verdict_of(v), k);
             match told {
-                Answered::Full => Asked::Refused(27),
-                Answered::At(end) => Asked::Told(d, end),
+                None => Asked::Refused(27),
+                Some(end) => Asked::Told(d, end),
             }
         }
     }

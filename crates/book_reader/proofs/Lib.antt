@@ -1,5 +1,6 @@
 -- Lemmas for the proofs of this crate.
-pub mod Places
+pub mod Finding
 pub mod Parts
 pub mod Decimal
+pub mod Tables
 pub mod Saying

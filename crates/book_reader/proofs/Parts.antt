@@ -1,21 +1,19 @@
--- A text at its first byte 10, a line at its first space, and a word beside a name: byte by byte.
-use Rattle.std.specs.Prelude.{if◌then◌else◌}
-use mathlib.Core.Path.{◌≡◌, refl, sym, ◌∙◌, ap}
-use mathlib.Core.Bool.{Bool, true, false, ◌&&◌}
+-- A text at its first byte 10, and a line at its first space: byte by byte.
+use Rattle.std.specs.Prelude.{Some, None, if◌then◌else◌}
+use Rattle.std.proofs.lemmas.Slice.{between_is, between_to_end}
+use mathlib.Core.Path.{◌≡◌, refl, sym, ◌∙◌, ap, subst}
+use mathlib.Core.Bool.{Bool, true, false}
 use mathlib.Core.List.{List, [], ◌∷◌}
 use Prim.Native.Nat.{ℕ, zero, suc, ◌+◌, ◌-◌, ◌≤◌, ◌<◌}
 use native.Mathlib.Omega.{arith}
-use native.Mathlib.Nat.{suc-add, zero-add, add-zero}
-use native.Mathlib.Numerals.{add-one}
+use native.Mathlib.Nat.{suc-add, zero-add}
 use lib.Dec.{eqb}
-use lib.ListN.{length, take, drop, get_or, length-drop}
-use lib.Seq.{take-nil, take-take, drop-drop, take-length, drop-cons, slice-cons, slice_empty, length-slice}
-use borrow.Author.Tests.{eq-eqb, ne_eqb}
+use lib.ListN.{length, take, drop, length-drop, length-take}
+use lib.Seq.{take-nil, take-take, drop-drop, take-length, length-slice}
 use Rattle.book_reader.specs.Bytes.{slice, index_of, index_after}
-use Rattle.book_steps.specs.Text.{line, unended, before, cut, on_first, words, same}
+use Rattle.book_steps.specs.Text.{line, unended, before, cut, on_first, words}
 use Rattle.book_reader.specs.declared.Cursor.{Cursor}
-use Rattle.book_reader.specs.declared.Cut.TheVariants as cut-read
-use Rattle.book_reader.specs.Clauses.{rest, Within, Part, Cuts, TakesWord}
+use Rattle.book_reader.specs.Clauses.{rest, Within, Cuts}
 
 -- ---- parts of a list
 
@@ -62,25 +60,34 @@ cut_not (b ∷ l) h = at (eqb b 10) h (cut_not l)
     at true h i = absurd (omega arith)
     at false h i = ap (before b) (i (omega arith))
 
-module _ (book : List ℕ) (at end : ℕ) (h : at ≤ length book) (e : end ≡ at + index_of 10 (slice at (length book) book)) where
-  index : index_of 10 (drop at book) ≡ end - at
-  index = ap (index_of 10) (sym (to_end at book)) ∙ omega arith
+-- the text from a place on, as the code cuts it out
+module _ (book : List ℕ) (at : ℕ) where
+  abbrev pub text_from : List ℕ
+  text_from = take (length book - at) (drop at book)
 
-  pub no_line : end ≡ length book → Cuts book at cut-read.Unended
-  no_line f = record { is = cut_not (drop at book) (index ∙ ap (λ (n : ℕ). n - at) f ∙ sym (length-drop at book)); begins = tt }
+  is_drop : text_from ≡ drop at book
+  is_drop = between_to_end book at (length book) (omega arith)
 
-  pub some_line : (end ≡ length book → ⊥) → end ≤ length book → Cuts book at (cut-read.Line (record { at = at; end = end; more = true }))
-  unfolding rest
-  some_line n l = record {
-    is = cut_at (drop at book) (omega (arith, index, length-drop at book)) ∙ both (take_bytes (index_of 10 (drop at book)) (omega (arith, index))) (drop-drop (suc (index_of 10 (drop at book))) at book ∙ ap (λ (k : ℕ). drop k book) {x = at + suc (index_of 10 (drop at book))} {y = end + 1} (omega (arith, index)));
-    begins = record { start = refl; all = refl; within = record { ordered = omega arith; inside = omega arith } };
+  pub no_line : index_of 10 text_from ≡ length text_from → Cuts book at None
+  no_line e = record { is = cut_not (drop at book) (sym (ap (index_of 10) is_drop) ∙ e ∙ ap length is_drop); begins = tt }
+
+  pub some_line : at ≤ length book → {k : ℕ} → k ≡ index_of 10 text_from → k < length text_from → Cuts book at (Some (record { at = at; end = at + k; more = true }))
+  unfolding rest slice
+  some_line h {k} e l = record {
+    is = cut_at (drop at book) (omega (arith, f, few)) ∙ both (index_of 10 (drop at book)) f;
+    begins = record { start = refl; all = refl; within = record { ordered = omega arith; inside = omega (arith, few, length-drop at book) } };
   }
     where
-      both : {l m r s : List ℕ} → l ≡ m → r ≡ s → line l r ≡ line m s
-      both p q = cc
+      f : k ≡ index_of 10 (drop at book)
+      f = e ∙ ap (index_of 10) is_drop
 
-      take_bytes : (k : ℕ) → at + k ≡ end → take k (drop at book) ≡ slice at end book
-      take_bytes k p = ap (take k) (sym (to_end at book)) ∙ take_slice at k (length book) book (omega arith) ∙ ap (λ (m : ℕ). slice at m book) p
+      few : k < length (drop at book)
+      few = subst (λ (t : List ℕ). k < length t) is_drop l
+
+      both : (i : ℕ) → k ≡ i → line (take i (drop at book)) (drop (suc i) (drop at book)) ≡ line (slice at (at + k) book) (drop (at + k + 1) book)
+      both i e =
+          ap (λ (l : List ℕ). line l (drop (suc i) (drop at book))) (sym (drop_take at i book) ∙ ap (λ (n : ℕ). drop at (take (at + n) book)) (sym e))
+          ∙ ap (line (slice at (at + k) book)) (drop-drop (suc i) at book ∙ ap (λ (n : ℕ). drop n book) {x = at + suc i} {y = at + k + 1} (omega arith))
 
 -- ---- words
 
@@ -124,83 +131,37 @@ words_some (b ∷ l) = at (eqb b 32) (words l)
     at false [] = omega arith
     at false (w ∷ ws) = omega arith
 
-module _ (book : List ℕ) (c : Cursor) (W : Within book c) (m : c.more ≡ true) (to : ℕ) (e : to ≡ c.at + index_of 32 (slice c.at c.end book)) where
-  opened : rest book c ≡ words (slice c.at c.end book)
-  unfolding rest
-  opened = ap (λ (b : Bool). if b then words (slice c.at c.end book) else []) m
+-- the line at a cursor, as the code cuts it out
+module _ (book : List ℕ) (c : Cursor) (W : Within book c) (m : c.more ≡ true) where
+  abbrev pub line_of : List ℕ
+  line_of = take (c.end - c.at) (drop c.at book)
 
-  bytes : length (slice c.at c.end book) ≡ c.end - c.at
-  bytes = slice_length c.at c.end book (omega (arith, W.inside))
+  is_slice : line_of ≡ slice c.at c.end book
+  unfolding slice
+  is_slice = between_is book c.at c.end
 
-  pub next_word : to < c.end → TakesWord book c (record { from = c.at; to = to; next = record { at = to + 1; end = c.end; more = true } })
+  opened : rest book c ≡ words line_of
   unfolding rest
-  next_word h = record {
-    is = opened ∙ words_at (slice c.at c.end book) (omega (arith, bytes)) ∙ both (index_of 32 (slice c.at c.end book)) (sym e);
-    part = record { ordered = omega arith; inside = omega (arith, W.inside) };
-    within = record { ordered = omega arith; inside = W.inside };
-  }
+  opened = ap (λ (b : Bool). if b then words (slice c.at c.end book) else []) m ∙ ap words (sym is_slice)
+
+  pub next_word : {k : ℕ} → k ≡ index_of 32 line_of → k < length line_of → rest book c ≡ take k line_of ∷ rest book (record { at = c.at + k + 1; end = c.end; more = c.more })
+  unfolding rest
+  next_word {k} e l = opened ∙ words_at line_of (omega arith) ∙ both (index_of 32 line_of) e
     where
-      both : (k : ℕ) → c.at + k ≡ to → ◌≡◌ {A = List (List ℕ)} (take k (slice c.at c.end book) ∷ words (drop (suc k) (slice c.at c.end book))) (slice c.at to book ∷ words (slice (to + 1) c.end book))
-      both k p =
-          ap (λ (w : List ℕ). w ∷ words (drop (suc k) (slice c.at c.end book))) (take_slice c.at k c.end book (omega arith) ∙ ap (λ (n : ℕ). slice c.at n book) p)
-          ∙ ap (λ (l : List ℕ). slice c.at to book ∷ words l) (drop_slice c.at (suc k) c.end book ∙ ap (λ (n : ℕ). slice n c.end book) {x = c.at + suc k} {y = to + 1} (omega arith))
+      both : (i : ℕ) → k ≡ i → ◌≡◌ {A = List (List ℕ)} (take i line_of ∷ words (drop (suc i) line_of)) (take k line_of ∷ (if c.more then words (slice (c.at + k + 1) c.end book) else []))
+      both i e =
+          ap (λ (n : ℕ). take n line_of ∷ words (drop (suc i) line_of)) (sym e)
+          ∙ ap (λ (l : List ℕ). take k line_of ∷ words l) (ap (drop (suc i)) is_slice ∙ drop_slice c.at (suc i) c.end book ∙ ap (λ (n : ℕ). slice n c.end book) {x = c.at + suc i} {y = c.at + k + 1} (omega arith))
+          ∙ ap (λ (b : Bool). take k line_of ∷ (if b then words (slice (c.at + k + 1) c.end book) else [])) (sym m)
 
-  pub last_word : c.end ≤ to → to ≤ c.end → TakesWord book c (record { from = c.at; to = to; next = record { at = c.end; end = c.end; more = false } })
-  unfolding rest
-  last_word h l = record {
-    is = opened ∙ words_last (slice c.at c.end book) (omega (arith, bytes)) ∙ ap (λ (n : ℕ). slice c.at n book ∷ []) {x = c.end} {y = to} (omega arith);
-    part = record { ordered = omega (arith, W.ordered); inside = omega (arith, W.inside) };
-    within = record { ordered = omega arith; inside = W.inside };
-  }
-
--- ---- names
-
-same_length : (v w : List ℕ) → (length v ≡ length w → ⊥) → same v w ≡ false
-unfolding same
-same_length [] [] h = absurd (h refl)
-same_length [] (b ∷ w) h = refl
-same_length (a ∷ v) [] h = refl
-same_length (a ∷ v) (b ∷ w) h = and_not (eqb a b) (same v w) (same_length v w (λ e. h (ap suc e)))
-  where
-    and_not : (x y : Bool) → y ≡ false → (x && y) ≡ false
-    and_not true y e = e
-    and_not false y e = refl
-
-module _ {book : List ℕ} {from to : ℕ} (P : Part book from to) (name : List ℕ) where
-  pub other_length : (to - from ≡ length name → ⊥) → false ≡ same (slice from to book) name
-  other_length h = sym (same_length (slice from to book) name (λ e. h (sym (slice_length from to book P.inside) ∙ e)))
-
--- the first i bytes agree
-pub record Matching (book : List ℕ) (from to : ℕ) (name : List ℕ) (i : ℕ) : Type 0 where
-  pub part : Part book from to
-  pub size : to ≡ from + length name
-  pub few : i ≤ length name
-  pub is : same (slice from to book) name ≡ same (slice (from + i) to book) (drop i name)
-
-module _ {book : List ℕ} {from to : ℕ} {name : List ℕ} where
-  pub begin_matching : Part book from to → to - from ≡ length name → Matching book from to name 0
-  begin_matching P e = record { part = P; size = omega (arith, P.ordered); few = omega arith; is = ap (λ (n : ℕ). same (slice n to book) name) (sym (add-zero from)) }
-
-  module _ {i : ℕ} (M : Matching book from to name i) (h : i < length name) where
-    byte : same (slice (from + i) to book) (drop i name) ≡ (eqb (get_or book (from + i) 0) (get_or name i 0) && same (slice (from + (i + 1)) to book) (drop (i + 1) name))
-    unfolding slice same
-    byte =
-        ap (λ (l : List ℕ). same l (drop i name)) (slice-cons (from + i) to book 0 (omega (arith, M.size)) M.part.inside ∙ ap (λ (n : ℕ). get_or book (from + i) 0 ∷ slice n to book) {x = suc (from + i)} {y = from + (i + 1)} (omega arith))
-        ∙ ap (λ (l : List ℕ). same (get_or book (from + i) 0 ∷ slice (from + (i + 1)) to book) l) (drop-cons name i 0 h ∙ ap (λ (n : ℕ). get_or name i 0 ∷ drop n name) (sym (add-one i)))
-
-    pub other_byte : (get_or book (from + i) 0 ≡ get_or name i 0 → ⊥) → false ≡ same (slice from to book) name
-    other_byte n = sym (M.is ∙ byte ∙ ap (λ (b : Bool). b && same (slice (from + (i + 1)) to book) (drop (i + 1) name)) (ne_eqb (get_or book (from + i) 0) (get_or name i 0) n))
-
-    pub same_byte : get_or book (from + i) 0 ≡ get_or name i 0 → Matching book from to name (i + 1)
-    same_byte e = record { part = M.part; size = M.size; few = omega arith; is = M.is ∙ byte ∙ ap (λ (b : Bool). b && same (slice (from + (i + 1)) to book) (drop (i + 1) name)) (eq-eqb (get_or book (from + i) 0) (get_or name i 0) e) }
-
-  pub all_bytes : {i : ℕ} → Matching book from to name i → length name ≤ i → true ≡ same (slice from to book) name
-  unfolding slice same
-  all_bytes {i} M h =
-      sym (M.is ∙ ap (λ (n : ℕ). same (slice n to book) (drop i name)) {x = from + i} {y = to} (omega (arith, M.size, M.few)) ∙ ap (λ (l : List ℕ). same l (drop i name)) (slice_empty to book) ∙ ap (same []) (past i name h))
+  pub next_within : {k : ℕ} → k < length line_of → Within book (record { at = c.at + k + 1; end = c.end; more = c.more })
+  next_within l = record { ordered = omega (arith, few); inside = W.inside }
     where
-      past : (i : ℕ) (l : List ℕ) → length l ≤ i → drop i l ≡ []
-      past zero [] h = refl
-      past zero (x ∷ l) h = absurd (omega arith)
-      past (suc i) [] h = refl
-      past (suc i) (x ∷ l) h = past i l (omega arith)
+      few : length line_of ≤ c.end - c.at
+      few = omega (arith, length-take (c.end - c.at) (drop c.at book))
+
+  pub last_word : index_of 32 line_of ≡ length line_of → rest book c ≡ line_of ∷ []
+  last_word e = opened ∙ words_last line_of e
+
+  pub last_within : Within book (record { at = c.end; end = c.end; more = false })
+  last_within = record { ordered = omega arith; inside = W.inside }

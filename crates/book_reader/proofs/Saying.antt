@@ -1,49 +1,33 @@
 -- What the words of a line say, word by word: those before a cursor have been read, those behind it have not.
-use Rattle.std.specs.Prelude.{if◌then◌else◌}
+use Rattle.std.specs.Prelude.{Some, None, if◌then◌else◌}
+use Rattle.std.specs.Prelude as code
 use mathlib.Core.Path.{◌≡◌, refl, sym, ◌∙◌, ap, subst}
 use mathlib.Core.Bool.{Bool, true, false, ◌&&◌}
 use mathlib.Core.List.{List, [], ◌∷◌}
 use mathlib.Core.Option.{Option, none, some}
-use Prim.Native.Nat.{ℕ, suc, ◌+◌, ◌-◌, ◌≤◌, ◌<◌}
+use Prim.Native.Nat.{ℕ, suc, ◌+◌, ◌≤◌, ◌<◌}
 use native.Mathlib.Omega.{arith}
 use native.Mathlib.Nat.{add-zero}
 use lib.ListN.{length}
+use denote.Ref.{Bor}
 use Rattle.book_reader.specs.Bytes.{slice}
 use Rattle.book_steps.specs.Text.{bytes, words, same, number}
 use Rattle.book_steps.specs.Reader.{Header, header_of, header, map, or_else, in_front, find, constants, singles, queries, bits, pairs, lists, numbers, exact, saying}
 use Rattle.book_steps.specs.Reader as Reader
 use Rattle.book_construct_steps.specs.Lines as Lines
 use Rattle.book_reader.specs.declared.Cursor.{Cursor}
-use Rattle.book_reader.specs.declared.Word.{Word}
-use Rattle.book_reader.specs.declared.Value.{Value}
-use Rattle.book_reader.specs.declared.Value.TheVariants as value_read
-use Rattle.book_reader.specs.declared.Number.{Number}
-use Rattle.book_reader.specs.declared.Number.TheVariants as number_read
-use Rattle.book_reader.specs.declared.Passed.{Passed}
-use Rattle.book_reader.specs.declared.Passed.TheVariants as passed-by
-use Rattle.book_reader.specs.declared.Count.{Count}
-use Rattle.book_reader.specs.declared.Count.TheVariants as count
+use Rattle.book_reader.specs.declared.Query.{Query}
+use Rattle.book_reader.specs.declared.Said.{Said}
+use Rattle.book_reader.specs.declared.Said.TheVariants as said
 use Rattle.book_words.specs.declared.Constant.{Constant}
 use Rattle.book_words.specs.declared.Bit.{Bit}
 use Rattle.book_words.specs.declared.Single.{Single}
 use Rattle.book_words.specs.declared.Pair.{Pair}
 use Rattle.book_words.specs.declared.Listed.{Listed}
-use Rattle.book_reader.specs.declared.Query.{Query}
-use Rattle.book_reader.specs.declared.FoundConstant.{FoundConstant}
-use Rattle.book_reader.specs.declared.FoundConstant.TheVariants as found-constant
-use Rattle.book_reader.specs.declared.FoundBit.{FoundBit}
-use Rattle.book_reader.specs.declared.FoundBit.TheVariants as found-bit
-use Rattle.book_reader.specs.declared.FoundSingle.{FoundSingle}
-use Rattle.book_reader.specs.declared.FoundSingle.TheVariants as found-single
-use Rattle.book_reader.specs.declared.FoundPair.{FoundPair}
-use Rattle.book_reader.specs.declared.FoundPair.TheVariants as found-pair
-use Rattle.book_reader.specs.declared.FoundListed.{FoundListed}
-use Rattle.book_reader.specs.declared.FoundListed.TheVariants as found-listed
-use Rattle.book_reader.specs.declared.FoundQuery.{FoundQuery}
-use Rattle.book_reader.specs.declared.FoundQuery.TheVariants as found-query
-use Rattle.book_reader.specs.declared.Said.{Said}
-use Rattle.book_reader.specs.declared.Said.TheVariants as said
-use Rattle.book_reader.specs.Clauses.{rest, Within, TakesWord, passed, passed_of, PassedWithin, Passes, value_of, behind, bad, taken, taken_by, taken_of, TakenWithin, TakesNumber, counted, count_of, found_constant, found_bit, found_single, found_pair, found_listed, found_query, Says, listing}
+use Rattle.book_words.specs.Clauses.{constant_of, bit_of, single_of, pair_of, listed_of}
+use Rattle.book_reader.specs.Clauses.{rest, Within, TakesWord, passed, Passes, behind, bad, taken, taken_by, TakesNumber, counted, query_of, Says, listing}
+use Rattle.std.specs.Str.{bytes_eq}
+use Rattle.book_reader.proofs.Finding.{same_is}
 use Rattle.book_reader.proofs.Parts.{slice_length, words_few, words_some}
 
 -- ---- the next word
@@ -60,51 +44,35 @@ module _ (book : List ℕ) (c : Cursor) where
   pub some_more : c.more ≡ true → 1 ≤ length (rest book c)
   some_more m = subst (λ (ws : List (List ℕ)). 1 ≤ length ws) (sym (all_words m)) (words_some (slice c.at c.end book))
 
-  pub no_number : c.more ≡ false → TakesNumber book c number_read.Bad
+  pub no_number : c.more ≡ false → TakesNumber book c None
   unfolding taken
   no_number m = record { is = ap taken (no_more m); within = tt }
 
-  pub no_pass : (name : List ℕ) → c.more ≡ false → Passes book name c passed-by.Bad
+  pub no_pass : (name : List ℕ) → c.more ≡ false → Passes book name c None
   unfolding passed
   no_pass name m = record { is = ap (passed name) (no_more m); within = tt }
 
-  module _ {r : Word} (T : TakesWord book c r) where
-    word_taken : taken (rest book c) ≡ taken_by (number (slice r.from r.to book)) (rest book r.next)
+  module _ {r : Bor (List ℕ) × Cursor} (T : TakesWord book c r) where
+    word_taken : taken (rest book c) ≡ taken_by (number r.0.now) (rest book r.1)
     unfolding taken
     word_taken = ap taken T.is
 
-    module _ {v : Value} (e : number (slice r.from r.to book) ≡ value_of v) where
-      pub a_number : {n : ℕ} → v ≡ value_read.Is n → TakesNumber book c (number_read.Is n r.next)
-      a_number f = record { is = word_taken ∙ ap (λ (o : Option ℕ). taken_by o (rest book r.next)) (e ∙ ap value_of f); within = T.within }
+    pub a_number : {n : ℕ} → number r.0.now ≡ some n → TakesNumber book c (Some (n, r.1))
+    a_number e = record { is = word_taken ∙ ap (λ (o : Option ℕ). taken_by o (rest book r.1)) e; within = T.within }
 
-      pub bad_number : v ≡ value_read.Bad → TakesNumber book c number_read.Bad
-      bad_number f = record { is = word_taken ∙ ap (λ (o : Option ℕ). taken_by o (rest book r.next)) (e ∙ ap value_of f); within = tt }
+    pub bad_number : number r.0.now ≡ none → TakesNumber book c None
+    bad_number e = record { is = word_taken ∙ ap (λ (o : Option ℕ). taken_by o (rest book r.1)) e; within = tt }
 
-    module _ (name : List ℕ) {b : Bool} (e : b ≡ same (slice r.from r.to book) name) where
-      word_passed : passed name (rest book c) ≡ (if b then some (rest book r.next) else none)
+    module _ (name : List ℕ) where
+      word_passed : {b : Bool} → bytes_eq r.0.now name ≡ b → passed name (rest book c) ≡ (if b then some (rest book r.1) else none)
       unfolding passed
-      word_passed = ap (passed name) T.is ∙ ap (λ (b : Bool). if b then some (rest book r.next) else none) (sym e)
+      word_passed e = ap (passed name) T.is ∙ ap (λ (b : Bool). if b then some (rest book r.1) else none) (same_is r.0.now name ∙ e)
 
-      pub a_name : b ≡ true → Passes book name c (passed-by.Is r.next)
-      a_name f = record { is = word_passed ∙ ap (λ (b : Bool). if b then some (rest book r.next) else none) f; within = T.within }
+      pub a_name : bytes_eq r.0.now name ≡ true → Passes book name c (Some r.1)
+      a_name e = record { is = word_passed e; within = T.within }
 
-      pub other_name : b ≡ false → Passes book name c passed-by.Bad
-      other_name f = record { is = word_passed ∙ ap (λ (b : Bool). if b then some (rest book r.next) else none) f; within = tt }
-
--- the answer told apart
-module _ {book : List ℕ} {c : Cursor} {r : Number} (T : TakesNumber book c r) where
-  pub number_by : {s : Number} → r ≡ s → taken (rest book c) ≡ taken_of book s
-  number_by f = T.is ∙ ap (taken_of book) f
-
-  pub number_within : {n : ℕ} {d : Cursor} → r ≡ number_read.Is n d → Within book d
-  number_within f = subst (TakenWithin book) f T.within
-
-module _ {book name : List ℕ} {c : Cursor} {r : Passed} (T : Passes book name c r) where
-  pub passed_on : {s : Passed} → r ≡ s → passed name (rest book c) ≡ passed_of book s
-  passed_on f = T.is ∙ ap (passed_of book) f
-
-  pub passed_within : {d : Cursor} → r ≡ passed-by.Is d → Within book d
-  passed_within f = subst (PassedWithin book) f T.within
+      pub other_name : bytes_eq r.0.now name ≡ false → Passes book name c None
+      other_name e = record { is = word_passed e; within = tt }
 
 -- what a step took
 pub record TakenIs (ws : List (List ℕ)) (n : ℕ) (vs : List (List ℕ)) : Type 0 where
@@ -171,24 +139,23 @@ module _ (book : List ℕ) where
     pub fits_count : c.more ≡ true → k < length book
     fits_count m = omega (arith, some_more book c m, C.room)
 
-    module _ {r : Number} (T : TakesNumber book c r) where
-      pub not_all : c.more ≡ true → r ≡ number_read.Bad → counted (rest book c₀) ≡ none
-      not_all m f = C.is ∙ ap (λ (o : Option (List ℕ)). map (λ m. k + m) (map length o)) (numbers_bad (rest book c) (some_more book c m) (number_by T f))
+    pub not_all : c.more ≡ true → TakesNumber book c None → counted (rest book c₀) ≡ none
+    not_all m T = C.is ∙ ap (λ (o : Option (List ℕ)). map (λ m. k + m) (map length o)) (numbers_bad (rest book c) (some_more book c m) T.is)
 
-      module _ {n : ℕ} {d : Cursor} (f : r ≡ number_read.Is n d) where
-        pub falls : length (rest book d) < length (rest book c)
-        falls = omega (arith, fewer (rest book c) (number_by T f))
+    module _ {n : ℕ} {d : Cursor} (T : TakesNumber book c (Some (n, d))) where
+      pub falls : length (rest book d) < length (rest book c)
+      falls = omega (arith, fewer (rest book c) T.is)
 
-        pub one_more : Counting book c₀ d (k + 1)
-        one_more = record {
-          within = number_within T f;
-          room = omega (arith, fewer (rest book c) (number_by T f), C.room);
-          is = C.is ∙ ap (λ (o : Option (List ℕ)). map (λ m. k + m) (map length o)) (numbers_behind (rest book c) (number_by T f)) ∙ at (numbers (rest book d));
-        }
-          where
-            at : (o : Option (List ℕ)) → map (λ m. k + m) (map length (map (λ l. n ∷ l) o)) ≡ map (λ m. k + 1 + m) (map length o)
-            at none = refl
-            at (some l) = ap some (omega arith)
+      pub one_more : Counting book c₀ d (k + 1)
+      one_more = record {
+        within = T.within;
+        room = omega (arith, fewer (rest book c) T.is, C.room);
+        is = C.is ∙ ap (λ (o : Option (List ℕ)). map (λ m. k + m) (map length o)) (numbers_behind (rest book c) T.is) ∙ at (numbers (rest book d));
+      }
+        where
+          at : (o : Option (List ℕ)) → map (λ m. k + m) (map length (map (λ l. n ∷ l) o)) ≡ map (λ m. k + 1 + m) (map length o)
+          at none = refl
+          at (some l) = ap some (omega arith)
 
     pub all_counted : c.more ≡ false → counted (rest book c₀) ≡ some k
     unfolding numbers
@@ -322,7 +289,7 @@ module _ (ws : List (List ℕ)) where
 -- ---- instructions
 
 -- what is said in other words
-pub says_so : {book : List ℕ} {o p : Option Reader.Instruction} {r : Said} → p ≡ o → Says book o r → Says book p r
+pub says_so : {book : List ℕ} {o p : Option Reader.Instruction} {r : code.Option Said} → p ≡ o → Says book o r → Says book p r
 says_so e S = record { is = e ∙ S.is; listed = S.listed }
 
 module _ (w : List ℕ) (o : Option (List ℕ)) where
@@ -340,60 +307,60 @@ module _ (w : List ℕ) (o : Option (List ℕ)) where
       at none = refl
       at (some l) = ap (map (λ k. Reader.listed k l)) e
 
-module _ {book : List ℕ} (w : List ℕ) {c : Cursor} {k : ℕ} (W : Within book c) (C : counted (rest book c) ≡ some k) {r : FoundListed} (F : find lists w ≡ found_listed r) where
-  pub says_listed : {v : Listed} → r ≡ found-listed.Is v → Says book (listing w (numbers (rest book c))) (said.Listed v c k)
-  says_listed e = record { is = listing_some w (numbers (rest book c)) (F ∙ ap found_listed e); listed = (W, C) }
+module _ {book : List ℕ} (w : List ℕ) {c : Cursor} {k : ℕ} (W : Within book c) (C : counted (rest book c) ≡ some k) where
+  pub says_listed : {v : Listed} → find lists w ≡ some (listed_of v) → Says book (listing w (numbers (rest book c))) (Some (said.Listed v c k))
+  says_listed e = record { is = listing_some w (numbers (rest book c)) e; listed = (W, C) }
 
-  pub says_nothing : r ≡ found-listed.Nothing → Says book (listing w (numbers (rest book c))) said.Bad
-  says_nothing e = record { is = listing_none w (numbers (rest book c)) (F ∙ ap found_listed e); listed = tt }
+  pub says_nothing : find lists w ≡ none → Says book (listing w (numbers (rest book c))) None
+  says_nothing e = record { is = listing_none w (numbers (rest book c)) e; listed = tt }
 
 -- a word without numbers, with one, and with two
 module _ (w : List ℕ) {o : Option (List ℕ)} where
-  module _ (N : o ≡ some []) {r : FoundConstant} (F : find constants w ≡ found_constant r) where
-    by_constant : {s : FoundConstant} → r ≡ s → saying w o ≡ or_else (map Reader.constant (found_constant s)) (listing w (some []))
+  module _ (N : o ≡ some []) where
+    by_constant : {f : Option Lines.Constant} → find constants w ≡ f → saying w o ≡ or_else (map Reader.constant f) (listing w (some []))
     unfolding exact
-    by_constant e = ap (saying w) N ∙ ap (λ (f : Option Lines.Constant). or_else (map Reader.constant f) (listing w (some []))) (F ∙ ap found_constant e)
+    by_constant e = ap (saying w) N ∙ ap (λ (f : Option Lines.Constant). or_else (map Reader.constant f) (listing w (some []))) e
 
-    pub says_constant : {book : List ℕ} {v : Constant} → r ≡ found-constant.Is v → Says book (saying w o) (said.Constant v)
+    pub says_constant : {book : List ℕ} {v : Constant} → find constants w ≡ some (constant_of v) → Says book (saying w o) (Some (said.Constant v))
     says_constant e = record { is = by_constant e; listed = tt }
 
-    pub no_constant : r ≡ found-constant.Nothing → saying w o ≡ listing w o
+    pub no_constant : find constants w ≡ none → saying w o ≡ listing w o
     no_constant e = by_constant e ∙ sym (ap (listing w) N)
 
-  module _ {a : ℕ} (N : o ≡ some (a ∷ [])) {r : FoundSingle} (F : find singles w ≡ found_single r) where
-    by_single : {s : FoundSingle} → r ≡ s → saying w o ≡ or_else (or_else (map (λ k. Reader.single k a) (found_single s)) (map (λ k. Reader.query k a) (find queries w))) (listing w (some (a ∷ [])))
+  module _ {a : ℕ} (N : o ≡ some (a ∷ [])) where
+    by_single : {f : Option Lines.Single} → find singles w ≡ f → saying w o ≡ or_else (or_else (map (λ k. Reader.single k a) f) (map (λ k. Reader.query k a) (find queries w))) (listing w (some (a ∷ [])))
     unfolding exact
-    by_single e = ap (saying w) N ∙ ap (λ (f : Option Lines.Single). or_else (or_else (map (λ k. Reader.single k a) f) (map (λ k. Reader.query k a) (find queries w))) (listing w (some (a ∷ [])))) (F ∙ ap found_single e)
+    by_single e = ap (saying w) N ∙ ap (λ (f : Option Lines.Single). or_else (or_else (map (λ k. Reader.single k a) f) (map (λ k. Reader.query k a) (find queries w))) (listing w (some (a ∷ [])))) e
 
-    pub says_single : {book : List ℕ} {v : Single} → r ≡ found-single.Is v → Says book (saying w o) (said.Single v a)
+    pub says_single : {book : List ℕ} {v : Single} → find singles w ≡ some (single_of v) → Says book (saying w o) (Some (said.Single v a))
     says_single e = record { is = by_single e; listed = tt }
 
-    module _ (e : r ≡ found-single.Nothing) {q : FoundQuery} (G : find queries w ≡ found_query q) where
-      by_query : {s : FoundQuery} → q ≡ s → saying w o ≡ or_else (map (λ k. Reader.query k a) (found_query s)) (listing w (some (a ∷ [])))
-      by_query f = by_single e ∙ ap (λ (g : Option Reader.Query). or_else (map (λ k. Reader.query k a) g) (listing w (some (a ∷ [])))) (G ∙ ap found_query f)
+    module _ (e : find singles w ≡ none) where
+      by_query : {g : Option Reader.Query} → find queries w ≡ g → saying w o ≡ or_else (map (λ k. Reader.query k a) g) (listing w (some (a ∷ [])))
+      by_query f = by_single e ∙ ap (λ (g : Option Reader.Query). or_else (map (λ k. Reader.query k a) g) (listing w (some (a ∷ [])))) f
 
-      pub says_query : {book : List ℕ} {v : Query} → q ≡ found-query.Is v → Says book (saying w o) (said.Query v a)
+      pub says_query : {book : List ℕ} {v : Query} → find queries w ≡ some (query_of v) → Says book (saying w o) (Some (said.Query v a))
       says_query f = record { is = by_query f; listed = tt }
 
-      pub no_query : q ≡ found-query.Nothing → saying w o ≡ listing w o
+      pub no_query : find queries w ≡ none → saying w o ≡ listing w o
       no_query f = by_query f ∙ sym (ap (listing w) N)
 
-  module _ {a b : ℕ} (N : o ≡ some (a ∷ b ∷ [])) {r : FoundBit} (F : find bits w ≡ found_bit r) where
-    by_bit : {s : FoundBit} → r ≡ s → saying w o ≡ or_else (or_else (map (λ k. Reader.bit k a b) (found_bit s)) (map (λ k. Reader.pair k a b) (find pairs w))) (listing w (some (a ∷ b ∷ [])))
+  module _ {a b : ℕ} (N : o ≡ some (a ∷ b ∷ [])) where
+    by_bit : {f : Option Lines.Bit} → find bits w ≡ f → saying w o ≡ or_else (or_else (map (λ k. Reader.bit k a b) f) (map (λ k. Reader.pair k a b) (find pairs w))) (listing w (some (a ∷ b ∷ [])))
     unfolding exact
-    by_bit e = ap (saying w) N ∙ ap (λ (f : Option Lines.Bit). or_else (or_else (map (λ k. Reader.bit k a b) f) (map (λ k. Reader.pair k a b) (find pairs w))) (listing w (some (a ∷ b ∷ [])))) (F ∙ ap found_bit e)
+    by_bit e = ap (saying w) N ∙ ap (λ (f : Option Lines.Bit). or_else (or_else (map (λ k. Reader.bit k a b) f) (map (λ k. Reader.pair k a b) (find pairs w))) (listing w (some (a ∷ b ∷ [])))) e
 
-    pub says_bit : {book : List ℕ} {v : Bit} → r ≡ found-bit.Is v → Says book (saying w o) (said.Bit v a b)
+    pub says_bit : {book : List ℕ} {v : Bit} → find bits w ≡ some (bit_of v) → Says book (saying w o) (Some (said.Bit v a b))
     says_bit e = record { is = by_bit e; listed = tt }
 
-    module _ (e : r ≡ found-bit.Nothing) {q : FoundPair} (G : find pairs w ≡ found_pair q) where
-      by_pair : {s : FoundPair} → q ≡ s → saying w o ≡ or_else (map (λ k. Reader.pair k a b) (found_pair s)) (listing w (some (a ∷ b ∷ [])))
-      by_pair f = by_bit e ∙ ap (λ (g : Option Lines.Pair). or_else (map (λ k. Reader.pair k a b) g) (listing w (some (a ∷ b ∷ [])))) (G ∙ ap found_pair f)
+    module _ (e : find bits w ≡ none) where
+      by_pair : {g : Option Lines.Pair} → find pairs w ≡ g → saying w o ≡ or_else (map (λ k. Reader.pair k a b) g) (listing w (some (a ∷ b ∷ [])))
+      by_pair f = by_bit e ∙ ap (λ (g : Option Lines.Pair). or_else (map (λ k. Reader.pair k a b) g) (listing w (some (a ∷ b ∷ [])))) f
 
-      pub says_pair : {book : List ℕ} {v : Pair} → q ≡ found-pair.Is v → Says book (saying w o) (said.Pair v a b)
+      pub says_pair : {book : List ℕ} {v : Pair} → find pairs w ≡ some (pair_of v) → Says book (saying w o) (Some (said.Pair v a b))
       says_pair f = record { is = by_pair f; listed = tt }
 
-      pub no_pair : q ≡ found-pair.Nothing → saying w o ≡ listing w o
+      pub no_pair : find pairs w ≡ none → saying w o ≡ listing w o
       no_pair f = by_pair f ∙ sym (ap (listing w) N)
 
 -- three numbers or more
@@ -408,7 +375,7 @@ three w a b (x ∷ xs) h = at (number x) (numbers xs)
     at (some n) (some l) = refl
 
 module _ (book : List ℕ) (c : Cursor) where
-  pub says_no_word : c.more ≡ false → Says book (Reader.parse (rest book c)) said.Bad
+  pub says_no_word : c.more ≡ false → Says book (Reader.parse (rest book c)) None
   unfolding Reader.parse
   says_no_word m = record { is = ap Reader.parse (no_more book c m); listed = tt }
 
@@ -416,52 +383,51 @@ module _ (book : List ℕ) (c : Cursor) where
   unfolding numbers
   no_numbers m = ap numbers (no_more book c m)
 
-module _ {book : List ℕ} {c : Cursor} {w : Word} (T : TakesWord book c w) where
-  said_is : Reader.parse (rest book c) ≡ saying (slice w.from w.to book) (numbers (rest book w.next))
+module _ {book : List ℕ} {c : Cursor} {w : Bor (List ℕ) × Cursor} (T : TakesWord book c w) where
+  said_is : Reader.parse (rest book c) ≡ saying w.0.now (numbers (rest book w.1))
   unfolding Reader.parse
   said_is = ap Reader.parse T.is
 
-  pub says_words : {r : Said} → Says book (saying (slice w.from w.to book) (numbers (rest book w.next))) r → Says book (Reader.parse (rest book c)) r
+  pub says_words : {r : code.Option Said} → Says book (saying w.0.now (numbers (rest book w.1))) r → Says book (Reader.parse (rest book c)) r
   says_words S = says_so said_is S
 
-  bad_numbers : numbers (rest book w.next) ≡ none → Says book (Reader.parse (rest book c)) said.Bad
-  bad_numbers e = record { is = said_is ∙ ap (saying (slice w.from w.to book)) e; listed = tt }
+  bad_numbers : numbers (rest book w.1) ≡ none → Says book (Reader.parse (rest book c)) None
+  bad_numbers e = record { is = said_is ∙ ap (saying w.0.now) e; listed = tt }
 
-  pub numbers_0 : w.next.more ≡ false → numbers (rest book w.next) ≡ some []
-  numbers_0 m = no_numbers book w.next m
+  pub numbers_0 : w.1.more ≡ false → numbers (rest book w.1) ≡ some []
+  numbers_0 m = no_numbers book w.1 m
 
-  module _ (m : w.next.more ≡ true) {r : Number} (A : TakesNumber book w.next r) where
-    pub bad_first : r ≡ number_read.Bad → Says book (Reader.parse (rest book c)) said.Bad
-    bad_first e = bad_numbers (numbers_bad (rest book w.next) (some_more book w.next m) (number_by A e))
+  module _ (m : w.1.more ≡ true) where
+    pub bad_first : TakesNumber book w.1 None → Says book (Reader.parse (rest book c)) None
+    bad_first A = bad_numbers (numbers_bad (rest book w.1) (some_more book w.1 m) A.is)
 
-    module _ {a : ℕ} {d : Cursor} (e : r ≡ number_read.Is a d) where
-      behind_1 : numbers (rest book w.next) ≡ map (λ l. a ∷ l) (numbers (rest book d))
-      behind_1 = numbers_behind (rest book w.next) (number_by A e)
+    module _ {a : ℕ} {d : Cursor} (A : TakesNumber book w.1 (Some (a, d))) where
+      behind_1 : numbers (rest book w.1) ≡ map (λ l. a ∷ l) (numbers (rest book d))
+      behind_1 = numbers_behind (rest book w.1) A.is
 
-      pub numbers_1 : d.more ≡ false → numbers (rest book w.next) ≡ some (a ∷ [])
+      pub numbers_1 : d.more ≡ false → numbers (rest book w.1) ≡ some (a ∷ [])
       numbers_1 n = behind_1 ∙ ap (map (λ l. a ∷ l)) (no_numbers book d n)
 
-      module _ (n : d.more ≡ true) {s : Number} (B : TakesNumber book d s) where
-        pub bad_second : s ≡ number_read.Bad → Says book (Reader.parse (rest book c)) said.Bad
-        bad_second f = bad_numbers (behind_1 ∙ ap (map (λ l. a ∷ l)) (numbers_bad (rest book d) (some_more book d n) (number_by B f)))
+      module _ (n : d.more ≡ true) where
+        pub bad_second : TakesNumber book d None → Says book (Reader.parse (rest book c)) None
+        bad_second B = bad_numbers (behind_1 ∙ ap (map (λ l. a ∷ l)) (numbers_bad (rest book d) (some_more book d n) B.is))
 
-        module _ {b : ℕ} {g : Cursor} (f : s ≡ number_read.Is b g) where
-          behind_2 : numbers (rest book w.next) ≡ map (λ l. a ∷ l) (map (λ l. b ∷ l) (numbers (rest book g)))
-          behind_2 = behind_1 ∙ ap (map (λ l. a ∷ l)) (numbers_behind (rest book d) (number_by B f))
+        module _ {b : ℕ} {g : Cursor} (B : TakesNumber book d (Some (b, g))) where
+          behind_2 : numbers (rest book w.1) ≡ map (λ l. a ∷ l) (map (λ l. b ∷ l) (numbers (rest book g)))
+          behind_2 = behind_1 ∙ ap (map (λ l. a ∷ l)) (numbers_behind (rest book d) B.is)
 
-          pub numbers_2 : g.more ≡ false → numbers (rest book w.next) ≡ some (a ∷ b ∷ [])
+          pub numbers_2 : g.more ≡ false → numbers (rest book w.1) ≡ some (a ∷ b ∷ [])
           numbers_2 p = behind_2 ∙ ap (λ (o : Option (List ℕ)). map (λ l. a ∷ l) (map (λ l. b ∷ l) o)) (no_numbers book g p)
 
-          pub says_list : g.more ≡ true → {r : Said} → Says book (listing (slice w.from w.to book) (numbers (rest book w.next))) r → Says book (Reader.parse (rest book c)) r
-          says_list p S = says_so (said_is ∙ ap (saying (slice w.from w.to book)) behind_2 ∙ three (slice w.from w.to book) a b (rest book g) (some_more book g p) ∙ sym (ap (listing (slice w.from w.to book)) behind_2)) S
+          pub says_list : g.more ≡ true → {r : code.Option Said} → Says book (listing w.0.now (numbers (rest book w.1))) r → Says book (Reader.parse (rest book c)) r
+          says_list p S = says_so (said_is ∙ ap (saying w.0.now) behind_2 ∙ three w.0.now a b (rest book g) (some_more book g p) ∙ sym (ap (listing w.0.now) behind_2)) S
 
-  module _ {r : Count} (C : counted (rest book w.next) ≡ count_of r) where
-    pub bad_count : r ≡ count.Bad → Says book (Reader.parse (rest book c)) said.Bad
-    bad_count e = bad_numbers (at (numbers (rest book w.next)) (C ∙ ap count_of e))
-      where
-        at : (o : Option (List ℕ)) → map length o ≡ none → o ≡ none
-        at none e = refl
-        at (some l) e = absurd (let z : ◌≡◌ {A = ℕ} 0 1 = cc in omega arith)
+  pub bad_count : counted (rest book w.1) ≡ none → Says book (Reader.parse (rest book c)) None
+  bad_count e = bad_numbers (at (numbers (rest book w.1)) e)
+    where
+      at : (o : Option (List ℕ)) → map length o ≡ none → o ≡ none
+      at none e = refl
+      at (some l) e = absurd (let z : ◌≡◌ {A = ℕ} 0 1 = cc in omega arith)
 
 -- ---- a list's numbers, read again
 
@@ -481,17 +447,17 @@ pub record Again (book : List ℕ) (a : ℕ) (l : List ℕ) (n : ℕ) (d : Curso
   pub first : n ≡ a
   pub others : numbers (rest book d) ≡ some l
 
-module _ {book : List ℕ} {c : Cursor} {r : Number} (T : TakesNumber book c r) {a : ℕ} {l : List ℕ} (N : numbers (rest book c) ≡ some (a ∷ l)) where
-  pub never_bad : r ≡ number_read.Bad → ⊥
+module _ {book : List ℕ} {c : Cursor} {a : ℕ} {l : List ℕ} (N : numbers (rest book c) ≡ some (a ∷ l)) where
+  pub never_bad : TakesNumber book c None → ⊥
   unfolding numbers
-  never_bad e = at (rest book c) N (number_by T e)
+  never_bad T = at (rest book c) N T.is
     where
       at : (ws : List (List ℕ)) → numbers ws ≡ some (a ∷ l) → taken ws ≡ bad → ⊥
       at [] N e = let z : ◌≡◌ {A = ℕ} 0 1 = cc in omega arith
       at (w ∷ ws) N e = let n : none ≡ some (a ∷ l) = sym (numbers_bad (w ∷ ws) (omega arith) e) ∙ N in let z : ◌≡◌ {A = ℕ} 0 1 = cc in omega arith
 
-  pub read_again : {n : ℕ} {d : Cursor} → r ≡ number_read.Is n d → Again book a l n d
-  read_again {n} {d} e = at (numbers (rest book d)) refl (sym (numbers_behind (rest book c) (number_by T e)) ∙ N)
+  pub read_again : {n : ℕ} {d : Cursor} → TakesNumber book c (Some (n, d)) → Again book a l n d
+  read_again {n} {d} T = at (numbers (rest book d)) refl (sym (numbers_behind (rest book c) T.is) ∙ N)
     where
       at : (o : Option (List ℕ)) → numbers (rest book d) ≡ o → map (λ l. n ∷ l) o ≡ some (a ∷ l) → Again book a l n d
       at none f e = absurd (let z : ◌≡◌ {A = ℕ} 0 1 = cc in omega arith)

@@ -11,8 +11,7 @@ use Rattle.book_steps.specs.Run as Run
 use Rattle.book_steps.specs.Run.{with_line, onward, answered, stopped, step as obey}
 use Rattle.book_reader.specs.Clauses.{Begins, BeginsBy, Cuts, cut_of, rest}
 use Rattle.book_reader.specs.declared.Cursor.{Cursor}
-use Rattle.book_reader.specs.declared.Cut.{Cut}
-use Rattle.book_reader.specs.declared.Cut.TheVariants as cut-read
+use Rattle.std.specs.Prelude as code
 use Rattle.book_place.specs.declared.Setting.{Setting}
 use Rattle.book_place.specs.declared.Place.{Place}
 use Rattle.book_line.specs.declared.Obeyed.{Obeyed}
@@ -33,8 +32,8 @@ use Rattle.book_run.proofs.Contracts.{SameLengths}
 general : (p o : ℕ) (C : ℕ → ℕ → Type 0) → C p o → (pending output : ℕ) → pending ≡ p → output ≡ o → C pending output
 general p o C x pending output e f = subst (λ (a : ℕ). C a output) (sym e) (subst (λ (b : ℕ). C p b) (sym f) x)
 
-module _ (book : List ℕ) (S : Setting) (m : Memory) (p : Place) (at : ℕ) (P : PreTurn book S m p at) {r : Cut} (C : Cuts book at r) where
-  pub turn_unended : r ≡ cut-read.Unended → PostTurn book S m p at (turned.Refused 3) m
+module _ (book : List ℕ) (S : Setting) (m : Memory) (p : Place) (at : ℕ) (P : PreTurn book S m p at) {r : code.Option Cursor} (C : Cuts book at r) where
+  pub turn_unended : r ≡ code.None → PostTurn book S m p at (turned.Refused 3) m
   turn_unended e = record {
     is = general (length m.pending) (length m.output)
         (λ (a b : ℕ). (k : ℕ) (go : List ℕ → ℕ → Run.RunState → Run.Ran (lending S a b)) → with_line (lending S a b) go k (place_of m p) (cut (drop at book)) ≡ stopped 3 k (take p.output m.output))
@@ -42,7 +41,7 @@ module _ (book : List ℕ) (S : Setting) (m : Memory) (p : Place) (at : ℕ) (P 
     output = refl;
   }
 
-  module _ {c : Cursor} (e : r ≡ cut-read.Line c) where
+  module _ {c : Cursor} (e : r ≡ code.Some c) where
     begins : Begins book at c
     begins = subst (BeginsBy book at) e C.begins
 

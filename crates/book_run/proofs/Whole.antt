@@ -4,7 +4,7 @@ use mathlib.Core.Path.{◌≡◌, refl, sym, ◌∙◌, ap, ap₂, subst}
 use mathlib.Core.Bool.{Bool}
 use mathlib.Core.List.{List, []}
 use mathlib.Core.Option.{Option}
-use Prim.Native.Nat.{ℕ, ◌+◌, ◌-◌, ◌≤◌, ◌<◌}
+use Prim.Native.Nat.{ℕ, ◌+◌, ◌≤◌, ◌<◌}
 use native.Mathlib.Omega.{arith}
 use lib.Dec.{ltb}
 use lib.ListN.{length, take, drop}
@@ -12,6 +12,8 @@ use lib.Seq.{length-take-le, get_or-take}
 use borrow.Author.Tests.{lt-ltb, le-ltb}
 use Rattle.common.specs.Outcome.{refused}
 use Rattle.common.specs.Runs.{table}
+use Rattle.refusal.specs.declared.Refusal.{Refusal}
+use Rattle.refusal.specs.Numbers as refusal
 use Rattle.sp_steps.specs.Model as Sp
 use Rattle.spp_steps.specs.Model as Spp
 use Rattle.book_steps.specs.Text.{cut}
@@ -22,23 +24,17 @@ use Rattle.book_steps.specs.Claim.{Slices, Lends, WritesOnly, Refines, EntrySpec
 use Rattle.book_steps.proofs.Claim as Claim
 use Rattle.book_reader.specs.Clauses.{Begins, BeginsBy, Cuts, cut_of, Within, rest, heading_of}
 use Rattle.book_reader.specs.declared.Cursor.{Cursor}
-use Rattle.book_reader.specs.declared.Cut.{Cut}
-use Rattle.book_reader.specs.declared.Cut.TheVariants as cut-read
-use Rattle.book_reader.specs.declared.Heading.{Heading}
-use Rattle.book_reader.specs.declared.Heading.TheVariants as heading
+use Rattle.std.specs.Prelude as code
 use Rattle.book_place.specs.declared.Setting.{Setting}
 use Rattle.book_place.specs.declared.Place.{Place}
 use Rattle.book_place.specs.Clauses.{Memory, memory, place_of, Standing}
 use Rattle.book_begin.specs.declared.Header.{Header}
-use Rattle.book_begin.specs.declared.Begun.{Begun}
-use Rattle.book_begin.specs.declared.Begun.TheVariants as begun
 use Rattle.book_begin.specs.Clauses.{TablesZeroed, WorkZeroed, header_of, setting_for, PreBegin, fresh, begun_of, Wrote, BeginsBy as StartedBy, PostBegin}
 use Rattle.book_begin.proofs.Zero.{zeroed_own}
 use Rattle.book_steps.specs.Run.{came, failed, came_of, started_book, headed_book, opened_book, ran_book, finished}
 use Rattle.book_finish.specs.declared.Went.{Went}
 use Rattle.book_finish.specs.declared.Went.TheVariants as went
 use Rattle.book_finish.specs.declared.Ran.{Ran}
-use Rattle.book_finish.specs.declared.Ran.TheVariants as ran
 use Rattle.book_finish.specs.Clauses.{written_by, came_by, ran_of, SameTables, TablesBy, PostFinish, number_of, text_line_of, length_of}
 use Rattle.book_run.specs.Clauses.{lengths_of, lending, PreGo, went_of, EndsWith, PostGo, Empty, PreStarted, PostStarted, PostOpen, slices}
 use Rattle.book_run.proofs.Contracts.{SameLengths}
@@ -67,7 +63,7 @@ module _ (book : List ℕ) (m : Memory) (h : Header) (from : ℕ) (P : PreStarte
   pub started_begin : PreBegin m.sp m.nodes h
   started_begin = record { few = P.few; sp = P.empty.tables.sp; nodes = P.empty.tables.nodes }
 
-  module _ {r : Begun} {sp' nodes' out' : List ℕ} (B : PostBegin h r m.sp m.nodes m.output sp' nodes' out') where
+  module _ {r : code.Result Place Refusal} {sp' nodes' out' : List ℕ} (B : PostBegin h r m.sp m.nodes m.output sp' nodes' out') where
     abbrev m₁ : Memory
     m₁ = memory sp' nodes' m.states m.members m.transitions m.pending m.scratch out'
 
@@ -77,20 +73,20 @@ module _ (book : List ℕ) (m : Memory) (h : Header) (from : ℕ) (P : PreStarte
         ∙ ap₂ (λ (a b : List ℕ). memory sp' nodes' m.states m.members a b (zeroed (length m.scratch)) out') (sym P.empty.tables.transitions) (sym P.empty.work.pending)
         ∙ ap (λ (a : List ℕ). memory sp' nodes' m.states m.members m.transitions m.pending a out') (sym P.empty.work.scratch)
 
-    begin_is : {x : Begun} → r ≡ x → Run.begin (lengths_of m) (header_of h) ≡ begun_of x m₁
-    begin_is e = B.is (lengths_of m) refl refl refl ∙ ap (begun_of r) fresh_is ∙ ap (λ (z : Begun). begun_of z m₁) e
+    begin_is : {x : code.Result Place Refusal} → r ≡ x → Run.begin (lengths_of m) (header_of h) ≡ begun_of x m₁
+    begin_is e = B.is (lengths_of m) refl refl refl ∙ ap (begun_of r) fresh_is ∙ ap (λ (z : code.Result Place Refusal). begun_of z m₁) e
 
-    then_is : {x : Begun} → r ≡ x → StartedBy h x (lengths_of m) sp' nodes' m.output out'
-    then_is e = subst (λ (z : Begun). StartedBy h z (lengths_of m) sp' nodes' m.output out') e (B.then (lengths_of m))
+    then_is : {x : code.Result Place Refusal} → r ≡ x → StartedBy h x (lengths_of m) sp' nodes' m.output out'
+    then_is e = subst (λ (z : code.Result Place Refusal). StartedBy h z (lengths_of m) sp' nodes' m.output out') e (B.then (lengths_of m))
 
-    pub started_refused : {e : ℕ} → r ≡ begun.Refused e → PostStarted book m h from (went.Stopped e 1 0) m₁
-    started_refused {e} q = record {
-      is = ap (started_book (lengths_of m) (header_of h) (drop from book)) (begin_is q);
+    pub started_refused : {e : Refusal} {n : ℕ} → r ≡ code.Err e → n ≡ refusal.number_of e → PostStarted book m h from (went.Stopped n 1 0) m₁
+    started_refused {e} q i = record {
+      is = ap (started_book (lengths_of m) (header_of h) (drop from book)) (begin_is q ∙ ap refused (sym i));
       ends = tt;
       wrote = subst (Wrote 0 m.output) (sym (then_is q)) (unwritten m.output);
     }
 
-    module _ {p : Place} (q : r ≡ begun.At p) (len : length out' ≡ length m.output) (S : Setting) (u : S ≡ setting_for h) where
+    module _ {p : Place} (q : r ≡ code.Ok p) (len : length out' ≡ length m.output) (S : Setting) (u : S ≡ setting_for h) where
       begun_go : PreGo book (setting_for h) m₁ p from 2 2048
       begun_go = record {
         standing = subst (λ (n : Memory). Standing (setting_for h) n p) fresh_is ((then_is q).standing (omega (arith, P.room)));
@@ -127,28 +123,28 @@ module _ (book : List ℕ) (m : Memory) where
   pub open_short : length m.scratch < 6144 → PostOpen book m (went.Stopped 26 0 0) m
   open_short l = record { is = by_scratch (lengths_of m) book (lt-ltb (length m.scratch) 6144 l); ends = tt; wrote = unwritten m.output }
 
-  module _ (l : 6144 ≤ length m.scratch) {r : Cut} (C : Cuts book 0 r) where
-    open_by : {x : Cut} → r ≡ x → ran_book (lengths_of m) book ≡ opened_book (lengths_of m) (cut_of book x)
+  module _ (l : 6144 ≤ length m.scratch) {r : code.Option Cursor} (C : Cuts book 0 r) where
+    open_by : {x : code.Option Cursor} → r ≡ x → ran_book (lengths_of m) book ≡ opened_book (lengths_of m) (cut_of book x)
     open_by e = by_scratch (lengths_of m) book (le-ltb (length m.scratch) 6144 l) ∙ ap (opened_book (lengths_of m)) (C.is ∙ ap (cut_of book) e)
 
-    pub open_unended : r ≡ cut-read.Unended → PostOpen book m (went.Stopped 1 1 0) m
+    pub open_unended : r ≡ code.None → PostOpen book m (went.Stopped 1 1 0) m
     open_unended e = record { is = open_by e; ends = tt; wrote = unwritten m.output }
 
-    module _ {c : Cursor} (e : r ≡ cut-read.Line c) where
+    module _ {c : Cursor} (e : r ≡ code.Some c) where
       begins : Begins book 0 c
       begins = subst (BeginsBy book 0) e C.begins
 
       pub header_within : Within book c
       header_within = begins.within
 
-      module _ (g : Heading) (H : Reader.header (rest book c) ≡ heading_of g) where
-        header_by : {x : Heading} → g ≡ x → ran_book (lengths_of m) book ≡ headed_book (lengths_of m) (heading_of x) (drop (c.end + 1) book)
+      module _ (g : code.Option (ℕ × ℕ)) (H : Reader.header (rest book c) ≡ heading_of g) where
+        header_by : {x : code.Option (ℕ × ℕ)} → g ≡ x → ran_book (lengths_of m) book ≡ headed_book (lengths_of m) (heading_of x) (drop (c.end + 1) book)
         header_by f = open_by e ∙ ap (λ (o : Option Reader.Header). headed_book (lengths_of m) o (drop (c.end + 1) book)) (ap Reader.header (sym begins.all) ∙ H ∙ ap heading_of f)
 
-        pub open_headless : g ≡ heading.Bad → PostOpen book m (went.Stopped 1 1 0) m
+        pub open_headless : g ≡ code.None → PostOpen book m (went.Stopped 1 1 0) m
         open_headless f = record { is = header_by f; ends = tt; wrote = unwritten m.output }
 
-        module _ {n b : ℕ} (f : g ≡ heading.Is n b) where
+        module _ {n b : ℕ} (f : g ≡ code.Some (n, b)) where
           pub open_wide : 31 < n → PostOpen book m (went.Stopped 2 1 0) m
           open_wide k = record { is = header_by f ∙ ap (started_book (lengths_of m) (record { fields = n; budget = b }) (drop (c.end + 1) book)) (wide (lengths_of m) (record { fields = n; budget = b }) k); ends = tt; wrote = unwritten m.output }
 

@@ -7,11 +7,10 @@ ghost use Rattle.book_run.specs.Clauses as Its;
 ghost use Rattle.book_finish.specs.Clauses.{number_of, text_line_of, length_of};
 ghost use Rattle.book_run.specs.Clauses.{slices, lent_of};
 
-use book_begin::{Begun, Header};
+use book_begin::Header;
 use book_finish::{Ran, Went};
 use book_line::Obeyed;
 use book_place::{Place, Setting};
-use book_reader::{Cut, Heading};
 
 // the words of scratch that a book needs
 pub const SCRATCH: usize = 6144;
@@ -52,7 +51,7 @@ fn turn(
         (memory sp.new nodes.new states.new members.new
         transitions.new pending.new scratch.new output.new) }
 {
-    let Cut::Line(c) = book_reader::line_at(book, at) else {
+    let Some(c) = book_reader::line_at(book, at) else {
         return Turned::Refused(3);
     };
     let done = book_line::obey(
@@ -166,8 +165,8 @@ fn started(
 {
     let begun = book_begin::begin(sp, nodes, output, h);
     match begun {
-        Begun::Refused(e) => Went::Stopped(e, 1, 0),
-        Begun::At(place) => go_on(
+        Err(e) => Went::Stopped(e.number(), 1, 0),
+        Ok(place) => go_on(
             book,
             sp,
             nodes,
@@ -210,10 +209,10 @@ pub fn open(
     if scratch.len() < SCRATCH {
         return Went::Stopped(26, 0, 0);
     }
-    let Cut::Line(c) = book_reader::line_at(book, 0) else {
+    let Some(c) = book_reader::line_at(book, 0) else {
         return Went::Stopped(1, 1, 0);
     };
-    let Heading::Is(n, budget) = book_reader::header(book, c) else {
+    let Some((n, budget)) = book_reader::header(book, c) else {
         return Went::Stopped(1, 1, 0);
     };
     if n > 31 {

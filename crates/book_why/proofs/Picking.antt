@@ -6,12 +6,13 @@ use mathlib.Core.Option.{Option, none, some}
 use Prim.Native.Nat.{ℕ, suc, ◌+◌, ◌*◌, ◌-◌, ◌^◌, ◌≤◌, ◌<◌}
 use native.Mathlib.Omega.{arith}
 use lib.ListN.{length, get_or}
+use Rattle.std.specs.Prelude as code
 use Rattle.common.specs.Packets.{Packet, Set, Relation}
 use Rattle.common.specs.Runs.{table}
 use Rattle.netkat.specs.Lists.{State, Transition}
 use Rattle.netkat.specs.Strings.{Str}
 use Rattle.netkat_paths.specs.Order.{value, least}
-use Rattle.netkat_paths.specs.Pick.{Hop, Way, arrive, onward, from, hop, way}
+use Rattle.netkat_paths.specs.Pick.{Hop, Way, arrive, onward, from, hop}
 use Rattle.netkat_paths.proofs.OrderLaws.{value_small}
 use Rattle.netkat_paths.proofs.PickLaws.{way_next, way_end, pick_start}
 use Rattle.sp_steps.specs.Model as Sp
@@ -41,8 +42,6 @@ use Rattle.aut_sets.specs.Clauses.{NotesBehind}
 use Rattle.aut_why_least.specs.Clauses.{PreFirst, PreEnd, PostEnd}
 use Rattle.aut_why_least.proofs.Keeps.{least_kept, least_own, query_kept}
 use Rattle.aut_why_hop.specs.Clauses.{LeastReady, PreHop, PostHop}
-use Rattle.aut_why_hop.specs.declared.Hopped.{Hopped}
-use Rattle.aut_why_hop.specs.declared.Hopped.TheVariants as hopped
 use Rattle.aut_why_hop.proofs.Ready.{hop_ready, hop_there, hop_to_lem, hop_among}
 use Rattle.book_writer.specs.Clauses.{Put, start_part, hop_part, end_part}
 use Rattle.book_why.specs.Clauses.{way_at, Going, Picks, Unmade, Started, Nexted, Lasted}
@@ -183,11 +182,11 @@ module _ {N : ℕ} {l : Limits} {sp t st mem tr s p : List ℕ} {c : Counts} {n 
         × (way_at N (clear_of sp' t st' mem tr c) ws j h.target h.packet ≡ some u) × (v ≡ onward h.packet u)
     nexts = way_next (epsilons N (clear_of sp' t st' mem tr c) ws) (deltas N (clear_of sp' t st' mem tr c) ws) (rounds N (clear_of sp' t st' mem tr c) ws) j x q next_way
 
-    module _ {o : Hopped} {s'' : List ℕ} (H : PostHop N (diagrams (tables_of sp' t st' mem tr c)) st' tr x packet o s' s'') where
-      pub next_never : o ≡ hopped.Nothing → ⊥
+    module _ {o : code.Option (ℕ × ℕ)} {s'' : List ℕ} (H : PostHop N (diagrams (tables_of sp' t st' mem tr c)) st' tr x packet o s' s'') where
+      pub next_never : o ≡ code.None → ⊥
       next_never e = hop_there sp' t st' mem tr c (again_standing S).walk x G.among (round_at N ws j) S.round (λ y k. again_set S y) H q number nexts.2 e
 
-      module _ {a b : ℕ} (e : o ≡ hopped.To a b) (len : length s'' ≡ length s') where
+      module _ {a b : ℕ} (e : o ≡ code.Some (a, b)) (len : length s'' ≡ length s') where
         at_hop : (a ≡ value nexts.0.packet) × (b ≡ nexts.0.target)
         at_hop = hop_to_lem sp' t st' mem tr c (again_standing S).walk x G.among (round_at N ws j) S.round (λ y k. again_set S y) H q number nexts.2 e
 

@@ -9,7 +9,7 @@ use lib.ListN.{length, length-append}
 use Rattle.common.specs.Packets.{Packet}
 use Rattle.netkat.specs.Strings.{Str, str}
 use Rattle.netkat_paths.specs.Order.{value}
-use Rattle.netkat_paths.specs.Pick.{Way, from}
+use Rattle.netkat_paths.specs.Pick.{Way}
 use Rattle.aut_query_steps.specs.Tables.{Tables}
 use Rattle.aut_query_steps.proofs.Tables.{both_wf}
 use Rattle.aut_query_stage.specs.Layer.{tables_of}
@@ -25,8 +25,7 @@ use Rattle.book_steps.specs.Answers.{say, sentence, why_answer}
 use Rattle.book_steps.specs.Sentence.{word_length, hops_length, sentence_length}
 use Rattle.book_steps.proofs.Sentence.{sentence_length_lem}
 use Rattle.book_writer.specs.Clauses.{Put, Answers}
-use Rattle.book_writer.specs.declared.Answered.{Answered}
-use Rattle.book_writer.specs.declared.Answered.TheVariants as answered
+use Rattle.std.specs.Prelude as code
 use Rattle.book_writer.proofs.Sentence.{begun, begun_length, put_begun, put_hop, put_end, hop_room}
 use Rattle.book_why.specs.Clauses.{Going, Picks, Unmade, PreStart, Started, PostStart, PreNext, Nexted, PostNext, PreLast, Lasted, PostLast, PreString, Stringed, PostString, Answering, WhyAnswered}
 use Rattle.book_why.specs.declared.Spot.{Spot}
@@ -120,28 +119,20 @@ module _ {N : ℕ} {l : Limits} {t mem tr p : List ℕ} {c : Counts} {n : ℕ} {
 pub record Hopping (N : ℕ) (l : Limits) (t tr p : List ℕ) (c : Counts) (n at : ℕ) (sp₀ st₀ s₀ out₀ : List ℕ) (spot₀ : Spot) (first₀ : Bool) (j₀ : ℕ) (sp st s out : List ℕ) (spot : Spot) (first : Bool) (j : ℕ) : Type 0 where
   pub writes : (mem : List ℕ) (ws : List Sets) (k : ℕ) (w : Str N) (out₁ : List ℕ) → Written N l (tables_of sp₀ t st₀ mem tr c) s₀ p n ws k at w j₀ first₀ spot₀ out₁ out₀
       → Written N l (tables_of sp t st mem tr c) s p n ws k at w j first spot out₁ out × Unmade sp₀ st₀ sp st
-  pub len_sp : length sp ≡ length sp₀
-  pub len_st : length st ≡ length st₀
-  pub len_s : length s ≡ length s₀
-  pub len_out : length out ≡ length out₀
 
 module _ {N : ℕ} {l : Limits} {t tr p : List ℕ} {c : Counts} {n at : ℕ} {sp₀ st₀ s₀ out₀ : List ℕ} {spot₀ : Spot} {first₀ : Bool} {j₀ : ℕ} where
   pub hopping_begin : Hopping N l t tr p c n at sp₀ st₀ s₀ out₀ spot₀ first₀ j₀ sp₀ st₀ s₀ out₀ spot₀ first₀ j₀
-  hopping_begin = record { writes = λ mem ws k w out₁ B. (B, unmade_none); len_sp = refl; len_st = refl; len_s = refl; len_out = refl }
+  hopping_begin = record { writes = λ mem ws k w out₁ B. (B, unmade_none) }
 
   module _ {sp st s out : List ℕ} {spot : Spot} {first : Bool} {j : ℕ} (I : Hopping N l t tr p c n at sp₀ st₀ s₀ out₀ spot₀ first₀ j₀ sp st s out spot first j) where
     pub hopping_next : 0 < j → {r : Spot} {sp' st' s' out' : List ℕ} → PostNext N l sp t st tr s p c n (j - 1) first spot r sp' st' s' out out'
-        → length sp' ≡ length sp → length st' ≡ length st → length s' ≡ length s → length out' ≡ length out → Hopping N l t tr p c n at sp₀ st₀ s₀ out₀ spot₀ first₀ j₀ sp' st' s' out' r false (j - 1)
-    hopping_next m E a b d e = record {
+        → Hopping N l t tr p c n at sp₀ st₀ s₀ out₀ spot₀ first₀ j₀ sp' st' s' out' r false (j - 1)
+    hopping_next m E = record {
       writes = λ mem ws k w out₁ B.
           let (i, u) = I.writes mem ws k w out₁ B in
           let i' = written_down m i in
           let X = E mem ws i'.packet i'.way i'.number i'.going in
           (written_next i' X, unmade_on u X.unmade);
-      len_sp = a ∙ I.len_sp;
-      len_st = b ∙ I.len_st;
-      len_s = d ∙ I.len_s;
-      len_out = e ∙ I.len_out;
     }
 
 module _ {N : ℕ} {l : Limits} {t tr p : List ℕ} {c : Counts} {n at : ℕ} {sp₀ st₀ s₀ out₀ sp₁ st₁ s₁ out₁ : List ℕ} {f x : ℕ} {spot₁ : Spot} (E : PostStart N l sp₀ t st₀ tr s₀ p c n f x at spot₁ sp₁ st₁ s₁ out₀ out₁)
@@ -189,7 +180,7 @@ module _ {N : ℕ} {l : Limits} {sp t st mem tr s p : List ℕ} {c : Counts} {n 
   abbrev told : List ℕ
   told = why_answer N (pick_by N (clear_of sp t st mem tr c) ws x (fewest N x 0 ws))
 
-  pub answer_none : {at : ℕ} {r : Answered} {out out' : List ℕ} → f ≡ 0 → Answers (say (bytes "none" ∷ [])) at r out out' → WhyAnswered N l sp t st mem tr c p n ws x at r sp st s out out'
+  pub answer_none : {at : ℕ} {r : code.Option ℕ} {out out' : List ℕ} → f ≡ 0 → Answers (say (bytes "none" ∷ [])) at r out out' → WhyAnswered N l sp t st mem tr c p n ws x at r sp st s out out'
   answer_none {at} {r} {out} {out'} z B = record {
     unmade = unmade_none;
     standing = A.standing;
@@ -212,7 +203,7 @@ module _ {N : ℕ} {l : Limits} {sp t st mem tr s p : List ℕ} {c : Counts} {n 
     told_long : length told ≡ sentence_length N (f - 1)
     told_long = ap length told_is ∙ sentence_length_lem N string (f - 1) (A.known (f - 1) fewest_is).3
 
-    pub answer_full : {at : ℕ} {out : List ℕ} → length out < at + sentence_length N (f - 1) → WhyAnswered N l sp t st mem tr c p n ws x at answered.Full sp st s out out
+    pub answer_full : {at : ℕ} {out : List ℕ} → length out < at + sentence_length N (f - 1) → WhyAnswered N l sp t st mem tr c p n ws x at code.None sp st s out out
     answer_full z = record { unmade = unmade_none; standing = A.standing; answers = (omega (arith, told_long), refl) }
 
     module _ {s' : List ℕ} (F : Forgotten s s') (len : length s' ≡ length s) where
@@ -231,5 +222,5 @@ module _ {N : ℕ} {l : Limits} {sp t st mem tr s p : List ℕ} {c : Counts} {n 
             is = (A.known (f - 1) fewest_is).1;
           }
 
-      pub answer_told : {at r : ℕ} {sp' st' s'' out out' : List ℕ} → Stringed N l sp t st mem tr c p n ws at string r sp' st' s'' out out' → WhyAnswered N l sp t st mem tr c p n ws x at (answered.At r) sp' st' s'' out out'
+      pub answer_told : {at r : ℕ} {sp' st' s'' out out' : List ℕ} → Stringed N l sp t st mem tr c p n ws at string r sp' st' s'' out out' → WhyAnswered N l sp t st mem tr c p n ws x at (code.Some r) sp' st' s'' out out'
       answer_told {at} {r} {out = out} {out' = out'} X = record { unmade = X.unmade; standing = X.standing; answers = subst (λ (bs : List ℕ). Put at bs r out out') (sym told_is) X.put }

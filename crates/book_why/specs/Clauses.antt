@@ -24,7 +24,7 @@ use Rattle.aut_why_hop.specs.Clauses.{LeastReady}
 use Rattle.book_steps.specs.Answers.{sentence, why_answer}
 use Rattle.book_steps.specs.Sentence.{word_length, sentence_length}
 use Rattle.book_writer.specs.Clauses.{Put, Answers, start_part, hop_part, end_part}
-use Rattle.book_writer.specs.declared.Answered.{Answered}
+use Rattle.std.specs.Prelude as code
 use Rattle.book_why.specs.declared.Spot.{Spot}
 
 -- what follows the packet q at the state x, with k hops, from what stands in the tables (aut_why_steps, Why: pick_at)
@@ -171,11 +171,11 @@ pub record PreAnswer (N : ℕ) (l : Limits) (sp t st tr s p : List ℕ) (c : Cou
   pub answering : Answering N l (tables_of sp t st members tr c) s p n rounds f x
   pub room : at ≤ length out
 
-pub record WhyAnswered (N : ℕ) (l : Limits) (sp t st mem tr : List ℕ) (c : Counts) (p : List ℕ) (n : ℕ) (ws : List Sets) (x at : ℕ) (r : Answered) (sp' st' s' out out' : List ℕ) : Type 0 where
+pub record WhyAnswered (N : ℕ) (l : Limits) (sp t st mem tr : List ℕ) (c : Counts) (p : List ℕ) (n : ℕ) (ws : List Sets) (x at : ℕ) (r : code.Option ℕ) (sp' st' s' out out' : List ℕ) : Type 0 where
   pub unmade : Unmade sp st sp' st'
   pub standing : Standing N l (tables_of sp' t st' mem tr c) s' p n ws
   pub answers : Answers (why_answer N (pick_by N (clear_tables (tables_of sp t st mem tr c)) ws x (fewest N x 0 ws))) at r out out'
 
-abbrev pub PostAnswer : (N : ℕ) → Limits → (sp t st tr s p : List ℕ) → Counts → (n f x at : ℕ) → (r : Answered) → (sp' st' s' out out' : List ℕ) → Type 0
+abbrev pub PostAnswer : (N : ℕ) → Limits → (sp t st tr s p : List ℕ) → Counts → (n f x at : ℕ) → (r : code.Option ℕ) → (sp' st' s' out out' : List ℕ) → Type 0
 PostAnswer N l sp t st tr s p c n f x at r sp' st' s' out out' = (mem : List ℕ) (ws : List Sets) → Answering N l (tables_of sp t st mem tr c) s p n ws f x
     → WhyAnswered N l sp t st mem tr c p n ws x at r sp' st' s' out out'

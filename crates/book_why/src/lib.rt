@@ -5,8 +5,6 @@ ghost use Rattle.std.specs.Prelude.{◌<◌};
 ghost use Rattle.book_why.specs.Clauses.{PreStart, PostStart, PreNext, PostNext, PreLast, PostLast, PreString, PostString, PreAnswer, PostAnswer};
 
 use aut_states::{Config, Counts};
-use aut_why_hop::Hopped;
-use book_writer::Answered;
 use sp::SP;
 
 // where the picking stands: the round in words 10, the state, the packet's number, and the place behind it in the output
@@ -119,7 +117,7 @@ fn put_next(
         spot.mark,
         step,
     );
-    let Hopped::To(packet, target) = aut_why_hop::hop(
+    let Some((packet, target)) = aut_why_hop::hop(
         sp,
         nodes,
         states,
@@ -204,9 +202,7 @@ fn put_string(
         step,
     );
     let mut first = true;
-    let mut j = f - 1;
-    while j > 0 {
-        j -= 1;
+    for j in (0..f - 1).rev() {
         spot = put_next(
             sp,
             nodes,
@@ -243,7 +239,7 @@ pub fn why_answer(
     n: usize,
     f: usize,
     x: u32,
-) -> Answered
+) -> Option<usize>
     requires { PreAnswer config.fields config.limits sp.old nodes.now states.old transitions.now
         scratch.old pending.now c n f x at output.old }
     ensures { PostAnswer config.fields config.limits sp.old nodes.now
@@ -255,7 +251,7 @@ pub fn why_answer(
     }
     let long = book_writer::why_length(config.fields, f - 1);
     if output.len() - at < long {
-        return Answered::Full;
+        return None;
     }
     aut_why_least::forget(scratch);
     let end = put_string(
@@ -273,5 +269,5 @@ pub fn why_answer(
         f,
         x,
     );
-    Answered::At(end)
+    Some(end)
 }

@@ -1,31 +1,31 @@
--- Lines of two, three and four words: how long they are, and what stands in the output when their parts are written; and the share.
+-- A line: how long it is, and what stands in the output when its parts are written; and the share.
 use Rattle.std.specs.Prelude.{if◌then◌else◌}
 use mathlib.Core.Path.{◌≡◌, refl, sym, ◌∙◌, ap}
 use mathlib.Core.Bool.{Bool, true, false}
-use mathlib.Core.List.{List, [], ◌∷◌, ◌++◌}
+use mathlib.Core.List.{List, [], ◌∷◌, ◌++◌, map, append_assoc, append-nil}
 use Prim.Native.Nat.{ℕ, ◌+◌, ◌*◌, ◌/◌, ◌%◌, ◌^◌, ◌≤◌, ◌<◌}
 use native.Mathlib.Omega.{arith}
-use lib.ListN.{length, set, length-append}
+use lib.ListN.{length, get_or, drop, set, length-append, length-set}
+use Rattle.std.proofs.lemmas.List.{drop_more, drop_all}
 use lib.Pow.{pow_mono, pow_pos}
 use native.Mathlib.Nat.{mod-eq_of_lt}
 use borrow.Author.Tests.{lt-ltb, le-ltb}
 use Rattle.book_steps.specs.Answers.{say, share}
-use Rattle.book_writer.specs.Clauses.{Put}
-use Rattle.book_writer.proofs.Contracts.{put_append, put_one}
+use Rattle.book_writer.specs.declared.Part.{Part}
+use Rattle.book_writer.specs.declared.Part.TheVariants.{Word}
+use Rattle.book_writer.specs.Clauses.{Put, part_bytes, with_spaces}
+use Rattle.book_writer.proofs.Contracts.{put_append, put_of, put_one}
 
-pub length_two : (v w : List ℕ) → length (say (v ∷ w ∷ [])) ≡ length v + length w + 2
+length_two : (v w : List ℕ) → length (say (v ∷ w ∷ [])) ≡ length v + length w + 2
 unfolding say
 length_two v w = omega (arith, length-append v (32 ∷ w ++ 10 ∷ []), length-append w (10 ∷ []))
 
-pub length_more : (v w : List ℕ) (ws : List (List ℕ)) → length (say (v ∷ w ∷ ws)) ≡ length v + 1 + length (say (w ∷ ws))
+length_more : (v w : List ℕ) (ws : List (List ℕ)) → length (say (v ∷ w ∷ ws)) ≡ length v + 1 + length (say (w ∷ ws))
 unfolding say
 length_more v w ws = omega (arith, length-append v (32 ∷ say (w ∷ ws)))
 
 pub length_three : (u v w : List ℕ) → length (say (u ∷ v ∷ w ∷ [])) ≡ length u + length v + length w + 3
 length_three u v w = omega (arith, length_more u v (w ∷ []), length_two v w)
-
-pub length_four : (t u v w : List ℕ) → length (say (t ∷ u ∷ v ∷ w ∷ [])) ≡ length t + length u + length v + length w + 4
-length_four t u v w = omega (arith, length_more t u (v ∷ w ∷ []), length_three u v w)
 
 -- a space in front, a line's end behind
 pub spaced : {at r : ℕ} {bs s s' : List ℕ} → at < length s → Put (at + 1) bs r (set s at 32) s' → Put at (32 ∷ bs) r s s'
@@ -34,21 +34,75 @@ spaced {at} {r} {bs} {s} l p = put_append (put_one at 32 s l) p
 pub ended : {at r : ℕ} {bs s s' : List ℕ} → r < length s → Put at bs r s s' → Put at (bs ++ 10 ∷ []) (r + 1) s (set s' r 10)
 ended {at} {r} {bs} {s} {s'} l p = put_append p (put_one r 10 s' (omega (arith, p.wrote.len)))
 
--- ---- the parts of a line, one behind the other
+-- ---- a word and the parts behind it
 
-module _ {at x : ℕ} {s₀ s₁ : List ℕ} (t : List ℕ) (a : Put at t x s₀ s₁) where
-  pub said_two : {r : ℕ} {s₂ : List ℕ} (v : List ℕ) → Put x (32 ∷ v ++ 10 ∷ []) r s₁ s₂ → Put at (say (t ∷ v ∷ [])) r s₀ s₂
-  unfolding say
-  said_two v b = put_append a b
+pub say_is : (w : List ℕ) (ps : List Part) → say (w ∷ map part_bytes ps) ≡ (w ++ with_spaces ps) ++ 10 ∷ []
+unfolding say with_spaces
+say_is w [] = ap (λ (l : List ℕ). l ++ 10 ∷ []) (sym (append-nil w))
+say_is w (p ∷ ps) = ap (λ (l : List ℕ). w ++ 32 ∷ l) (say_is (part_bytes p) ps) ∙ sym (append_assoc w (32 ∷ part_bytes p ++ with_spaces ps) (10 ∷ []))
 
-  module _ {y : ℕ} {s₂ : List ℕ} (u : List ℕ) (b : Put x (32 ∷ u) y s₁ s₂) where
-    pub said_three : {r : ℕ} {s₃ : List ℕ} (v : List ℕ) → Put y (32 ∷ v ++ 10 ∷ []) r s₂ s₃ → Put at (say (t ∷ u ∷ v ∷ [])) r s₀ s₃
-    unfolding say
-    said_three v d = put_append a (put_append b d)
+pub say_length : (w : List ℕ) (ps : List Part) → length (say (w ∷ map part_bytes ps)) ≡ length w + length (with_spaces ps) + 1
+say_length w ps = omega (arith, ap length (say_is w ps), length-append (w ++ with_spaces ps) (10 ∷ []), length-append w (with_spaces ps))
 
-    pub said_four : {z r : ℕ} {s₃ s₄ : List ℕ} (v : List ℕ) → Put y (32 ∷ v) z s₂ s₃ → (w : List ℕ) → Put z (32 ∷ w ++ 10 ∷ []) r s₃ s₄ → Put at (say (t ∷ u ∷ v ∷ w ∷ [])) r s₀ s₄
-    unfolding say
-    said_four v d w e = put_append a (put_append b (put_append d e))
+-- what the check puts for a part that is not there
+abbrev pub blank : Part
+blank = Word (record { ref_ptr = (0, 0); now = [] })
+
+-- the parts from i on
+module _ (ps : List Part) (i : ℕ) where
+  abbrev pub part_at : List ℕ
+  part_at = part_bytes (get_or ps i blank)
+
+  pub next_part : i < length ps → with_spaces (drop i ps) ≡ 32 ∷ part_at ++ with_spaces (drop (i + 1) ps)
+  unfolding with_spaces
+  next_part h = ap with_spaces (drop_more ps i blank h)
+
+  pub no_part : length ps ≤ i → with_spaces (drop i ps) ≡ []
+  unfolding with_spaces
+  no_part h = ap with_spaces (drop_all i ps h)
+
+-- total is the length of the first i
+pub record Measured (ps : List Part) (total i : ℕ) : Type 0 where
+  pub is : total + length (with_spaces (drop i ps)) ≡ length (with_spaces ps)
+
+module _ {ps : List Part} {total i : ℕ} (M : Measured ps total i) where
+  pub longer : i < length ps → total + length (part_at ps i) + 1 + length (with_spaces (drop (i + 1) ps)) ≡ length (with_spaces ps)
+  longer h = omega (arith, M.is, ap length (next_part ps i h), length-append (part_at ps i) (with_spaces (drop (i + 1) ps)))
+
+  pub measured_all : length ps ≤ i → total ≡ length (with_spaces ps)
+  measured_all h = omega (arith, M.is, ap length (no_part ps i h))
+
+-- the word and i parts are written
+pub record Written (s₀ : List ℕ) (at : ℕ) (w : List ℕ) (ps : List Part) (s : List ℕ) (end i : ℕ) : Type 0 where
+  pub front : List ℕ
+  pub put : Put at front end s₀ s
+  pub is : front ++ with_spaces (drop i ps) ≡ w ++ with_spaces ps
+
+pub begin_line : {s₀ s : List ℕ} {at end : ℕ} {w : List ℕ} (ps : List Part) → Put at w end s₀ s → Written s₀ at w ps s end 0
+begin_line {w = w} ps P = record { front = w; put = P; is = refl }
+
+module _ {s₀ s : List ℕ} {at end i : ℕ} {w : List ℕ} {ps : List Part} (room : at + (length w + length (with_spaces ps) + 1) ≤ length s₀) (W : Written s₀ at w ps s end i) where
+  size : length W.front + length (with_spaces (drop i ps)) ≡ length w + length (with_spaces ps)
+  size = omega (arith, ap length W.is, length-append W.front (with_spaces (drop i ps)), length-append w (with_spaces ps))
+
+  pub one_byte : end < length s
+  one_byte = omega (arith, size, W.put.behind, W.put.wrote.len)
+
+  module _ (h : i < length ps) where
+    pub part_fits : end + 1 + length (part_at ps i) ≤ length (set s end 32)
+    part_fits = omega (arith, length-set s end 32, size, W.put.behind, W.put.wrote.len, ap length (next_part ps i h), length-append (part_at ps i) (with_spaces (drop (i + 1) ps)))
+
+    pub part_more : {r : ℕ} {s' : List ℕ} → Put (end + 1) (part_at ps i) r (set s end 32) s' → Written s₀ at w ps s' r (i + 1)
+    part_more P = record {
+      front = W.front ++ 32 ∷ part_at ps i;
+      put = put_append W.put (spaced one_byte P);
+      is = append_assoc W.front (32 ∷ part_at ps i) (with_spaces (drop (i + 1) ps)) ∙ ap (λ (l : List ℕ). W.front ++ l) (sym (next_part ps i h)) ∙ W.is;
+    }
+
+  pub line_done : length ps ≤ i → Put at (say (w ∷ map part_bytes ps)) (end + 1) s₀ (set s end 10)
+  line_done h =
+      let f : W.front ≡ w ++ with_spaces ps = sym (append-nil W.front) ∙ ap (λ (l : List ℕ). W.front ++ l) (sym (no_part ps i h)) ∙ W.is in
+      put_of (ap (λ (l : List ℕ). l ++ 10 ∷ []) f ∙ sym (say_is w ps)) (ended (omega (arith, one_byte, W.put.wrote.len)) W.put)
 
 -- ---- the share, and the total that it is of
 

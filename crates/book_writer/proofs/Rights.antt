@@ -1,9 +1,9 @@
--- Bytes copied, a number's digits counted, and written from the right: a turn of each loop.
+-- A number's digits counted, and written from the right.
 use Rattle.std.specs.Prelude.{if◌then◌else◌}
 use mathlib.Core.Path.{◌≡◌, refl, sym, ◌∙◌, ap, subst}
 use mathlib.Core.Bool.{Bool, true, false}
 use mathlib.Core.List.{List, [], ◌∷◌, ◌++◌}
-use Prim.Native.Nat.{ℕ, zero, suc, ◌+◌, ◌-◌, ◌/◌, ◌%◌, ◌^◌, ◌≤◌, ◌<◌}
+use Prim.Native.Nat.{ℕ, zero, suc, ◌+◌, ◌-◌, ◌/◌, ◌%◌, ◌^◌, ◌*◌, ◌≤◌, ◌<◌, max}
 use native.Mathlib.Omega.{arith}
 use lib.Dec.{ltb}
 use lib.ListN.{length, get_or, set, length-append, length-set, get_or-append}
@@ -14,58 +14,7 @@ use Rattle.book_steps.specs.Sentence.{bit_bytes}
 use Rattle.book_steps.proofs.Sentence.{bits_last}
 use Rattle.book_writer.specs.Clauses.{Put, last_digits}
 
--- ---- copying: i bytes are written
-
-pub record Copied (s₀ : List ℕ) (at : ℕ) (text s : List ℕ) (i : ℕ) : Type 0 where
-  pub most : i ≤ length text
-  pub len : length s ≡ length s₀
-  pub is : (j : ℕ) → j < i → get_or s (at + j) 0 ≡ get_or text j 0
-  pub below : (j : ℕ) → j < at → get_or s j 0 ≡ get_or s₀ j 0
-  pub above : (j : ℕ) → at + i ≤ j → get_or s j 0 ≡ get_or s₀ j 0
-
-module _ (s₀ : List ℕ) (at : ℕ) (text : List ℕ) where
-  pub copied_begin : Copied s₀ at text s₀ 0
-  copied_begin = record {
-    most = omega arith;
-    len = refl;
-    is = λ j l. absurd (omega arith);
-    below = λ j l. refl;
-    above = λ j l. refl;
-  }
-
-  module _ (room : at + length text ≤ length s₀) (s : List ℕ) (i : ℕ) (v : Copied s₀ at text s i) where
-    pub copied_again : i < length text → Copied s₀ at text (set s (at + i) (get_or text i 0)) (i + 1)
-    copied_again h = record {
-      most = omega arith;
-      len = length-set s (at + i) (get_or text i 0) ∙ v.len;
-      is = λ j l. go j l (ltb j i) refl;
-      below = λ j l. get_or-set_other s (at + i) j (get_or text i 0) 0 (λ e. omega arith) ∙ v.below j l;
-      above = λ j l. get_or-set_other s (at + i) j (get_or text i 0) 0 (λ e. omega arith) ∙ v.above j (omega arith);
-    }
-      where
-        go : (j : ℕ) → j < i + 1 → (b : Bool) → ltb j i ≡ b → get_or (set s (at + i) (get_or text i 0)) (at + j) 0 ≡ get_or text j 0
-        go j l true e =
-            let m : j < i = ltb-true j i e in
-            get_or-set_other s (at + i) (at + j) (get_or text i 0) 0 (λ e. omega arith) ∙ v.is j m
-        go j l false e =
-            let m : i ≤ j = ltb-false j i e in
-            ap (λ (k : ℕ). get_or (set s (at + i) (get_or text i 0)) (at + k) 0) {x = j} {y = i} (omega arith)
-            ∙ get_or-set_same s (at + i) (get_or text i 0) 0 (omega (arith, v.len))
-            ∙ ap (λ (k : ℕ). get_or text k 0) {x = i} {y = j} (omega arith)
-
-    pub copied_end : length text ≤ i → Put at text (at + i) s₀ s
-    copied_end h = record {
-      behind = omega (arith, v.most);
-      room = omega (arith, v.most);
-      wrote = record {
-        len = v.len;
-        is = λ j l. v.is j (omega arith);
-        below = v.below;
-        above = λ j l. v.above j (omega (arith, v.most));
-      };
-    }
-
--- ---- counting: k digits are counted, and m is to come
+-- ---- how many digits a number has
 
 pub short : (f m : ℕ) → m < 10 → decimal_by f m ≡ (48 + m) ∷ []
 unfolding decimal_by
@@ -82,40 +31,26 @@ longer f m l = ap length (long f m l) ∙ length-append (decimal_by f (m / 10)) 
 lower : (f m : ℕ) → m < 10 ^ suc (suc f) → m / 10 < 10 ^ suc f
 lower f m l = omega (arith, l)
 
-pub record Counted (n m k : ℕ) : Type 0 where
-  pub least : 1 ≤ k
-  pub most : k ≤ 20
-  pub small : m < 10 ^ suc (20 - k)
-  pub is : length (decimal n) + 1 ≡ k + length (decimal_by (20 - k) m)
+some_power : (k : ℕ) → 1 ≤ 10 ^ k
+some_power zero = omega arith
+some_power (suc k) = omega (arith, some_power k)
 
-pub counted_begin : (n : ℕ) → n < 2 ^ 64 → Counted n n 1
+by_power : (f k n : ℕ) → k ≤ f → (1 ≤ k → 10 ^ k ≤ n) → n < 10 * 10 ^ k → length (decimal_by f n) ≡ k + 1
+by_power f zero n l h m = ap length (short f n (omega arith))
+by_power zero (suc k) n l h m = absurd (omega arith)
+by_power (suc f) (suc k) n l h m =
+    let p : 10 ^ suc k ≤ n = h (omega arith) in
+    let q : 1 ≤ 10 ^ k = some_power k in
+    omega (arith, longer f n (omega arith), by_power f k (n / 10) (omega arith) (λ _. omega arith) (omega arith))
+
+-- .. by the power of ten below it, or below 1 for 0
+pub digits_by : (n m k : ℕ) → m ≡ max n 1 → 10 ^ k ≤ m → m < 10 * 10 ^ k → k < 20 → k + 1 ≡ length (decimal n)
 unfolding decimal
-counted_begin n l = record { least = omega arith; most = omega arith; small = omega arith; is = omega arith }
-
-module _ (n m k : ℕ) (v : Counted n m k) where
-  few : 10 ≤ m → k < 20
-  few h = go (ltb k 20) refl
-    where
-      go : (b : Bool) → ltb k 20 ≡ b → k < 20
-      go true e = ltb-true k 20 e
-      go false e =
-          let e : k ≡ 20 = omega (arith, v.most, ltb-false k 20 e) in
-          let s : m < 10 ^ suc (20 - 20) = subst (λ (j : ℕ). m < 10 ^ suc (20 - j)) e v.small in
-          absurd (omega arith)
-
-  pub counted_again : 10 ≤ m → Counted n (m / 10) (k + 1)
-  counted_again h =
-      let l : k < 20 = few h in
-      let e : 20 - k ≡ suc (20 - (k + 1)) = omega arith in
-      record {
-        least = omega arith;
-        most = omega arith;
-        small = lower (20 - (k + 1)) m (subst (λ (f : ℕ). m < 10 ^ suc f) e v.small);
-        is = omega (arith, v.is, ap (λ (f : ℕ). length (decimal_by f m)) e, longer (20 - (k + 1)) m h);
-      }
-
-  pub counted_end : m < 10 → k ≡ length (decimal n)
-  counted_end h = omega (arith, v.is, ap length (short (20 - k) m h))
+digits_by n m k e l h f = sym (by_power 19 k n (omega arith) (at k l) (omega arith))
+  where
+    at : (k : ℕ) → 10 ^ k ≤ m → 1 ≤ k → 10 ^ k ≤ n
+    at zero l h = absurd (omega arith)
+    at (suc k) l h = let q : 1 ≤ 10 ^ k = some_power k in omega arith
 
 -- a number has at most 20 digits
 pub most_by : (f n : ℕ) → length (decimal_by f n) ≤ suc f

@@ -11,7 +11,7 @@ use Rattle.netkat.specs.Strings.{str}
 use Rattle.netkat_paths.specs.Order.{value}
 use Rattle.book_steps.specs.Text.{bytes}
 use Rattle.book_steps.specs.Answers.{packet_word, sentence}
-use Rattle.book_steps.specs.Sentence.{bit_bytes, word_bytes, word_length, start_bytes, hop_words, hop_bytes, end_bytes, hops_length, sentence_length}
+use Rattle.book_steps.specs.Sentence.{word_bytes, word_length, start_bytes, hop_words, hop_bytes, end_bytes, hops_length, sentence_length}
 use Rattle.book_steps.proofs.Sentence.{packet_word_lem, start_length, hops_length_lem, sentence_pieces}
 use Rattle.book_writer.specs.Clauses.{Put, last_digits, start_part, hop_part, end_part}
 use Rattle.book_writer.proofs.Contracts.{put_append, put_of}

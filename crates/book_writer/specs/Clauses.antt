@@ -1,13 +1,13 @@
 -- 01, "The book and its answers" and refusal 27, "output cannot hold the next answer's lines": what the functions that write an answer leave in the output. A whole answer stands in it, or the output is as it was.
-use Rattle.std.specs.Prelude.{◌≡◌, Bool, true, false, List, [], ◌∷◌, ◌++◌, ℕ, zero, suc, ◌+◌, ◌/◌, ◌%◌, ◌≤◌, ◌<◌, length, get_or}
+use Rattle.std.specs.Prelude.{◌≡◌, Bool, true, false, List, [], ◌∷◌, ◌++◌, ℕ, zero, suc, ◌+◌, ◌/◌, ◌%◌, ◌≤◌, ◌<◌, ◌^◌, length, get_or, Option, Some, None}
 use Rattle.netkat.specs.Search as Search
 use Rattle.book_steps.specs.Text.{bytes, decimal}
 use Rattle.book_steps.specs.Answers.{say}
 use Rattle.book_steps.specs.Sentence.{word_bytes}
+use Rattle.book_writer.specs.declared.Part.{Part}
+use Rattle.book_writer.specs.declared.Part.TheVariants.{Word, Number}
 use Rattle.book_writer.specs.declared.Verdict.{Verdict}
 use Rattle.book_writer.specs.declared.Verdict.TheVariants.{Yes, No, Spent}
-use Rattle.book_writer.specs.declared.Answered.{Answered}
-use Rattle.book_writer.specs.declared.Answered.TheVariants.{At, Full}
 
 -- the bytes from `at` on are now bs, and all else is as it was
 pub record Wrote (at : ℕ) (bs s s' : List ℕ) : Type 0 where
@@ -22,10 +22,24 @@ pub record Put (at : ℕ) (bs : List ℕ) (r : ℕ) (s s' : List ℕ) : Type 0 w
   pub room : r ≤ length s
   pub wrote : Wrote at bs s s'
 
+abbrev pub part_bytes : Part → List ℕ
+part_bytes (Word w) = w.now
+part_bytes (Number n) = decimal n
+
+-- the parts, each behind a space
+unfoldable pub with_spaces : List Part → List ℕ
+with_spaces [] = []
+with_spaces (p ∷ ps) = 32 ∷ part_bytes p ++ with_spaces ps
+
+-- their length, unless no word holds it
+abbrev pub Measures : List Part → Option ℕ → Type 0
+Measures ps (Some n) = n ≡ length (with_spaces ps)
+Measures ps None = 2 ^ 64 ≤ length (with_spaces ps)
+
 -- the whole answer, or the refusal 27 and nothing
-abbrev pub Answers : List ℕ → ℕ → Answered → List ℕ → List ℕ → Type 0
-Answers bs at (At r) s s' = Put at bs r s s'
-Answers bs at Full s s' = (length s < at + length bs) × (s' ≡ s)
+abbrev pub Answers : List ℕ → ℕ → Option ℕ → List ℕ → List ℕ → Type 0
+Answers bs at (Some r) s s' = Put at bs r s s'
+Answers bs at None s s' = (length s < at + length bs) × (s' ≡ s)
 
 abbrev pub verdict_of : Verdict → Search.Verdict
 verdict_of Yes = Search.yes

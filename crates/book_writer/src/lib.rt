@@ -1,18 +1,12 @@
-// The lines of an answer, written into the output whole or not at all.
+// The lines of an answer, written into the output whole or not at all: the place behind it, or `None` where there is no room, which is
+// refusal 27.
 #![tactic(auto)]
 
-ghost use Rattle.std.specs.Prelude.{◌≡◌, [], ◌∷◌, ◌++◌, ◌+◌, ◌≤◌, ◌<◌, ◌^◌, length};
+ghost use Rattle.std.specs.Prelude.{◌≡◌, [], ◌∷◌, ◌++◌, ◌+◌, ◌≤◌, ◌<◌, ◌^◌, length, map};
 ghost use Rattle.book_steps.specs.Text.{bytes, decimal};
 ghost use Rattle.book_steps.specs.Answers as Told;
 ghost use Rattle.book_steps.specs.Sentence.{word_bytes, word_length, sentence_length};
-ghost use Rattle.book_writer.specs.Clauses.{Put, Answers, verdict_of, last_digits, pair_line, pruned_head, start_part, hop_part, end_part};
-
-// the whole answer stands in the output, up to a place; or it has no room, which is refusal 27
-#[derive(Clone, Copy)]
-pub enum Answered {
-    At(usize),
-    Full,
-}
+ghost use Rattle.book_writer.specs.Clauses.{Put, Answers, verdict_of, part_bytes, Measures, last_digits, pair_line, pruned_head, start_part, hop_part, end_part};
 
 #[derive(Clone, Copy)]
 pub enum Verdict {
@@ -25,25 +19,16 @@ pub fn put(out: &mut [u8], at: usize, text: &[u8]) -> usize
     requires { at + length text.now ≤ length out.old }
     ensures { Put at text.now result out.old out.new }
 {
-    let mut i = 0;
-    while i < text.len() {
-        out[at + i] = text[i];
-        i += 1;
-    }
-    at + i
+    let end = at + text.len();
+    out[at..end].copy_from_slice(text);
+    end
 }
 
 // how many digits a number has
 pub fn digits(n: u64) -> usize
     ensures { result ≡ length (decimal n) }
 {
-    let mut m = n;
-    let mut k = 1;
-    while 10 <= m {
-        m = m / 10;
-        k += 1;
-    }
-    k
+    n.max(1).ilog10() as usize + 1
 }
 
 // the last k digits of a number, from the right
@@ -52,11 +37,9 @@ fn put_digits(out: &mut [u8], at: usize, base: u64, k: usize, n: u64) -> usize
     ensures { Put at (last_digits base k n) result out.old out.new }
 {
     let mut m = n;
-    let mut i = k;
-    while 0 < i {
-        i -= 1;
-        out[at + i] = (48 + m % base) as u8;
-        m = m / base;
+    for i in (0..k).rev() {
+        out[at + i] = b'0' + (m % base) as u8;
+        m /= base;
     }
     at + k
 }
@@ -69,119 +52,59 @@ pub fn put_decimal(out: &mut [u8], at: usize, n: u64) -> usize
     put_digits(out, at, 10, k, n)
 }
 
-// a space and a number
-fn put_number(out: &mut [u8], at: usize, n: u64) -> usize
-    requires { at + (length (decimal n) + 1) ≤ length out.old }
-    ensures { Put at (32 ∷ decimal n) result out.old out.new }
-{
-    out[at] = b' ';
-    put_decimal(out, at + 1, n)
+// a part of a line
+#[derive(Clone, Copy)]
+pub enum Part<'a> {
+    Word(&'a [u8]),
+    Number(u64),
 }
 
-// a space and a word
-fn put_word(out: &mut [u8], at: usize, word: &[u8]) -> usize
-    requires { at + (length word.now + 1) ≤ length out.old }
-    ensures { Put at (32 ∷ word.now) result out.old out.new }
+fn part_length(part: Part) -> usize
+    ensures { result ≡ length (part_bytes part.entry) }
 {
-    out[at] = b' ';
-    put(out, at + 1, word)
+    match part {
+        Part::Word(word) => word.len(),
+        Part::Number(n) => digits(n),
+    }
 }
 
-// a space, a number and the line's end
-fn put_last(out: &mut [u8], at: usize, n: u64) -> usize
-    requires { at + (length (decimal n) + 2) ≤ length out.old }
-    ensures { Put at (32 ∷ decimal n ++ 10 ∷ []) result out.old out.new }
+fn put_part(out: &mut [u8], at: usize, part: Part) -> usize
+    requires { at + length (part_bytes part) ≤ length out.old }
+    ensures { Put at (part_bytes part.entry) result out.old out.new }
 {
-    let end = put_number(out, at, n);
-    out[end] = 10;
-    end + 1
+    match part {
+        Part::Word(word) => put(out, at, word),
+        Part::Number(n) => put_decimal(out, at, n),
+    }
 }
 
-// a word and a number
-fn line_of_one(out: &mut [u8], at: usize, word: &[u8], a: u64) -> Answered
+// how long the parts are with a byte behind each, if a number says it
+fn parts_length(parts: &[Part]) -> Option<usize>
+    ensures { Measures parts.now result }
+{
+    let mut total: usize = 0;
+    for part in parts {
+        total = total.checked_add(1)?.checked_add(part_length(*part))?;
+    }
+    Some(total)
+}
+
+// a line of a word and other parts
+pub fn line(out: &mut [u8], at: usize, word: &[u8], parts: &[Part]) -> Option<usize>
     requires { at ≤ length out.old }
-    ensures { Answers (Told.say (word.now ∷ decimal a ∷ [])) at result out.old out.new }
+    ensures { Answers (Told.say (word.now ∷ map part_bytes parts.now)) at result out.old out.new }
 {
-    let n = word.len() + digits(a) + 2;
+    let n = parts_length(parts)?.checked_add(word.len() + 1)?;
     if out.len() - at < n {
-        return Answered::Full;
+        return None;
     }
-    let b = put(out, at, word);
-    let e = put_last(out, b, a);
-    Answered::At(e)
-}
-
-// a word and two numbers
-pub fn line_of_two(out: &mut [u8], at: usize, word: &[u8], a: u64, b: u64) -> Answered
-    requires { at ≤ length out.old }
-    ensures { Answers (Told.say (word.now ∷ decimal a ∷ decimal b ∷ [])) at result out.old
-        out.new }
-{
-    let n = word.len() + digits(a) + digits(b) + 3;
-    if out.len() - at < n {
-        return Answered::Full;
+    let mut end = put(out, at, word);
+    for part in parts {
+        out[end] = b' ';
+        end = put_part(out, end + 1, *part);
     }
-    let x = put(out, at, word);
-    let y = put_number(out, x, a);
-    let e = put_last(out, y, b);
-    Answered::At(e)
-}
-
-// a word, a name and a number
-fn line_of_name(out: &mut [u8], at: usize, word: &[u8], name: &[u8], a: u64) -> Answered
-    requires { (at ≤ length out.old) × (length word.now ≤ 6) }
-    ensures { Answers (Told.say (word.now ∷ name.now ∷ decimal a ∷ [])) at result
-        out.old out.new }
-{
-    let n = word.len() + name.len() + digits(a) + 3;
-    if out.len() - at < n {
-        return Answered::Full;
-    }
-    let x = put(out, at, word);
-    let y = put_word(out, x, name);
-    let e = put_last(out, y, a);
-    Answered::At(e)
-}
-
-// a word, a name and two numbers
-fn line_of_three(out: &mut [u8], at: usize, word: &[u8], name: &[u8], a: u64, b: u64) -> Answered
-    requires { (at ≤ length out.old) × (length word.now ≤ 6) }
-    ensures { Answers (Told.say (word.now ∷ name.now ∷ decimal a ∷ decimal b ∷ [])) at result
-        out.old out.new }
-{
-    let n = word.len() + name.len() + digits(a) + digits(b) + 4;
-    if out.len() - at < n {
-        return Answered::Full;
-    }
-    let x = put(out, at, word);
-    let y = put_word(out, x, name);
-    let z = put_number(out, y, a);
-    let e = put_last(out, z, b);
-    Answered::At(e)
-}
-
-// a word, a name, a word and a number
-fn line_with_word(
-    out: &mut [u8],
-    at: usize,
-    word: &[u8],
-    name: &[u8],
-    said: &[u8],
-    a: u64,
-) -> Answered
-    requires { (at ≤ length out.old) × (length word.now ≤ 6) × (length said.now ≤ 5) }
-    ensures { Answers (Told.say (word.now ∷ name.now ∷ said.now ∷ decimal a ∷ []))
-        at result out.old out.new }
-{
-    let n = word.len() + name.len() + said.len() + digits(a) + 4;
-    if out.len() - at < n {
-        return Answered::Full;
-    }
-    let x = put(out, at, word);
-    let y = put_word(out, x, name);
-    let z = put_word(out, y, said);
-    let e = put_last(out, z, a);
-    Answered::At(e)
+    out[end] = b'\n';
+    Some(end + 1)
 }
 
 // thousandths of a total, the nearest, the half to the even one; up to 2^53 nothing overflows
@@ -200,11 +123,11 @@ pub fn share(count: u64, total: u64) -> u64
     lower + lower % 2
 }
 
-pub fn fields_answer(out: &mut [u8], at: usize, fields: u32) -> Answered
+pub fn fields_answer(out: &mut [u8], at: usize, fields: u32) -> Option<usize>
     requires { at ≤ length out.old }
     ensures { Answers (Told.fields_answer fields) at result out.old out.new }
 {
-    line_of_one(out, at, b"fields", fields as u64)
+    line(out, at, b"fields", &[Part::Number(fields as u64)])
 }
 
 pub fn empty_answer(
@@ -213,41 +136,62 @@ pub fn empty_answer(
     name: &[u8],
     verdict: Verdict,
     count: u64,
-) -> Answered
+) -> Option<usize>
     requires { at ≤ length out.old }
     ensures { Answers (Told.empty_answer name.now (verdict_of verdict) count) at result out.old
         out.new }
 {
-    match verdict {
-        Verdict::Yes => line_with_word(out, at, b"empty", name, b"yes", count),
-        Verdict::No => line_with_word(out, at, b"empty", name, b"no", count),
-        Verdict::Spent => line_with_word(out, at, b"empty", name, b"spent", count),
-    }
+    let said: &[u8] = match verdict {
+        Verdict::Yes => b"yes",
+        Verdict::No => b"no",
+        Verdict::Spent => b"spent",
+    };
+    line(
+        out,
+        at,
+        b"empty",
+        &[Part::Word(name), Part::Word(said), Part::Number(count)],
+    )
 }
 
-pub fn live_answer(out: &mut [u8], at: usize, name: &[u8], count: u64, fields: u32) -> Answered
+pub fn live_answer(out: &mut [u8], at: usize, name: &[u8], count: u64, fields: u32) -> Option<usize>
     requires { (at ≤ length out.old) × (fields ≤ 31) × (count ≤ 2 ^ fields) }
     ensures { Answers (Told.live_answer fields name.now count) at result out.old
         out.new }
 {
     let part = share(count, 1u64 << fields);
-    line_of_three(out, at, b"live", name, count, part)
+    line(
+        out,
+        at,
+        b"live",
+        &[Part::Word(name), Part::Number(count), Part::Number(part)],
+    )
 }
 
 // the first line of `pruned`, for k transitions
-pub fn pruned_head(out: &mut [u8], at: usize, name: &[u8], k: usize) -> Answered
+pub fn pruned_head(out: &mut [u8], at: usize, name: &[u8], k: usize) -> Option<usize>
     requires { at ≤ length out.old }
     ensures { Answers (pruned_head name.now k) at result out.old out.new }
 {
-    line_of_name(out, at, b"pruned", name, k as u64)
+    line(
+        out,
+        at,
+        b"pruned",
+        &[Part::Word(name), Part::Number(k as u64)],
+    )
 }
 
 // the line of one transition
-pub fn pair_line(out: &mut [u8], at: usize, target: u32, number: u64) -> Answered
+pub fn pair_line(out: &mut [u8], at: usize, target: u32, number: u64) -> Option<usize>
     requires { at ≤ length out.old }
     ensures { Answers (pair_line target number) at result out.old out.new }
 {
-    line_of_two(out, at, b"pair", target as u64, number)
+    line(
+        out,
+        at,
+        b"pair",
+        &[Part::Number(target as u64), Part::Number(number)],
+    )
 }
 
 // how long these lines are: the whole of `pruned` has to fit before its first byte is written
@@ -264,15 +208,11 @@ pub fn pair_length(target: u32, number: u64) -> usize
 }
 
 // the answer to `why` for a state that is empty
-pub fn none_answer(out: &mut [u8], at: usize) -> Answered
+pub fn none_answer(out: &mut [u8], at: usize) -> Option<usize>
     requires { at ≤ length out.old }
     ensures { Answers (Told.say (bytes "none" ∷ [])) at result out.old out.new }
 {
-    if out.len() - at < 5 {
-        return Answered::Full;
-    }
-    let end = put(out, at, b"none\n");
-    Answered::At(end)
+    line(out, at, b"none", &[])
 }
 
 // a packet's word; packets come as numbers, field 0 the highest bit

@@ -36,58 +36,58 @@ shape_of-scratch-in-Refused c = c.live_packets-lived.auto.scratch
 pub returns-in-Refused : goal.returns-in-Refused
 returns-in-Refused c = join.live_refused c.live_packets-lived.ensures c.in-Refused.is
 
-pub shape_of-sp-in-Full : goal.shape_of-sp-in-Full
-shape_of-sp-in-Full c = c.live_packets-lived.auto.sp
+pub shape_of-sp-in-None : goal.shape_of-sp-in-None
+shape_of-sp-in-None c = c.live_packets-lived.auto.sp
 
-pub shape_of-nodes-in-Full : goal.shape_of-nodes-in-Full
-shape_of-nodes-in-Full c = c.live_packets-lived.auto.nodes
+pub shape_of-nodes-in-None : goal.shape_of-nodes-in-None
+shape_of-nodes-in-None c = c.live_packets-lived.auto.nodes
 
-pub shape_of-states-in-Full : goal.shape_of-states-in-Full
-shape_of-states-in-Full c = c.live_packets-lived.auto.states
+pub shape_of-states-in-None : goal.shape_of-states-in-None
+shape_of-states-in-None c = c.live_packets-lived.auto.states
 
-pub shape_of-members-in-Full : goal.shape_of-members-in-Full
-shape_of-members-in-Full c = c.live_packets-lived.auto.members
+pub shape_of-members-in-None : goal.shape_of-members-in-None
+shape_of-members-in-None c = c.live_packets-lived.auto.members
 
-pub shape_of-transitions-in-Full : goal.shape_of-transitions-in-Full
-shape_of-transitions-in-Full c = c.live_packets-lived.auto.transitions
+pub shape_of-transitions-in-None : goal.shape_of-transitions-in-None
+shape_of-transitions-in-None c = c.live_packets-lived.auto.transitions
 
-pub shape_of-pending-in-Full : goal.shape_of-pending-in-Full
-shape_of-pending-in-Full c = c.live_packets-lived.auto.pending
+pub shape_of-pending-in-None : goal.shape_of-pending-in-None
+shape_of-pending-in-None c = c.live_packets-lived.auto.pending
 
-pub shape_of-scratch-in-Full : goal.shape_of-scratch-in-Full
-shape_of-scratch-in-Full c = c.set_size-k.auto.scratch ∙ c.live_packets-lived.auto.scratch
+pub shape_of-scratch-in-None : goal.shape_of-scratch-in-None
+shape_of-scratch-in-None c = c.set_size-k.auto.scratch ∙ c.live_packets-lived.auto.scratch
 
-pub shape_of-output-in-Full : goal.shape_of-output-in-Full
-shape_of-output-in-Full c = c.live_answer-told.auto.out
+pub shape_of-output-in-None : goal.shape_of-output-in-None
+shape_of-output-in-None c = c.live_answer-told.auto.out
 
-pub returns-in-Full : goal.returns-in-Full
-returns-in-Full c =
-    join.live_full _ c.live_packets-lived.ensures c.in-Live.is c.set_size-k.ensures c.requires.room c.in-Full.is c.live_answer-told.ensures
+pub returns-in-None : goal.returns-in-None
+returns-in-None c =
+    join.live_full _ c.live_packets-lived.ensures c.in-Live.is c.set_size-k.ensures c.requires.room c.in-None.is c.live_answer-told.ensures
 
-pub shape_of-sp-in-At : goal.shape_of-sp-in-At
-shape_of-sp-in-At c = c.live_packets-lived.auto.sp
+pub shape_of-sp-in-Some : goal.shape_of-sp-in-Some
+shape_of-sp-in-Some c = c.live_packets-lived.auto.sp
 
-pub shape_of-nodes-in-At : goal.shape_of-nodes-in-At
-shape_of-nodes-in-At c = c.live_packets-lived.auto.nodes
+pub shape_of-nodes-in-Some : goal.shape_of-nodes-in-Some
+shape_of-nodes-in-Some c = c.live_packets-lived.auto.nodes
 
-pub shape_of-states-in-At : goal.shape_of-states-in-At
-shape_of-states-in-At c = c.live_packets-lived.auto.states
+pub shape_of-states-in-Some : goal.shape_of-states-in-Some
+shape_of-states-in-Some c = c.live_packets-lived.auto.states
 
-pub shape_of-members-in-At : goal.shape_of-members-in-At
-shape_of-members-in-At c = c.live_packets-lived.auto.members
+pub shape_of-members-in-Some : goal.shape_of-members-in-Some
+shape_of-members-in-Some c = c.live_packets-lived.auto.members
 
-pub shape_of-transitions-in-At : goal.shape_of-transitions-in-At
-shape_of-transitions-in-At c = c.live_packets-lived.auto.transitions
+pub shape_of-transitions-in-Some : goal.shape_of-transitions-in-Some
+shape_of-transitions-in-Some c = c.live_packets-lived.auto.transitions
 
-pub shape_of-pending-in-At : goal.shape_of-pending-in-At
-shape_of-pending-in-At c = c.live_packets-lived.auto.pending
+pub shape_of-pending-in-Some : goal.shape_of-pending-in-Some
+shape_of-pending-in-Some c = c.live_packets-lived.auto.pending
 
-pub shape_of-scratch-in-At : goal.shape_of-scratch-in-At
-shape_of-scratch-in-At c = c.set_size-k.auto.scratch ∙ c.live_packets-lived.auto.scratch
+pub shape_of-scratch-in-Some : goal.shape_of-scratch-in-Some
+shape_of-scratch-in-Some c = c.set_size-k.auto.scratch ∙ c.live_packets-lived.auto.scratch
 
-pub shape_of-output-in-At : goal.shape_of-output-in-At
-shape_of-output-in-At c = c.live_answer-told.auto.out
+pub shape_of-output-in-Some : goal.shape_of-output-in-Some
+shape_of-output-in-Some c = c.live_answer-told.auto.out
 
-pub returns-in-At : goal.returns-in-At
-returns-in-At c =
-    join.live_told _ c.live_packets-lived.ensures c.in-Live.is c.set_size-k.ensures c.set_size-k.auto.scratch c.in-At.is c.live_answer-told.ensures
+pub returns-in-Some : goal.returns-in-Some
+returns-in-Some c =
+    join.live_told _ c.live_packets-lived.ensures c.in-Live.is c.set_size-k.ensures c.set_size-k.auto.scratch c.in-Some.is c.live_answer-told.ensures

@@ -38,58 +38,58 @@ pub returns-in-Refused : goal.returns-in-Refused
 returns-in-Refused c =
     why.why_refused c.args.setting c.args.x c.args.c c.args.sp.now c.args.nodes.now c.args.states.now c.args.members.now c.args.transitions.now c.args.scratch.now c.args.pending.now c.why_sets-found.result c.why_sets-found.new.sp c.why_sets-found.new.nodes c.why_sets-found.new.states c.why_sets-found.new.members c.why_sets-found.new.transitions c.why_sets-found.new.scratch c.why_sets-found.new.pending c.why_sets-found.ensures c.in-Refused.is
 
-pub shape_of-sp-in-Full : goal.shape_of-sp-in-Full
-shape_of-sp-in-Full c = c.why_answer-told.auto.sp ∙ c.why_sets-found.auto.sp
+pub shape_of-sp-in-None : goal.shape_of-sp-in-None
+shape_of-sp-in-None c = c.why_answer-told.auto.sp ∙ c.why_sets-found.auto.sp
 
-pub shape_of-nodes-in-Full : goal.shape_of-nodes-in-Full
-shape_of-nodes-in-Full c = c.why_sets-found.auto.nodes
+pub shape_of-nodes-in-None : goal.shape_of-nodes-in-None
+shape_of-nodes-in-None c = c.why_sets-found.auto.nodes
 
-pub shape_of-states-in-Full : goal.shape_of-states-in-Full
-shape_of-states-in-Full c = c.why_answer-told.auto.states ∙ c.why_sets-found.auto.states
+pub shape_of-states-in-None : goal.shape_of-states-in-None
+shape_of-states-in-None c = c.why_answer-told.auto.states ∙ c.why_sets-found.auto.states
 
-pub shape_of-members-in-Full : goal.shape_of-members-in-Full
-shape_of-members-in-Full c = c.why_sets-found.auto.members
+pub shape_of-members-in-None : goal.shape_of-members-in-None
+shape_of-members-in-None c = c.why_sets-found.auto.members
 
-pub shape_of-transitions-in-Full : goal.shape_of-transitions-in-Full
-shape_of-transitions-in-Full c = c.why_sets-found.auto.transitions
+pub shape_of-transitions-in-None : goal.shape_of-transitions-in-None
+shape_of-transitions-in-None c = c.why_sets-found.auto.transitions
 
-pub shape_of-pending-in-Full : goal.shape_of-pending-in-Full
-shape_of-pending-in-Full c = c.why_sets-found.auto.pending
+pub shape_of-pending-in-None : goal.shape_of-pending-in-None
+shape_of-pending-in-None c = c.why_sets-found.auto.pending
 
-pub shape_of-scratch-in-Full : goal.shape_of-scratch-in-Full
-shape_of-scratch-in-Full c = c.why_answer-told.auto.scratch ∙ c.why_sets-found.auto.scratch
+pub shape_of-scratch-in-None : goal.shape_of-scratch-in-None
+shape_of-scratch-in-None c = c.why_answer-told.auto.scratch ∙ c.why_sets-found.auto.scratch
 
-pub shape_of-output-in-Full : goal.shape_of-output-in-Full
-shape_of-output-in-Full c = c.why_answer-told.auto.output
+pub shape_of-output-in-None : goal.shape_of-output-in-None
+shape_of-output-in-None c = c.why_answer-told.auto.output
 
-pub returns-in-Full : goal.returns-in-Full
-returns-in-Full c =
-    why.full c.args.setting c.args.x c.args.c c.args.sp.now c.args.nodes.now c.args.states.now c.args.members.now c.args.transitions.now c.args.scratch.now c.args.pending.now c.why_sets-found.result c.why_sets-found.new.sp c.why_sets-found.new.nodes c.why_sets-found.new.states c.why_sets-found.new.members c.why_sets-found.new.transitions c.why_sets-found.new.scratch c.why_sets-found.new.pending c.why_sets-found.ensures c.in-To.is c.requires.query c.why_answer-told.ensures _ c.requires.room c.in-Full.is
+pub returns-in-None : goal.returns-in-None
+returns-in-None c =
+    why.full c.args.setting c.args.x c.args.c c.args.sp.now c.args.nodes.now c.args.states.now c.args.members.now c.args.transitions.now c.args.scratch.now c.args.pending.now c.why_sets-found.result c.why_sets-found.new.sp c.why_sets-found.new.nodes c.why_sets-found.new.states c.why_sets-found.new.members c.why_sets-found.new.transitions c.why_sets-found.new.scratch c.why_sets-found.new.pending c.why_sets-found.ensures c.in-To.is c.requires.query c.why_answer-told.ensures _ c.requires.room c.in-None.is
 
-pub shape_of-sp-in-At : goal.shape_of-sp-in-At
-shape_of-sp-in-At c = c.why_answer-told.auto.sp ∙ c.why_sets-found.auto.sp
+pub shape_of-sp-in-Some : goal.shape_of-sp-in-Some
+shape_of-sp-in-Some c = c.why_answer-told.auto.sp ∙ c.why_sets-found.auto.sp
 
-pub shape_of-nodes-in-At : goal.shape_of-nodes-in-At
-shape_of-nodes-in-At c = c.why_sets-found.auto.nodes
+pub shape_of-nodes-in-Some : goal.shape_of-nodes-in-Some
+shape_of-nodes-in-Some c = c.why_sets-found.auto.nodes
 
-pub shape_of-states-in-At : goal.shape_of-states-in-At
-shape_of-states-in-At c = c.clear.auto.states ∙ c.why_answer-told.auto.states ∙ c.why_sets-found.auto.states
+pub shape_of-states-in-Some : goal.shape_of-states-in-Some
+shape_of-states-in-Some c = c.clear.auto.states ∙ c.why_answer-told.auto.states ∙ c.why_sets-found.auto.states
 
-pub shape_of-members-in-At : goal.shape_of-members-in-At
-shape_of-members-in-At c = c.why_sets-found.auto.members
+pub shape_of-members-in-Some : goal.shape_of-members-in-Some
+shape_of-members-in-Some c = c.why_sets-found.auto.members
 
-pub shape_of-transitions-in-At : goal.shape_of-transitions-in-At
-shape_of-transitions-in-At c = c.why_sets-found.auto.transitions
+pub shape_of-transitions-in-Some : goal.shape_of-transitions-in-Some
+shape_of-transitions-in-Some c = c.why_sets-found.auto.transitions
 
-pub shape_of-pending-in-At : goal.shape_of-pending-in-At
-shape_of-pending-in-At c = c.clear.auto.pending ∙ c.why_sets-found.auto.pending
+pub shape_of-pending-in-Some : goal.shape_of-pending-in-Some
+shape_of-pending-in-Some c = c.clear.auto.pending ∙ c.why_sets-found.auto.pending
 
-pub shape_of-scratch-in-At : goal.shape_of-scratch-in-At
-shape_of-scratch-in-At c = c.why_answer-told.auto.scratch ∙ c.why_sets-found.auto.scratch
+pub shape_of-scratch-in-Some : goal.shape_of-scratch-in-Some
+shape_of-scratch-in-Some c = c.why_answer-told.auto.scratch ∙ c.why_sets-found.auto.scratch
 
-pub shape_of-output-in-At : goal.shape_of-output-in-At
-shape_of-output-in-At c = c.why_answer-told.auto.output
+pub shape_of-output-in-Some : goal.shape_of-output-in-Some
+shape_of-output-in-Some c = c.why_answer-told.auto.output
 
-pub returns-in-At : goal.returns-in-At
-returns-in-At c =
-    why.at_rest c.args.setting c.args.x c.args.c c.args.sp.now c.args.nodes.now c.args.states.now c.args.members.now c.args.transitions.now c.args.scratch.now c.args.pending.now c.why_sets-found.result c.why_sets-found.new.sp c.why_sets-found.new.nodes c.why_sets-found.new.states c.why_sets-found.new.members c.why_sets-found.new.transitions c.why_sets-found.new.scratch c.why_sets-found.new.pending c.why_sets-found.ensures c.in-To.is c.requires.query c.why_answer-told.ensures c.clear.ensures c.in-At.is
+pub returns-in-Some : goal.returns-in-Some
+returns-in-Some c =
+    why.at_rest c.args.setting c.args.x c.args.c c.args.sp.now c.args.nodes.now c.args.states.now c.args.members.now c.args.transitions.now c.args.scratch.now c.args.pending.now c.why_sets-found.result c.why_sets-found.new.sp c.why_sets-found.new.nodes c.why_sets-found.new.states c.why_sets-found.new.members c.why_sets-found.new.transitions c.why_sets-found.new.scratch c.why_sets-found.new.pending c.why_sets-found.ensures c.in-To.is c.requires.query c.why_answer-told.ensures c.clear.ensures c.in-Some.is

@@ -1,17 +1,19 @@
+use mathlib.Core.Path.{◌∙◌}
+use Rattle.std.proofs.Common.{rules}
 use Rattle.book_begin.proofs.Beginning as beginning
 use Rattle.book_begin.proofs.begin.Goals as goal
 
 pub returns-in_default : goal.returns-in_default
-returns-in_default c = beginning.begin_no_sets _ _ _ _ c.requires _ c.start.ensures c.in_default.is
+returns-in_default c = beginning.begin_no_sets _ _ _ _ c.requires c.in_default.ensures.gives
 
 pub returns-in_default-start : goal.returns-in_default-start
 returns-in_default-start c =
-    beginning.begin_no_relations _ _ _ _ c.requires _ c.start.ensures c.in-Node.is _ c.start-2.ensures c.in_default-start.is
+    beginning.begin_no_relations _ _ _ _ c.requires {x = c.in-Ok.field-0.0} {a = c.start.new.self.count} _ (c.in-Ok.ensures.gives ∙ search rules) c.in_default-start.ensures.gives
 
 pub returns-in_default-fields_answer : goal.returns-in_default-fields_answer
 returns-in_default-fields_answer c =
-    beginning.begin_full _ _ _ _ c.requires _ c.start.ensures c.in-Node.is _ c.start-2.ensures c.in-Store.is _ c.fields_answer.ensures c.in_default-fields_answer.is
+    beginning.begin_full _ _ _ _ c.requires {x = c.in-Ok.field-0.0} {a = c.start.new.self.count} _ (c.in-Ok.ensures.gives ∙ search rules) {y = record { zero = c.in-Ok-start.field-0.zero.0; one = c.in-Ok-start.field-0.one.0; top = c.in-Ok-start.field-0.top.0 }} {b = c.start-2.new.self.count} _ (c.in-Ok-start.ensures.gives ∙ search rules) _ c.fields_answer.ensures c.in_default-fields_answer.is
 
 pub returns : goal.returns
 returns c =
-    beginning.begin_given _ _ _ _ c.requires _ c.start.ensures c.in-Node.is _ c.start-2.ensures c.in-Store.is _ c.fields_answer.ensures c.in-At.is
+    beginning.begin_given _ _ _ _ c.requires {x = c.in-Ok.field-0.0} {a = c.start.new.self.count} _ (c.in-Ok.ensures.gives ∙ search rules) {y = record { zero = c.in-Ok-start.field-0.zero.0; one = c.in-Ok-start.field-0.one.0; top = c.in-Ok-start.field-0.top.0 }} {b = c.start-2.new.self.count} _ (c.in-Ok-start.ensures.gives ∙ search rules) _ c.fields_answer.ensures c.in-Some.is

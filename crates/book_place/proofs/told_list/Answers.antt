@@ -1,4 +1,3 @@
-use borrow.Author.Tests.{not-true, not-false}
 use Rattle.book_place.proofs.Telling as telling
 use Rattle.book_place.proofs.told_list.Goals as goal
 

@@ -23,19 +23,13 @@ returns-then-output-at c =
 pub pruned_head-requires : goal.pruned_head-requires
 pruned_head-requires c = c.requires.1
 
-pub shape_of-scratch-in_default : goal.shape_of-scratch-in_default
-shape_of-scratch-in_default c = c.pairs_length.auto.scratch
-
-pub shape_of-output-in_default : goal.shape_of-output-in_default
-shape_of-output-in_default c = c.pruned_head.auto.out
-
-pub returns-in_default : goal.returns-in_default
-returns-in_default c =
-    absurd (pairs.head_fits_lem _ _ _ _ _ _ _ c.requires.0 c.head_length.ensures c.pairs_length.ensures (omega (arith, c.requires.1, c.if-output-at.false)) _ c.pruned_head.ensures c.in_default.is)
+pub returns-in_err-next : goal.returns-in_err-next
+returns-in_err-next c =
+    absurd (pairs.head_fits_lem _ _ _ _ _ _ _ c.requires.0 c.head_length.ensures c.pairs_length.ensures (omega (arith, c.requires.1, c.if-output-at.false)) _ c.pruned_head.ensures c.in_err-next.was)
 
 pub put_pairs-end-requires : goal.put_pairs-end-requires
 put_pairs-end-requires c =
-    pairs.pairs_fit _ _ _ _ _ _ _ c.requires.0 c.head_length.ensures c.pairs_length.ensures (omega (arith, c.requires.1, c.if-output-at.false)) _ c.pruned_head.ensures c.in-At.is c.pairs_length.auto.scratch
+    pairs.pairs_fit _ _ _ _ _ _ _ c.requires.0 c.head_length.ensures c.pairs_length.ensures (omega (arith, c.requires.1, c.if-output-at.false)) _ c.pruned_head.ensures c.in_ok-next.was c.pairs_length.auto.scratch
 
 pub shape_of-scratch : goal.shape_of-scratch
 shape_of-scratch c = c.put_pairs-end.auto.scratch ∙ c.pairs_length.auto.scratch
@@ -45,4 +39,4 @@ shape_of-output c = c.put_pairs-end.auto.output ∙ c.pruned_head.auto.out
 
 pub returns : goal.returns
 returns c =
-    pairs.pruned_whole _ _ _ _ _ _ _ c.requires.0 c.head_length.ensures c.pairs_length.ensures (omega (arith, c.requires.1, c.if-output-at.false)) _ c.pruned_head.ensures c.in-At.is c.pairs_length.auto.scratch c.put_pairs-end.ensures
+    pairs.pruned_whole _ _ _ _ _ _ _ c.requires.0 c.head_length.ensures c.pairs_length.ensures (omega (arith, c.requires.1, c.if-output-at.false)) _ c.pruned_head.ensures c.in_ok-next.was c.pairs_length.auto.scratch c.put_pairs-end.ensures

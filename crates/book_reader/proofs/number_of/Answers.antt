@@ -1,18 +1,17 @@
-use mathlib.Core.Path.{◌∙◌}
-use native.Mathlib.Omega.{arith}
+use Rattle.std.proofs.Common.{◌∙◌}
 use Rattle.book_reader.proofs.Decimal as decimal
 use Rattle.book_reader.proofs.number_of.Goals as goal
-use Rattle.book_reader.proofs.number_of.Goals.{then-to-from-gt1+else-book-from-le48, else-to-from-gt1}
+use Rattle.book_reader.proofs.number_of.Goals.{else-word-gt1-via-then-word-gt1+else-word-le48, else-word-gt1-via-else-word-gt1}
 
-pub returns-then-from-to : goal.returns-then-from-to
-returns-then-from-to c = decimal.no_bytes c.requires (omega arith)
+pub returns-then-is_empty : goal.returns-then-is_empty
+returns-then-is_empty c = decimal.no_bytes c.args.word.now c.if-is_empty.ensures
 
-pub returns-then-book-from-le48 : goal.returns-then-book-from-le48
-returns-then-book-from-le48 c = decimal.leading c.requires (omega arith) (omega arith)
+pub returns-then-word-le48 : goal.returns-then-word-le48
+returns-then-word-le48 c = decimal.leading c.args.word.now c.if-word-gt1.true c.if-word-le48.true
 
 pub returns : goal.returns
 returns c =
-    elim c.if-to-from-gt1.branch [
-      | then-to-from-gt1+else-book-from-le48 w ↦ decimal.no_zero c.requires (omega arith) (omega arith)
-      | else-to-from-gt1 w ↦ decimal.one_digit c.requires c.if-from-to.false (omega arith)
+    elim c.else-word-gt1.branch [
+      | else-word-gt1-via-then-word-gt1+else-word-le48 w ↦ decimal.no_zero c.args.word.now c.if-is_empty.ensures w.if-word-le48.false
+      | else-word-gt1-via-else-word-gt1 w ↦ decimal.one_digit c.args.word.now c.if-is_empty.ensures w.if-word-gt1.false
     ] ∙ c.digits.ensures

@@ -1,8 +1,13 @@
+use Rattle.std.proofs.Common.{sym, subst}
+use Rattle.book_steps.specs.Reader.{numbers}
+use Rattle.book_reader.specs.Clauses.{rest, Says, listing}
 use Rattle.book_reader.proofs.Saying as saying
+use Rattle.book_reader.proofs.Tables as tables
 use Rattle.book_reader.proofs.with_list.Goals as goal
 
-pub returns-in-Is : goal.returns-in-Is
-returns-in-Is c = saying.says_listed _ c.requires.1.0 c.requires.1.1 c.list_named.ensures c.in-Is.is
+pub returns-in_err-w : goal.returns-in_err-w
+returns-in_err-w c book W C =
+    subst (Says book (listing c.args.word.now (numbers (rest book c.args.c)))) (sym c.from_residual.ensures) (saying.says_nothing c.args.word.now W C (tables.listed c.args.word.now c.in_err-w.ensures))
 
-pub returns-in-Nothing : goal.returns-in-Nothing
-returns-in-Nothing c = saying.says_nothing _ c.requires.1.0 c.requires.1.1 c.list_named.ensures c.in-Nothing.is
+pub returns : goal.returns
+returns c book W C = saying.says_listed c.args.word.now W C (tables.listed c.args.word.now c.in_ok-w.ensures)

@@ -11,26 +11,26 @@ returns-in_default c = whole.open_unended _ _ c.if-scratch-lt-SCRATCH.false c.li
 
 pub header-requires : goal.header-requires
 header-requires c =
-    whole.header_within _ (memory c.args.sp.now c.args.nodes.now c.args.states.now c.args.members.now c.args.transitions.now c.args.pending.now c.args.scratch.now c.args.output.now) c.if-scratch-lt-SCRATCH.false c.line_at.ensures c.in-Line.is
+    whole.header_within _ (memory c.args.sp.now c.args.nodes.now c.args.states.now c.args.members.now c.args.transitions.now c.args.pending.now c.args.scratch.now c.args.output.now) c.if-scratch-lt-SCRATCH.false c.line_at.ensures c.in-Some.is
 
 pub returns-in_default-header : goal.returns-in_default-header
 returns-in_default-header c =
-    whole.open_headless _ (memory c.args.sp.now c.args.nodes.now c.args.states.now c.args.members.now c.args.transitions.now c.args.pending.now c.args.scratch.now c.args.output.now) c.if-scratch-lt-SCRATCH.false c.line_at.ensures c.in-Line.is c.header.result c.header.ensures c.in_default-header.is
+    whole.open_headless _ (memory c.args.sp.now c.args.nodes.now c.args.states.now c.args.members.now c.args.transitions.now c.args.pending.now c.args.scratch.now c.args.output.now) c.if-scratch-lt-SCRATCH.false c.line_at.ensures c.in-Some.is c.header.result c.header.ensures c.in_default-header.is
 
 pub returns-then-n-gt31 : goal.returns-then-n-gt31
 returns-then-n-gt31 c =
-    whole.open_wide _ (memory c.args.sp.now c.args.nodes.now c.args.states.now c.args.members.now c.args.transitions.now c.args.pending.now c.args.scratch.now c.args.output.now) c.if-scratch-lt-SCRATCH.false c.line_at.ensures c.in-Line.is c.header.result c.header.ensures c.in-Is.is c.if-n-gt31.true
+    whole.open_wide _ (memory c.args.sp.now c.args.nodes.now c.args.states.now c.args.members.now c.args.transitions.now c.args.pending.now c.args.scratch.now c.args.output.now) c.if-scratch-lt-SCRATCH.false c.line_at.ensures c.in-Some.is c.header.result c.header.ensures c.in-Some-header.is c.if-n-gt31.true
 
 pub overflow_cast-n : goal.overflow_cast-n
 overflow_cast-n c = omega (arith, c.if-n-gt31.false)
 
 pub overflow_add-c : goal.overflow_add-c
 overflow_add-c c =
-    omega (arith, (whole.header_within _ (memory c.args.sp.now c.args.nodes.now c.args.states.now c.args.members.now c.args.transitions.now c.args.pending.now c.args.scratch.now c.args.output.now) c.if-scratch-lt-SCRATCH.false c.line_at.ensures c.in-Line.is).inside)
+    omega (arith, (whole.header_within _ (memory c.args.sp.now c.args.nodes.now c.args.states.now c.args.members.now c.args.transitions.now c.args.pending.now c.args.scratch.now c.args.output.now) c.if-scratch-lt-SCRATCH.false c.line_at.ensures c.in-Some.is).inside)
 
 pub started-requires : goal.started-requires
 started-requires c =
-    whole.open_ready _ (memory c.args.sp.now c.args.nodes.now c.args.states.now c.args.members.now c.args.transitions.now c.args.pending.now c.args.scratch.now c.args.output.now) c.if-scratch-lt-SCRATCH.false c.line_at.ensures c.in-Line.is c.header.result c.header.ensures c.in-Is.is c.if-n-gt31.false c.requires
+    whole.open_ready _ (memory c.args.sp.now c.args.nodes.now c.args.states.now c.args.members.now c.args.transitions.now c.args.pending.now c.args.scratch.now c.args.output.now) c.if-scratch-lt-SCRATCH.false c.line_at.ensures c.in-Some.is c.header.result c.header.ensures c.in-Some-header.is c.if-n-gt31.false c.requires
 
 pub shape_of-sp : goal.shape_of-sp
 shape_of-sp c = c.started.auto.sp
@@ -58,4 +58,4 @@ shape_of-output c = c.started.auto.output
 
 pub returns : goal.returns
 returns c =
-    whole.open_started _ (memory c.args.sp.now c.args.nodes.now c.args.states.now c.args.members.now c.args.transitions.now c.args.pending.now c.args.scratch.now c.args.output.now) c.if-scratch-lt-SCRATCH.false c.line_at.ensures c.in-Line.is c.header.result c.header.ensures c.in-Is.is c.if-n-gt31.false c.requires c.started.ensures
+    whole.open_started _ (memory c.args.sp.now c.args.nodes.now c.args.states.now c.args.members.now c.args.transitions.now c.args.pending.now c.args.scratch.now c.args.output.now) c.if-scratch-lt-SCRATCH.false c.line_at.ensures c.in-Some.is c.header.result c.header.ensures c.in-Some-header.is c.if-n-gt31.false c.requires c.started.ensures

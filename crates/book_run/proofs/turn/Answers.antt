@@ -7,10 +7,10 @@ pub returns-in_default : goal.returns-in_default
 returns-in_default c = lines.turn_unended _ _ _ _ _ c.requires c.line_at.ensures c.in_default.is
 
 pub obey-done-requires : goal.obey-done-requires
-obey-done-requires c = lines.turn_obey _ _ _ _ _ c.requires c.line_at.ensures c.in-Line.is
+obey-done-requires c = lines.turn_obey _ _ _ _ _ c.requires c.line_at.ensures c.in-Some.is
 
 pub overflow_add-result : goal.overflow_add-result
-overflow_add-result c = omega (arith, lines.turn_end _ _ _ _ _ c.requires c.line_at.ensures c.in-Line.is)
+overflow_add-result c = omega (arith, lines.turn_end _ _ _ _ _ c.requires c.line_at.ensures c.in-Some.is)
 
 pub shape_of-sp-in-Refused : goal.shape_of-sp-in-Refused
 shape_of-sp-in-Refused c = c.obey-done.auto.sp
@@ -38,7 +38,7 @@ shape_of-output-in-Refused c = c.obey-done.auto.output
 
 pub returns-in-Refused : goal.returns-in-Refused
 returns-in-Refused c =
-    lines.turn_refused _ _ _ _ _ c.requires c.line_at.ensures c.in-Line.is c.obey-done.result (memory c.obey-done.new.sp c.obey-done.new.nodes c.obey-done.new.states c.obey-done.new.members c.obey-done.new.transitions c.obey-done.new.pending c.obey-done.new.scratch c.obey-done.new.output) c.obey-done.ensures c.in-Refused.is
+    lines.turn_refused _ _ _ _ _ c.requires c.line_at.ensures c.in-Some.is c.obey-done.result (memory c.obey-done.new.sp c.obey-done.new.nodes c.obey-done.new.states c.obey-done.new.members c.obey-done.new.transitions c.obey-done.new.pending c.obey-done.new.scratch c.obey-done.new.output) c.obey-done.ensures c.in-Refused.is
 
 pub shape_of-sp-in-Next : goal.shape_of-sp-in-Next
 shape_of-sp-in-Next c = c.obey-done.auto.sp
@@ -66,4 +66,4 @@ shape_of-output-in-Next c = c.obey-done.auto.output
 
 pub returns-in-Next : goal.returns-in-Next
 returns-in-Next c =
-    lines.turn_next _ _ _ _ _ c.requires c.line_at.ensures c.in-Line.is c.obey-done.result (memory c.obey-done.new.sp c.obey-done.new.nodes c.obey-done.new.states c.obey-done.new.members c.obey-done.new.transitions c.obey-done.new.pending c.obey-done.new.scratch c.obey-done.new.output) c.obey-done.ensures c.in-Next.is
+    lines.turn_next _ _ _ _ _ c.requires c.line_at.ensures c.in-Some.is c.obey-done.result (memory c.obey-done.new.sp c.obey-done.new.nodes c.obey-done.new.states c.obey-done.new.members c.obey-done.new.transitions c.obey-done.new.pending c.obey-done.new.scratch c.obey-done.new.output) c.obey-done.ensures c.in-Next.is

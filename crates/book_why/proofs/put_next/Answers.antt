@@ -15,4 +15,4 @@ returns-in_default c =
 
 pub returns : goal.returns
 returns c =
-    λ mem ws q v number G. picking.nexted number G (c.sets_for-mark.ensures mem ws (picking.next_earlier number G)) c.hop.ensures c.in-To.is c.hop.auto.scratch c.args.first c.args.spot c.put_hop-end.ensures
+    λ mem ws q v number G. picking.nexted number G (c.sets_for-mark.ensures mem ws (picking.next_earlier number G)) c.hop.ensures c.in-Some.is c.hop.auto.scratch c.args.first c.args.spot c.put_hop-end.ensures

@@ -1,4 +1,4 @@
-use native.Mathlib.Omega.{arith}
+use Rattle.std.proofs.Common.{arith}
 use Rattle.book_steps.specs.Text.{bytes, decimal}
 use Rattle.book_writer.proofs.Rights.{most_digits}
 use Rattle.book_writer.proofs.Lines as lines

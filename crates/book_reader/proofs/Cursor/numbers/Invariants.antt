@@ -1,4 +1,4 @@
-use lib.ListN.{length}
+use Rattle.std.proofs.Common.{length}
 use Rattle.book_reader.specs.Clauses.{rest}
 use Rattle.book_reader.proofs.Saying as saying
 use Rattle.book_reader.proofs.Cursor.numbers.Given as goal
