@@ -1,12 +1,12 @@
 // The blocks of an image: numbers and words as bytes, the high byte first, the check, and whether a block is taken.
 #![tactic(auto)]
 
-pub mod refusal;
-
 ghost use Rattle.std.specs.Prelude.{◌≡◌, ◌+◌, ◌*◌, ◌≤◌, ◌<◌, length, take, drop};
 ghost use Rattle.std.proofs.lemmas.List.Edits.{sets};
 ghost use Rattle.image_form.specs.Form as Form;
 ghost use Rattle.image_block.specs.Clauses.{looked_of};
+
+use refusal::Refusal;
 
 // bytes of a block, and those before its check
 pub const BLOCK: usize = 512;
@@ -14,13 +14,6 @@ pub const BLOCK: usize = 512;
 pub const FRONT: usize = 510;
 
 const MODULUS: u32 = 65521;
-
-// the block is taken, or it is refused with this number
-#[derive(Clone, Copy)]
-pub enum Looked {
-    Whole,
-    Refused(u32),
-}
 
 // ---- reading
 
@@ -44,8 +37,7 @@ pub fn check(image: &[u8], at: usize) -> u32
     ensures { result ≡ Form.check (take 510 (drop at image.now)) }
 {
     let mut sum: u32 = 0;
-    let mut i = 0;
-    while i < FRONT {
+    for i in 0..FRONT {
         // below 3 times 65,521, so taken off at most twice
         let added = sum + (image[at + i] as u32) * (i as u32 + 1);
         let once = if added >= MODULUS {
@@ -58,26 +50,26 @@ pub fn check(image: &[u8], at: usize) -> u32
         } else {
             once
         };
-        i += 1;
     }
     sum
 }
 
-pub fn verify(image: &[u8], b: usize) -> Looked
+// the block is taken, or refused
+pub fn verify(image: &[u8], b: usize) -> Result<(), Refusal>
     requires { 512 * b + 512 ≤ length image.now }
     ensures { Form.verify image.now b ≡ looked_of result }
 {
     let at = BLOCK * b;
     let number = half_at(image, at);
     if number as usize != b {
-        return Looked::Refused(refusal::NUMBER);
+        return Err(Refusal::Block);
     }
     let stored = half_at(image, at + FRONT);
     let sum = check(image, at);
     if stored != sum {
-        return Looked::Refused(refusal::CHECK);
+        return Err(Refusal::Check);
     }
-    Looked::Whole
+    Ok(())
 }
 
 // ---- writing

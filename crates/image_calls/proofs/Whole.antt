@@ -1,5 +1,5 @@
 -- 02 (ii), the calls: a book that goes on from an image, and from zeroed tables to what each call returns and leaves, with what is claimed of it.
-use Rattle.std.specs.Prelude.{if◌then◌else◌}
+use Rattle.std.specs.Prelude.{if◌then◌else◌, Result as StdResult, Ok, Err}
 use mathlib.Core.Path.{◌≡◌, refl, sym, ◌∙◌, ap, subst}
 use mathlib.Core.Bool.{Bool}
 use mathlib.Core.List.{List, []}
@@ -36,8 +36,8 @@ use Rattle.image_steps.proofs.Claims.{reads_right, unread, damage_refused, resum
 use Rattle.image_continued.proofs.Answers.{answers_kept}
 use Rattle.book_steps.proofs.Claim.{claim as claim-of}
 use Rattle.image_calls.specs.Entries.{ImagesSpec, LinesSpec, ResumeEntry, SavedAs, SaveEntry, ResumeSaveEntry}
-use Rattle.image_read.specs.declared.Placed.{Placed}
-use Rattle.image_read.specs.declared.Placed.TheVariants as placed
+use Rattle.refusal.specs.declared.Refusal.{Refusal}
+use Rattle.refusal.specs.Numbers as numbers
 use Rattle.image_read.specs.Clauses.{setting_at, read_by, PreRead, Reads, ReadsBy, PostRead}
 use Rattle.image_keep.specs.declared.Saved.{Saved}
 use Rattle.image_keep.specs.Clauses.{ImageBy, Keeps, saved_of, PostSeal, number_of, text_line_of, length_of, image_length_of}
@@ -69,25 +69,25 @@ module _ (image book : List ℕ) (m : Memory) where
     pub on_ready : PreRead m.sp m.nodes m.states m.members m.scratch
     on_ready = record { sp = E.tables.sp; nodes = E.tables.nodes; states = E.tables.states; members = E.tables.members; scratch = E.work.scratch; room = l }
 
-    module _ {r : Placed} {sp' nodes' states' members' scratch' : List ℕ} (R : PostRead image r m.sp m.nodes m.states m.members m.scratch sp' nodes' states' members' scratch') where
+    module _ {r : StdResult Place Refusal} {sp' nodes' states' members' scratch' : List ℕ} (R : PostRead image r m.sp m.nodes m.states m.members m.scratch sp' nodes' states' members' scratch') where
       abbrev m₁ : Memory
       m₁ = memory sp' nodes' states' members' m.transitions m.pending scratch' m.output
 
-      read_is : {x : Placed} → r ≡ x → read (lengths_of m) limits01 image ≡ read_by x m₁
+      read_is : {x : StdResult Place Refusal} → r ≡ x → read (lengths_of m) limits01 image ≡ read_by x m₁
       read_is e =
           R.is (lengths_of m) refl refl refl refl m.pending m.output
           ∙ ap (λ (t : List ℕ). read_by r (memory sp' nodes' states' members' t m.pending scratch' m.output)) (sym E.tables.transitions)
-          ∙ ap (λ (y : Placed). read_by y m₁) e
+          ∙ ap (λ (y : StdResult Place Refusal). read_by y m₁) e
 
-      on_is : {x : Placed} → r ≡ x → ran_on (lengths_of m) image book ≡ goes_on (lengths_of m) (Claims.setting_at (lengths_of m) image) book (read_by x m₁)
+      on_is : {x : StdResult Place Refusal} → r ≡ x → ran_on (lengths_of m) image book ≡ goes_on (lengths_of m) (Claims.setting_at (lengths_of m) image) book (read_by x m₁)
       on_is e = by_scratch (lengths_of m) image book (le-ltb (length m.scratch) 6144 l) ∙ ap (goes_on (lengths_of m) (Claims.setting_at (lengths_of m) image) book) (read_is e)
 
-      pub on_refused : {e : ℕ} → r ≡ placed.Refused e → PostOn image book m (went.Stopped e 0 0) m₁
+      pub on_refused : {e : Refusal} → r ≡ Err e → PostOn image book m (went.Stopped (numbers.number_of e) 0 0) m₁
       on_refused q = record { is = on_is q; ends = tt; wrote = unwritten m.output }
 
-      module _ {p : Place} (q : r ≡ placed.At p) where
+      module _ {p : Place} (q : r ≡ Ok p) where
         reads : Reads image p sp' nodes' states' members' scratch'
-        reads = subst (λ (x : Placed). ReadsBy image x sp' nodes' states' members' scratch') q R.then
+        reads = subst (λ (x : StdResult Place Refusal). ReadsBy image x sp' nodes' states' members' scratch') q R.then
 
         pub on_some : 512 ≤ length image
         on_some = reads.some

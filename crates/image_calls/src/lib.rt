@@ -11,7 +11,7 @@ ghost use Rattle.image_calls.specs.Entries.{SaveEntry, ResumeEntry, ResumeSaveEn
 
 use book_finish::{Ran, Went};
 use image_keep::Saved;
-use image_read::Placed;
+use refusal::Refusal;
 
 // ---- going on
 
@@ -38,12 +38,11 @@ fn go_on_from(
         transitions.new pending.new scratch.new output.new) }
 {
     if scratch.len() < book_run::SCRATCH {
-        return Went::Stopped(26, 0, 0);
+        return Went::Stopped(Refusal::Scratch.number(), 0, 0);
     }
-    let read = image_read::read(image, sp, nodes, states, members, scratch);
-    match read {
-        Placed::Refused(e) => Went::Stopped(e, 0, 0),
-        Placed::At(place) => {
+    match image_read::read(image, sp, nodes, states, members, scratch) {
+        Err(e) => Went::Stopped(e.number(), 0, 0),
+        Ok(place) => {
             let left = book_run::INSTRUCTIONS - place.lines;
             book_run::go_on(
                 book,

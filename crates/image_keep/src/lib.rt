@@ -9,12 +9,10 @@ ghost use Rattle.image_keep.specs.Clauses as Its;
 
 use book_finish::{Ran, Went};
 use image_block::BLOCK;
+use refusal::Refusal;
 
 // the most blocks of an image: a block's number has two bytes
 pub const BLOCKS: usize = 65536;
-
-// 02 (iv): a state is of kind 10
-pub const UNKNOWN_KIND: u32 = 33;
 
 // the lengths of the output and of the image; or a number, the text line, and the output's length of the lines before
 #[derive(Clone, Copy)]
@@ -35,12 +33,10 @@ fn has_next(states: &[u32], n: usize) -> bool
     requires { 12 * n ≤ length states.now }
     ensures { has_next states.now n ≡ result }
 {
-    let mut i = 0;
-    while i < n {
+    for i in 0..n {
         if states[aut_states::STATE * i + aut_states::word::KIND] == aut_states::kind::NEXT {
             return true;
         }
-        i += 1;
     }
     false
 }
@@ -65,20 +61,20 @@ fn keep(
     let c = place.counts;
     if has_next(states, c.states) {
         return Kept {
-            went: Went::Stopped(UNKNOWN_KIND, 0, place.output),
+            went: Went::Stopped(Refusal::Next.number(), 0, place.output),
             image: 0,
         };
     }
     let n = image_save::blocks_of(place.counts, place.lines);
     if n > BLOCKS {
         return Kept {
-            went: Went::Stopped(aut_states::refusal::OUTPUT, 0, place.output),
+            went: Went::Stopped(Refusal::Output.number(), 0, place.output),
             image: 0,
         };
     }
     if BLOCK * n > image.len() {
         return Kept {
-            went: Went::Stopped(aut_states::refusal::OUTPUT, 0, place.output),
+            went: Went::Stopped(Refusal::Output.number(), 0, place.output),
             image: 0,
         };
     }

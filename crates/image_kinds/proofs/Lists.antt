@@ -1,4 +1,5 @@
 -- The tests of a list in scratch: what each turn of their loops comes to.
+use Rattle.std.specs.Prelude.{Option}
 use mathlib.Core.Path.{◌≡◌, refl, sym, ◌∙◌, ap, ap₂}
 use mathlib.Core.Bool.{Bool, true, false, ◌&&◌}
 use mathlib.Core.List.{List, [], ◌∷◌}
@@ -7,7 +8,6 @@ use native.Mathlib.Omega.{arith}
 use lib.Dec.{eqb, ltb, leb}
 use lib.ListN.{length, get_or}
 use borrow.Author.Tests.{eq-eqb, ne_eqb, lt-ltb, le-ltb, le-leb, lt-leb, ltb-true, eqb-true, eqb-false}
-use Rattle.common.specs.Runs.{table}
 use Rattle.aut_steps.specs.Relations as Rel
 use Rattle.aut_steps.specs.Tables.{SPP, UNION, INTERSECT, TOP, kind_of, op1, words}
 use Rattle.aut_steps.specs.Intern.{nest_l}
@@ -19,8 +19,6 @@ use Rattle.aut_states.specs.Clauses.{Fits, Below}
 use Rattle.aut_states.specs.declared.Counts.{Counts}
 use Rattle.aut_states.specs.declared.Limits.{Limits as Bounds}
 use Rattle.image_steps.specs.Records.{all_below, many_fits, unites, meets}
-use Rattle.image_kinds.specs.declared.Turn.{Turn}
-use Rattle.image_kinds.specs.declared.Met.{Met}
 use Rattle.image_kinds.specs.Clauses.{turn_of, met_of, ManyFits}
 
 -- ---- all_below
@@ -172,16 +170,16 @@ module _ (N : ℕ) (st s : List ℕ) (base k j : ℕ) (l : j < k) where
   abbrev more : List ℕ
   more = words s (base + (j + 1)) (k - (j + 1))
 
-  pub unites_turn : (seen : Bool) (lo : ℕ) (r : Turn) → ((xs : List ℕ) → unites N st seen lo (get_or s (base + j) 0 ∷ xs) ≡ turn_of r (λ b. unites N st b (get_or s (base + j) 0 + 1) xs))
-      → (t : Turn) → r ≡ t → unites N st seen lo (words s (base + j) (k - j)) ≡ turn_of t (λ b. unites N st b (get_or s (base + j) 0 + 1) more)
-  unites_turn seen lo r e t q = ap (unites N st seen lo) (words_on s base k j l) ∙ e more ∙ ap (λ (t : Turn). turn_of t (λ b. unites N st b (get_or s (base + j) 0 + 1) more)) q
+  pub unites_turn : (seen : Bool) (lo : ℕ) (r : Option Bool) → ((xs : List ℕ) → unites N st seen lo (get_or s (base + j) 0 ∷ xs) ≡ turn_of r (λ b. unites N st b (get_or s (base + j) 0 + 1) xs))
+      → (t : Option Bool) → r ≡ t → unites N st seen lo (words s (base + j) (k - j)) ≡ turn_of t (λ b. unites N st b (get_or s (base + j) 0 + 1) more)
+  unites_turn seen lo r e t q = ap (unites N st seen lo) (words_on s base k j l) ∙ e more ∙ ap (λ (t : Option Bool). turn_of t (λ b. unites N st b (get_or s (base + j) 0 + 1) more)) q
 
-  pub meets_turn : (lo : ℕ) (r : Met) → ((xs : List ℕ) → length xs ≡ k - (j + 1) → meets N st (ltb 0 j) lo (get_or s (base + j) 0 ∷ xs) ≡ met_of r (meets N st true (get_or s (base + j) 0 + 1) xs))
-      → (t : Met) → r ≡ t → meets N st (ltb 0 j) lo (words s (base + j) (k - j)) ≡ met_of t (meets N st (ltb 0 (j + 1)) (get_or s (base + j) 0 + 1) more)
+  pub meets_turn : (lo : ℕ) (r : Option Bool) → ((xs : List ℕ) → length xs ≡ k - (j + 1) → meets N st (ltb 0 j) lo (get_or s (base + j) 0 ∷ xs) ≡ met_of r (meets N st true (get_or s (base + j) 0 + 1) xs))
+      → (t : Option Bool) → r ≡ t → meets N st (ltb 0 j) lo (words s (base + j) (k - j)) ≡ met_of t (meets N st (ltb 0 (j + 1)) (get_or s (base + j) 0 + 1) more)
   meets_turn lo r e t q =
       ap (meets N st (ltb 0 j) lo) (words_on s base k j l)
       ∙ e more (words_length s (base + (j + 1)) (k - (j + 1)))
-      ∙ ap₂ (λ (t : Met) (b : Bool). met_of t (meets N st b (get_or s (base + j) 0 + 1) more)) q (sym (lt-ltb 0 (j + 1) (omega arith)))
+      ∙ ap₂ (λ (t : Option Bool) (b : Bool). met_of t (meets N st b (get_or s (base + j) 0 + 1) more)) q (sym (lt-ltb 0 (j + 1) (omega arith)))
 
 module _ (N : ℕ) (st s : List ℕ) (base k j lo : ℕ) (l : k ≤ j) where
   pub unites_end : (seen : Bool) → unites N st seen lo (words s (base + j) (k - j)) ≡ true

@@ -19,7 +19,6 @@ use Rattle.image_kinds.specs.Clauses.{Walks, Fixed}
 -- ---- relation_depth: d levels down, at x
 
 pub record Down (t : List ℕ) (n h d x : ℕ) : Type 0 where
-  pub within : d ≤ n
   pub walks : Walks t x
   pub is : depth_of_r t n h ≡ d + depth_of_r t (n - d) x
 
@@ -38,9 +37,9 @@ module _ (t : List ℕ) (n h d x : ℕ) (v : Down t n h d x) where
   pub down_low : d < n → x < 2 → depth_of_r t n h ≡ d
   down_low l b = omega (arith, v.is, at_low (left_of_lem l) b)
 
-  pub down_end : n ≤ d → depth_of_r t n h ≡ d
+  pub down_end : d ≡ n → depth_of_r t n h ≡ n
   unfolding depth_of_r
-  down_end l = let z : depth_of_r t (n - d) x ≡ 0 = ap (λ (k : ℕ). depth_of_r t k x) {x = n - d} {y = 0} (omega arith) in omega (arith, v.is, v.within, z)
+  down_end l = let z : depth_of_r t (n - d) x ≡ 0 = ap (λ (k : ℕ). depth_of_r t k x) {x = n - d} {y = 0} (omega arith) in omega (arith, v.is, z)
 
   pub down_inside : 2 ≤ x → 4 * (x - 2) + 3 < length t
   down_inside l = omega (arith, v.walks.has, v.walks.nodes.fits)
@@ -48,13 +47,12 @@ module _ (t : List ℕ) (n h d x : ℕ) (v : Down t n h d x) where
   pub down_more : d < n → 2 ≤ x → Down t n h (d + 1) (get_or t (4 * (x - 2)) 0)
   unfolding Spp.kid
   down_more l b = record {
-    within = omega arith;
     walks = record { count = v.walks.count; nodes = v.walks.nodes; has = let r = v.walks.nodes.rising (x - 2) (omega (arith, v.walks.has)) false false in omega (arith, v.walks.has, r) };
     is = omega (arith, v.is, at_node (left_of_lem l) b);
   }
 
 pub down_begin : (t : List ℕ) (n h : ℕ) → Walks t h → Down t n h 0 h
-down_begin t n h w = record { within = omega arith; walks = w; is = ap (λ (k : ℕ). depth_of_r t k h) {x = n} {y = n - 0} (omega arith) ∙ let z : depth_of_r t (n - 0) h ≡ 0 + depth_of_r t (n - 0) h = omega arith in z }
+down_begin t n h w = record { walks = w; is = ap (λ (k : ℕ). depth_of_r t k h) {x = n} {y = n - 0} (omega arith) ∙ let z : depth_of_r t (n - 0) h ≡ 0 + depth_of_r t (n - 0) h = omega arith in z }
 
 -- ---- leaf_fits
 

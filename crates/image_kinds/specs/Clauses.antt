@@ -1,5 +1,5 @@
 -- 02 (ii): "a record .. that cannot be made of those before it". What the tests promise in the words of image_steps/specs/Records, and what they ask.
-use Rattle.std.specs.Prelude.{◌≡◌, Bool, false, ◌||◌, List, ◌⊎◌, ℕ, ◌+◌, ◌<◌}
+use Rattle.std.specs.Prelude.{◌≡◌, Bool, false, ◌||◌, List, ◌⊎◌, Option, Some, None, ℕ, ◌+◌, ◌<◌}
 use Rattle.common.specs.Runs.{Table, table}
 use Rattle.spp_steps.specs.Wf.{Nodes}
 use Rattle.aut_steps.specs.Relations as Rel
@@ -11,10 +11,6 @@ use Rattle.aut_states.specs.declared.Limits.{Limits as Bounds}
 use Rattle.image_steps.specs.Records as Records
 use Rattle.image_kinds.specs.declared.Shape.{Shape}
 use Rattle.image_kinds.specs.declared.Shape.TheVariants as shape
-use Rattle.image_kinds.specs.declared.Turn.{Turn}
-use Rattle.image_kinds.specs.declared.Turn.TheVariants as turn
-use Rattle.image_kinds.specs.declared.Met.{Met}
-use Rattle.image_kinds.specs.declared.Met.TheVariants as met
 
 -- ---- kinds
 
@@ -50,13 +46,14 @@ pub record Walks (t : List ℕ) (h : ℕ) : Type 0 where
 -- ---- what is promised
 
 -- the member is no good, or the list goes on
-abbrev pub turn_of : Turn → (Bool → Bool) → Bool
-turn_of turn.No go = false
-turn_of (turn.On seen) go = go seen
+abbrev pub turn_of : Option Bool → (Bool → Bool) → Bool
+turn_of None go = false
+turn_of (Some seen) go = go seen
 
-abbrev pub met_of : Met → Bool → Bool
-met_of (met.Ends b) go = b
-met_of met.On go = go
+-- the member decides, or the list goes on
+abbrev pub met_of : Option Bool → Bool → Bool
+met_of (Some b) go = b
+met_of None go = go
 
 -- x is the identity or the empty relation
 pub record Fixed (N : ℕ) (st : List ℕ) (x : ℕ) (r : Bool) : Type 0 where

@@ -25,20 +25,6 @@ pub enum Shape {
     Unknown,
 }
 
-// a member of a Union is no good; or whether an SPP has been seen by then
-#[derive(Clone, Copy)]
-pub enum Turn {
-    No,
-    On(bool),
-}
-
-// a member of an Intersect decides it; or it goes on
-#[derive(Clone, Copy)]
-pub enum Met {
-    Ends(bool),
-    On,
-}
-
 pub fn shape_of(kind: u32) -> Shape
     ensures { ShapeOf kind result }
 {
@@ -85,17 +71,15 @@ fn relation_depth(nodes: &[u32], n: u32, h: u32) -> u32
     requires { Walks nodes.now h }
     ensures { Records.depth_of_r nodes.now n h ≡ result }
 {
-    let mut d: u32 = 0;
     let mut x = h;
-    while d < n {
+    for d in 0..n {
         if x < 2 {
             return d;
         }
         let i = (x - 2) as usize;
         x = nodes[4 * i];
-        d += 1;
     }
-    d
+    n
 }
 
 pub fn leaf_fits(nodes: &[u32], count: usize, fields: u32, x: u32, y: u32, e: u32) -> bool
@@ -313,12 +297,10 @@ fn all_below(scratch: &[u32], base: usize, k: usize, n: usize) -> bool
     requires { base + k ≤ length scratch.now }
     ensures { Records.all_below n (words scratch.now base k) ≡ result }
 {
-    let mut j = 0;
-    while j < k {
+    for j in 0..k {
         if scratch[base + j] as usize >= n {
             return false;
         }
-        j += 1;
     }
     true
 }
@@ -329,10 +311,8 @@ fn nest_list(states: &[u32], scratch: &[u32], base: usize, k: usize) -> u32
     ensures { result ≡ nest_l states.now 0 (words scratch.now base k) }
 {
     let mut h: u32 = 0;
-    let mut j = 0;
-    while j < k {
+    for j in 0..k {
         h = higher(h, aut_states::nest_of(states, scratch[base + j]));
-        j += 1;
     }
     h
 }
@@ -365,33 +345,33 @@ fn many_fits(
     nested(n, limits.nesting, e)
 }
 
-// x as the next member of a Union, whose members before it end below lo
-fn joins(states: &[u32], zero: u32, seen: bool, lo: usize, x: u32) -> Turn
+// x as the next member of a Union, whose members before it end below lo: whether an SPP has been seen by then; none if it is no good
+fn joins(states: &[u32], zero: u32, seen: bool, lo: usize, x: u32) -> Option<bool>
     requires { 12 * x + 11 < length states.now }
     ensures { (N : ℕ) → Rel.zero_at N ≡ zero → (xs : List ℕ) → Records.unites N states.now seen lo
         (x ∷ xs) ≡ turn_of result (λ s. Records.unites N states.now s (x + 1) xs) }
 {
     let i = x as usize;
     if i < lo {
-        return Turn::No;
+        return None;
     }
     let kind = states[12 * i];
     if kind == aut_states::kind::UNION {
-        return Turn::No;
+        return None;
     }
     if kind == aut_states::kind::TOP {
-        return Turn::No;
+        return None;
     }
     if kind != aut_states::kind::SPP {
-        return Turn::On(seen);
+        return Some(seen);
     }
     if seen {
-        return Turn::No;
+        return None;
     }
     if states[12 * i + 1] == zero {
-        return Turn::No;
+        return None;
     }
-    Turn::On(true)
+    Some(true)
 }
 
 fn unites(states: &[u32], scratch: &[u32], zero: u32, base: usize, k: usize) -> bool
@@ -401,21 +381,19 @@ fn unites(states: &[u32], scratch: &[u32], zero: u32, base: usize, k: usize) -> 
 {
     let mut seen = false;
     let mut lo: usize = 0;
-    let mut j = 0;
-    while j < k {
+    for j in 0..k {
         let x = scratch[base + j];
-        let Turn::On(s) = joins(states, zero, seen, lo, x) else {
+        let Some(s) = joins(states, zero, seen, lo, x) else {
             return false;
         };
         seen = s;
         lo = x as usize + 1;
-        j += 1;
     }
     true
 }
 
-// x as member j of the k of an Intersect, whose members before it end below lo
-fn meets_at(states: &[u32], zero: u32, j: usize, k: usize, lo: usize, x: u32) -> Met
+// x as member j of the k of an Intersect, whose members before it end below lo: what it decides; none if the list goes on
+fn meets_at(states: &[u32], zero: u32, j: usize, k: usize, lo: usize, x: u32) -> Option<bool>
     requires { (12 * x + 11 < length states.now) × (j < k) }
     ensures { (N : ℕ) → Rel.zero_at N ≡ zero → (xs : List ℕ) → length xs ≡ k - (j + 1) → Records.meets N
         states.now (ltb 0 j) lo (x ∷ xs) ≡ met_of result (Records.meets N states.now true (x + 1) xs) }
@@ -424,23 +402,23 @@ fn meets_at(states: &[u32], zero: u32, j: usize, k: usize, lo: usize, x: u32) ->
     let kind = states[12 * m];
     if kind == aut_states::kind::SPP {
         if j == 0 {
-            return Met::Ends(false);
+            return Some(false);
         }
         if states[12 * m + 1] == zero {
-            return Met::Ends(false);
+            return Some(false);
         }
-        return Met::Ends(j + 1 == k);
+        return Some(j + 1 == k);
     }
     if m < lo {
-        return Met::Ends(false);
+        return Some(false);
     }
     if kind == aut_states::kind::INTERSECT {
-        return Met::Ends(false);
+        return Some(false);
     }
     if kind == aut_states::kind::TOP {
-        return Met::Ends(false);
+        return Some(false);
     }
-    Met::On
+    None
 }
 
 fn meets(states: &[u32], scratch: &[u32], zero: u32, base: usize, k: usize) -> bool
@@ -449,15 +427,12 @@ fn meets(states: &[u32], scratch: &[u32], zero: u32, base: usize, k: usize) -> b
         (words scratch.now base k) ≡ result }
 {
     let mut lo: usize = 0;
-    let mut j = 0;
-    while j < k {
+    for j in 0..k {
         let x = scratch[base + j];
-        let met = meets_at(states, zero, j, k, lo, x);
-        if let Met::Ends(b) = met {
+        if let Some(b) = meets_at(states, zero, j, k, lo, x) {
             return b;
         }
         lo = x as usize + 1;
-        j += 1;
     }
     0 < k
 }

@@ -22,13 +22,12 @@ both p q = ap₂ ◌&&◌ p q
 
 -- d turns are done, and x is the handle reached
 pub record DepthAt (t : List ℕ) (n h d x : ℕ) : Type 0 where
-  pub most : d ≤ n
   pub is : depth_of t n h ≡ d + depth_of t (n - d) x
   pub inside : Inside t x
 
 module _ (t : List ℕ) (n h : ℕ) where
   pub depth_begin : Inside t h → DepthAt t n h 0 h
-  depth_begin v = record { most = omega arith; is = ap (λ (k : ℕ). depth_of t k h) {x = n} {y = n - 0} (omega arith) ∙ omega arith; inside = v }
+  depth_begin v = record { is = ap (λ (k : ℕ). depth_of t k h) {x = n} {y = n - 0} (omega arith) ∙ omega arith; inside = v }
 
   module _ (d x : ℕ) (w : DepthAt t n h d x) where
     turn : d < n → depth_of t (n - d) x ≡ (if ltb x 2 then 0 else suc (depth_of t (n - (d + 1)) (Sp.kid t false (x / 2 - 1))))
@@ -46,9 +45,9 @@ module _ (t : List ℕ) (n h : ℕ) where
         let v : Inside t x = w.inside in
         let e : depth_of t (n - d) x ≡ suc (depth_of t (n - (d + 1)) (get_or t (2 * (x / 2 - 1)) 0)) = turn l ∙ ap (λ (b : Bool). if b then 0 else suc (depth_of t (n - (d + 1)) (Sp.kid t false (x / 2 - 1)))) (le-ltb x 2 m) in
         let r : get_or t (2 * (x / 2 - 1)) 0 / 2 ≤ x / 2 - 1 = v.rising false (x / 2 - 1) (omega (arith, v.within)) in
-        record { most = omega arith; is = omega (arith, e, w.is); inside = record { count = v.count; fits = v.fits; rising = v.rising; within = omega (arith, v.within, r) } }
+        record { is = omega (arith, e, w.is); inside = record { count = v.count; fits = v.fits; rising = v.rising; within = omega (arith, v.within, r) } }
 
-    pub depth_end : n ≤ d → d ≡ depth_of t n h
+    pub depth_end : d ≡ n → n ≡ depth_of t n h
     unfolding depth_of
     depth_end l =
         let e : depth_of t (n - d) x ≡ 0 = ap (λ (k : ℕ). depth_of t k x) {x = n - d} {y = 0} (omega arith) in
@@ -90,13 +89,12 @@ inside v l = record { count = v.count; fits = v.wf.fits; rising = v.wf.rising; w
 -- ---- relation nodes
 
 pub record DepthAtR (t : List ℕ) (n h d x : ℕ) : Type 0 where
-  pub most : d ≤ n
   pub is : depth_of_r t n h ≡ d + depth_of_r t (n - d) x
   pub inside : InsideR t x
 
 module _ (t : List ℕ) (n h : ℕ) where
   pub depth_r_begin : InsideR t h → DepthAtR t n h 0 h
-  depth_r_begin v = record { most = omega arith; is = ap (λ (k : ℕ). depth_of_r t k h) {x = n} {y = n - 0} (omega arith) ∙ omega arith; inside = v }
+  depth_r_begin v = record { is = ap (λ (k : ℕ). depth_of_r t k h) {x = n} {y = n - 0} (omega arith) ∙ omega arith; inside = v }
 
   module _ (d x : ℕ) (w : DepthAtR t n h d x) where
     turn_r : d < n → depth_of_r t (n - d) x ≡ (if ltb x 2 then 0 else suc (depth_of_r t (n - (d + 1)) (Spp.kid t (x - 2) false false)))
@@ -114,9 +112,9 @@ module _ (t : List ℕ) (n h : ℕ) where
         let v : InsideR t x = w.inside in
         let e : depth_of_r t (n - d) x ≡ suc (depth_of_r t (n - (d + 1)) (get_or t (4 * (x - 2)) 0)) = turn_r l ∙ ap (λ (b : Bool). if b then 0 else suc (depth_of_r t (n - (d + 1)) (Spp.kid t (x - 2) false false))) (le-ltb x 2 m) in
         let r : get_or t (4 * (x - 2)) 0 < x - 2 + 2 = v.rising (x - 2) (omega (arith, v.within)) false false in
-        record { most = omega arith; is = omega (arith, e, w.is); inside = record { count = v.count; fits = v.fits; rising = v.rising; within = omega (arith, v.within, r) } }
+        record { is = omega (arith, e, w.is); inside = record { count = v.count; fits = v.fits; rising = v.rising; within = omega (arith, v.within, r) } }
 
-    pub depth_r_end : n ≤ d → d ≡ depth_of_r t n h
+    pub depth_r_end : d ≡ n → n ≡ depth_of_r t n h
     unfolding depth_of_r
     depth_r_end l =
         let e : depth_of_r t (n - d) x ≡ 0 = ap (λ (k : ℕ). depth_of_r t k x) {x = n - d} {y = 0} (omega arith) in

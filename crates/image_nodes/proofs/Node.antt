@@ -1,6 +1,6 @@
 -- 02 (ii), "wants the same number": `mk` gives the handle of the first node with these children, so a record is right exactly if its children fit and this is its own handle; a record for which there is no room is right if it
 -- would be the next.
-use Rattle.std.specs.Prelude.{if◌then◌else◌}
+use Rattle.std.specs.Prelude.{if◌then◌else◌, Result, Ok, Err}
 use mathlib.Core.Path.{◌≡◌, refl, sym, ◌∙◌, ap, ap₂}
 use mathlib.Core.Bool.{Bool, true, false, ◌&&◌}
 use mathlib.Core.List.{List}
@@ -25,8 +25,7 @@ use Rattle.aut_steps.proofs.Facts.{and_true}
 use Rattle.image_steps.specs.Records.{node_fits, node, depth_of_r, kid_fits, relation_fits, relation}
 use Rattle.common.proofs.Follow.{given_same}
 use Rattle.image_steps.proofs.Nodes.{NodeFits, node_fits_lem, NodeMade, node_goes, RelationFits, relation_fits_lem, RelationMade, relation_goes}
-use Rattle.image_nodes.specs.declared.Made.{Made}
-use Rattle.image_nodes.specs.declared.Made.TheVariants as made
+use Rattle.refusal.specs.declared.Refusal.{Refusal}
 use Rattle.image_nodes.specs.Clauses.{made_by, Unless, Held, children_fit, PreNode, Grown, HeldR, quad_fits, PreRelation, GrownR}
 use Rattle.image_nodes.proofs.Depth.{both, ChildrenFit, children_of, children_yes, QuadFits, quad_yes}
 
@@ -124,9 +123,9 @@ module _ (N : ℕ) (t : List ℕ) (n i x0 x1 : ℕ) where
       node_same y = right fit (omega (arith, handle_is fit.even q)) ∙ q ∙ ap (given τ) y
 
   -- what the record leaves
-  pub node_leaves : (r : Made) (t' : List ℕ) → SpWf.Wf N (table t n) → node N i x0 x1 (table t n) ≡ made_by (2 * i + 2) r t' → Unless (Grown N (table t n) (max n (i + 1))) r t'
-  node_leaves (made.At m) t' w e = let g : NodeMade N i x0 x1 (table t n) (table t' m) (2 * i + 2) = node_goes N i x0 x1 (table t n) w e in record { wf = g.wf; ext = g.ext; count = g.count }
-  node_leaves (made.Refused number) t' w e = tt
+  pub node_leaves : (r : Result ℕ Refusal) (t' : List ℕ) → SpWf.Wf N (table t n) → node N i x0 x1 (table t n) ≡ made_by (2 * i + 2) r t' → Unless (Grown N (table t n) (max n (i + 1))) r t'
+  node_leaves (Ok m) t' w e = let g : NodeMade N i x0 x1 (table t n) (table t' m) (2 * i + 2) = node_goes N i x0 x1 (table t n) w e in record { wf = g.wf; ext = g.ext; count = g.count }
+  node_leaves (Err r) t' w e = tt
 
 -- ---- relation nodes
 
@@ -210,6 +209,6 @@ module _ (N : ℕ) (t : List ℕ) (n i : ℕ) (X : Spp.Quad) where
       pub relation_same : h ≡ i + 2 → relation N i X (table t n) ≡ given τ (i + 2)
       relation_same y = right_r (e ∙ z) (omega (arith, handle_r_is q)) ∙ q ∙ ap (given τ) y
 
-  pub relation_leaves : (r : Made) (t' : List ℕ) → SppWf.Wf N (table t n) → relation N i X (table t n) ≡ made_by (i + 2) r t' → Unless (GrownR N (table t n) (max n (i + 1))) r t'
-  relation_leaves (made.At m) t' w e = let g : RelationMade N i X (table t n) (table t' m) (i + 2) = relation_goes N i X (table t n) w e in record { wf = g.wf; ext = g.ext; count = g.count }
-  relation_leaves (made.Refused number) t' w e = tt
+  pub relation_leaves : (r : Result ℕ Refusal) (t' : List ℕ) → SppWf.Wf N (table t n) → relation N i X (table t n) ≡ made_by (i + 2) r t' → Unless (GrownR N (table t n) (max n (i + 1))) r t'
+  relation_leaves (Ok m) t' w e = let g : RelationMade N i X (table t n) (table t' m) (i + 2) = relation_goes N i X (table t n) w e in record { wf = g.wf; ext = g.ext; count = g.count }
+  relation_leaves (Err r) t' w e = tt

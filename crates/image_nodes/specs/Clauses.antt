@@ -1,6 +1,6 @@
 -- 02 (ii), "each record again by its constructor .. and wants the same number": what reading nodes asks of the table and of the image, and what it promises: the steps of image_steps, and a table that is well formed and
 -- has all that was there.
-use Rattle.std.specs.Prelude.{◌≡◌, Bool, true, false, ◌&&◌, List, ℕ, ◌+◌, ◌*◌, ◌/◌, ◌%◌, ◌≤◌, ◌<◌, max, eqb, ltb, leb, length}
+use Rattle.std.specs.Prelude.{◌≡◌, Bool, true, false, ◌&&◌, List, ℕ, Result, Ok, Err, ◌+◌, ◌*◌, ◌/◌, ◌%◌, ◌≤◌, ◌<◌, max, eqb, ltb, leb, length}
 use Rattle.common.specs.Outcome.{Outcome, refused, given, ◌>>=◌}
 use Rattle.common.specs.Runs.{Table, table}
 use Rattle.sp_steps.specs.Wf as SpWf
@@ -15,15 +15,15 @@ use Rattle.image_steps.specs.Image as Image
 use Rattle.image_steps.specs.Records.{depth_of, depth_of_r, kid_fits}
 use Rattle.image_steps.specs.Read as Read
 use Rattle.image_words.specs.Clauses.{word_of}
-use Rattle.image_nodes.specs.declared.Made.{Made}
-use Rattle.image_nodes.specs.declared.Made.TheVariants as made
+use Rattle.refusal.specs.declared.Refusal.{Refusal}
+use Rattle.refusal.specs.Numbers.{number_of}
 
 -- ---- answers
 
 -- a table with this handle as the value, or the number
-abbrev pub made_by : ℕ → Made → List ℕ → Outcome Table ℕ
-made_by handle (made.At n) t = given (table t n) handle
-made_by handle (made.Refused number) t = refused number
+abbrev pub made_by : ℕ → Result ℕ Refusal → List ℕ → Outcome Table ℕ
+made_by handle (Ok n) t = given (table t n) handle
+made_by handle (Err e) t = refused (number_of e)
 
 -- the place with other packet nodes, with other relation nodes
 abbrev pub with_sets : Table → RunState → RunState
@@ -33,14 +33,14 @@ abbrev pub with_nodes : Table → RunState → RunState
 with_nodes τ p = place (put_relations τ p.tables) p.lines p.output
 
 -- the place with the table that was made of it, and this value; or the number
-abbrev pub read_by : (Table → RunState → RunState) → ℕ → Made → List ℕ → RunState → Outcome RunState ℕ
-read_by put x (made.At n) t p = given (put (table t n) p) x
-read_by put x (made.Refused number) t p = refused number
+abbrev pub read_by : (Table → RunState → RunState) → ℕ → Result ℕ Refusal → List ℕ → RunState → Outcome RunState ℕ
+read_by put x (Ok n) t p = given (put (table t n) p) x
+read_by put x (Err e) t p = refused (number_of e)
 
 -- what holds of the table that was made
-abbrev pub Unless : (Table → Type 0) → Made → List ℕ → Type 0
-Unless P (made.At n) t = P (table t n)
-Unless P (made.Refused number) t = Unit
+abbrev pub Unless : (Table → Type 0) → Result ℕ Refusal → List ℕ → Type 0
+Unless P (Ok n) t = P (table t n)
+Unless P (Err e) t = Unit
 
 -- ---- packet nodes
 
@@ -74,13 +74,13 @@ pub record Grown (N : ℕ) (σ : Table) (n : ℕ) (τ : Table) : Type 0 where
   pub count : τ.count ≡ n
 
 -- the record of node i, from word s on
-pub record PostNode (image : List ℕ) (N i s : ℕ) (t : List ℕ) (n : ℕ) (r : Made) (t' : List ℕ) : Type 0 where
+pub record PostNode (image : List ℕ) (N i s : ℕ) (t : List ℕ) (n : ℕ) (r : Result ℕ Refusal) (t' : List ℕ) : Type 0 where
   pub is : (h : Image.Head) (L : Limits) (p : RunState) → h.fields ≡ N → p.tables.sets ≡ table t n
       → (Read.enter image h L s 2 >>= λ _. Read.node image h L i s) p ≡ read_by with_sets (2 * i + 2) r t' p
   pub then : Unless (Grown N (table t n) (max n (i + 1))) r t'
 
 -- the records of k nodes, from word 0 on
-pub record PostNodes (image : List ℕ) (N k : ℕ) (t : List ℕ) (n : ℕ) (r : Made) (t' : List ℕ) : Type 0 where
+pub record PostNodes (image : List ℕ) (N k : ℕ) (t : List ℕ) (n : ℕ) (r : Result ℕ Refusal) (t' : List ℕ) : Type 0 where
   pub is : (h : Image.Head) (L : Limits) (p : RunState) → h.fields ≡ N → p.tables.sets ≡ table t n
       → Read.records image h L (Read.node image h L) 2 0 0 k p ≡ read_by with_sets 0 r t' p
   pub then : Unless (Grown N (table t n) (max n k)) r t'
@@ -117,13 +117,13 @@ pub record GrownR (N : ℕ) (σ : Table) (n : ℕ) (τ : Table) : Type 0 where
 abbrev pub QuadAt : List ℕ → ℕ → SPPnode → Type 0
 QuadAt image s r = quad_of r ≡ Spp.quad (word_of image s) (word_of image (s + 1)) (word_of image (s + 2)) (word_of image (s + 3))
 
-pub record PostRelation (image : List ℕ) (N i s : ℕ) (t : List ℕ) (n : ℕ) (r : Made) (t' : List ℕ) : Type 0 where
+pub record PostRelation (image : List ℕ) (N i s : ℕ) (t : List ℕ) (n : ℕ) (r : Result ℕ Refusal) (t' : List ℕ) : Type 0 where
   pub is : (h : Image.Head) (L : Limits) (p : RunState) → h.fields ≡ N → p.tables.base.aut.nodes ≡ table t n
       → (Read.enter image h L s 4 >>= λ _. Read.relation image h L i s) p ≡ read_by with_nodes (i + 2) r t' p
   pub then : Unless (GrownR N (table t n) (max n (i + 1))) r t'
 
 -- the records of k nodes, from word `start` on
-pub record PostRelations (image : List ℕ) (N start k : ℕ) (t : List ℕ) (n : ℕ) (r : Made) (t' : List ℕ) : Type 0 where
+pub record PostRelations (image : List ℕ) (N start k : ℕ) (t : List ℕ) (n : ℕ) (r : Result ℕ Refusal) (t' : List ℕ) : Type 0 where
   pub is : (h : Image.Head) (L : Limits) (p : RunState) → h.fields ≡ N → p.tables.base.aut.nodes ≡ table t n
       → Read.records image h L (Read.relation image h L) 4 0 start k p ≡ read_by with_nodes 0 r t' p
   pub then : Unless (GrownR N (table t n) (max n k)) r t'

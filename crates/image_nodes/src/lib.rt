@@ -8,18 +8,9 @@ ghost use Rattle.image_steps.specs.Records as Records;
 ghost use Rattle.image_words.specs.Clauses.{Reaches};
 ghost use Rattle.image_nodes.specs.Clauses as Its;
 
-use aut_states::refusal;
-use image_block::Looked;
-use image_words::refusal::RECORD;
-use sp::SP;
-use spp::{SPP, SPPnode};
-
-// how many nodes there are, or the number with which the record is refused
-#[derive(Clone, Copy)]
-pub enum Made {
-    At(usize),
-    Refused(u32),
-}
+use refusal::Refusal;
+use sp::{SP, SPstore};
+use spp::{SPP, SPPnode, SPPstore};
 
 // ---- packet nodes
 
@@ -28,17 +19,15 @@ pub fn depth_of(sp: &[u32], n: u32, h: u32) -> u32
     requires { Its.Inside sp.now h }
     ensures { result ≡ Records.depth_of sp.now n h }
 {
-    let mut d = 0;
     let mut x = h;
-    while d < n {
+    for d in 0..n {
         if x < 2 {
             return d;
         }
         let i = (x / 2 - 1) as usize;
         x = sp[2 * i];
-        d += 1;
     }
-    d
+    n
 }
 
 // children of nodes before i (or 0, 1), of one depth below the fields, the left one even
@@ -67,24 +56,32 @@ fn children_fit(sp: &[u32], fields: u32, i: usize, x0: u32, x1: u32) -> bool
 }
 
 // packet node i with these children: found there, or made
-fn make_node(sp: &mut [u32], fields: u32, count: usize, i: usize, x0: u32, x1: u32) -> Made
+fn make_node(
+    sp: &mut [u32],
+    fields: u32,
+    count: usize,
+    i: usize,
+    x0: u32,
+    x1: u32,
+) -> Result<usize, Refusal>
     requires { Its.PreNode fields sp.old count i }
     ensures { Records.node fields i x0 x1 (table sp.old count) ≡ Its.made_by (2 * i + 2) result
         sp.new }
 {
     if !children_fit(sp, fields, i, x0, x1) {
-        return Made::Refused(RECORD);
+        return Err(Refusal::Record);
     }
-    let sp::Made::Node(h, n) = sp::mk(sp, count, SP(x0), SP(x1)) else {
+    let mut sets = SPstore { nodes: sp, count };
+    let Ok(h) = sets.mk(SP(x0), SP(x1)) else {
         if i < count {
-            return Made::Refused(RECORD);
+            return Err(Refusal::Record);
         }
-        return Made::Refused(refusal::SP);
+        return Err(Refusal::Sp);
     };
     if h.0 as usize != 2 * i + 2 {
-        return Made::Refused(RECORD);
+        return Err(Refusal::Record);
     }
-    Made::At(n)
+    Ok(sets.count)
 }
 
 // the record of packet node i, from word s on; first the block that it reaches
@@ -95,41 +92,32 @@ pub fn read_node(
     count: usize,
     i: usize,
     s: usize,
-) -> Made
+) -> Result<usize, Refusal>
     requires { Its.PreNode fields sp.old count i × Reaches image.now (s + 2) }
     ensures { Its.PostNode image.now fields i s sp.old count result sp.new }
 {
-    let looked = image_words::enter(image, s, 2);
-    match looked {
-        Looked::Refused(e) => Made::Refused(e),
-        Looked::Whole => {
-            let x0 = image_words::word(image, s);
-            let x1 = image_words::word(image, s + 1);
-            make_node(sp, fields, count, i, x0, x1)
-        }
-    }
+    image_words::enter(image, s, 2)?;
+    let x0 = image_words::word(image, s);
+    let x1 = image_words::word(image, s + 1);
+    make_node(sp, fields, count, i, x0, x1)
 }
 
-// k packet nodes, from word 0 on
-pub fn read_nodes(image: &[u8], sp: &mut [u32], fields: u32, count: usize, k: usize) -> Made
+// k packet nodes, from word 0 on; how many nodes there are then
+pub fn read_nodes(
+    image: &[u8],
+    sp: &mut [u32],
+    fields: u32,
+    count: usize,
+    k: usize,
+) -> Result<usize, Refusal>
     requires { Its.PreNode fields sp.old count 0 × Reaches image.now (2 * k) }
     ensures { Its.PostNodes image.now fields k sp.old count result sp.new }
 {
     let mut n = count;
-    let mut i = 0;
-    while i < k {
-        let made = read_node(image, sp, fields, n, i, 2 * i);
-        match made {
-            Made::Refused(e) => {
-                return Made::Refused(e);
-            }
-            Made::At(m) => {
-                n = m;
-            }
-        }
-        i += 1;
+    for i in 0..k {
+        n = read_node(image, sp, fields, n, i, 2 * i)?;
     }
-    Made::At(n)
+    Ok(n)
 }
 
 // ---- relation nodes
@@ -138,17 +126,15 @@ pub fn relation_depth(nodes: &[u32], n: u32, h: u32) -> u32
     requires { Its.InsideR nodes.now h }
     ensures { result ≡ Records.depth_of_r nodes.now n h }
 {
-    let mut d = 0;
     let mut x = h;
-    while d < n {
+    for d in 0..n {
         if x < 2 {
             return d;
         }
         let i = (x - 2) as usize;
         x = nodes[4 * i];
-        d += 1;
     }
-    d
+    n
 }
 
 // a handle of a node before i, or 0 or 1, of depth d
@@ -192,24 +178,35 @@ fn quad_fits(nodes: &[u32], fields: u32, i: usize, x: SPPnode) -> bool
 }
 
 // relation node i with these children: found there, or made
-fn make_relation(nodes: &mut [u32], fields: u32, count: usize, i: usize, x: SPPnode) -> Made
+fn make_relation(
+    nodes: &mut [u32],
+    fields: u32,
+    count: usize,
+    i: usize,
+    x: SPPnode,
+) -> Result<usize, Refusal>
     requires { Its.PreRelation fields nodes.old count i }
     ensures { Records.relation fields i (quad_of x) (table nodes.old count) ≡ Its.made_by (i + 2) result
         nodes.new }
 {
     if !quad_fits(nodes, fields, i, x) {
-        return Made::Refused(RECORD);
+        return Err(Refusal::Record);
     }
-    let spp::Made::Node(h, n) = spp::mk(nodes, count, x) else {
+    let mut relations = SPPstore {
+        nodes,
+        count,
+        fields,
+    };
+    let Ok(h) = relations.mk(x) else {
         if i < count {
-            return Made::Refused(RECORD);
+            return Err(Refusal::Record);
         }
-        return Made::Refused(refusal::SPP);
+        return Err(Refusal::Spp);
     };
     if h.0 as usize != i + 2 {
-        return Made::Refused(RECORD);
+        return Err(Refusal::Record);
     }
-    Made::At(n)
+    Ok(relations.count)
 }
 
 // the children of the record from word s on
@@ -233,22 +230,17 @@ pub fn read_relation(
     count: usize,
     i: usize,
     s: usize,
-) -> Made
+) -> Result<usize, Refusal>
     requires { Its.PreRelation fields nodes.old count i × Reaches image.now (s + 4) }
     ensures { Its.PostRelation image.now fields i s nodes.old count result
         nodes.new }
 {
-    let looked = image_words::enter(image, s, 4);
-    match looked {
-        Looked::Refused(e) => Made::Refused(e),
-        Looked::Whole => {
-            let x = quad_at(image, s);
-            make_relation(nodes, fields, count, i, x)
-        }
-    }
+    image_words::enter(image, s, 4)?;
+    let x = quad_at(image, s);
+    make_relation(nodes, fields, count, i, x)
 }
 
-// k relation nodes, from word `start` on
+// k relation nodes, from word `start` on; how many nodes there are then
 pub fn read_relations(
     image: &[u8],
     nodes: &mut [u32],
@@ -256,24 +248,14 @@ pub fn read_relations(
     count: usize,
     start: usize,
     k: usize,
-) -> Made
+) -> Result<usize, Refusal>
     requires { Its.PreRelation fields nodes.old count 0 × Reaches image.now (start + 4 * k) }
     ensures { Its.PostRelations image.now fields start k nodes.old count result
         nodes.new }
 {
     let mut n = count;
-    let mut i = 0;
-    while i < k {
-        let made = read_relation(image, nodes, fields, n, i, start + 4 * i);
-        match made {
-            Made::Refused(e) => {
-                return Made::Refused(e);
-            }
-            Made::At(m) => {
-                n = m;
-            }
-        }
-        i += 1;
+    for i in 0..k {
+        n = read_relation(image, nodes, fields, n, i, start + 4 * i)?;
     }
-    Made::At(n)
+    Ok(n)
 }

@@ -1,5 +1,5 @@
 -- Members and lines, one record after the other, block by block.
-use Rattle.std.specs.Prelude.{if◌then◌else◌}
+use Rattle.std.specs.Prelude.{if◌then◌else◌, Result, Ok, Err}
 use mathlib.Core.Path.{◌≡◌, refl, sym, ◌∙◌, ap, subst}
 use mathlib.Core.Bool.{Bool}
 use mathlib.Core.List.{List, [], ◌∷◌, ◌++◌}
@@ -13,8 +13,9 @@ use borrow.Author.Tests.{le-leb, lt-leb}
 use Rattle.common.specs.Outcome.{Outcome, refused, given, Step, after, ◌>>=◌}
 use Rattle.aut_steps.specs.Tables.{Limits}
 use Rattle.book_steps.specs.Run.{RunState, place}
-use Rattle.image_block.specs.declared.Looked.{Looked}
-use Rattle.image_block.specs.declared.Looked.TheVariants as looked
+use Rattle.refusal.specs.declared.Refusal.{Refusal}
+use Rattle.refusal.specs.declared.Refusal.TheVariants.{Record}
+use Rattle.refusal.specs.Numbers.{number_of}
 use Rattle.image_steps.specs.Image as Image
 use Rattle.image_steps.specs.Read as Read
 use Rattle.image_steps.specs.Read.{records, line_of}
@@ -22,8 +23,6 @@ use Rattle.image_words.specs.Clauses.{word_of, entered_by, Entered}
 use Rattle.image_nodes.proofs.Rows.{turn_at, records_more, records_stop, records_end}
 use Rattle.book_place.specs.Clauses.{LINES, stands_for, lines_of, Below}
 use Rattle.book_place.proofs.Scratch.{lines_set, below_more, line_beyond}
-use Rattle.image_read.specs.declared.Line.{Line}
-use Rattle.image_read.specs.declared.Line.TheVariants as line
 use Rattle.image_read.specs.Clauses.{PostMembers, lined_by, WithinBy, PostLine, PreLines, PostLines}
 
 -- a step more, behind two
@@ -35,45 +34,39 @@ after_both (given p x) f k = refl
 
 -- i of k members are passed
 abbrev pub MembersAt : List ℕ → (s k i : ℕ) → Type 0
-MembersAt image s k i = (i ≤ k) × ((h : Image.Head) (L : Limits) (p : RunState)
-    → records image h L (Read.member image h L) 1 0 s k p ≡ records image h L (Read.member image h L) 1 i (s + i) (k - i) p)
+MembersAt image s k i = (h : Image.Head) (L : Limits) (p : RunState)
+    → records image h L (Read.member image h L) 1 0 s k p ≡ records image h L (Read.member image h L) 1 i (s + i) (k - i) p
 
 module _ (image : List ℕ) (s k : ℕ) where
   pub members_begin : MembersAt image s k 0
-  members_begin = (
-    omega arith,
-    λ h L p.
-        ap (λ (m : ℕ). records image h L (Read.member image h L) 1 0 s m p) {x = k} {y = k - 0} (omega arith)
-        ∙ ap (λ (m : ℕ). records image h L (Read.member image h L) 1 0 m (k - 0) p) {x = s} {y = s + 0} (omega arith),
-  )
+  members_begin h L p =
+      ap (λ (m : ℕ). records image h L (Read.member image h L) 1 0 s m p) {x = k} {y = k - 0} (omega arith)
+      ∙ ap (λ (m : ℕ). records image h L (Read.member image h L) 1 0 m (k - 0) p) {x = s} {y = s + 0} (omega arith)
 
   module _ (i : ℕ) (w : MembersAt image s k i) where
-    module _ (l : i < k) {r : Looked} (e : Entered image (s + i) 1 r) where
-      turned : (h : Image.Head) (L : Limits) (p : RunState) {x : Looked} → r ≡ x → turn_at image h L (Read.member image h L) 1 i (s + i) p ≡ after (entered_by x p) (λ _ q. given q 0)
-      turned h L p q = ap (λ (o : Outcome RunState ℕ). after o (λ _ q. given q 0)) (e h L p ∙ ap (λ (x : Looked). entered_by x p) q)
+    module _ (l : i < k) {r : Result Unit Refusal} (e : Entered image (s + i) 1 r) where
+      turned : (h : Image.Head) (L : Limits) (p : RunState) {x : Result Unit Refusal} → r ≡ x → turn_at image h L (Read.member image h L) 1 i (s + i) p ≡ after (entered_by x p) (λ _ q. given q 0)
+      turned h L p q = ap (λ (o : Outcome RunState ℕ). after o (λ _ q. given q 0)) (e h L p ∙ ap (λ (x : Result Unit Refusal). entered_by x p) q)
 
-      pub members_again : r ≡ looked.Whole → MembersAt image s k (i + 1)
-      members_again q = (
-        omega arith,
-        λ h L p. w.1 h L p ∙ records_more image h L (Read.member image h L) 1 i (s + i) (s + (i + 1)) k p p 0 l (omega arith) (turned h L p q),
-      )
+      pub members_again : r ≡ Ok tt → MembersAt image s k (i + 1)
+      members_again q h L p = w h L p ∙ records_more image h L (Read.member image h L) 1 i (s + i) (s + (i + 1)) k p p 0 l (omega arith) (turned h L p q)
 
-      pub members_stop : {number : ℕ} → r ≡ looked.Refused number → PostMembers image s k (looked.Refused number)
-      members_stop {number} q h L p = w.1 h L p ∙ records_stop image h L (Read.member image h L) 1 i (s + i) k p number l (turned h L p q)
+      pub members_stop : {e : Refusal} → r ≡ Err e → PostMembers image s k (Err e)
+      members_stop {e} q h L p = w h L p ∙ records_stop image h L (Read.member image h L) 1 i (s + i) k p (number_of e) l (turned h L p q)
 
-    pub members_end : k ≤ i → PostMembers image s k looked.Whole
-    members_end l h L p = w.1 h L p ∙ records_end image h L (Read.member image h L) 1 i (s + i) k p l
+    pub members_end : k ≤ i → PostMembers image s k (Ok tt)
+    members_end l h L p = w h L p ∙ records_end image h L (Read.member image h L) 1 i (s + i) k p l
 
 -- ---- a line
 
-module _ (image : List ℕ) (s states : ℕ) {r : Looked} (e : Entered image s 1 r) where
-  entering : (h : Image.Head) (L : Limits) (i : ℕ) (p : RunState) {x : Looked} → r ≡ x → (Read.enter image h L s 1 >>= λ _. Read.line image h L i s) p ≡ after (entered_by x p) (λ _. Read.line image h L i s)
-  entering h L i p q = ap (λ (o : Outcome RunState ℕ). after o (λ _. Read.line image h L i s)) (e h L p ∙ ap (λ (x : Looked). entered_by x p) q)
+module _ (image : List ℕ) (s states : ℕ) {r : Result Unit Refusal} (e : Entered image s 1 r) where
+  entering : (h : Image.Head) (L : Limits) (i : ℕ) (p : RunState) {x : Result Unit Refusal} → r ≡ x → (Read.enter image h L s 1 >>= λ _. Read.line image h L i s) p ≡ after (entered_by x p) (λ _. Read.line image h L i s)
+  entering h L i p q = ap (λ (o : Outcome RunState ℕ). after o (λ _. Read.line image h L i s)) (e h L p ∙ ap (λ (x : Result Unit Refusal). entered_by x p) q)
 
-  pub line_blocked : {number : ℕ} → r ≡ looked.Refused number → PostLine image s states (line.Refused number)
+  pub line_blocked : {e : Refusal} → r ≡ Err e → PostLine image s states (Err e)
   line_blocked q = record { is = λ h L i p y. entering h L i p q; within = tt }
 
-  module _ (q : r ≡ looked.Whole) {w : ℕ} (a : w ≡ word_of image s) where
+  module _ (q : r ≡ Ok tt) {w : ℕ} (a : w ≡ word_of image s) where
     tested : (h : Image.Head) (L : Limits) (i : ℕ) (p : RunState) → p.tables.base.aut.states.count ≡ states → {t : Bool} → leb w states ≡ t
         → (Read.enter image h L s 1 >>= λ _. Read.line image h L i s) p ≡ (if t then given (place p.tables (p.lines ++ line_of w ∷ []) p.output) 0 else refused 32)
     tested h L i p y f =
@@ -81,10 +74,10 @@ module _ (image : List ℕ) (s states : ℕ) {r : Looked} (e : Entered image s 1
         ∙ ap (λ (v : ℕ). if leb v p.tables.base.aut.states.count then given (place p.tables (p.lines ++ line_of v ∷ []) p.output) 0 else refused 32) (sym a)
         ∙ ap (λ (t : Bool). if t then given (place p.tables (p.lines ++ line_of w ∷ []) p.output) 0 else refused 32) (ap (leb w) y ∙ f)
 
-    pub line_past : states < w → PostLine image s states (line.Refused 32)
+    pub line_past : states < w → PostLine image s states (Err Record)
     line_past l = record { is = λ h L i p y. tested h L i p y (lt-leb w states l); within = tt }
 
-    pub line_read : w ≤ states → PostLine image s states (line.Word w)
+    pub line_read : w ≤ states → PostLine image s states (Ok w)
     line_read l = record { is = λ h L i p y. tested h L i p y (le-leb w states l); within = l }
 
 -- ---- lines
@@ -103,7 +96,6 @@ no_lines s = refl
 
 -- i of k lines are read
 pub record LinesAt (image : List ℕ) (s k states : ℕ) (t₀ t : List ℕ) (i : ℕ) : Type 0 where
-  pub most : i ≤ k
   pub len : length t ≡ length t₀
   pub is : (h : Image.Head) (L : Limits) (p : RunState) → p.tables.base.aut.states.count ≡ states → p.lines ≡ []
       → records image h L (Read.line image h L) 1 0 s k p ≡ records image h L (Read.line image h L) 1 i (s + i) (k - i) (place p.tables (lines_of t i) p.output)
@@ -113,7 +105,6 @@ pub record LinesAt (image : List ℕ) (s k states : ℕ) (t₀ t : List ℕ) (i 
 module _ (image : List ℕ) (s k states : ℕ) (t₀ : List ℕ) where
   pub lines_begin : LinesAt image s k states t₀ t₀ 0
   lines_begin = record {
-    most = omega arith;
     len = refl;
     is = λ h L p y z.
         ap (λ (m : ℕ). records image h L (Read.line image h L) 1 0 s m p) {x = k} {y = k - 0} (omega arith)
@@ -124,42 +115,40 @@ module _ (image : List ℕ) (s k states : ℕ) (t₀ : List ℕ) where
   }
 
   module _ (t : List ℕ) (i : ℕ) (v : LinesAt image s k states t₀ t i) where
-    module _ (l : i < k) {r : Line} (post : PostLine image (s + i) states r) where
+    module _ (l : i < k) {r : Result ℕ Refusal} (post : PostLine image (s + i) states r) where
       at : (p : RunState) → RunState
       at p = place p.tables (lines_of t i) p.output
 
-      pub lines_stop : {number : ℕ} → r ≡ line.Refused number → PostLines image s k states (looked.Refused number) t₀ t
+      pub lines_stop : {e : Refusal} → r ≡ Err e → PostLines image s k states (Err e) t₀ t
       unfolding at
-      lines_stop {number} q = record {
+      lines_stop {e} q = record {
         is = λ h L p y z. v.is h L p y z
-            ∙ records_stop image h L (Read.line image h L) 1 i (s + i) k (at p) number l (post.is h L i (at p) y ∙ ap (λ (x : Line). lined_by x (at p)) q);
-        kept = λ j m. v.kept j (omega (arith, v.most));
+            ∙ records_stop image h L (Read.line image h L) 1 i (s + i) k (at p) (number_of e) l (post.is h L i (at p) y ∙ ap (λ (x : Result ℕ Refusal). lined_by x (at p)) q);
+        kept = λ j m. v.kept j (omega arith);
         named = tt;
       }
 
-      pub lines_again : {w : ℕ} → PreLines image t₀ s k → r ≡ line.Word w → LinesAt image s k states t₀ (set t (LINES + i) w) (i + 1)
+      pub lines_again : {w : ℕ} → PreLines image t₀ s k → r ≡ Ok w → LinesAt image s k states t₀ (set t (LINES + i) w) (i + 1)
       unfolding at
       lines_again {w} P q =
           let room : LINES + i < length t = omega (arith, v.len, P.few, P.room) in
           let more : lines_of (set t (LINES + i) w) (i + 1) ≡ lines_of t i ++ stands_for w ∷ [] = ap (lines_of (set t (LINES + i) w)) {x = i + 1} {y = suc i} (omega arith) ∙ lines_set t i w room in
           let low : w ≤ states = subst (WithinBy states) q post.within in
           record {
-            most = omega arith;
             len = length-set t (LINES + i) w ∙ v.len;
             is = λ h L p y z. v.is h L p y z
                 ∙ records_more image h L (Read.line image h L) 1 i (s + i) (s + (i + 1)) k (at p) (place p.tables (lines_of t i ++ line_of w ∷ []) p.output) 0 l (omega arith)
-                (post.is h L i (at p) y ∙ ap (λ (x : Line). lined_by x (at p)) q)
+                (post.is h L i (at p) y ∙ ap (λ (x : Result ℕ Refusal). lined_by x (at p)) q)
                 ∙ ap (λ (ls : List (Option ℕ)). records image h L (Read.line image h L) 1 (i + 1) (s + (i + 1)) (k - (i + 1)) (place p.tables ls p.output))
                 (ap (λ (o : Option ℕ). lines_of t i ++ o ∷ []) (line_stands w) ∙ sym more);
             kept = λ j m. get_or-set_other t (LINES + i) j w 0 (λ e. omega arith) ∙ v.kept j (omega arith);
             named = subst (Below states) (sym more) (below_more (lines_of t i) v.named (omega arith) (stands_for w) (λ x e. stands_below w states x low e));
           }
 
-    pub lines_end : k ≤ i → PostLines image s k states looked.Whole t₀ t
-    lines_end l =
-        let e : i ≡ k = omega (arith, v.most) in
+    pub lines_end : i ≡ k → PostLines image s k states (Ok tt) t₀ t
+    lines_end e =
         record {
-          is = λ h L p y z. v.is h L p y z ∙ records_end image h L (Read.line image h L) 1 i (s + i) k (place p.tables (lines_of t i) p.output) l ∙ ap (λ (j : ℕ). given (place p.tables (lines_of t j) p.output) 0) e;
+          is = λ h L p y z. v.is h L p y z ∙ records_end image h L (Read.line image h L) 1 i (s + i) k (place p.tables (lines_of t i) p.output) (omega arith) ∙ ap (λ (j : ℕ). given (place p.tables (lines_of t j) p.output) 0) e;
           kept = λ j m. v.kept j (omega arith);
           named = subst (λ (j : ℕ). Below states (lines_of t j)) e v.named;
         }

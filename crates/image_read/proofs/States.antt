@@ -1,5 +1,5 @@
 -- Members, states, lines, and the end.
-use Rattle.std.specs.Prelude.{if◌then◌else◌}
+use Rattle.std.specs.Prelude.{if◌then◌else◌, Result, Ok, Err}
 use mathlib.Core.Path.{◌≡◌, refl, sym, ◌∙◌, ap, subst}
 use mathlib.Core.Bool.{Bool, true, false}
 use mathlib.Core.List.{List, []}
@@ -12,8 +12,8 @@ use Rattle.aut_states.specs.declared.Counts.{Counts}
 use Rattle.aut_states.specs.Clauses.{limits_of}
 use Rattle.aut_relations.specs.Clauses.{aut_of}
 use Rattle.book_steps.specs.Run.{RunState, place}
-use Rattle.image_block.specs.declared.Looked.{Looked}
-use Rattle.image_block.specs.declared.Looked.TheVariants as looked
+use Rattle.refusal.specs.declared.Refusal.{Refusal}
+use Rattle.refusal.specs.declared.Refusal.TheVariants.{Record}
 use Rattle.image_steps.specs.Image as Image
 use Rattle.image_steps.specs.Image.{layout, start_of, total}
 use Rattle.image_steps.specs.Read as Read
@@ -21,13 +21,10 @@ use Rattle.image_words.specs.declared.Head.{Head}
 use Rattle.image_words.specs.Clauses.{head_of, entered_by, Reaches}
 use Rattle.image_words.proofs.Words.{start_2, start_3, start_4, start_5}
 use Rattle.image_states.specs.declared.Lists.{Lists}
-use Rattle.image_states.specs.declared.Taken.{Taken}
-use Rattle.image_states.specs.declared.Taken.TheVariants as taken
 use Rattle.image_states.specs.Clauses.{Holds, HeadIs, put_in, taken_by, TakenBeside, ReadsStates, StatesAsk}
 use Rattle.book_place.specs.declared.Setting.{Setting}
 use Rattle.book_place.specs.Clauses.{WORK, lines_of}
 use Rattle.book_begin.specs.Clauses.{setting_for}
-use Rattle.image_read.specs.declared.Placed.TheVariants as placed
 use Rattle.image_read.specs.Clauses.{PostMembers, PreLines, lines_by, BelowBy, PostLines, ended_by, PreRecords, state_steps, PostAutomaton, rest_steps, PostRecords}
 use Rattle.image_read.proofs.Ending.{fits, reaching}
 use Rattle.image_read.proofs.Lines.{after_both}
@@ -52,11 +49,11 @@ module _ (image : List ℕ) (h : Head) (c : Counts) (t st mem s : List ℕ) (P :
   pub members_ready : Reaches image (2 * h.sp + 4 * h.spp + h.members)
   members_ready = reaching image h P.fitting (2 * h.sp + 4 * h.spp + h.members) (omega (arith, start_5 g))
 
-  by_members : {r : Looked} → PostMembers image (2 * h.sp + 4 * h.spp) h.members r → (p : RunState) {x : Looked} → r ≡ x
+  by_members : {r : Result Unit Refusal} → PostMembers image (2 * h.sp + 4 * h.spp) h.members r → (p : RunState) {x : Result Unit Refusal} → r ≡ x
       → state_steps image g limits01 p ≡ after (entered_by x p) (λ _. Read.records image g limits01 (Read.state image g limits01) 4 0 (start_of 3 (layout g)) h.states)
   by_members M p q =
       ap (λ (i : ℕ). after (Read.records image g limits01 (Read.member image g limits01) 1 0 i h.members p) (λ _. Read.records image g limits01 (Read.state image g limits01) 4 0 (start_of 3 (layout g)) h.states)) (start_2 g)
-      ∙ ap (λ (o : Outcome RunState ℕ). after o (λ _. Read.records image g limits01 (Read.state image g limits01) 4 0 (start_of 3 (layout g)) h.states)) (M g limits01 p ∙ ap (λ (r : Looked). entered_by r p) q)
+      ∙ ap (λ (o : Outcome RunState ℕ). after o (λ _. Read.records image g limits01 (Read.state image g limits01) 4 0 (start_of 3 (layout g)) h.states)) (M g limits01 p ∙ ap (λ (r : Result Unit Refusal). entered_by r p) q)
 
   module _ (S : Setting) (u : S ≡ setting_for (record { fields = h.fields; budget = h.budget })) where
     pub states_ready : StatesAsk image S.config (lists_in h) (2 * h.sp + 4 * h.spp + h.members) h.states c t st mem s
@@ -71,7 +68,7 @@ module _ (image : List ℕ) (h : Head) (c : Counts) (t st mem s : List ℕ) (P :
       is_head = is_head;
     })
 
-    pub automaton_read : {r : Looked} → PostMembers image (2 * h.sp + 4 * h.spp) h.members r → r ≡ looked.Whole → {x : Taken} {st' mem' s' : List ℕ}
+    pub automaton_read : {r : Result Unit Refusal} → PostMembers image (2 * h.sp + 4 * h.spp) h.members r → r ≡ Ok tt → {x : Result Counts Refusal} {st' mem' s' : List ℕ}
         → ReadsStates image S.config.fields (limits_of S.config.limits) (lists_in h) (2 * h.sp + 4 * h.spp + h.members) h.states x c t st mem s st' mem' s'
         → PostAutomaton image h x c t st mem s st' mem' s'
     automaton_read {r} M q {x} {st'} {mem'} {s'} R =
@@ -85,7 +82,7 @@ module _ (image : List ℕ) (h : Head) (c : Counts) (t st mem s : List ℕ) (P :
           kept = R₀.kept;
         }
 
-  pub no_members : {r : Looked} → PostMembers image (2 * h.sp + 4 * h.spp) h.members r → {e : ℕ} → r ≡ looked.Refused e → PostAutomaton image h (taken.Refused e) c t st mem s st mem s
+  pub no_members : {r : Result Unit Refusal} → PostMembers image (2 * h.sp + 4 * h.spp) h.members r → {e : Refusal} → r ≡ Err e → PostAutomaton image h (Err e) c t st mem s st mem s
   no_members M {e} q = record {
     is = λ p y. by_members M p q;
     beside = tt;
@@ -101,14 +98,14 @@ module _ (image : List ℕ) (h : Head) (c : Counts) (t st mem s : List ℕ) (P :
   by_states p = after_both (Read.records image g limits01 (Read.member image g limits01) 1 0 (start_of 2 (layout g)) h.members p)
       (Read.records image g limits01 (Read.state image g limits01) 4 0 (start_of 3 (layout g)) h.states) line_steps
 
-  module _ {x : Taken} {st' mem' s₁ : List ℕ} (A : PostAutomaton image h x c t st mem s st' mem' s₁) where
-    with_states : (p : RunState) → p.tables.base.aut ≡ aut_of t st mem c → {y : Taken} → x ≡ y → rest_steps image g limits01 p ≡ after (taken_by y t st' mem' p) (λ _. line_steps)
-    with_states p e q = by_states p ∙ ap (λ (o : Outcome RunState ℕ). after o (λ _. line_steps)) (A.is p e ∙ ap (λ (y : Taken). taken_by y t st' mem' p) q)
+  module _ {x : Result Counts Refusal} {st' mem' s₁ : List ℕ} (A : PostAutomaton image h x c t st mem s st' mem' s₁) where
+    with_states : (p : RunState) → p.tables.base.aut ≡ aut_of t st mem c → {y : Result Counts Refusal} → x ≡ y → rest_steps image g limits01 p ≡ after (taken_by y t st' mem' p) (λ _. line_steps)
+    with_states p e q = by_states p ∙ ap (λ (o : Outcome RunState ℕ). after o (λ _. line_steps)) (A.is p e ∙ ap (λ (y : Result Counts Refusal). taken_by y t st' mem' p) q)
 
-    pub no_states : {e : ℕ} → x ≡ taken.Refused e → PostRecords image h (placed.Refused e) c t st mem s st' mem' s₁
+    pub no_states : {e : Refusal} → x ≡ Err e → PostRecords image h (Err e) c t st mem s st' mem' s₁
     no_states q = record { is = λ p y z. with_states p y q; then = tt }
 
-    module _ {d : Counts} (q : x ≡ taken.All d) where
+    module _ {d : Counts} (q : x ≡ Ok d) where
       pub lines_ready : length s₁ ≡ length s → PreLines image s₁ (2 * h.sp + 4 * h.spp + h.members + 4 * h.states) h.lines
       lines_ready len = record {
         reaches = reaching image h P.fitting (2 * h.sp + 4 * h.spp + h.members + 4 * h.states + h.lines) (omega (arith, start_5 g));
@@ -116,19 +113,19 @@ module _ (image : List ℕ) (h : Head) (c : Counts) (t st mem s : List ℕ) (P :
         room = omega (arith, P.room);
       }
 
-      module _ {l : Looked} {s₂ : List ℕ} (R : PostLines image (2 * h.sp + 4 * h.spp + h.members + 4 * h.states) h.lines d.states l s₁ s₂) where
-        with_lines : (p : RunState) → p.tables.base.aut ≡ aut_of t st mem c → p.lines ≡ [] → {y : Looked} → l ≡ y
+      module _ {l : Result Unit Refusal} {s₂ : List ℕ} (R : PostLines image (2 * h.sp + 4 * h.spp + h.members + 4 * h.states) h.lines d.states l s₁ s₂) where
+        with_lines : (p : RunState) → p.tables.base.aut ≡ aut_of t st mem c → p.lines ≡ [] → {y : Result Unit Refusal} → l ≡ y
             → rest_steps image g limits01 p ≡ after (lines_by y h.lines s₂ (put_in (aut_of t st' mem' d) p)) (λ _. Read.ended image g limits01)
         with_lines p e z w =
             with_states p e q
             ∙ ap (λ (i : ℕ). after (Read.records image g limits01 (Read.line image g limits01) 1 0 i h.lines (put_in (aut_of t st' mem' d) p)) (λ _. Read.ended image g limits01)) (start_4 g)
             ∙ ap (λ (o : Outcome RunState ℕ). after o (λ _. Read.ended image g limits01))
-            (R.is g limits01 (put_in (aut_of t st' mem' d) p) refl z ∙ ap (λ (y : Looked). lines_by y h.lines s₂ (put_in (aut_of t st' mem' d) p)) w)
+            (R.is g limits01 (put_in (aut_of t st' mem' d) p) refl z ∙ ap (λ (y : Result Unit Refusal). lines_by y h.lines s₂ (put_in (aut_of t st' mem' d) p)) w)
 
-        pub no_lines : {e : ℕ} → l ≡ looked.Refused e → PostRecords image h (placed.Refused e) c t st mem s st' mem' s₂
+        pub no_lines : {e : Refusal} → l ≡ Err e → PostRecords image h (Err e) c t st mem s st' mem' s₂
         no_lines w = record { is = λ p y z. with_lines p y z w; then = tt }
 
-        module _ (w : l ≡ looked.Whole) {b : Bool} (E : ended_by image (head_of h) d.members ≡ b) where
+        module _ (w : l ≡ Ok tt) {b : Bool} (E : ended_by image (head_of h) d.members ≡ b) where
           with_end : (p : RunState) → p.tables.base.aut ≡ aut_of t st mem c → p.lines ≡ [] → {v : Bool} → b ≡ v
               → rest_steps image g limits01 p ≡ (if v then given (place (put_in (aut_of t st' mem' d) p).tables (lines_of s₂ h.lines) p.output) 0 else refused 32)
           unfolding Read.ended
@@ -136,18 +133,18 @@ module _ (image : List ℕ) (h : Head) (c : Counts) (t st mem s : List ℕ) (P :
               with_lines p e z w
               ∙ ap (λ (v : Bool). if v then given (place (put_in (aut_of t st' mem' d) p).tables (lines_of s₂ h.lines) p.output) 0 else refused 32) (E ∙ f)
 
-          pub no_end : b ≡ false → PostRecords image h (placed.Refused 32) c t st mem s st' mem' s₂
+          pub no_end : b ≡ false → PostRecords image h (Err Record) c t st mem s st' mem' s₂
           no_end f = record { is = λ p y z. with_end p y z f; then = tt }
 
-          pub records_given : b ≡ true → PostRecords image h (placed.At (record { counts = d; lines = h.lines; output = 0 })) c t st mem s st' mem' s₂
+          pub records_given : b ≡ true → PostRecords image h (Ok (record { counts = d; lines = h.lines; output = 0 })) c t st mem s st' mem' s₂
           records_given f = record {
             is = λ p y z. with_end p y z f;
             then = record {
-              sp = (subst (λ (y : Taken). TakenBeside y c) q A.beside).0;
-              transitions = (subst (λ (y : Taken). TakenBeside y c) q A.beside).2;
+              sp = (subst (λ (y : Result Counts Refusal). TakenBeside y c) q A.beside).0;
+              transitions = (subst (λ (y : Result Counts Refusal). TakenBeside y c) q A.beside).2;
               lines = refl;
               silent = refl;
-              named = subst (λ (y : Looked). BelowBy d.states y h.lines s₂) w R.named;
+              named = subst (λ (y : Result Unit Refusal). BelowBy d.states y h.lines s₂) w R.named;
               kept = λ i m. R.kept i (omega (arith, (fits image h P.fitting).lines)) ∙ A.kept.above i m;
             };
           }

@@ -1,4 +1,5 @@
 -- An image read: what it comes to is what image_steps says, and the place stands as a book's does.
+use Rattle.std.specs.Prelude.{Result, Ok, Err}
 use mathlib.Core.Path.{◌≡◌, refl, sym, ◌∙◌, ap, ap₂, subst}
 use mathlib.Core.List.{List, []}
 use Prim.Native.Nat.{ℕ, ◌+◌}
@@ -18,6 +19,7 @@ use Rattle.aut_relations.specs.Behind.{LISTS, cached}
 use Rattle.aut_relations.specs.Clauses.{aut_of}
 use Rattle.aut_query_stage.specs.Layer.{Readable}
 use Rattle.book_steps.specs.Run.{Lent, RunState, place, zeroed}
+use Rattle.refusal.specs.declared.Refusal.{Refusal}
 use Rattle.image_steps.specs.Image as Image
 use Rattle.image_steps.specs.Read as Read
 use Rattle.image_steps.specs.Read.{head_at, then_records, records_of, read}
@@ -28,12 +30,6 @@ use Rattle.book_place.specs.declared.Place.{Place}
 use Rattle.book_place.specs.Clauses.{WORK, work, lines_of, Memory, memory, tables_at, place_of, Standing}
 use Rattle.book_begin.proofs.Zero.{zeros}
 use Rattle.book_begin.proofs.Beginning.{readable_zero}
-use Rattle.image_read.specs.declared.Opened.{Opened}
-use Rattle.image_read.specs.declared.Opened.TheVariants as opened
-use Rattle.image_read.specs.declared.Diagrams.{Diagrams}
-use Rattle.image_read.specs.declared.Diagrams.TheVariants as diagrams
-use Rattle.image_read.specs.declared.Placed.{Placed}
-use Rattle.image_read.specs.declared.Placed.TheVariants as placed
 use Rattle.image_read.specs.Clauses.{setting_at, Opens, opened_by, OpensBy, PostOpen, begun_with, diagrams_by, OrderedBy, PreDiagrams, PostDiagrams, node_steps, rest_steps, PreRecords, rest_by, Rests, RestsBy, PostRecords, PreRead, read_by, ReadsBy, PostRead}
 use Rattle.image_read.proofs.Lines.{after_both}
 
@@ -92,32 +88,32 @@ module _ (image sp nodes states members scratch : List ℕ) (P : PreRead sp node
 
   -- ---- from block 0 to the end
 
-  module _ {o : Opened} (O : PostOpen image o) where
-    by_first : (lent : Lent) {x : Opened} → o ≡ x → read lent limits01 image ≡ opened_by lent limits01 image x
+  module _ {o : Result Head Refusal} (O : PostOpen image o) where
+    by_first : (lent : Lent) {x : Result Head Refusal} → o ≡ x → read lent limits01 image ≡ opened_by lent limits01 image x
     by_first lent q = O.is lent limits01 ∙ ap (opened_by lent limits01 image) q
 
-    pub not_opened : {e : ℕ} → o ≡ opened.Refused e → PostRead image (placed.Refused e) sp nodes states members scratch sp nodes states members scratch
+    pub not_opened : {e : Refusal} → o ≡ Err e → PostRead image (Err e) sp nodes states members scratch sp nodes states members scratch
     not_opened q = record { is = λ lent u v w x pending output. by_first lent q; then = tt }
 
-    module _ {h : Head} (q : o ≡ opened.At h) where
+    module _ {h : Head} (q : o ≡ Ok h) where
       opens : Opens image h
       opens = subst (OpensBy image) q O.then
 
       pub diagrams_ready : PreDiagrams image h sp nodes
       diagrams_ready = record { fitting = opens.fitting; sp = P.sp; nodes = P.nodes }
 
-      module _ {r : Diagrams} (sp' nodes' : List ℕ) (D : PostDiagrams image h r sp nodes sp' nodes') where
-        by_nodes : (lent : Lent) → lent.sp ≡ length sp → lent.spp ≡ length nodes → {x : Diagrams} → r ≡ x
+      module _ {r : Result (ℕ × ℕ) Refusal} (sp' nodes' : List ℕ) (D : PostDiagrams image h r sp nodes sp' nodes') where
+        by_nodes : (lent : Lent) → lent.sp ≡ length sp → lent.spp ≡ length nodes → {x : Result (ℕ × ℕ) Refusal} → r ≡ x
             → read lent limits01 image ≡ after (diagrams_by lent x sp' nodes') (λ _. rest_steps image (head_of h) limits01)
         by_nodes lent u v f =
             by_first lent q
             ∙ in_parts image (head_of h) limits01 (Read.fresh lent h.fields)
-            ∙ ap (λ (o : Outcome RunState ℕ). after o (λ _. rest_steps image (head_of h) limits01)) (D.is lent u v limits01 ∙ ap (λ (x : Diagrams). diagrams_by lent x sp' nodes') f)
+            ∙ ap (λ (o : Outcome RunState ℕ). after o (λ _. rest_steps image (head_of h) limits01)) (D.is lent u v limits01 ∙ ap (λ (x : Result (ℕ × ℕ) Refusal). diagrams_by lent x sp' nodes') f)
 
-        pub no_diagrams : {e : ℕ} → r ≡ diagrams.Refused e → PostRead image (placed.Refused e) sp nodes states members scratch sp' nodes' states members scratch
+        pub no_diagrams : {e : Refusal} → r ≡ Err e → PostRead image (Err e) sp nodes states members scratch sp' nodes' states members scratch
         no_diagrams f = record { is = λ lent u v w x pending output. by_nodes lent u v f; then = tt }
 
-        module _ {a b : ℕ} (f : r ≡ diagrams.At a b) where
+        module _ {a b : ℕ} (f : r ≡ Ok (a, b)) where
           abbrev c₀ : Counts
           c₀ = record { sp = a; spp = b; states = 0; members = 0; transitions = 0 }
 
@@ -127,32 +123,32 @@ module _ (image sp nodes states members scratch : List ℕ) (P : PreRead sp node
           pub records_ready : PreRecords image h c₀ nodes' states members scratch
           records_ready = record {
             fitting = opens.fitting;
-            good = subst (WfAut h.fields limits01) (begun_is (lent_for 0 0) refl refl) (subst (λ (x : Diagrams). OrderedBy h.fields x sp' nodes') f D.then (lent_for 0 0)).worked.good;
+            good = subst (WfAut h.fields limits01) (begun_is (lent_for 0 0) refl refl) (subst (λ (x : Result (ℕ × ℕ) Refusal). OrderedBy h.fields x sp' nodes') f D.then (lent_for 0 0)).worked.good;
             room = omega (arith, P.room);
           }
 
           module _ (states' members' scratch' : List ℕ) where
             -- the place as a book's
-            as_place : (y : Placed) → RestsBy h y c₀ scratch scratch' → (lent : Lent) (pending output : List ℕ)
+            as_place : (y : Result Place Refusal) → RestsBy h y c₀ scratch scratch' → (lent : Lent) (pending output : List ℕ)
                 → rest_by y nodes' states' members' scratch' (begun_with lent sp' a nodes' b) ≡ read_by y (memory sp' nodes' states' members' (zeroed lent.transitions) pending scratch' output)
-            as_place (placed.Refused e) R lent pending output = refl
-            as_place (placed.At y) R lent pending output =
+            as_place (Err e) R lent pending output = refl
+            as_place (Ok y) R lent pending output =
                 ap₂ (λ (n k : ℕ). given (place (tables (table sp' n) (store (aut_of nodes' states' members' y.counts) (table (zeroed lent.transitions) k))) (lines_of scratch' y.lines) []) 0) (sym R.sp) (sym R.transitions)
                 ∙ ap (λ (n : ℕ). given (place (tables_at (memory sp' nodes' states' members' (zeroed lent.transitions) pending scratch' output) y.counts) (lines_of scratch' y.lines) (take n output)) 0) (sym R.silent)
 
-            module _ {x : Placed} (R : PostRecords image h x c₀ nodes' states members scratch states' members' scratch') where
-              whole : {y : Placed} → x ≡ y → (lent : Lent) → lent.sp ≡ length sp → lent.spp ≡ length nodes → lent.states ≡ length states → lent.members ≡ length members
+            module _ {x : Result Place Refusal} (R : PostRecords image h x c₀ nodes' states members scratch states' members' scratch') where
+              whole : {y : Result Place Refusal} → x ≡ y → (lent : Lent) → lent.sp ≡ length sp → lent.spp ≡ length nodes → lent.states ≡ length states → lent.members ≡ length members
                   → (pending output : List ℕ) → read lent limits01 image ≡ read_by y (memory sp' nodes' states' members' (zeroed lent.transitions) pending scratch' output)
               whole {y} e lent u v w z pending output =
                   by_nodes lent u v f
                   ∙ R.is (begun_with lent sp' a nodes' b) (begun_is lent w z) refl
-                  ∙ ap (λ (y : Placed). rest_by y nodes' states' members' scratch' (begun_with lent sp' a nodes' b)) e
-                  ∙ as_place y (subst (λ (y : Placed). RestsBy h y c₀ scratch scratch') e R.then) lent pending output
+                  ∙ ap (λ (y : Result Place Refusal). rest_by y nodes' states' members' scratch' (begun_with lent sp' a nodes' b)) e
+                  ∙ as_place y (subst (λ (y : Result Place Refusal). RestsBy h y c₀ scratch scratch') e R.then) lent pending output
 
-              ends : length scratch' ≡ length scratch → (y : Placed) → x ≡ y → ReadsBy image y sp' nodes' states' members' scratch'
-              ends len (placed.Refused e) q = tt
-              ends len (placed.At y) q =
-                  let k : Rests h y c₀ scratch scratch' = subst (λ (y : Placed). RestsBy h y c₀ scratch scratch') q R.then in
+              ends : length scratch' ≡ length scratch → (y : Result Place Refusal) → x ≡ y → ReadsBy image y sp' nodes' states' members' scratch'
+              ends len (Err e) q = tt
+              ends len (Ok y) q =
+                  let k : Rests h y c₀ scratch scratch' = subst (λ (y : Result Place Refusal). RestsBy h y c₀ scratch scratch') q R.then in
                   record {
                     standing = λ transitions pending output.
                         stands sp' nodes' states' members' scratch' transitions pending output

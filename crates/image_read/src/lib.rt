@@ -1,4 +1,4 @@
-// 02 (ii), reading an image: block 0, the tables of a new book, then every record again by its constructor, block by block; the place that the image stands for, or the number with which it is refused.
+// 02 (ii), reading an image: block 0, the tables of a new book, then every record again by its constructor, block by block; the place that the image stands for, or why it is refused.
 #![tactic(auto)]
 
 ghost use Rattle.std.specs.Prelude.{◌≡◌, ◌+◌, ◌≤◌, length};
@@ -8,39 +8,12 @@ ghost use Rattle.image_read.specs.Clauses as Its;
 use aut_states::Counts;
 use book_begin::Header;
 use book_place::{LINES, Place, Setting, WORK};
-use image_block::{BLOCK, Looked};
-use image_nodes::Made;
-use image_states::{Lists, Taken};
-use image_words::refusal::RECORD;
+use image_block::BLOCK;
+use image_states::Lists;
 use image_words::{Head, WORDS};
-
-// block 0 of an image that goes on, or the number
-#[derive(Clone, Copy)]
-pub enum Opened {
-    At(Head),
-    Refused(u32),
-}
-
-// how many packet nodes and relation nodes there are, or the number
-#[derive(Clone, Copy)]
-pub enum Diagrams {
-    At(usize, usize),
-    Refused(u32),
-}
-
-// the word of a line, or the number
-#[derive(Clone, Copy)]
-pub enum Line {
-    Word(u32),
-    Refused(u32),
-}
-
-// the place that an image stands for, or the number with which it is refused
-#[derive(Clone, Copy)]
-pub enum Placed {
-    At(Place),
-    Refused(u32),
-}
+use refusal::Refusal;
+use sp::SPstore;
+use spp::SPPstore;
 
 // ---- block 0
 
@@ -56,138 +29,109 @@ pub fn setting_at(image: &[u8]) -> Setting
     })
 }
 
-// the length, block 0's number and check, and its words
-fn open(image: &[u8]) -> Opened
+// block 0 of an image that goes on: the length, the block's number and check, and its words
+fn open(image: &[u8]) -> Result<Head, Refusal>
     ensures { Its.PostOpen image.now result }
 {
     let n = image.len();
     if n == 0 {
-        return Opened::Refused(image_block::refusal::NUMBER);
+        return Err(Refusal::Block);
     }
     if n % BLOCK != 0 {
-        return Opened::Refused(image_block::refusal::NUMBER);
+        return Err(Refusal::Block);
     }
-    let looked = image_block::verify(image, 0);
-    match looked {
-        Looked::Refused(e) => Opened::Refused(e),
-        Looked::Whole => {
-            let h = image_words::head_at(image);
-            if !image_words::head_fits(image, h) {
-                return Opened::Refused(RECORD);
-            }
-            Opened::At(h)
-        }
+    image_block::verify(image, 0)?;
+    let h = image_words::head_at(image);
+    if !image_words::head_fits(image, h) {
+        return Err(Refusal::Record);
     }
+    Ok(h)
 }
 
 // ---- nodes
 
-// the constants in zeroed tables
-fn fresh(sp: &mut [u32], nodes: &mut [u32], fields: u32) -> Diagrams
+// the constants in zeroed tables: how many packet nodes and relation nodes there are
+fn fresh(sp: &mut [u32], nodes: &mut [u32], fields: u32) -> Result<(usize, usize), Refusal>
     requires { Its.PreFresh sp.old nodes.old fields }
     ensures { Its.PostFresh fields result sp.old nodes.old sp.new
         nodes.new }
 {
-    let sp::Made::Node(_, a) = sp::start(sp, fields) else {
-        return Diagrams::Refused(aut_states::refusal::SP);
+    let mut sets = SPstore {
+        nodes: sp,
+        count: 0,
     };
-    let spp::Started::Store(_, b) = spp::start(nodes, fields) else {
-        return Diagrams::Refused(aut_states::refusal::SPP);
+    let Ok(_) = sets.start(fields) else {
+        return Err(Refusal::Sp);
     };
-    Diagrams::At(a, b)
+    let mut relations = SPPstore {
+        nodes,
+        count: 0,
+        fields,
+    };
+    let Ok(_) = relations.start() else {
+        return Err(Refusal::Spp);
+    };
+    Ok((sets.count, relations.count))
 }
 
 // the constants, then the records of both kinds of nodes
-fn read_diagrams(image: &[u8], sp: &mut [u32], nodes: &mut [u32], h: Head) -> Diagrams
+fn read_diagrams(
+    image: &[u8],
+    sp: &mut [u32],
+    nodes: &mut [u32],
+    h: Head,
+) -> Result<(usize, usize), Refusal>
     requires { Its.PreDiagrams image.now h sp.old nodes.old }
     ensures { Its.PostDiagrams image.now h result sp.old nodes.old sp.new
         nodes.new }
 {
-    let begun = fresh(sp, nodes, h.fields);
-    match begun {
-        Diagrams::Refused(e) => Diagrams::Refused(e),
-        Diagrams::At(a, b) => {
-            let first = image_nodes::read_nodes(image, sp, h.fields, a, h.sp);
-            match first {
-                Made::Refused(e) => Diagrams::Refused(e),
-                Made::At(n) => {
-                    let second = image_nodes::read_relations(
-                        image,
-                        nodes,
-                        h.fields,
-                        b,
-                        2 * h.sp,
-                        h.spp,
-                    );
-                    match second {
-                        Made::Refused(e) => Diagrams::Refused(e),
-                        Made::At(m) => Diagrams::At(n, m),
-                    }
-                }
-            }
-        }
-    }
+    let (a, b) = fresh(sp, nodes, h.fields)?;
+    let n = image_nodes::read_nodes(image, sp, h.fields, a, h.sp)?;
+    let m = image_nodes::read_relations(image, nodes, h.fields, b, 2 * h.sp, h.spp)?;
+    Ok((n, m))
 }
 
 // ---- members and lines
 
 // k members, from word s on: only their blocks are looked at
-fn read_members(image: &[u8], s: usize, k: usize) -> Looked
+fn read_members(image: &[u8], s: usize, k: usize) -> Result<(), Refusal>
     requires { Reaches image.now (s + k) }
     ensures { Its.PostMembers image.now s k result }
 {
-    let mut i = 0;
-    while i < k {
-        let looked = image_words::enter(image, s + i, 1);
-        match looked {
-            Looked::Refused(e) => {
-                return Looked::Refused(e);
-            }
-            Looked::Whole => {
-                i += 1;
-            }
-        }
+    for i in 0..k {
+        image_words::enter(image, s + i, 1)?;
     }
-    Looked::Whole
+    Ok(())
 }
 
 // the line at word s: a state + 1, or 0; first the block that it reaches
-fn line_at(image: &[u8], s: usize, states: usize) -> Line
+fn line_at(image: &[u8], s: usize, states: usize) -> Result<u32, Refusal>
     requires { Reaches image.now (s + 1) }
     ensures { Its.PostLine image.now s states result }
 {
-    let looked = image_words::enter(image, s, 1);
-    match looked {
-        Looked::Refused(e) => Line::Refused(e),
-        Looked::Whole => {
-            let w = image_words::word(image, s);
-            if w as usize > states {
-                return Line::Refused(RECORD);
-            }
-            Line::Word(w)
-        }
+    image_words::enter(image, s, 1)?;
+    let w = image_words::word(image, s);
+    if w as usize > states {
+        return Err(Refusal::Record);
     }
+    Ok(w)
 }
 
 // k lines, from word s on, into the table of lines
-fn read_lines(image: &[u8], scratch: &mut [u32], s: usize, k: usize, states: usize) -> Looked
+fn read_lines(
+    image: &[u8],
+    scratch: &mut [u32],
+    s: usize,
+    k: usize,
+    states: usize,
+) -> Result<(), Refusal>
     requires { Its.PreLines image.now scratch.old s k }
     ensures { Its.PostLines image.now s k states result scratch.old scratch.new }
 {
-    let mut i = 0;
-    while i < k {
-        let line = line_at(image, s + i, states);
-        match line {
-            Line::Refused(e) => {
-                return Looked::Refused(e);
-            }
-            Line::Word(w) => {
-                scratch[LINES + i] = w;
-                i += 1;
-            }
-        }
+    for i in 0..k {
+        scratch[LINES + i] = line_at(image, s + i, states)?;
     }
-    Looked::Whole
+    Ok(())
 }
 
 // in the last block: no spare member, and no unused word that is not 0
@@ -217,40 +161,35 @@ fn read_automaton(
     scratch: &mut [u32],
     h: Head,
     c: Counts,
-) -> Taken
+) -> Result<Counts, Refusal>
     requires { Its.PreRecords image.now h c nodes.now states.old members.old scratch.old }
     ensures { Its.PostAutomaton image.now h result c nodes.now states.old
         members.old scratch.old states.new members.new
         scratch.new }
 {
     let first = 2 * h.sp + 4 * h.spp;
-    let looked = read_members(image, first, h.members);
-    match looked {
-        Looked::Refused(e) => Taken::Refused(e),
-        Looked::Whole => {
-            let setting = book_begin::setting_of(Header {
-                fields: h.fields,
-                budget: h.budget,
-            });
-            let at = Lists {
-                first,
-                count: h.members,
-                base: WORK,
-            };
-            image_states::read_states(
-                image,
-                nodes,
-                states,
-                members,
-                scratch,
-                c,
-                setting.config,
-                at,
-                first + h.members,
-                h.states,
-            )
-        }
-    }
+    read_members(image, first, h.members)?;
+    let setting = book_begin::setting_of(Header {
+        fields: h.fields,
+        budget: h.budget,
+    });
+    let at = Lists {
+        first,
+        count: h.members,
+        base: WORK,
+    };
+    image_states::read_states(
+        image,
+        nodes,
+        states,
+        members,
+        scratch,
+        c,
+        setting.config,
+        at,
+        first + h.members,
+        h.states,
+    )
 }
 
 // .. then lines, and the end
@@ -262,33 +201,23 @@ fn read_records(
     scratch: &mut [u32],
     h: Head,
     c: Counts,
-) -> Placed
+) -> Result<Place, Refusal>
     requires { Its.PreRecords image.now h c nodes.now states.old members.old scratch.old }
     ensures { Its.PostRecords image.now h result c nodes.now states.old
         members.old scratch.old states.new members.new
         scratch.new }
 {
-    let taken = read_automaton(image, nodes, states, members, scratch, h, c);
-    match taken {
-        Taken::Refused(e) => Placed::Refused(e),
-        Taken::All(counts) => {
-            let start = 2 * h.sp + 4 * h.spp + h.members + 4 * h.states;
-            let looked = read_lines(image, scratch, start, h.lines, counts.states);
-            match looked {
-                Looked::Refused(e) => Placed::Refused(e),
-                Looked::Whole => {
-                    if !ended(image, h, counts.members) {
-                        return Placed::Refused(RECORD);
-                    }
-                    Placed::At(Place {
-                        counts,
-                        lines: h.lines,
-                        output: 0,
-                    })
-                }
-            }
-        }
+    let counts = read_automaton(image, nodes, states, members, scratch, h, c)?;
+    let start = 2 * h.sp + 4 * h.spp + h.members + 4 * h.states;
+    read_lines(image, scratch, start, h.lines, counts.states)?;
+    if !ended(image, h, counts.members) {
+        return Err(Refusal::Record);
     }
+    Ok(Place {
+        counts,
+        lines: h.lines,
+        output: 0,
+    })
 }
 
 // ---- an image
@@ -301,30 +230,20 @@ pub fn read(
     states: &mut [u32],
     members: &mut [u32],
     scratch: &mut [u32],
-) -> Placed
+) -> Result<Place, Refusal>
     requires { Its.PreRead sp.old nodes.old states.old members.old scratch.old }
     ensures { Its.PostRead image.now result sp.old nodes.old states.old
         members.old scratch.old sp.new nodes.new states.new
         members.new scratch.new }
 {
-    let opened = open(image);
-    match opened {
-        Opened::Refused(e) => Placed::Refused(e),
-        Opened::At(h) => {
-            let made = read_diagrams(image, sp, nodes, h);
-            match made {
-                Diagrams::Refused(e) => Placed::Refused(e),
-                Diagrams::At(a, b) => {
-                    let c = Counts {
-                        sp: a,
-                        spp: b,
-                        states: 0,
-                        members: 0,
-                        transitions: 0,
-                    };
-                    read_records(image, nodes, states, members, scratch, h, c)
-                }
-            }
-        }
-    }
+    let h = open(image)?;
+    let (a, b) = read_diagrams(image, sp, nodes, h)?;
+    let c = Counts {
+        sp: a,
+        spp: b,
+        states: 0,
+        members: 0,
+        transitions: 0,
+    };
+    read_records(image, nodes, states, members, scratch, h, c)
 }

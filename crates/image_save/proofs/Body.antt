@@ -2,7 +2,7 @@
 use mathlib.Core.Path.{◌≡◌, refl, sym, ◌∙◌, ap}
 use mathlib.Core.Bool.{Bool, true, false}
 use mathlib.Core.List.{List, [], ◌∷◌, ◌++◌}
-use mathlib.Core.Option.{Option, none, some}
+use mathlib.Core.Option.{Option, none}
 use Prim.Native.Nat.{ℕ, zero, suc, ◌+◌, ◌*◌, ◌-◌, ◌/◌, ◌%◌, ◌≤◌, ◌<◌}
 use native.Mathlib.Omega.{arith}
 use lib.Dec.{ltb}
@@ -11,7 +11,7 @@ use lib.Seq.{length-take-le, get_or-take, get_or-append-add}
 use borrow.Author.Tests.{ltb-true, ltb-false}
 use Rattle.aut_steps.specs.Tables.{limits01, words}
 use Rattle.aut_steps.proofs.Facts.{words_length}
-use Rattle.image_steps.specs.Image.{head_words, start_of, total, blocks_of, head_of, body_of, state_words, line_word, line_words}
+use Rattle.image_steps.specs.Image.{head_words, start_of, head_of, state_words, line_word, line_words}
 use Rattle.book_steps.specs.Run as Run
 use Rattle.aut_states.specs.declared.Counts.{Counts}
 use Rattle.book_place.specs.Clauses.{setting_of}

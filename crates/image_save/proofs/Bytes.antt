@@ -1,7 +1,7 @@
 -- 02 (ii): "blocks of 512 bytes: block number from 0 (2 bytes), 127 words, then 2 bytes of check": blocks as bytes, written one behind the other.
 use mathlib.Core.Path.{◌≡◌, refl, sym, ◌∙◌, ap}
 use mathlib.Core.List.{List, [], ◌∷◌, ◌++◌, append_assoc, append-nil}
-use Prim.Native.Nat.{ℕ, zero, suc, ◌+◌, ◌*◌, ◌-◌, ◌≤◌, ◌<◌}
+use Prim.Native.Nat.{ℕ, zero, suc, ◌+◌, ◌*◌, ◌≤◌, ◌<◌}
 use native.Mathlib.Omega.{arith}
 use lib.ListN.{length, set, take, drop, length-append}
 use lib.Seq.{sets, sets-eq, length-sets, length-take-le, drop_at, take_at}
@@ -59,18 +59,16 @@ blocks_more w b (suc n) =
 -- ---- the loop over the words of a block: j of them are written
 
 pub record Worded (w : ℕ → ℕ) (s₀ : List ℕ) (at : ℕ) (s : List ℕ) (j : ℕ) : Type 0 where
-  pub most : j ≤ 127
   pub is : s ≡ sets s₀ at (wides w 0 j)
   pub len : length s ≡ length s₀
 
 module _ (w : ℕ → ℕ) (s₀ : List ℕ) (at : ℕ) where
   pub words_begin : Worded w s₀ at s₀ 0
   unfolding wides
-  words_begin = record { most = omega arith; is = refl; len = refl }
+  words_begin = record { is = refl; len = refl }
 
   pub words_again : (s : List ℕ) (j v : ℕ) (s' : List ℕ) → Worded w s₀ at s j → j < 127 → v ≡ w j → s' ≡ sets s (at + 4 * j) (wide v) → Worded w s₀ at s' (j + 1)
   words_again s j v s' i l e f = record {
-    most = omega arith;
     is = f
         ∙ ap (λ (x : ℕ). sets s (at + 4 * j) (wide x)) {x = v} {y = w (0 + j)} (e ∙ ap w {x = j} {y = 0 + j} (omega arith))
         ∙ ap (λ (t : List ℕ). sets t (at + 4 * j) (wide (w (0 + j)))) i.is
@@ -80,8 +78,8 @@ module _ (w : ℕ → ℕ) (s₀ : List ℕ) (at : ℕ) where
     len = ap length f ∙ length-sets s (at + 4 * j) (wide v) ∙ i.len;
   }
 
-  pub words_end : (s : List ℕ) (j : ℕ) → Worded w s₀ at s j → 127 ≤ j → s ≡ sets s₀ at (wides w 0 127)
-  words_end s j i l = i.is ∙ ap (λ (k : ℕ). sets s₀ at (wides w 0 k)) {x = j} {y = 127} (omega (arith, i.most))
+  pub words_end : (s : List ℕ) (j : ℕ) → Worded w s₀ at s j → j ≡ 127 → s ≡ sets s₀ at (wides w 0 127)
+  words_end s j i l = i.is ∙ ap (λ (k : ℕ). sets s₀ at (wides w 0 k)) {x = j} {y = 127} l
 
 -- ---- a block: its number, its words, its check
 
@@ -109,18 +107,16 @@ module _ (w : ℕ → ℕ) (b : ℕ) (s₀ s₁ s₂ s₃ : List ℕ) (room : 51
 -- ---- the loop over the blocks: b of n are written
 
 pub record Blocked (w : ℕ → ℕ → ℕ) (n : ℕ) (s₀ s : List ℕ) (b : ℕ) : Type 0 where
-  pub most : b ≤ n
   pub is : s ≡ sets s₀ 0 (blocks w 0 b)
   pub len : length s ≡ length s₀
 
 module _ (w : ℕ → ℕ → ℕ) (n : ℕ) (s₀ : List ℕ) where
   pub blocks_begin : Blocked w n s₀ s₀ 0
   unfolding blocks
-  blocks_begin = record { most = omega arith; is = refl; len = refl }
+  blocks_begin = record { is = refl; len = refl }
 
   pub blocks_again : (s : List ℕ) (b : ℕ) (s' : List ℕ) → Blocked w n s₀ s b → b < n → s' ≡ sets s (512 * b) (block b (w b)) → Blocked w n s₀ s' (b + 1)
   blocks_again s b s' i l f = record {
-    most = omega arith;
     is = f
         ∙ ap (λ (k : ℕ). sets s (512 * b) (block k (w k))) {x = b} {y = 0 + b} (omega arith)
         ∙ ap (λ (t : List ℕ). sets t (512 * b) (block (0 + b) (w (0 + b)))) i.is
@@ -131,5 +127,5 @@ module _ (w : ℕ → ℕ → ℕ) (n : ℕ) (s₀ : List ℕ) where
     len = ap length f ∙ length-sets s (512 * b) (block b (w b)) ∙ i.len;
   }
 
-  pub blocks_end : (s : List ℕ) (b : ℕ) → Blocked w n s₀ s b → n ≤ b → s ≡ sets s₀ 0 (blocks w 0 n)
-  blocks_end s b i l = i.is ∙ ap (λ (k : ℕ). sets s₀ 0 (blocks w 0 k)) {x = b} {y = n} (omega (arith, i.most))
+  pub blocks_end : (s : List ℕ) (b : ℕ) → Blocked w n s₀ s b → b ≡ n → s ≡ sets s₀ 0 (blocks w 0 n)
+  blocks_end s b i l = i.is ∙ ap (λ (k : ℕ). sets s₀ 0 (blocks w 0 k)) {x = b} {y = n} l

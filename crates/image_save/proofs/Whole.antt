@@ -1,7 +1,7 @@
 -- 02 (ii), "Write the tables to an image": all blocks have room, and together they are the image of the place. What is asked is what a place in order has (book_place: `Standing`).
-use mathlib.Core.Path.{◌≡◌, refl, sym, ◌∙◌, ap}
+use mathlib.Core.Path.{◌≡◌, ◌∙◌, ap}
 use mathlib.Core.List.{List}
-use Prim.Native.Nat.{ℕ, ◌+◌, ◌*◌, ◌≤◌, ◌<◌}
+use Prim.Native.Nat.{ℕ, ◌*◌, ◌≤◌, ◌<◌}
 use native.Mathlib.Omega.{arith}
 use lib.ListN.{length, length-drop}
 use lib.Seq.{sets}
@@ -9,7 +9,7 @@ use Rattle.image_form.specs.Form.{blocks}
 use Rattle.image_steps.specs.Image.{head_of, blocks_of, image_of, saved}
 use Rattle.book_place.specs.Clauses.{setting_of}
 use Rattle.book_place.specs.declared.Setting.{Setting}
-use Rattle.book_place.specs.Clauses.{WORK, Memory, memory, place_of, Standing}
+use Rattle.book_place.specs.Clauses.{WORK, Memory, place_of, Standing}
 use Rattle.book_place.specs.declared.Place.{Place}
 use Rattle.image_save.specs.Clauses.{kept, Few, Present, BlocksAre, PreBlock, PreWrite, PostWrite, word_in}
 use Rattle.image_save.proofs.Bytes.{Blocked}

@@ -144,11 +144,9 @@ fn write_words(
         scratch.now) c lines b) 0 127) }
 {
     let at = image_block::BLOCK * b + 2;
-    let mut j = 0;
-    while j < WORDS {
+    for j in 0..WORDS {
         let w = word_of(sp, nodes, states, members, scratch, setting, c, lines, b, j);
         image_block::put_word(image, at + 4 * j, w);
-        j += 1;
     }
 }
 
@@ -196,11 +194,9 @@ pub fn write(
     let c = place.counts;
     let lines = place.lines;
     let n = blocks_of(c, lines);
-    let mut b = 0;
-    while b < n {
+    for b in 0..n {
         write_block(
             image, sp, nodes, states, members, scratch, setting, c, lines, b,
         );
-        b += 1;
     }
 }

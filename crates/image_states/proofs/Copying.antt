@@ -61,20 +61,17 @@ module _ (image : List ℕ) (h : Head) (L : Bounds) where
 -- ---- copy_members: j words are there
 
 pub record Copying (image : List ℕ) (a k b : ℕ) (s s' : List ℕ) (j : ℕ) : Type 0 where
-  pub within : j ≤ k
   pub len : length s' ≡ length s
   pub is : (h : Head) (L : Bounds) → sets s b (words_from image h L a k) ≡ sets s' (b + j) (words_from image h L (a + j) (k - j))
 
 pub copy_begin : (image : List ℕ) (a k b : ℕ) (s : List ℕ) → Copying image a k b s s 0
 copy_begin image a k b s = record {
-  within = omega arith;
   len = refl;
   is = λ h L. ap₂ (λ (x y : ℕ). sets s x (words_from image h L y k)) {x = b} {y = b + 0} {u = a} {v = a + 0} (omega arith) (omega arith) ∙ ap (λ (z : ℕ). sets s (b + 0) (words_from image h L (a + 0) z)) {x = k} {y = k - 0} (omega arith);
 }
 
 pub copy_again : (image : List ℕ) (a k b : ℕ) (s s' : List ℕ) (j : ℕ) → Copying image a k b s s' j → j < k → (x : ℕ) → x ≡ word_of image (a + j) → Copying image a k b s (set s' (b + j) x) (j + 1)
 copy_again image a k b s s' j v l x e = record {
-  within = omega arith;
   len = simp length-set v.len;
   is = λ h L.
       v.is h L

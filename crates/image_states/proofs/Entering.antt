@@ -27,7 +27,6 @@ use Rattle.aut_relations.proofs.Order.{ready_complement, ready_star, ready_xor, 
 use Rattle.image_steps.specs.Records.{state_fits, leaf_fits, constant_fits, interned}
 use Rattle.image_kinds.specs.Clauses.{ShapeOf, NoKind}
 use Rattle.image_kinds.specs.declared.Shape.{Shape}
-use Rattle.image_kinds.specs.declared.Shape.TheVariants as shape
 use Rattle.image_kinds.proofs.Whole as Whole
 use Rattle.image_kinds.proofs.Lists.{all_below_lem}
 use Rattle.image_states.specs.declared.Words.{Words}

@@ -1,8 +1,9 @@
 -- A record that is read from the image; its turn on the place of a run; and all records.
-use Rattle.std.specs.Prelude.{if◌then◌else◌}
+use Rattle.std.specs.Prelude.{if◌then◌else◌, Result, Ok, Err}
 use mathlib.Core.Path.{◌≡◌, refl, sym, ◌∙◌, ap, ap₂, subst}
 use mathlib.Core.Bool.{Bool, true, false, ◌&&◌}
-use mathlib.Core.List.{List, []}
+use mathlib.Core.List.{List, [], ◌∷◌, Memᴰ}
+use mathlib.Core.Logic.{◌⊎◌, inl, inr}
 use Prim.Native.Nat.{ℕ, suc, ◌+◌, ◌-◌, ◌*◌, ◌≤◌, ◌<◌}
 use native.Mathlib.Omega.{arith}
 use lib.Dec.{ltb}
@@ -26,18 +27,18 @@ use Rattle.aut_states.specs.declared.State.TheVariants.{Is, Refused}
 use Rattle.aut_states.specs.Clauses.{limits_of}
 use Rattle.aut_relations.specs.Clauses.{aut_of, seen_aut, Beside, SameNodes}
 use Rattle.book_steps.specs.Run.{RunState, place}
-use Rattle.image_block.specs.declared.Looked.{Looked}
-use Rattle.image_block.specs.declared.Looked.TheVariants as looked
+use Rattle.refusal.specs.declared.Refusal.{Refusal}
+use Rattle.refusal.specs.declared.Refusal.TheVariants.{Record}
+use Rattle.refusal.specs.Numbers.{number_of}
 use Rattle.image_words.specs.Clauses.{entered_by}
 use Rattle.image_steps.specs.Image.{Head, layout, start_of}
 use Rattle.image_steps.specs.Records as Records
 use Rattle.image_steps.specs.Read as Read
-use Rattle.image_steps.proofs.States.{state_goes}
+use Rattle.image_steps.proofs.States.{refused_number, state_goes, state_refuses}
 use Rattle.image_kinds.proofs.Whole as Whole
 use Rattle.image_states.specs.declared.Words.{Words}
 use Rattle.image_states.specs.declared.Lists.{Lists}
-use Rattle.image_states.specs.declared.Taken.TheVariants as taken
-use Rattle.image_states.specs.Clauses.{word_of, WordsAt, Copies, HeadIs, listed, made, made_at, Wants, Enters, EntersList, ReadsList, ReadsState, put_in, place_by, SinceBy, Turns, ReadsStates, TurnAsks, StatesAsk}
+use Rattle.image_states.specs.Clauses.{word_of, WordsAt, Copies, HeadIs, listed, made, made_at, Wants, Enters, EntersList, ReadsList, ReadsState, put_in, place_by, SinceBy, Named, as_state, Turns, ReadsStates, TurnAsks, StatesAsk}
 use Rattle.image_states.proofs.Copying.{any_head, holds_less, copied, copied_kept}
 use Rattle.image_states.proofs.Entering.{made_no, is_list}
 
@@ -166,6 +167,30 @@ module _ (image : List ℕ) (N : ℕ) (L : Bounds) (at : Lists) (s : ℕ) (w : W
     kept = kept_refl at.base 64 sc;
   }
 
+-- ---- named
+
+module _ {r : State} where
+  pub named_state : {i : ℕ} {d : Counts} → r ≡ Is i d → r ≡ as_state (Ok (i, d))
+  named_state q = q
+
+  pub named_as : {e : ℕ} (f : Refusal) → r ≡ Refused e → e ≡ number_of f → r ≡ as_state (Err f)
+  named_as f q e = q ∙ ap Refused e
+
+  -- of the three numbers that are left, if it is not the others
+  pub named_record : {e : ℕ} → Named r → r ≡ Refused e → (e ≡ 22 → ⊥) → (e ≡ 23 → ⊥) → r ≡ as_state (Err Record)
+  named_record {e} n q s m = q ∙ ap Refused (go (subst Named q n))
+    where
+      go : (e ≡ 32) ⊎ ((e ≡ 23) ⊎ (e ≡ 22)) → e ≡ 32
+      go (inl z) = z
+      go (inr (inl z)) = absurd (m z)
+      go (inr (inr z)) = absurd (s z)
+
+one_of : {e : ℕ} → Memᴰ e (32 ∷ 23 ∷ 22 ∷ []) → (e ≡ 32) ⊎ ((e ≡ 23) ⊎ (e ≡ 22))
+one_of (Memᴰ.head z) = inl z
+one_of (Memᴰ.tail (Memᴰ.head z)) = inr (inl z)
+one_of (Memᴰ.tail (Memᴰ.tail (Memᴰ.head z))) = inr (inr z)
+one_of (Memᴰ.tail (Memᴰ.tail (Memᴰ.tail z))) = elim z [ ]
+
 -- ---- read_at
 
 module _ (image : List ℕ) (N : ℕ) (L : Bounds) (at : Lists) (s : ℕ) (c : Counts) (t st mem : List ℕ) where
@@ -179,15 +204,40 @@ module _ (image : List ℕ) (N : ℕ) (L : Bounds) (at : Lists) (s : ℕ) (c : C
   as_placed p (Is i d) st' mem' = refl
   as_placed p (Refused e) st' mem' = refl
 
-  pub turn_refused : (lk : Looked) (e : ℕ) → ((h : Head) (M : Bounds) (p : RunState) → Read.enter image h M s 4 p ≡ entered_by lk p) → lk ≡ looked.Refused e
-      → (sc st' mem' : List ℕ) → Turns image N L at s (Refused e) c t st mem sc st' mem' sc
+  pub turn_refused : (lk : Result Unit Refusal) (e : Refusal) → ((h : Head) (M : Bounds) (p : RunState) → Read.enter image h M s 4 p ≡ entered_by lk p) → lk ≡ Err e
+      → (sc st' mem' : List ℕ) → Turns image N L at s (as_state (Err e)) c t st mem sc st' mem' sc
   turn_refused lk e f q sc st' mem' = record {
-    is = λ h H i p a. ap (λ (o : Outcome RunState ℕ). after o (λ x. Read.state image h L i s)) (f h L p ∙ ap (λ (z : Looked). entered_by z p) q);
+    is = λ h H i p a. ap (λ (o : Outcome RunState ℕ). after o (λ x. Read.state image h L i s)) (f h L p ∙ ap (λ (z : Result Unit Refusal). entered_by z p) q);
     since = tt;
     beside = tt;
     nodes = tt;
     kept = kept_refl at.base 64 sc;
   }
+
+  -- the numbers of a record
+  pub numbered : (h : Head) → HeadIs h N at → (r : State) (sc st' mem' sc' : List ℕ) → ReadsState image N L at s r c t st mem sc st' mem' sc' → Named r
+  unfolding Read.state_at
+  numbered h H (Is i d) sc st' mem' sc' v = tt
+  numbered h H (Refused number) sc st' mem' sc' v = go (listed k && ltb h.members (x + y)) (v.is h H)
+    where
+      k : ℕ
+      k = word_of image s
+
+      x : ℕ
+      x = word_of image (s + 1)
+
+      y : ℕ
+      y = word_of image (s + 2)
+
+      e : ℕ
+      e = word_of image (s + 3)
+
+      σ : Aut
+      σ = aut_of t st mem c
+
+      go : (b : Bool) → (if b then (λ (σ : Aut). refused 32) else Records.state h.fields L (Read.list_at image h L k x y) k x y e) σ ≡ refused number → Named (Refused number)
+      go true q = inl (sym (refused_number q))
+      go false q = one_of (state_refuses h.fields L σ (Read.list_at image h L k x y) k x y e number q)
 
   since_by : Goes N L → Since N L (aut_of t st mem c) (aut_of t st mem c) → (h : Head) → HeadIs h N at → (r : State) (st' mem' : List ℕ) → state_of h (aut_of t st mem c) ≡ seen_aut r t st' mem'
       → SinceBy N L (aut_of t st mem c) r t st' mem'
@@ -198,12 +248,12 @@ module _ (image : List ℕ) (N : ℕ) (L : Bounds) (at : Lists) (s : ℕ) (c : C
       (subst (λ (N : ℕ). Records.state N L (Read.list_at image h L (word_of image s) (word_of image (s + 1)) (word_of image (s + 2))) (word_of image s) (word_of image (s + 1)) (word_of image (s + 2)) (word_of image (s + 3)) (aut_of t st mem c) ≡ given (aut_of t st' mem' d) i) H.fields z)
   since_by g n h H (Refused e) st' mem' q = tt
 
-  pub turn_read : (lk : Looked) → ((h : Head) (M : Bounds) (p : RunState) → Read.enter image h M s 4 p ≡ entered_by lk p) → lk ≡ looked.Whole → Goes N L → Since N L (aut_of t st mem c) (aut_of t st mem c)
+  pub turn_read : (lk : Result Unit Refusal) → ((h : Head) (M : Bounds) (p : RunState) → Read.enter image h M s 4 p ≡ entered_by lk p) → lk ≡ Ok tt → Goes N L → Since N L (aut_of t st mem c) (aut_of t st mem c)
       → (h : Head) → HeadIs h N at
       → (r : State) (sc st' mem' sc' : List ℕ) → ReadsState image N L at s r c t st mem sc st' mem' sc' → Turns image N L at s r c t st mem sc st' mem' sc'
   turn_read lk f q g n h₀ H₀ r sc st' mem' sc' d = record {
     is = λ h H i p a.
-        ap (λ (o : Outcome RunState ℕ). after o (λ x. Read.state image h L i s)) (f h L p ∙ ap (λ (z : Looked). entered_by z p) q)
+        ap (λ (o : Outcome RunState ℕ). after o (λ x. Read.state image h L i s)) (f h L p ∙ ap (λ (z : Result Unit Refusal). entered_by z p) q)
         ∙ ap (on_place p) (ap (state_of h) a ∙ d.is h H) ∙ as_placed p r st' mem';
     since = since_by g n h₀ H₀ r st' mem' (d.is h₀ H₀);
     beside = d.beside;
@@ -236,7 +286,6 @@ module _ (image : List ℕ) (h : Head) (L : Bounds) where
 module _ (image : List ℕ) (N : ℕ) (L : Bounds) (at : Lists) (s k : ℕ) (c : Counts) (t st mem sc : List ℕ) where
   -- i records are read, with these counts and tables
   pub record Going (d : Counts) (i : ℕ) (st' mem' sc' : List ℕ) : Type 0 where
-    pub within : i ≤ k
     pub states_len : length st' ≡ length st
     pub members_len : length mem' ≡ length mem
     pub scratch_len : length sc' ≡ length sc
@@ -248,7 +297,6 @@ module _ (image : List ℕ) (N : ℕ) (L : Bounds) (at : Lists) (s k : ℕ) (c :
 module _ (image : List ℕ) (N : ℕ) (L : Bounds) (at : Lists) (s k : ℕ) (c : Counts) (t st mem sc : List ℕ) where
   pub begin : Since N L (aut_of t st mem c) (aut_of t st mem c) → Going image N L at s k c t st mem sc c 0 st mem sc
   begin n = record {
-    within = omega arith;
     states_len = refl;
     members_len = refl;
     scratch_len = refl;
@@ -277,9 +325,9 @@ module _ (image : List ℕ) (N : ℕ) (L : Bounds) (at : Lists) (s k : ℕ) (c :
         again : (r r' : State) → r ≡ r' → place_by r t st'' mem'' (put_in (aut_of t st' mem' d) p) ≡ place_by r' t st'' mem'' p
         again r r' q = same r ∙ ap (λ (r : State). place_by r t st'' mem'' p) q
 
-    pub stop : (e : ℕ) → r ≡ Refused e → ReadsStates image N L at s k (taken.Refused e) c t st mem sc st'' mem'' sc''
+    pub stop : (e : Refusal) → r ≡ as_state (Err e) → ReadsStates image N L at s k (Err e) c t st mem sc st'' mem'' sc''
     stop e q = record {
-      is = λ h H p a. moved (Refused e) q h H p a;
+      is = λ h H p a. moved (as_state (Err e)) q h H p a;
       since = tt;
       beside = tt;
       kept = kept_trans v.kept w.kept;
@@ -291,7 +339,6 @@ module _ (image : List ℕ) (N : ℕ) (L : Bounds) (at : Lists) (s k : ℕ) (c :
         let no : SameNodes (Is x b) d = subst (λ (r : State). SameNodes r d) q w.nodes in
         let si : SinceBy N L (aut_of t st' mem' d) (Is x b) t st'' mem'' = subst (λ (r : State). SinceBy N L (aut_of t st' mem' d) r t st'' mem'') q w.since in
         record {
-          within = omega arith;
           states_len = e ∙ v.states_len;
           members_len = f ∙ v.members_len;
           scratch_len = g ∙ v.scratch_len;
@@ -301,7 +348,7 @@ module _ (image : List ℕ) (N : ℕ) (L : Bounds) (at : Lists) (s k : ℕ) (c :
           kept = kept_trans v.kept w.kept;
         }
 
-  pub end : (d : Counts) (i : ℕ) (st' mem' sc' : List ℕ) → Going image N L at s k c t st mem sc d i st' mem' sc' → k ≤ i → ReadsStates image N L at s k (taken.All d) c t st mem sc st' mem' sc'
+  pub end : (d : Counts) (i : ℕ) (st' mem' sc' : List ℕ) → Going image N L at s k c t st mem sc d i st' mem' sc' → k ≤ i → ReadsStates image N L at s k (Ok d) c t st mem sc st' mem' sc'
   end d i st' mem' sc' v l = record {
     is = λ h H p a. v.is h H p a ∙ ap (λ (m : ℕ). run image h L i (s + 4 * i) m (put_in (aut_of t st' mem' d) p)) {x = k - i} {y = 0} (omega arith) ∙ run_end image h L i (s + 4 * i) (put_in (aut_of t st' mem' d) p);
     since = v.since;

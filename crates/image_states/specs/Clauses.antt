@@ -1,8 +1,8 @@
 -- 02 (ii): "Reading makes .. each record again by its constructor .. and wants the same number". What the answers say in the words of image_steps/specs/Read, what is left of scratch, and what is asked.
-use Rattle.std.specs.Prelude.{◌≡◌, Bool, true, ◌&&◌, ◌||◌, List, ℕ, ◌+◌, ◌*◌, ◌/◌, ◌%◌, ◌≤◌, ◌<◌, eqb, ltb, length, if◌then◌else◌}
+use Rattle.std.specs.Prelude.{◌≡◌, Bool, true, ◌&&◌, ◌||◌, List, ◌⊎◌, Result, Ok, Err, ℕ, ◌+◌, ◌*◌, ◌/◌, ◌%◌, ◌≤◌, ◌<◌, eqb, ltb, length, if◌then◌else◌}
 use Rattle.std.proofs.lemmas.List.Edits.{sets}
 use Rattle.common.specs.Outcome.{refused, given, Step, ◌>>=◌}
-use Rattle.aut_steps.specs.Tables.{UNION, INTERSECT, words, Aut}
+use Rattle.aut_steps.specs.Tables.{UNION, INTERSECT, Aut}
 use Rattle.aut_steps.specs.Tables.{Limits as Bounds}
 use Rattle.aut_steps.specs.Wf.{WfAut}
 use Rattle.aut_steps.specs.Scratch.{Kept}
@@ -22,8 +22,8 @@ use Rattle.image_steps.specs.Records as Records
 use Rattle.image_steps.specs.Read as Read
 use Rattle.image_states.specs.declared.Words.{Words}
 use Rattle.image_states.specs.declared.Lists.{Lists}
-use Rattle.image_states.specs.declared.Taken.{Taken}
-use Rattle.image_states.specs.declared.Taken.TheVariants as taken
+use Rattle.refusal.specs.declared.Refusal.{Refusal}
+use Rattle.refusal.specs.Numbers.{number_of}
 
 -- ---- words of an image
 
@@ -118,6 +118,16 @@ abbrev pub SinceBy : ℕ → Bounds → Aut → State → List ℕ → List ℕ 
 SinceBy N L σ (Is i d) t st mem = Since N L σ (aut_of t st mem d)
 SinceBy N L σ (Refused e) t st mem = Unit
 
+-- a record's number is one of these
+abbrev pub Named : State → Type 0
+Named (Is i d) = Unit
+Named (Refused e) = (e ≡ 32) ⊎ ((e ≡ 23) ⊎ (e ≡ 22))
+
+-- a state and the counts, or a refusal, as aut_states gives them
+abbrev pub as_state : Result (ℕ × Counts) Refusal → State
+as_state (Ok (i, d)) = Is i d
+as_state (Err e) = Refused (number_of e)
+
 -- the block of the record at word s, and the record
 pub record Turns (image : List ℕ) (N : ℕ) (L : Bounds) (at : Lists) (s : ℕ) (r : State) (c : Counts) (t st mem sc st' mem' sc' : List ℕ) : Type 0 where
   pub is : (h : Head) → HeadIs h N at → (i : ℕ) (p : RunState) → p.tables.base.aut ≡ aut_of t st mem c
@@ -128,21 +138,21 @@ pub record Turns (image : List ℕ) (N : ℕ) (L : Bounds) (at : Lists) (s : ℕ
   pub kept : Kept at.base 64 sc sc'
 
 -- all records
-abbrev pub taken_by : Taken → List ℕ → List ℕ → List ℕ → Step RunState ℕ
-taken_by (taken.All d) t st mem p = given (put_in (aut_of t st mem d) p) 0
-taken_by (taken.Refused e) t st mem p = refused e
+abbrev pub taken_by : Result Counts Refusal → List ℕ → List ℕ → List ℕ → Step RunState ℕ
+taken_by (Ok d) t st mem p = given (put_in (aut_of t st mem d) p) 0
+taken_by (Err e) t st mem p = refused (number_of e)
 
-abbrev pub TakenSince : ℕ → Bounds → Aut → Taken → List ℕ → List ℕ → List ℕ → Type 0
-TakenSince N L σ (taken.All d) t st mem = Since N L σ (aut_of t st mem d)
-TakenSince N L σ (taken.Refused e) t st mem = Unit
+abbrev pub TakenSince : ℕ → Bounds → Aut → Result Counts Refusal → List ℕ → List ℕ → List ℕ → Type 0
+TakenSince N L σ (Ok d) t st mem = Since N L σ (aut_of t st mem d)
+TakenSince N L σ (Err e) t st mem = Unit
 
 -- the counts of the tables that are only read, or not taken, are as they were
-abbrev pub TakenBeside : Taken → Counts → Type 0
-TakenBeside (taken.All d) c = (d.sp ≡ c.sp) × (d.spp ≡ c.spp) × (d.transitions ≡ c.transitions)
-TakenBeside (taken.Refused e) c = Unit
+abbrev pub TakenBeside : Result Counts Refusal → Counts → Type 0
+TakenBeside (Ok d) c = (d.sp ≡ c.sp) × (d.spp ≡ c.spp) × (d.transitions ≡ c.transitions)
+TakenBeside (Err e) c = Unit
 
 -- k records, the first at word s
-pub record ReadsStates (image : List ℕ) (N : ℕ) (L : Bounds) (at : Lists) (s k : ℕ) (r : Taken) (c : Counts) (t st mem sc st' mem' sc' : List ℕ) : Type 0 where
+pub record ReadsStates (image : List ℕ) (N : ℕ) (L : Bounds) (at : Lists) (s k : ℕ) (r : Result Counts Refusal) (c : Counts) (t st mem sc st' mem' sc' : List ℕ) : Type 0 where
   pub is : (h : Head) → HeadIs h N at → (p : RunState) → p.tables.base.aut ≡ aut_of t st mem c
       → Read.records image h L (Read.state image h L) 4 0 s k p ≡ taken_by r t st' mem' p
   pub since : TakenSince N L (aut_of t st mem c) r t st' mem'

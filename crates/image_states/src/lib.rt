@@ -6,11 +6,11 @@ ghost use Rattle.aut_steps.specs.Tables.{words};
 ghost use Rattle.aut_states.specs.Clauses.{limits_of};
 ghost use Rattle.image_kinds.specs.Clauses.{ShapeOf};
 ghost use Rattle.image_kinds.specs.declared.Shape.TheVariants as shape;
-ghost use Rattle.image_states.specs.Clauses.{listed, Holds, WordsAt, Copies, Wants, Enters, EntersAny, EntersList, ReadsList, ReadsState, Turns, ReadsStates, Ordered, OrderedAny, ListAsks, ReadAsks, StateAsks, TurnAsks, StatesAsk};
+ghost use Rattle.image_states.specs.Clauses.{listed, Holds, WordsAt, Copies, Wants, Enters, EntersAny, EntersList, ReadsList, ReadsState, Turns, ReadsStates, Ordered, OrderedAny, ListAsks, ReadAsks, StateAsks, TurnAsks, StatesAsk, Named, as_state};
 
 use aut_states::{Config, Counts, State};
-use image_block::Looked;
 use image_kinds::Shape;
+use refusal::Refusal;
 
 // words 0 to 3 of a state
 #[derive(Clone, Copy)]
@@ -29,15 +29,8 @@ pub struct Lists {
     pub base: usize,
 }
 
-// all records were taken, and the counts then; or the number with which one is refused
-#[derive(Clone, Copy)]
-pub enum Taken {
-    All(Counts),
-    Refused(u32),
-}
-
-// a record cannot be made of those before it, or comes out differently
-pub const RECORD: u32 = 32;
+// Refusal::Record as aut_states says it: a record cannot be made of those before it, or comes out differently
+const RECORD: u32 = 32;
 
 // words of a state's record
 pub const STATE: usize = 4;
@@ -61,11 +54,8 @@ pub fn copy_members(image: &[u8], scratch: &mut [u32], at: usize, base: usize, k
     requires { Holds image.now (at + k) × (base + k ≤ length scratch.old) }
     ensures { Copies image.now at k base scratch.old scratch.new }
 {
-    let mut j = 0;
-    while j < k {
-        let x = image_words::word(image, at + j);
-        scratch[base + j] = x;
-        j += 1;
+    for j in 0..k {
+        scratch[base + j] = image_words::word(image, at + j);
     }
 }
 
@@ -264,6 +254,25 @@ pub fn read_state(
     want(r, c.states)
 }
 
+// the refusal of a record's number
+fn named(r: State) -> Result<(u32, Counts), Refusal>
+    requires { Named r }
+    ensures { r ≡ as_state result }
+{
+    match r {
+        State::Is(i, d) => Ok((i, d)),
+        State::Refused(e) => {
+            if e == aut_states::refusal::STATES {
+                return Err(Refusal::States);
+            }
+            if e == aut_states::refusal::MEMBERS {
+                return Err(Refusal::Members);
+            }
+            Err(Refusal::Record)
+        }
+    }
+}
+
 // the block that it reaches, and the record
 fn read_at(
     image: &[u8],
@@ -275,20 +284,17 @@ fn read_at(
     config: Config,
     at: Lists,
     s: usize,
-) -> State
+) -> Result<(u32, Counts), Refusal>
     requires { TurnAsks image.now config at s c nodes.now states.old members.old scratch.old }
-    ensures { Turns image.now config.fields (limits_of config.limits) at s result c
+    ensures { Turns image.now config.fields (limits_of config.limits) at s (as_state result) c
         nodes.now states.old members.old scratch.old states.new
         members.new scratch.new }
 {
-    let looked = image_words::enter(image, s, STATE);
-    if let Looked::Refused(e) = looked {
-        return State::Refused(e);
-    }
-    read_state(image, nodes, states, members, scratch, c, config, at, s)
+    image_words::enter(image, s, STATE)?;
+    named(read_state(image, nodes, states, members, scratch, c, config, at, s))
 }
 
-// the records of k states, the first at word s
+// the records of k states, the first at word s: the counts then
 pub fn read_states(
     image: &[u8],
     nodes: &[u32],
@@ -300,16 +306,15 @@ pub fn read_states(
     at: Lists,
     s: usize,
     k: usize,
-) -> Taken
+) -> Result<Counts, Refusal>
     requires { StatesAsk image.now config at s k c nodes.now states.old members.old scratch.old }
     ensures { ReadsStates image.now config.fields (limits_of config.limits) at s k result c
         nodes.now states.old members.old scratch.old states.new
         members.new scratch.new }
 {
     let mut d = c;
-    let mut i = 0;
-    while i < k {
-        let r = read_at(
+    for i in 0..k {
+        (_, d) = read_at(
             image,
             nodes,
             states,
@@ -319,16 +324,7 @@ pub fn read_states(
             config,
             at,
             s + STATE * i,
-        );
-        match r {
-            State::Refused(e) => {
-                return Taken::Refused(e);
-            }
-            State::Is(_, d1) => {
-                d = d1;
-            }
-        }
-        i += 1;
+        )?;
     }
-    Taken::All(d)
+    Ok(d)
 }

@@ -1,5 +1,5 @@
 -- 02 (ii): words behind the records, the words of all records, what block 0 asks for, and the block that a record reaches.
-use Rattle.std.specs.Prelude.{if◌then◌else◌}
+use Rattle.std.specs.Prelude.{if◌then◌else◌, Result, Ok, Err}
 use mathlib.Core.Path.{◌≡◌, refl, sym, ◌∙◌, ap, ap₂}
 use mathlib.Core.Bool.{Bool, true, false, ◌&&◌}
 use mathlib.Core.List.{List}
@@ -16,14 +16,12 @@ use Rattle.aut_steps.specs.Tables.{Limits}
 use Rattle.book_steps.specs.Run.{RunState}
 use Rattle.image_form.specs.Form.{word_at, verify}
 use Rattle.image_block.specs.Clauses.{looked_of}
-use Rattle.image_block.specs.declared.Looked.{Looked}
-use Rattle.image_block.specs.declared.Looked.TheVariants as looked
+use Rattle.refusal.specs.declared.Refusal.{Refusal}
 use Rattle.image_steps.specs.Image as Image
 use Rattle.image_steps.specs.Image.{reach, layout, start_of, blocks_of}
 use Rattle.image_steps.specs.Read as Read
 use Rattle.image_steps.specs.Read.{unused, head_fits}
 use Rattle.image_steps.proofs.Loops.{HeadFits, head_fits_lem}
-use Rattle.image_words.specs.declared.Head.{Head}
 use Rattle.image_words.specs.Clauses.{counts_fit, PostHead, Reaches, Entered, entered_by}
 
 -- ---- unused words
@@ -148,15 +146,15 @@ pub reaches : (image : List ℕ) (m n : ℕ) → length image / 512 ≡ 1 + reac
 reaches image m n e l = omega arith
 
 module _ (image : List ℕ) (s size : ℕ) where
-  pub entered_there : reach (s + size) ≤ reach s → Entered image s size looked.Whole
+  pub entered_there : reach (s + size) ≤ reach s → Entered image s size (Ok tt)
   unfolding Read.enter
   entered_there l h L p = ap (λ (b : Bool). (if b then Read.looked image h L (verify image (reach (s + size))) else (λ q. given q 0)) p) (le-ltb _ _ l)
 
-  look : (r : Looked) → (h : Image.Head) (L : Limits) (p : RunState) → Read.looked image h L (looked_of r) p ≡ entered_by r p
-  look looked.Whole h L p = refl
-  look (looked.Refused number) h L p = refl
+  look : (r : Result Unit Refusal) → (h : Image.Head) (L : Limits) (p : RunState) → Read.looked image h L (looked_of r) p ≡ entered_by r p
+  look (Ok u) h L p = refl
+  look (Err e) h L p = refl
 
-  pub entered_new : (r : Looked) → reach s < reach (s + size) → verify image (reach (s + size)) ≡ looked_of r → Entered image s size r
+  pub entered_new : (r : Result Unit Refusal) → reach s < reach (s + size) → verify image (reach (s + size)) ≡ looked_of r → Entered image s size r
   unfolding Read.enter
   entered_new r l e h L p =
       ap (λ (b : Bool). (if b then Read.looked image h L (verify image (reach (s + size))) else (λ q. given q 0)) p) (lt-ltb _ _ l)

@@ -1,13 +1,13 @@
 -- 02 (ii), "Block 0 is fields, budget (high word first), counts ..": what the code's answers say in the words of image_steps, and what its functions ask of an image.
-use Rattle.std.specs.Prelude.{◌≡◌, Bool, ◌&&◌, List, ℕ, ◌+◌, ◌*◌, ◌/◌, ◌%◌, ◌≤◌, ◌<◌, leb, length}
+use Rattle.std.specs.Prelude.{◌≡◌, Bool, ◌&&◌, List, ℕ, Result, Ok, Err, ◌+◌, ◌*◌, ◌/◌, ◌%◌, ◌≤◌, ◌<◌, leb, length}
 use Rattle.common.specs.Outcome.{Outcome, refused, given}
 use Rattle.sp_steps.specs.Model as Sp
 use Rattle.spp_steps.specs.Model as Spp
 use Rattle.aut_steps.specs.Tables.{Limits}
 use Rattle.book_steps.specs.Run.{RunState, instructions}
 use Rattle.image_form.specs.Form.{word_at}
-use Rattle.image_block.specs.declared.Looked.{Looked}
-use Rattle.image_block.specs.declared.Looked.TheVariants as looked
+use Rattle.refusal.specs.declared.Refusal.{Refusal}
+use Rattle.refusal.specs.Numbers.{number_of}
 use Rattle.image_steps.specs.Image as Image
 use Rattle.image_steps.specs.Image.{reach}
 use Rattle.image_steps.specs.Read as Read
@@ -47,9 +47,9 @@ word_of image i = word_at image (1 + i / 127) (i % 127)
 abbrev pub Reaches : List ℕ → ℕ → Type 0
 Reaches image n = 512 * (1 + reach n) ≤ length image
 
-abbrev pub entered_by : Looked → RunState → Outcome RunState ℕ
-entered_by looked.Whole p = given p 0
-entered_by (looked.Refused number) p = refused number
+abbrev pub entered_by : Result Unit Refusal → RunState → Outcome RunState ℕ
+entered_by (Ok u) p = given p 0
+entered_by (Err e) p = refused (number_of e)
 
-abbrev pub Entered : List ℕ → ℕ → ℕ → Looked → Type 0
+abbrev pub Entered : List ℕ → ℕ → ℕ → Result Unit Refusal → Type 0
 Entered image s size r = (h : Image.Head) (L : Limits) (p : RunState) → Read.enter image h L s size p ≡ entered_by r p

@@ -1,15 +1,14 @@
 // 02 (ii): what reading needs of an image's bytes: block 0, the words of the records, and a block looked at when a record reaches it.
 #![tactic(auto)]
 
-pub mod refusal;
-
 ghost use Rattle.std.specs.Prelude.{◌≡◌, ◌+◌, ◌*◌, ◌≤◌, ◌<◌, length};
 ghost use Rattle.image_form.specs.Form as Form;
 ghost use Rattle.image_steps.specs.Image as Image;
 ghost use Rattle.image_steps.specs.Read as Read;
 ghost use Rattle.image_words.specs.Clauses as Its;
 
-use image_block::{BLOCK, Looked};
+use image_block::BLOCK;
+use refusal::Refusal;
 
 // words of a block
 pub const WORDS: usize = 127;
@@ -56,12 +55,10 @@ pub fn unused(image: &[u8], b: usize, j: usize, k: usize) -> bool
     requires { (j + k ≤ 127) × (512 * b + 512 ≤ length image.now) }
     ensures { Read.unused image.now b j k ≡ result }
 {
-    let mut i = 0;
-    while i < k {
+    for i in 0..k {
         if block_word(image, b, j + i) != 0 {
             return false;
         }
-        i += 1;
     }
     true
 }
@@ -153,7 +150,7 @@ pub fn head_fits(image: &[u8], h: Head) -> bool
 // ---- blocks, one after the other
 
 // the block in which a record ends that has the `size` words from s on, unless a record before it reached that block
-pub fn enter(image: &[u8], s: usize, size: usize) -> Looked
+pub fn enter(image: &[u8], s: usize, size: usize) -> Result<(), Refusal>
     requires { Its.Reaches image.now (s + size) }
     ensures { Its.Entered image.now s size result }
 {
@@ -162,5 +159,5 @@ pub fn enter(image: &[u8], s: usize, size: usize) -> Looked
     if before < last {
         return image_block::verify(image, last);
     }
-    Looked::Whole
+    Ok(())
 }

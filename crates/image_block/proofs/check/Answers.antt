@@ -1,4 +1,4 @@
-use Prim.Native.Nat.{◌+◌, ◌-◌, ◌≤◌}
+use Prim.Native.Nat.{◌+◌, ◌≤◌}
 use native.Mathlib.Omega.{arith}
 use mathlib.Core.Logic.{inl, inr}
 use Rattle.image_block.proofs.Sum as its
@@ -30,12 +30,6 @@ overflow_mul-added c =
 pub overflow_add-added-in-loop-i-2 : goal.overflow_add-added-in-loop-i-2
 overflow_add-added-in-loop-i-2 c =
     omega (arith, its.weight (c.shared_slice_known-1.given (c.args.at + c.loop-i.i)).fits (let h : c.loop-i.i + 1 ≤ 510 = omega arith in h), c.loop-i.invariant.small)
-
-pub overflow_add-i : goal.overflow_add-i
-overflow_add-i c = omega arith
-
-pub loop-i-smaller : goal.loop-i-smaller
-loop-i-smaller c = omega arith
 
 pub loop-i-preserved : goal.loop-i-preserved
 loop-i-preserved c =

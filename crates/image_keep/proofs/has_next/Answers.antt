@@ -1,11 +1,9 @@
-use mathlib.Core.Bool.{false}
-use Prim.Native.Nat.{◌-◌}
 use native.Mathlib.Omega.{arith}
 use Rattle.image_keep.proofs.Next as its
 use Rattle.image_keep.proofs.has_next.Goals as goal
 
 pub loop-i-init : goal.loop-i-init
-loop-i-init c = (omega arith, its.next_begin c.args.states.now)
+loop-i-init c = its.next_begin c.args.states.now
 
 pub overflow_mul-i : goal.overflow_mul-i
 overflow_mul-i c = omega arith
@@ -22,14 +20,8 @@ bounds-states-i c = omega arith
 pub returns-then-states-i-eq-NEXT : goal.returns-then-states-i-eq-NEXT
 returns-then-states-i-eq-NEXT c = its.next_yes _ _ _ c.loop-i-test.true c.if-states-i-eq-NEXT.true
 
-pub overflow_add-i-in-loop-i : goal.overflow_add-i-in-loop-i
-overflow_add-i-in-loop-i c = omega arith
-
-pub loop-i-smaller : goal.loop-i-smaller
-loop-i-smaller c = omega arith
-
 pub loop-i-preserved : goal.loop-i-preserved
-loop-i-preserved c = (omega arith, its.next_no _ _ c.loop-i.invariant.1 c.if-states-i-eq-NEXT.false)
+loop-i-preserved c = its.next_no _ _ c.loop-i.invariant c.if-states-i-eq-NEXT.false
 
 pub returns : goal.returns
-returns c = its.next_end _ _ _ c.loop-i.invariant.0 (omega (arith, c.loop-i-test.false)) c.loop-i.invariant.1
+returns c = its.next_end _ _ _ c.loop-i.auto.i-end (omega (arith, c.loop-i-test.false)) c.loop-i.invariant

@@ -9,18 +9,19 @@ pub has_next-requires : goal.has_next-requires
 has_next-requires c = (its.keep_present _ c.args.image.now _ c.in-End.is c.requires).states
 
 pub returns-then-has_next : goal.returns-then-has_next
-returns-then-has_next c = its.keep_unknown _ _ _ c.in-End.is c.has_next.ensures c.if-has_next.true
+returns-then-has_next c =
+    rw c.number.ensures (its.keep_unknown _ _ _ c.in-End.is c.has_next.ensures c.if-has_next.true)
 
 pub blocks_of-n-requires : goal.blocks_of-n-requires
 blocks_of-n-requires c = (its.keep_present _ c.args.image.now _ c.in-End.is c.requires).few
 
 pub returns-then-n-gt-BLOCKS : goal.returns-then-n-gt-BLOCKS
 returns-then-n-gt-BLOCKS c =
-    its.keep_many _ _ _ c.in-End.is c.has_next.ensures c.if-has_next.false c.blocks_of-n.result c.blocks_of-n.ensures c.if-n-gt-BLOCKS.true
+    rw c.number-then-n-gt-BLOCKS.ensures (its.keep_many _ _ _ c.in-End.is c.has_next.ensures c.if-has_next.false c.blocks_of-n.result c.blocks_of-n.ensures c.if-n-gt-BLOCKS.true)
 
 pub returns-then-n-image : goal.returns-then-n-image
 returns-then-n-image c =
-    its.keep_long _ _ _ c.in-End.is c.has_next.ensures c.if-has_next.false c.blocks_of-n.result c.blocks_of-n.ensures c.if-n-gt-BLOCKS.false (omega (arith, c.if-n-image.true))
+    rw c.number-then-n-image.ensures (its.keep_long _ _ _ c.in-End.is c.has_next.ensures c.if-has_next.false c.blocks_of-n.result c.blocks_of-n.ensures c.if-n-gt-BLOCKS.false (omega (arith, c.if-n-image.true)))
 
 pub write-requires : goal.write-requires
 write-requires c =

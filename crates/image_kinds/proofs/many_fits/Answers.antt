@@ -1,5 +1,4 @@
 use native.Mathlib.Omega.{arith}
-use borrow.Author.Tests.{not-true, not-false}
 use mathlib.Core.Path.{◌∙◌}
 use Rattle.image_kinds.proofs.Lists as its
 use Rattle.image_kinds.proofs.many_fits.Goals as goal

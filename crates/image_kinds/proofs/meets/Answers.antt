@@ -1,6 +1,6 @@
 use mathlib.Core.Path.{◌∙◌}
 use mathlib.Core.Bool.{false}
-use Prim.Native.Nat.{◌<◌, ◌-◌, ◌+◌, ◌*◌}
+use Prim.Native.Nat.{◌<◌, ◌+◌, ◌*◌}
 use native.Mathlib.Omega.{arith}
 use lib.ListN.{length}
 use Rattle.aut_steps.specs.Tables.{words}
@@ -11,7 +11,7 @@ use Rattle.image_kinds.proofs.meets.Goals as goal
 
 pub loop-j-init : goal.loop-j-init
 loop-j-init c =
-    (omega arith, λ N z. from_0 (λ b k. Records.meets N c.args.states.now false 0 (words c.args.scratch.now b k)) c.args.base c.args.k)
+    λ N z. from_0 (λ b k. Records.meets N c.args.states.now false 0 (words c.args.scratch.now b k)) c.args.base c.args.k
 
 pub overflow_add-x : goal.overflow_add-x
 overflow_add-x c = omega (arith, c.requires.within)
@@ -22,13 +22,13 @@ offset_bounds-scratch-base c = omega (arith, c.requires.within)
 pub bounds-scratch-base : goal.bounds-scratch-base
 bounds-scratch-base c = omega (arith, c.requires.within)
 
-pub meets_at-met-requires : goal.meets_at-met-requires
-meets_at-met-requires c =
+pub meets_at-requires : goal.meets_at-requires
+meets_at-requires c =
     (all_word (λ x. 12 * x + 11 < length c.args.states.now) c.args.scratch.now c.args.base c.args.k c.loop-j.j c.loop-j-test.true c.requires.states, c.loop-j-test.true)
 
-pub returns-in-Ends : goal.returns-in-Ends
-returns-in-Ends c =
-    λ N z. c.loop-j.invariant.1 N z ∙ its.meets_turn N c.args.states.now c.args.scratch.now c.args.base c.args.k c.loop-j.j c.loop-j-test.true c.loop-j.lo c.meets_at-met.result (c.meets_at-met.ensures N z) _ c.in-Ends.is
+pub returns-in-Some : goal.returns-in-Some
+returns-in-Some c =
+    λ N z. c.loop-j.invariant N z ∙ its.meets_turn N c.args.states.now c.args.scratch.now c.args.base c.args.k c.loop-j.j c.loop-j-test.true c.loop-j.lo c.meets_at.result (c.meets_at.ensures N z) _ c.in-Some.is
 
 pub overflow_cast-lo : goal.overflow_cast-lo
 overflow_cast-lo c = omega (arith, c.shared_slice_known-in-loop-j-1.given (c.args.base + c.loop-j.j))
@@ -36,16 +36,10 @@ overflow_cast-lo c = omega (arith, c.shared_slice_known-in-loop-j-1.given (c.arg
 pub overflow_add-lo : goal.overflow_add-lo
 overflow_add-lo c = omega (arith, c.shared_slice_known-in-loop-j-1.given (c.args.base + c.loop-j.j))
 
-pub overflow_add-j : goal.overflow_add-j
-overflow_add-j c = omega arith
-
-pub loop-j-smaller : goal.loop-j-smaller
-loop-j-smaller c = omega arith
-
 pub loop-j-preserved : goal.loop-j-preserved
 loop-j-preserved c =
-    (omega arith, λ N z. c.loop-j.invariant.1 N z ∙ its.meets_turn N c.args.states.now c.args.scratch.now c.args.base c.args.k c.loop-j.j c.loop-j-test.true c.loop-j.lo c.meets_at-met.result (c.meets_at-met.ensures N z) _ c.in_default.is)
+    λ N z. c.loop-j.invariant N z ∙ its.meets_turn N c.args.states.now c.args.scratch.now c.args.base c.args.k c.loop-j.j c.loop-j-test.true c.loop-j.lo c.meets_at.result (c.meets_at.ensures N z) _ c.in_default.is
 
 pub returns : goal.returns
 returns c =
-    λ N z. c.loop-j.invariant.1 N z ∙ its.meets_end N c.args.states.now c.args.scratch.now c.args.base c.args.k c.loop-j.j c.loop-j.lo c.loop-j-test.false c.loop-j.invariant.0
+    λ N z. c.loop-j.invariant N z ∙ its.meets_end N c.args.states.now c.args.scratch.now c.args.base c.args.k c.loop-j.j c.loop-j.lo c.loop-j-test.false c.loop-j.auto.j-end

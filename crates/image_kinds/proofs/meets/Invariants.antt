@@ -1,6 +1,6 @@
 use mathlib.Core.Path.{◌≡◌}
 use mathlib.Core.Bool.{false}
-use Prim.Native.Nat.{ℕ, ◌≤◌, ◌-◌, ◌+◌}
+use Prim.Native.Nat.{ℕ, ◌-◌, ◌+◌}
 use lib.Dec.{ltb}
 use Rattle.aut_steps.specs.Relations as Rel
 use Rattle.aut_steps.specs.Tables.{words}
@@ -9,7 +9,4 @@ use Rattle.image_kinds.proofs.meets.Given as goal
 
 abbrev pub invariant-loop-j : goal.invariant-loop-j
 invariant-loop-j l =
-    (l.j ≤ l.k) × ((N : ℕ) → Rel.zero_at N ≡ l.zero → Records.meets N l.states false 0 (words l.scratch l.base l.k) ≡ Records.meets N l.states (ltb 0 l.j) l.lo (words l.scratch (l.base + l.j) (l.k - l.j)))
-
-abbrev pub decreases-loop-j : goal.decreases-loop-j
-decreases-loop-j l = l.k - l.j
+    (N : ℕ) → Rel.zero_at N ≡ l.zero → Records.meets N l.states false 0 (words l.scratch l.base l.k) ≡ Records.meets N l.states (ltb 0 l.j) l.lo (words l.scratch (l.base + l.j) (l.k - l.j))

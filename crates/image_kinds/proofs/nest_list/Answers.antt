@@ -1,5 +1,5 @@
 use mathlib.Core.Path.{sym, ◌∙◌}
-use Prim.Native.Nat.{◌<◌, ◌-◌, ◌+◌, ◌*◌}
+use Prim.Native.Nat.{◌<◌, ◌+◌, ◌*◌}
 use native.Mathlib.Omega.{arith}
 use lib.ListN.{length}
 use Rattle.aut_steps.specs.Tables.{words}
@@ -9,7 +9,7 @@ use Rattle.aut_states.proofs.Scan as scan
 use Rattle.image_kinds.proofs.nest_list.Goals as goal
 
 pub loop-j-init : goal.loop-j-init
-loop-j-init c = (omega arith, from_0 (λ b k. nest_l c.args.states.now 0 (words c.args.scratch.now b k)) c.args.base c.args.k)
+loop-j-init c = from_0 (λ b k. nest_l c.args.states.now 0 (words c.args.scratch.now b k)) c.args.base c.args.k
 
 pub overflow_add-base : goal.overflow_add-base
 overflow_add-base c = omega (arith, c.requires.within)
@@ -24,16 +24,10 @@ pub nest_of-requires : goal.nest_of-requires
 nest_of-requires c =
     all_word (λ x. 12 * x + 11 < length c.args.states.now) c.args.scratch.now c.args.base c.args.k c.loop-j.j c.loop-j-test.true c.requires.states
 
-pub overflow_add-j : goal.overflow_add-j
-overflow_add-j c = omega arith
-
-pub loop-j-smaller : goal.loop-j-smaller
-loop-j-smaller c = omega arith
-
 pub loop-j-preserved : goal.loop-j-preserved
 loop-j-preserved c =
-    (omega arith, c.loop-j.invariant.1 ∙ scan.nest_step c.args.states.now c.args.scratch.now c.args.base c.args.k c.loop-j.j c.loop-j.h c.loop-j-test.true c.nest_of.result c.nest_of.ensures _ c.higher-h.ensures)
+    c.loop-j.invariant ∙ scan.nest_step c.args.states.now c.args.scratch.now c.args.base c.args.k c.loop-j.j c.loop-j.h c.loop-j-test.true c.nest_of.result c.nest_of.ensures _ c.higher-h.ensures
 
 pub returns : goal.returns
 returns c =
-    sym (c.loop-j.invariant.1 ∙ scan.nest_end c.args.states.now c.args.scratch.now _ c.args.k c.loop-j.j c.loop-j.h c.loop-j-test.false)
+    sym (c.loop-j.invariant ∙ scan.nest_end c.args.states.now c.args.scratch.now _ c.args.k c.loop-j.j c.loop-j.h c.loop-j-test.false)

@@ -1,4 +1,3 @@
-use Prim.Native.Nat.{◌-◌}
 use native.Mathlib.Omega.{arith}
 use Rattle.image_kinds.proofs.Operands as its
 use Rattle.image_kinds.proofs.relation_depth.Goals as goal
@@ -23,15 +22,9 @@ pub bounds-nodes-i : goal.bounds-nodes-i
 bounds-nodes-i c =
     omega (arith, its.down_inside c.args.nodes.now c.args.n c.args.h c.loop-d.d c.loop-d.x c.loop-d.invariant c.if-x-lt2.false)
 
-pub overflow_add-d : goal.overflow_add-d
-overflow_add-d c = omega arith
-
-pub loop-d-smaller : goal.loop-d-smaller
-loop-d-smaller c = omega arith
-
 pub loop-d-preserved : goal.loop-d-preserved
 loop-d-preserved c =
     its.down_more c.args.nodes.now c.args.n c.args.h c.loop-d.d c.loop-d.x c.loop-d.invariant c.loop-d-test.true c.if-x-lt2.false
 
 pub returns : goal.returns
-returns c = its.down_end c.args.nodes.now c.args.n c.args.h c.loop-d.d c.loop-d.x c.loop-d.invariant c.loop-d-test.false
+returns c = its.down_end c.args.nodes.now c.args.n c.args.h c.loop-d.d c.loop-d.x c.loop-d.invariant (omega (arith, c.loop-d.auto.d-end, c.loop-d-test.false))

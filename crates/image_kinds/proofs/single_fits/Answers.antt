@@ -1,4 +1,3 @@
-use borrow.Author.Tests.{not-true, not-false}
 use mathlib.Core.Path.{◌∙◌}
 use mathlib.Core.List.{[]}
 use native.Mathlib.Omega.{arith}

@@ -1,6 +1,6 @@
 use mathlib.Core.Path.{◌∙◌}
 use mathlib.Core.Bool.{false}
-use Prim.Native.Nat.{◌<◌, ◌-◌, ◌+◌, ◌*◌}
+use Prim.Native.Nat.{◌<◌, ◌+◌, ◌*◌}
 use native.Mathlib.Omega.{arith}
 use lib.ListN.{length}
 use Rattle.aut_steps.specs.Tables.{words}
@@ -11,7 +11,7 @@ use Rattle.image_kinds.proofs.unites.Goals as goal
 
 pub loop-j-init : goal.loop-j-init
 loop-j-init c =
-    (omega arith, λ N z. from_0 (λ b k. Records.unites N c.args.states.now false 0 (words c.args.scratch.now b k)) c.args.base c.args.k)
+    λ N z. from_0 (λ b k. Records.unites N c.args.states.now false 0 (words c.args.scratch.now b k)) c.args.base c.args.k
 
 pub overflow_add-x : goal.overflow_add-x
 overflow_add-x c = omega (arith, c.requires.within)
@@ -28,7 +28,7 @@ joins-requires c =
 
 pub returns-in_default : goal.returns-in_default
 returns-in_default c =
-    λ N z. c.loop-j.invariant.1 N z ∙ its.unites_turn N c.args.states.now c.args.scratch.now c.args.base c.args.k c.loop-j.j c.loop-j-test.true c.loop-j.seen c.loop-j.lo c.joins.result (c.joins.ensures N z) _ c.in_default.is
+    λ N z. c.loop-j.invariant N z ∙ its.unites_turn N c.args.states.now c.args.scratch.now c.args.base c.args.k c.loop-j.j c.loop-j-test.true c.loop-j.seen c.loop-j.lo c.joins.result (c.joins.ensures N z) _ c.in_default.is
 
 pub overflow_cast-lo : goal.overflow_cast-lo
 overflow_cast-lo c = omega (arith, c.shared_slice_known-in-loop-j-1.given (c.args.base + c.loop-j.j))
@@ -36,16 +36,10 @@ overflow_cast-lo c = omega (arith, c.shared_slice_known-in-loop-j-1.given (c.arg
 pub overflow_add-lo : goal.overflow_add-lo
 overflow_add-lo c = omega (arith, c.shared_slice_known-in-loop-j-1.given (c.args.base + c.loop-j.j))
 
-pub overflow_add-j : goal.overflow_add-j
-overflow_add-j c = omega arith
-
-pub loop-j-smaller : goal.loop-j-smaller
-loop-j-smaller c = omega arith
-
 pub loop-j-preserved : goal.loop-j-preserved
 loop-j-preserved c =
-    (omega arith, λ N z. c.loop-j.invariant.1 N z ∙ its.unites_turn N c.args.states.now c.args.scratch.now c.args.base c.args.k c.loop-j.j c.loop-j-test.true c.loop-j.seen c.loop-j.lo c.joins.result (c.joins.ensures N z) _ c.in-On.is)
+    λ N z. c.loop-j.invariant N z ∙ its.unites_turn N c.args.states.now c.args.scratch.now c.args.base c.args.k c.loop-j.j c.loop-j-test.true c.loop-j.seen c.loop-j.lo c.joins.result (c.joins.ensures N z) _ c.in-Some.is
 
 pub returns : goal.returns
 returns c =
-    λ N z. c.loop-j.invariant.1 N z ∙ its.unites_end N c.args.states.now c.args.scratch.now c.args.base c.args.k c.loop-j.j c.loop-j.lo c.loop-j-test.false c.loop-j.seen
+    λ N z. c.loop-j.invariant N z ∙ its.unites_end N c.args.states.now c.args.scratch.now c.args.base c.args.k c.loop-j.j c.loop-j.lo c.loop-j-test.false c.loop-j.seen

@@ -1,4 +1,3 @@
-use Prim.Native.Nat.{◌-◌}
 use native.Mathlib.Omega.{arith}
 use Rattle.image_nodes.proofs.Depth as its
 use Rattle.image_nodes.proofs.depth_of.Goals as goal
@@ -25,15 +24,9 @@ offset_bounds-sp-i c = omega (arith, c.loop-d.invariant.inside.within, c.loop-d.
 pub bounds-sp-i : goal.bounds-sp-i
 bounds-sp-i c = omega (arith, c.loop-d.invariant.inside.within, c.loop-d.invariant.inside.fits)
 
-pub overflow_add-d : goal.overflow_add-d
-overflow_add-d c = omega arith
-
-pub loop-d-smaller : goal.loop-d-smaller
-loop-d-smaller c = omega arith
-
 pub loop-d-preserved : goal.loop-d-preserved
 loop-d-preserved c =
     its.depth_again c.args.sp.now c.args.n c.args.h c.loop-d.d c.loop-d.x c.loop-d.invariant c.loop-d-test.true c.if-x-lt2.false
 
 pub returns : goal.returns
-returns c = its.depth_end c.args.sp.now c.args.n c.args.h c.loop-d.d c.loop-d.x c.loop-d.invariant c.loop-d-test.false
+returns c = its.depth_end c.args.sp.now c.args.n c.args.h c.loop-d.d c.loop-d.x c.loop-d.invariant (omega (arith, c.loop-d.auto.d-end, c.loop-d-test.false))

@@ -1,6 +1,6 @@
-use mathlib.Core.Path.{◌∙◌, ap}
+use mathlib.Core.Path.{◌∙◌}
+use Rattle.std.proofs.Common.{rules}
 use native.Mathlib.Omega.{arith}
-use Rattle.sp.specs.Clauses.{seen}
 use Rattle.image_nodes.proofs.Node as its
 use Rattle.image_nodes.proofs.make_node.Goals as goal
 
@@ -11,19 +11,19 @@ returns-then-not-children_fit c =
 pub returns-then-i-count : goal.returns-then-i-count
 returns-then-i-count c =
     its.node_full_wrong c.args.fields c.args.sp.now c.args.count c.args.i c.args.x0 c.args.x1 c.children_fit.ensures c.if-not-children_fit.false
-    (c.mk.ensures ∙ ap (λ r. seen r c.mk.new.nodes) c.in_default.is) c.if-i-count.true
+    c.in_default.ensures.gives c.if-i-count.true
 
 pub returns-in_default : goal.returns-in_default
 returns-in_default c =
     its.node_full c.args.fields c.args.sp.now c.args.count c.args.i c.args.x0 c.args.x1 c.children_fit.ensures c.if-not-children_fit.false
-    (c.mk.ensures ∙ ap (λ r. seen r c.mk.new.nodes) c.in_default.is) c.requires.near c.if-i-count.false
+    c.in_default.ensures.gives c.requires.near c.if-i-count.false
 
 pub returns-then-h-i : goal.returns-then-h-i
 returns-then-h-i c =
     its.node_other c.args.fields c.args.sp.now c.args.count c.args.i c.args.x0 c.args.x1 c.children_fit.ensures c.if-not-children_fit.false
-    (c.mk.ensures ∙ ap (λ r. seen r c.mk.new.nodes) c.in-Node.is) (λ e. omega (arith, e, c.if-h-i.true))
+    c.in-Ok.ensures.gives (λ e. omega (arith, e, c.if-h-i.true))
 
 pub returns : goal.returns
 returns c =
     its.node_same c.args.fields c.args.sp.now c.args.count c.args.i c.args.x0 c.args.x1 c.children_fit.ensures c.if-not-children_fit.false
-    (c.mk.ensures ∙ ap (λ r. seen r c.mk.new.nodes) c.in-Node.is) (omega (arith, c.if-h-i.false))
+    {h = c.in-Ok.h.0} (c.in-Ok.ensures.gives ∙ search rules) (omega (arith, c.if-h-i.false))

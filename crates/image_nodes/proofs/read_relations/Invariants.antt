@@ -1,9 +1,5 @@
-use Prim.Native.Nat.{◌-◌}
 use Rattle.image_nodes.proofs.Rows as its
 use Rattle.image_nodes.proofs.read_relations.Given as goal
 
 abbrev pub invariant-loop-i : goal.invariant-loop-i
 invariant-loop-i l = its.RelationsAt l.image l.fields l.start l.k l.initial.nodes l.count l.nodes l.n l.i
-
-abbrev pub decreases-loop-i : goal.decreases-loop-i
-decreases-loop-i l = l.k - l.i

@@ -1,5 +1,5 @@
-use Prim.Native.Nat.{◌-◌}
 use native.Mathlib.Omega.{arith}
+use Rattle.refusal.proofs.Passed.{passed}
 use Rattle.image_read.proofs.Lines as lines
 use Rattle.image_read.proofs.read_lines.Goals as goal
 
@@ -9,15 +9,15 @@ loop-i-init c = lines.lines_begin _ _ _ _ _
 pub overflow_add-s : goal.overflow_add-s
 overflow_add-s c = omega arith
 
-pub line_at-line-requires : goal.line_at-line-requires
-line_at-line-requires c = omega (arith, c.requires.reaches)
+pub line_at-requires : goal.line_at-requires
+line_at-requires c = omega (arith, c.requires.reaches)
 
-pub shape_of-scratch-in-Refused : goal.shape_of-scratch-in-Refused
-shape_of-scratch-in-Refused c = c.loop-i.invariant.len
+pub shape_of-scratch-in_err-scratch : goal.shape_of-scratch-in_err-scratch
+shape_of-scratch-in_err-scratch c = c.loop-i.invariant.len
 
-pub returns-in-Refused : goal.returns-in-Refused
-returns-in-Refused c =
-    lines.lines_stop _ _ _ _ _ _ c.loop-i.i c.loop-i.invariant c.loop-i-test.true c.line_at-line.ensures c.in-Refused.is
+pub returns-in_err-scratch : goal.returns-in_err-scratch
+returns-in_err-scratch c =
+    rw (passed c.from_residual.ensures) (lines.lines_stop _ _ _ _ _ _ c.loop-i.i c.loop-i.invariant c.loop-i-test.true c.line_at.ensures c.in_err-scratch.was)
 
 pub overflow_add-scratch : goal.overflow_add-scratch
 overflow_add-scratch c = omega arith
@@ -28,18 +28,12 @@ offset_bounds-scratch-i c = omega (arith, c.loop-i.invariant.len, c.requires.few
 pub bounds-scratch-i : goal.bounds-scratch-i
 bounds-scratch-i c = omega (arith, c.loop-i.invariant.len, c.requires.few, c.requires.room)
 
-pub overflow_add-i : goal.overflow_add-i
-overflow_add-i c = omega arith
-
-pub loop-i-smaller : goal.loop-i-smaller
-loop-i-smaller c = omega arith
-
 pub loop-i-preserved : goal.loop-i-preserved
 loop-i-preserved c =
-    lines.lines_again _ _ _ _ _ _ c.loop-i.i c.loop-i.invariant c.loop-i-test.true c.line_at-line.ensures c.requires c.in-Word.is
+    lines.lines_again _ _ _ _ _ _ c.loop-i.i c.loop-i.invariant c.loop-i-test.true c.line_at.ensures c.requires c.in_ok-scratch.was
 
 pub shape_of-scratch : goal.shape_of-scratch
 shape_of-scratch c = c.loop-i.invariant.len
 
 pub returns : goal.returns
-returns c = lines.lines_end _ _ _ _ _ _ c.loop-i.i c.loop-i.invariant (omega (arith, c.loop-i-test.false))
+returns c = lines.lines_end _ _ _ _ _ _ c.loop-i.i c.loop-i.invariant (omega (arith, c.loop-i.auto.i-end, c.loop-i-test.false))

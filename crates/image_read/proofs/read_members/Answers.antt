@@ -1,5 +1,5 @@
-use Prim.Native.Nat.{◌-◌}
 use native.Mathlib.Omega.{arith}
+use Rattle.refusal.proofs.Passed.{passed}
 use Rattle.image_read.proofs.Lines as lines
 use Rattle.image_read.proofs.read_members.Goals as goal
 
@@ -9,22 +9,16 @@ loop-i-init c = lines.members_begin _ _ _
 pub overflow_add-s : goal.overflow_add-s
 overflow_add-s c = omega arith
 
-pub enter-looked-requires : goal.enter-looked-requires
-enter-looked-requires c = omega (arith, c.requires)
+pub enter-requires : goal.enter-requires
+enter-requires c = omega (arith, c.requires)
 
-pub returns-in-Refused : goal.returns-in-Refused
-returns-in-Refused c =
-    lines.members_stop _ _ _ c.loop-i.i c.loop-i.invariant c.loop-i-test.true c.enter-looked.ensures c.in-Refused.is
-
-pub overflow_add-i : goal.overflow_add-i
-overflow_add-i c = omega arith
-
-pub loop-i-smaller : goal.loop-i-smaller
-loop-i-smaller c = omega arith
+pub returns-in_err-enter : goal.returns-in_err-enter
+returns-in_err-enter c =
+    rw (passed c.from_residual.ensures) (lines.members_stop _ _ _ c.loop-i.i c.loop-i.invariant c.loop-i-test.true c.enter.ensures c.in_err-enter.was)
 
 pub loop-i-preserved : goal.loop-i-preserved
 loop-i-preserved c =
-    lines.members_again _ _ _ c.loop-i.i c.loop-i.invariant c.loop-i-test.true c.enter-looked.ensures c.in-Whole.is
+    lines.members_again _ _ _ c.loop-i.i c.loop-i.invariant c.loop-i-test.true c.enter.ensures c.in_ok-enter.was
 
 pub returns : goal.returns
 returns c = lines.members_end _ _ _ c.loop-i.i c.loop-i.invariant (omega (arith, c.loop-i-test.false))

@@ -1,4 +1,3 @@
-use Prim.Native.Nat.{◌-◌}
 use native.Mathlib.Omega.{arith}
 use Rattle.image_save.proofs.Bytes as bytes
 use Rattle.image_save.proofs.write_words.Goals as goal
@@ -24,12 +23,6 @@ overflow_add-at-in-loop-j c = omega (arith, c.requires.few, c.loop-j-test.true)
 pub put_word-requires : goal.put_word-requires
 put_word-requires c = omega (arith, c.requires.room, c.loop-j.invariant.len, c.loop-j-test.true)
 
-pub overflow_add-j : goal.overflow_add-j
-overflow_add-j c = omega (arith, c.loop-j-test.true)
-
-pub loop-j-smaller : goal.loop-j-smaller
-loop-j-smaller c = omega arith
-
 pub loop-j-preserved : goal.loop-j-preserved
 loop-j-preserved c =
     bytes.words_again _ _ _ _ c.loop-j.j _ _ c.loop-j.invariant c.loop-j-test.true c.word_of-w.ensures c.put_word.ensures
@@ -38,4 +31,4 @@ pub shape_of-image : goal.shape_of-image
 shape_of-image c = c.loop-j.invariant.len
 
 pub returns : goal.returns
-returns c = bytes.words_end _ _ _ c.loop-j.image c.loop-j.j c.loop-j.invariant c.loop-j-test.false
+returns c = bytes.words_end _ _ _ c.loop-j.image c.loop-j.j c.loop-j.invariant (omega (arith, c.loop-j.auto.j-end, c.loop-j-test.false))

@@ -1,4 +1,4 @@
-use Prim.Native.Nat.{◌+◌, ◌*◌, ◌-◌}
+use Prim.Native.Nat.{◌+◌, ◌*◌}
 use Rattle.image_save.specs.Clauses.{kept, word_in}
 use Rattle.image_save.proofs.Bytes as bytes
 use Rattle.image_save.proofs.write_words.Given as goal
@@ -6,6 +6,3 @@ use Rattle.image_save.proofs.write_words.Given as goal
 abbrev pub invariant-loop-j : goal.invariant-loop-j
 invariant-loop-j l =
     bytes.Worded (word_in l.setting (kept l.sp l.nodes l.states l.members l.scratch) l.c l.lines l.b) l.initial.image (512 * l.b + 2) l.image l.j
-
-abbrev pub decreases-loop-j : goal.decreases-loop-j
-decreases-loop-j l = 127 - l.j

@@ -1,4 +1,4 @@
-use Prim.Native.Nat.{◌+◌, ◌-◌}
+use Prim.Native.Nat.{◌+◌}
 use native.Mathlib.Omega.{arith}
 use Rattle.image_states.proofs.Copying as its
 use Rattle.image_states.proofs.copy_members.Goals as goal
@@ -9,8 +9,8 @@ loop-j-init c = its.copy_begin c.args.image.now c.args.at c.args.k c.args.base c
 pub overflow_add-at : goal.overflow_add-at
 overflow_add-at c = omega (arith, c.requires.0.block (c.args.at + c.loop-j.j) (omega arith))
 
-pub word-x-requires : goal.word-x-requires
-word-x-requires c = omega (arith, c.requires.0.block (c.args.at + c.loop-j.j) (omega arith))
+pub word-requires : goal.word-requires
+word-requires c = omega (arith, c.requires.0.block (c.args.at + c.loop-j.j) (omega arith))
 
 pub overflow_add-scratch : goal.overflow_add-scratch
 overflow_add-scratch c = omega (arith, c.requires.1, c.loop-j.invariant.len)
@@ -21,15 +21,9 @@ offset_bounds-scratch-base c = omega (arith, c.requires.1, c.loop-j.invariant.le
 pub bounds-scratch-base : goal.bounds-scratch-base
 bounds-scratch-base c = omega (arith, c.requires.1, c.loop-j.invariant.len)
 
-pub overflow_add-j : goal.overflow_add-j
-overflow_add-j c = omega arith
-
-pub loop-j-smaller : goal.loop-j-smaller
-loop-j-smaller c = omega arith
-
 pub loop-j-preserved : goal.loop-j-preserved
 loop-j-preserved c =
-    its.copy_again c.args.image.now c.args.at c.args.k c.args.base c.args.scratch.now c.loop-j.scratch c.loop-j.j c.loop-j.invariant c.loop-j-test.true c.word-x.result c.word-x.ensures
+    its.copy_again c.args.image.now c.args.at c.args.k c.args.base c.args.scratch.now c.loop-j.scratch c.loop-j.j c.loop-j.invariant c.loop-j-test.true c.word.result c.word.ensures
 
 pub shape_of-scratch : goal.shape_of-scratch
 shape_of-scratch c = c.loop-j.invariant.len

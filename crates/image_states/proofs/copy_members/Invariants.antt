@@ -1,9 +1,5 @@
-use Prim.Native.Nat.{◌-◌}
 use Rattle.image_states.proofs.Copying as its
 use Rattle.image_states.proofs.copy_members.Given as goal
 
 abbrev pub invariant-loop-j : goal.invariant-loop-j
 invariant-loop-j l = its.Copying l.image l.at l.k l.base l.initial.scratch l.scratch l.j
-
-abbrev pub decreases-loop-j : goal.decreases-loop-j
-decreases-loop-j l = l.k - l.j

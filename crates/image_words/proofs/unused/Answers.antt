@@ -1,11 +1,10 @@
 use mathlib.Core.Path.{◌∙◌}
-use Prim.Native.Nat.{◌-◌}
 use native.Mathlib.Omega.{arith}
 use Rattle.image_words.proofs.Words as its
 use Rattle.image_words.proofs.unused.Goals as goal
 
 pub loop-i-init : goal.loop-i-init
-loop-i-init c = (omega arith, its.unused_begin c.args.image.now c.args.b c.args.j c.args.k)
+loop-i-init c = its.unused_begin c.args.image.now c.args.b c.args.j c.args.k
 
 pub overflow_add-j : goal.overflow_add-j
 overflow_add-j c = omega arith
@@ -15,18 +14,12 @@ block_word-requires c = (omega arith, c.requires.1)
 
 pub returns-then-block_word-ne0 : goal.returns-then-block_word-ne0
 returns-then-block_word-ne0 c =
-    c.loop-i.invariant.1 ∙ its.unused_stop c.args.image.now c.args.b c.args.j c.args.k c.loop-i.i c.loop-i-test.true c.block_word.ensures c.if-block_word-ne0.true
-
-pub overflow_add-i : goal.overflow_add-i
-overflow_add-i c = omega arith
-
-pub loop-i-smaller : goal.loop-i-smaller
-loop-i-smaller c = omega arith
+    c.loop-i.invariant ∙ its.unused_stop c.args.image.now c.args.b c.args.j c.args.k c.loop-i.i c.loop-i-test.true c.block_word.ensures c.if-block_word-ne0.true
 
 pub loop-i-preserved : goal.loop-i-preserved
 loop-i-preserved c =
-    (omega arith, c.loop-i.invariant.1 ∙ its.unused_again c.args.image.now c.args.b c.args.j c.args.k c.loop-i.i c.loop-i-test.true c.block_word.ensures c.if-block_word-ne0.false)
+    c.loop-i.invariant ∙ its.unused_again c.args.image.now c.args.b c.args.j c.args.k c.loop-i.i c.loop-i-test.true c.block_word.ensures c.if-block_word-ne0.false
 
 pub returns : goal.returns
 returns c =
-    c.loop-i.invariant.1 ∙ its.unused_end c.args.image.now c.args.b c.args.j c.args.k c.loop-i.i c.loop-i-test.false
+    c.loop-i.invariant ∙ its.unused_end c.args.image.now c.args.b c.args.j c.args.k c.loop-i.i c.loop-i-test.false
