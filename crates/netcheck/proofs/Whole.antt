@@ -1,6 +1,6 @@
 -- What stands in the output and the closing line, and what is written for the whole of standard input.
 use Rattle.std.specs.Prelude.{if◌then◌else◌}
-use mathlib.Core.Path.{◌≡◌, refl, sym, ◌∙◌, ap, subst}
+use mathlib.Core.Path.{◌≡◌, refl, sym, ◌∙◌, ap}
 use mathlib.Core.Bool.{Bool, true, false}
 use mathlib.Core.List.{List, [], ◌++◌, append-nil}
 use Prim.Native.Nat.{ℕ, ◌≤◌, ◌<◌}
@@ -16,8 +16,7 @@ use Rattle.book_steps.specs.Text.{bytes, decimal}
 use Rattle.book_steps.specs.Answers.{say}
 use Rattle.book_writer.specs.Clauses.{Put, Answers}
 use Rattle.book_writer.proofs.Contracts.{put_take}
-use Rattle.book_writer.specs.declared.Answered.{Answered}
-use Rattle.book_writer.specs.declared.Answered.TheVariants as answered
+use Rattle.std.specs.Prelude as code
 use Rattle.book_writer.proofs.Rights.{most_digits}
 use Rattle.book_writer.proofs.Lines.{length_three}
 use Rattle.book_run.specs.Clauses.{lent_of}
@@ -32,14 +31,10 @@ counts n s l = (l, sym (length-take-le n s l))
 -- ---- the closing line
 
 -- 64 bytes hold it
-module _ (number line : ℕ) {r : Answered} (s s' : List ℕ) (A : Answers (refused_line number line) 0 r s s') where
-  pub line_fits : 64 ≤ length s → r ≡ answered.Full → ⊥
-  line_fits l f =
-      let (a, b) = subst (λ (x : Answered). Answers (refused_line number line) 0 x s s') f A in
-      omega (arith, length_three (bytes "refused") (decimal number) (decimal line), most_digits number, most_digits line)
-
-  pub line_put : {e : ℕ} → r ≡ answered.At e → Put 0 (refused_line number line) e s s'
-  line_put f = subst (λ (x : Answered). Answers (refused_line number line) 0 x s s') f A
+pub line_whole : (number line : ℕ) (s s' : List ℕ) (r : code.Option ℕ) → Answers (refused_line number line) 0 r s s' → 64 ≤ length s → Put 0 (refused_line number line) (code.unwrap_or r 0) s s'
+line_whole number line s s' (code.Some e) A l = A
+line_whole number line s s' code.None A l =
+    absurd (omega (arith, A.0, length_three (bytes "refused") (decimal number) (decimal line), most_digits number, most_digits line))
 
 pub stands_put : {bs s s' : List ℕ} {r : ℕ} → Put 0 bs r s s' → Stands bs r s'
 stands_put {bs} {s} {s'} {r} p = record { counts = counts r s' (omega (arith, p.room, p.wrote.len)); is = put_take p }

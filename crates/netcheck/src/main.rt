@@ -3,13 +3,12 @@
 #![tactic(auto)]
 
 ghost use Rattle.std.specs.Prelude.{◌≤◌, length};
-ghost use Rattle.std.specs.Io.{ReadsAtMost};
 ghost use Rattle.book_steps.specs.Claim.{Lends, netcheck_lent};
 ghost use Rattle.book_writer.specs.Clauses.{Put};
 ghost use Rattle.book_run.specs.Clauses.{slices};
 ghost use Rattle.netcheck.specs.Output.{refused_line, closing as Output·closing, too_long, Stands, Prepared};
 
-use book_writer::Answered;
+use book_writer::Part;
 use std::io;
 use std::io::Read;
 
@@ -26,11 +25,8 @@ fn refused_line(out: &mut [u8], number: u32, line: u32) -> usize
     requires { 64 ≤ length out.old }
     ensures { Put 0 (refused_line number line) result out.old out.new }
 {
-    let Answered::At(end) = book_writer::line_of_two(out, 0, b"refused", number as u64, line as u64)
-    else {
-        return 0;
-    };
-    end
+    let parts = [Part::Number(number as u64), Part::Number(line as u64)];
+    book_writer::line(out, 0, b"refused", &parts).unwrap_or(0)
 }
 
 fn closing_line(out: &mut [u8], number: u32, line: u32) -> usize
@@ -96,28 +92,13 @@ fn answer(
     }
 }
 
-// reads until `text` is full or the input ends, and returns how many bytes
-fn read_full<R: Read>(input: &mut R, text: &mut [u8]) -> io::Result<usize>
-    ensures { ReadsAtMost result text.new }
-{
-    let mut got = 0;
-    while got < text.len() {
-        let n = input.read(&mut text[got..])?;
-        if n == 0 {
-            break;
-        }
-        got += n;
-    }
-    Ok(got)
-}
-
 // whether a byte stands behind those that were read
 fn is_over<R: Read>(input: &mut R, got: usize) -> io::Result<bool> {
     if got < 4096 {
         return Ok(false);
     }
     let mut more = [0u8; 1];
-    let n = read_full(input, &mut more)?;
+    let n = reading::read_full(input, &mut more)?;
     Ok(n > 0)
 }
 
@@ -133,7 +114,7 @@ fn main(rt: HostRuntime) -> io::Result<()> {
     let mut scratch = [0u32; 6144];
     let mut output = [0u8; 4096];
     let mut closing = [0u8; 64];
-    let got = read_full(&mut input, &mut book)?;
+    let got = reading::read_full(&mut input, &mut book)?;
     let over = is_over(&mut input, got)?;
     let w = answer(
         over,

@@ -5,11 +5,9 @@
 #![tactic(auto)]
 
 ghost use Rattle.std.specs.Prelude.{◌≤◌, length};
-ghost use Rattle.std.specs.Io.{ReadsAtMost};
 
 use book_finish::Ran;
 use std::io;
-use std::io::Read;
 
 #[derive(Clone, Copy)]
 struct Number {
@@ -38,39 +36,22 @@ struct Told {
     length: usize,
 }
 
-// reads until `text` is full or the input ends, and returns how many bytes
-fn read_full<R: Read>(input: &mut R, text: &mut [u8]) -> io::Result<usize>
-    ensures { ReadsAtMost result text.new }
-{
-    let mut got = 0;
-    while got < text.len() {
-        let n = input.read(&mut text[got..])?;
-        if n == 0 {
-            break;
-        }
-        got += n;
-    }
-    Ok(got)
-}
-
 // the number at `from`, and the place behind the byte that ends it
 fn number_at(text: &[u8], from: usize) -> Number {
     let mut value: usize = 0;
-    let mut at = from;
-    while at < text.len() {
-        let b = text[at];
-        at += 1;
-        if b < b'0' {
-            return Number { value, at };
-        }
-        if b > b'9' {
-            return Number { value, at };
+    for i in from..text.len() {
+        let b = text[i];
+        if !b.is_ascii_digit() {
+            return Number { value, at: i + 1 };
         }
         if value < 10000000 {
             value = 10 * value + (b - b'0') as usize;
         }
     }
-    Number { value, at }
+    Number {
+        value,
+        at: text.len(),
+    }
 }
 
 fn lengths(text: &[u8], from: usize) -> Lent {
@@ -110,24 +91,16 @@ fn least(n: usize, most: usize) -> usize
 fn used(table: &[u32]) -> usize
     ensures { result ≤ length table.now }
 {
-    let mut n = table.len();
-    while n > 0 {
-        if table[n - 1] != 0 {
-            return n;
-        }
-        n -= 1;
+    match table.iter().rposition(|word| *word != 0) {
+        Some(i) => i + 1,
+        None => 0,
     }
-    n
 }
 
 fn print_table(rt: &impl Print, name: &[u8], table: &[u32]) -> io::Result<()> {
     rt.write_all(name)?;
-    let n = used(table);
-    let mut i = 0;
-    while i < n {
-        let word = table[i];
+    for word in table[..used(table)].iter() {
         print!(rt; " {word}")?;
-        i += 1;
     }
     rt.write_all(b"\n")
 }
@@ -258,8 +231,10 @@ fn replay_all(
     output: &mut [u8],
 ) -> io::Result<()> {
     let mut at: usize = 0;
-    let mut turns: usize = 100000;
-    while turns > 0 && at < text.len() {
+    for _ in 0..100000 {
+        if at >= text.len() {
+            break;
+        }
         at = replay_case(
             rt,
             text,
@@ -273,7 +248,6 @@ fn replay_all(
             scratch,
             output,
         )?;
-        turns -= 1;
     }
     Ok(())
 }
@@ -288,7 +262,7 @@ fn main(rt: HostRuntime) -> io::Result<()> {
     let mut pending = [0u32; 8192];
     let mut scratch = [0u32; 6144];
     let mut output = [0u8; 65536];
-    let got = read_full(&mut rt.stdin(), &mut text)?;
+    let got = reading::read_full(&mut rt.stdin(), &mut text)?;
     replay_all(
         &rt,
         &text[..got],

@@ -1,6 +1,9 @@
-use Rattle.netcheck.proofs.Whole.{line_fits}
+use Rattle.std.proofs.Common.{ℕ, sym, subst}
+use Rattle.book_writer.specs.Clauses.{Put}
+use Rattle.netcheck.specs.Output.{refused_line}
+use Rattle.netcheck.proofs.Whole.{line_whole}
 use Rattle.netcheck.proofs.refused_line.Goals as goal
 
-pub returns-in_default : goal.returns-in_default
-returns-in_default c =
-    absurd (line_fits c.args.number c.args.line c.args.out.now c.line_of_two.new.out c.line_of_two.ensures c.requires c.in_default.is)
+pub returns : goal.returns
+returns c =
+    subst (λ (r : ℕ). Put 0 (refused_line c.args.number c.args.line) r c.args.out.now c.line.new.out) (sym c.unwrap_or.ensures) (line_whole c.args.number c.args.line c.args.out.now c.line.new.out c.line.result c.line.ensures c.requires)
