@@ -1,4 +1,4 @@
--- The smart constructors of aut.rs as steps in the Rust's order, under the Rust's names (with `-` for `_`). 01, "Who can cause a refusal": a given list
+-- The smart constructors of aut.rs as steps in the Rust's order, under the Rust's names. 01, "Who can cause a refusal": a given list
 -- that passes the limit meets 6 before any member is opened; then 6 is met where an opened list passes it; 7 where products do; a new state meets 8, 23, 22.
 use Rattle.std.specs.Prelude.{Bool, true, false, ◌&&◌, List, [], ◌∷◌, ◌++◌, ℕ, zero, suc, ◌+◌, ◌*◌, ◌/◌, ◌%◌, eqb, ltb, leb, length, get_or, if◌then◌else◌}
 use Rattle.common.specs.Outcome.{refused, given, Step, return, ◌>>=◌}

@@ -10,6 +10,7 @@ use Rattle.std.proofs.Math.Bool.{and_assoc}
 use Rattle.std.proofs.lemmas.Bool.{cases_lt}
 use lib.Dec.{eqb}
 use lib.ListN.{get_or}
+use borrow.Author.Tests.{ne_eqb}
 use Rattle.spp_steps.specs.Model.{Quad, quad, seek, same, kid}
 use Rattle.spp_steps.specs.Wf.{Rising}
 use Rattle.spp_steps.proofs.Laws.{by_test}
@@ -36,6 +37,13 @@ unfolding same
 same_is t i a b c d x00 x01 x10 x11 e =
     ap (λ (Y : Quad). (eqb (Y false false) x00 && eqb (Y false true) x01) && (eqb (Y true false) x10 && eqb (Y true true) x11)) (sym e)
     ∙ and_assoc (eqb a x00) (eqb b x01) (eqb c x10 && eqb d x11)
+
+-- node i has another first child
+pub first_other : (t : List ℕ) (X : Quad) (i : ℕ) → (get_or t (4 * i) 0 ≡ X false false → ⊥) → same t X i ≡ false
+unfolding same kid
+first_other t X i p =
+    ap (λ (b : Bool). (b && eqb (get_or t (4 * i + 1) 0) (X false true)) && (eqb (get_or t (4 * i + 2) 0) (X true false) && eqb (get_or t (4 * i + 3) 0) (X true true)))
+    (ne_eqb (get_or t (4 * i) 0) (X false false) p)
 
 left_of_lem : (n i : ℕ) → i < n → n - i ≡ suc (n - (i + 1))
 left_of_lem n i l = omega arith

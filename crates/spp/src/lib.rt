@@ -8,6 +8,8 @@ ghost use Rattle.spp_steps.specs.Model as M;
 ghost use Rattle.spp.specs.Reuse.{code_of};
 ghost use Rattle.spp.specs.Clauses.{store_of, seen, op_of, exit_of, quad_of, entry_of, columns, seen_start, SameStore, Fits, First, ColumnAsked, FieldAsked, Asked, Answer, made_of};
 
+use refusal::Refusal;
+
 #[derive(Clone, Copy, Debug, PartialEq, Eq)]
 pub struct SPP(pub u32);
 
@@ -37,6 +39,16 @@ pub struct SPPnode {
 // no record is left for a relation node: 01's refusal 21
 #[derive(Clone, Copy, Debug, PartialEq, Eq)]
 pub struct Full;
+
+impl From<Full> for Refusal {
+    ghost use Rattle.refusal.specs.declared.Refusal.TheVariants.{Spp};
+
+    ghost from_gives = { λ _ e. e ≡ Spp };
+
+    fn from(_full: Full) -> Refusal {
+        Refusal::Spp
+    }
+}
 
 // the lent table, how many of its records are nodes, and how many fields a packet has
 #[derive(Drop)]
@@ -359,7 +371,7 @@ impl SPPstore<'_> {
         ensures { result ≡ M.seek self.now.nodes.now (quad_of x) 0 self.now.count }
     {
         for i in first(x)..self.count {
-            if node(self.nodes, i) == x {
+            if self.nodes[4 * i] == x.x00.0 && node(self.nodes, i) == x {
                 return i;
             }
         }
