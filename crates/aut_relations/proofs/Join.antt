@@ -1,4 +1,4 @@
--- The state of a relation that an operation makes: what the two calls come to.
+-- both_relations; an operation on relations, on a store made for the call and on all tables; and an answer on states with all counts.
 use mathlib.Core.Path.{◌≡◌, refl, sym, ◌∙◌, ap, ap₂, subst}
 use mathlib.Core.Bool.{Bool, true, false, ◌&&◌}
 use mathlib.Core.List.{List}
@@ -49,26 +49,10 @@ module _ {N : ℕ} {o : Step Table ℕ} {t : Table} {s m u : List ℕ} {n : ℕ}
   pub related : {a : Result Handle Full} {r : Made} {u' : List ℕ} → Answer N seen o t (lent s) a (table u n) m → r ≡ made_of a n → u' ≡ u → Relates N o t r u' s (back s m)
   related {r = r} A p q = subst (λ (v : List ℕ). Relates N o t r v s (back s m)) (sym q) (subst (λ (r : Made). Relates N o t r u s (back s m)) (sym p) (made_left A))
 
--- what is left of scratch, where the nodes are as they were
-pub same_left : (N a n : ℕ) (r : State) (c : Counts) (t s s' : List ℕ) → SameNodes r c → Modifies N a n (table t c.spp) s s' → ModifiesBy N a n r t s s'
-same_left N a n (Is i d) c t s s' e l = subst (λ (z : ℕ). Modifies N a n (table t z) s s') (sym e) l
-same_left N a n (Refused e) c t s s' q l = tt
-
--- the counts of tables that were not taken
-pub beside_more : (r : State) (c d : Counts) → Beside r d → d.sp ≡ c.sp → d.transitions ≡ c.transitions → Beside r c
-beside_more (Is i b) c d p x y = (p.0 ∙ x, p.1 ∙ y)
-beside_more (Refused e) c d p x y = tt
-
--- spp_of: the operation o, then the state
-module _ (o : Step Table ℕ) (t st : List ℕ) (c : Counts) where
-  pub no_relation : {e : ℕ} → o (table t c.spp) ≡ refused e → (mem : List ℕ) → spp_of o (aut_of t st mem c) ≡ refused e
-  no_relation q mem = ap (λ (z : Outcome Table ℕ). after (placed put_nodes (aut_of t st mem c) z) (λ h. on_states (mk_spp h))) q
-
-  pub a_relation : {t1 : List ℕ} {n h : ℕ} → o (table t c.spp) ≡ given (table t1 n) h → {z : Outcome Table ℕ} → mk_spp h (table st c.states) ≡ z
-      → (mem : List ℕ) → spp_of o (aut_of t st mem c) ≡ placed put_states (aut (table t1 n) (table st c.states) (table mem c.members)) z
-  a_relation {t1} {n} {h} q {z} w mem =
-      ap (λ (z : Outcome Table ℕ). after (placed put_nodes (aut_of t st mem c) z) (λ h. on_states (mk_spp h))) q
-      ∙ ap (placed put_states (aut (table t1 n) (table st c.states) (table mem c.members))) w
+-- the same on all tables: M, the fields of the store, are the N of the book
+module _ {N M : ℕ} (o : ℕ → Step Table ℕ) (q : M ≡ N) {t τ : Table} {s m : List ℕ} (l : LISTS ≤ length s) where
+  pub applied : {h : Handle} → Answer M seen (o M) t (lent s) (Ok h) τ m → (o N t ≡ given τ h.0) × Modifies N 0 0 τ s (back s m)
+  applied {h} A = subst (λ (K : ℕ). (o K t ≡ given τ h.0) × Modifies K 0 0 τ s (back s m)) q (A.gives, left_back s m l A.notes)
 
 -- placed
 module _ (p : Put) (c : Counts) where

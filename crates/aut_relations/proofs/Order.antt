@@ -30,7 +30,7 @@ use Rattle.aut_states.specs.Clauses.{limits_of, Fits, Ready1, Ready2, ListIn, Be
 use Rattle.aut_scratch.specs.Clauses.{OpenAt, ProductAt}
 use Rattle.aut_relations.specs.Behind.{LISTS, Modifies, CacheReady}
 use Rattle.aut_relations.proofs.Behind.{backed_left}
-use Rattle.aut_relations.specs.Clauses.{aut_of, seen_aut, ModifiesBy, Ready, RelAt, SppReady}
+use Rattle.aut_relations.specs.Clauses.{aut_of, seen_aut, ModifiesBy, Ready, RelAt}
 
 module _ {N : ℕ} {L : Limits} {σ : Aut} (g : WfAut N L σ) where
   abbrev st : List ℕ
@@ -139,8 +139,3 @@ pub ready_after : {N : ℕ} {l : Bounds} {σ τ : Aut} {s s' : List ℕ} {a n : 
 ready_after r w g p len =
     let b = backed_left (backed_of r) w.nodes g.nodes p len in
     record { few = r.few; good = g; room = b.room; sound = b.sound; list = r.list; products = r.products }
-
--- x and y are relations
-pub spp_ready : {N : ℕ} {l : Bounds} {t st mem s : List ℕ} (c : Counts) → Ready N l (aut_of t st mem c) s → {x y : ℕ} → x < c.states → y < c.states
-    → (kind_of st x ≡ SPP) × (kind_of st y ≡ SPP) → SppReady N t st s c x y
-spp_ready c r l m e = record { backed = backed_of r; fits = fits r.good; has_x = l; has_y = m; at_x = StateLaws.handle r.good l e.0; at_y = StateLaws.handle r.good m e.1 }

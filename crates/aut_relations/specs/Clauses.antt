@@ -54,12 +54,6 @@ abbrev pub ModifiesBy : ℕ → ℕ → ℕ → State → List ℕ → List ℕ 
 ModifiesBy N a n (Is i d) t' s s' = Modifies N a n (table t' d.spp) s s'
 ModifiesBy N a n (Refused e) t' s s' = Unit
 
--- the outcome o is what the answer r says
-pub record Does (N a n : ℕ) (o : Outcome Aut ℕ) (r : State) (c : Counts) (t' st' mem' s s' : List ℕ) : Type 0 where
-  pub is : o ≡ seen_aut r t' st' mem'
-  pub beside : Beside r c
-  pub left : ModifiesBy N a n r t' s s'
-
 -- the tables are in order, the limits in range
 pub record Ready (N : ℕ) (l : Limits) (σ : Aut) (s : List ℕ) : Type 0 where
   pub few : N ≤ 31
@@ -80,22 +74,6 @@ pub record Places (p : Put) (c : Counts) (r : State) : Type 0 where
   pub exprs : (st₀ st mem : List ℕ) → placed (λ s τ. exprs s τ.members) (exprs (table st₀ c.states) (table mem c.members)) (seen_put p st) ≡ seen_state r st mem
   pub beside : Beside r c
   pub nodes : SameNodes r c
-
--- ---- the state of a relation that an operation makes of x and y
-
-pub record SppReady (N : ℕ) (t st s : List ℕ) (c : Counts) (x y : ℕ) : Type 0 where
-  pub backed : CacheReady N (table t c.spp) s
-  pub fits : Fits st c.states
-  pub has_x : x < c.states
-  pub has_y : y < c.states
-  pub at_x : ValidAt (table t c.spp) N (op1 st x)
-  pub at_y : ValidAt (table t c.spp) N (op1 st y)
-
--- the members, which are not taken, are any
-pub record DoesSpp (N : ℕ) (o : Step Table ℕ) (r : State) (c : Counts) (t st s t' st' s' : List ℕ) : Type 0 where
-  pub is : (mem : List ℕ) → spp_of o (aut_of t st mem c) ≡ seen_aut r t' st' mem
-  pub beside : Beside r c
-  pub left : ModifiesBy N 0 0 r t' s s'
 
 -- state x is in the table; if it is a relation, its handle is in order
 pub record RelAt (N : ℕ) (t : Table) (st : List ℕ) (x : ℕ) : Type 0 where

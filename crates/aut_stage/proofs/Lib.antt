@@ -3,3 +3,6 @@ pub mod Stage
 pub mod Reading
 pub mod OnAut
 pub mod OnNodes
+pub mod Rule
+pub mod Turns
+pub mod OnLent

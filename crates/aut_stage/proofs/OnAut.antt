@@ -18,10 +18,13 @@ use Rattle.aut_relations.specs.Behind.{LISTS, Modifies, CacheReady}
 use Rattle.aut_relations.proofs.Behind.{left_refl, left_trans, left_wide, left_kept, backed_left}
 use Rattle.aut_relations.specs.Clauses.{aut_of, Ready}
 use Rattle.aut_stage.specs.Stage.{Layer, gave, Post}
+use Rattle.aut_stage.specs.OnLent.{Onward}
 
-pub record Onward (σ τ : Aut) : Type 0 where
-  pub grown : ExtAut σ τ
-  pub memos : Memos σ τ
+pub onward_refl : (σ : Aut) → Onward σ σ
+onward_refl σ = record { grown = grown_refl σ; memos = λ i w x y. refl }
+
+pub onward_trans : (σ τ υ : Aut) → Onward σ τ → Onward τ υ → Onward σ υ
+onward_trans σ τ υ p q = record { grown = grown_trans p.grown q.grown; memos = λ i w x y. q.memos i w x y ∙ p.memos i w x y }
 
 -- the tables that a constructor does not take
 abbrev pub Aside : Counts → Counts → Type 0

@@ -1,4 +1,4 @@
--- A run of calls on lent tables and scratch, a call at a time. Said once, for every layer of tables (`Layer`) and every kind of value.
+-- The rule of specs/Rule over answers that bring their counts, for layers that hold a table and its count apart.
 use Rattle.std.specs.Prelude.{◌≡◌, List, ℕ, ◌+◌, ◌≤◌, length}
 use Rattle.common.specs.Outcome.{Outcome, refused, given}
 use Rattle.aut_steps.specs.Scratch.{Kept}

@@ -391,7 +391,7 @@ fn put_of(answer: Result<u32, Refusal>, count: usize) -> Put
     }
 }
 
-fn state_of(answer: Result<u32, Refusal>, c: Counts) -> State
+pub fn state_of(answer: Result<u32, Refusal>, c: Counts) -> State
     ensures { result ≡ state_of answer c }
 {
     match answer {
@@ -452,81 +452,6 @@ pub fn intern2(states: &mut [u32], count: usize, limits: Limits, kind: u32, x: u
         count,
     };
     let answer = table.intern2(limits, kind, x, y);
-    put_of(answer, table.count)
-}
-
-pub fn mk_spp(states: &mut [u32], count: usize, spp: SPP) -> Put
-    requires { Fits states.old count }
-    ensures { C.mk_spp spp.0 (table states.old count) ≡ seen_put result states.new }
-{
-    let mut table = States {
-        words: states,
-        count,
-    };
-    let answer = table.mk_spp(spp);
-    put_of(answer, table.count)
-}
-
-pub fn mk_dup(states: &mut [u32], count: usize) -> Put
-    requires { Fits states.old count }
-    ensures { C.mk_dup (table states.old count) ≡ seen_put result states.new }
-{
-    let mut table = States {
-        words: states,
-        count,
-    };
-    let answer = table.mk_dup();
-    put_of(answer, table.count)
-}
-
-pub fn mk_top(states: &mut [u32], count: usize) -> Put
-    requires { Fits states.old count }
-    ensures { C.mk_top (table states.old count) ≡ seen_put result states.new }
-{
-    let mut table = States {
-        words: states,
-        count,
-    };
-    let answer = table.mk_top();
-    put_of(answer, table.count)
-}
-
-pub fn mk_next(states: &mut [u32], count: usize, limits: Limits, x: u32) -> Put
-    requires { Ready1 states.old count NEXT x }
-    ensures { C.mk_next (limits_of limits) x (table states.old count) ≡ seen_put result
-        states.new }
-{
-    let mut table = States {
-        words: states,
-        count,
-    };
-    let answer = table.mk_next(limits, x);
-    put_of(answer, table.count)
-}
-
-pub fn mk_until(states: &mut [u32], count: usize, limits: Limits, x: u32, y: u32) -> Put
-    requires { Ready2 states.old count UNTIL x y }
-    ensures { C.mk_until (limits_of limits) x y (table states.old count) ≡ seen_put result
-        states.new }
-{
-    let mut table = States {
-        words: states,
-        count,
-    };
-    let answer = table.mk_until(limits, x, y);
-    put_of(answer, table.count)
-}
-
-pub fn mk_complement(states: &mut [u32], count: usize, config: Config, x: u32) -> Put
-    requires { Ready1 states.old count COMPLEMENT x × (config.fields ≤ 31) }
-    ensures { C.mk_complement config.fields (limits_of config.limits) x
-        (table states.old count) ≡ seen_put result states.new }
-{
-    let mut table = States {
-        words: states,
-        count,
-    };
-    let answer = table.mk_complement(config, x);
     put_of(answer, table.count)
 }
 
