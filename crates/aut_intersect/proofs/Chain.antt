@@ -1,115 +1,128 @@
 -- The chain of calls of an intersection: what each call is asked, and what the whole comes to.
-use Rattle.std.specs.Prelude.{Option, Some, None}
-use mathlib.Core.Path.{◌≡◌, refl, ◌∙◌, ap, subst}
+use Rattle.std.specs.Prelude.{Some, None, Result, Ok, Err}
+use mathlib.Core.Path.{◌≡◌, refl, ◌∙◌, ap}
 use mathlib.Core.List.{List, []}
 use Prim.Native.Nat.{ℕ, ◌≤◌}
 use native.Mathlib.Omega.{arith}
 use native.Mathlib.Nat.{one-mul}
 use lib.ListN.{length}
-use Rattle.common.specs.Outcome.{Outcome, refused, given, Step, after}
-use Rattle.common.specs.Runs.{table}
+use Rattle.std.specs.Result.{IsErr, IsErrAnd}
+use Rattle.common.specs.Outcome.{Outcome, Step, after}
+use Rattle.refusal.specs.declared.Refusal.{Refusal}
+use Rattle.refusal.specs.declared.Refusal.TheVariants as refusal
 use Rattle.aut_steps.specs.Tables.{words, Limits, Aut}
 use Rattle.aut_steps.specs.Relations as Rel
-use Rattle.aut_steps.proofs.StepSpec.{StepSpec, came}
 use Rattle.aut_steps.proofs.Products.{counted}
+use Rattle.aut_steps.proofs.UnionLaws.{mk_union_n_goes}
 use Rattle.aut_steps.specs.Constructors as C
-use Rattle.aut_steps.specs.Constructors.{Within, within, sizes, open_all, count_all, mk_union_n}
-use Rattle.aut_states.specs.declared.Counts.{Counts}
-use Rattle.aut_states.specs.declared.Limits.{Limits as Bounds}
-use Rattle.aut_states.specs.declared.State.{State}
-use Rattle.aut_states.specs.declared.State.TheVariants as state
+use Rattle.aut_steps.specs.Constructors.{Within, within, sizes, open_all, count_all, mk_union_n, intersect_opened}
+use Rattle.aut_states.specs.declared.Config.{Config}
 use Rattle.aut_states.specs.Clauses.{limits_of}
-use Rattle.aut_scratch.specs.Clauses.{CountReady, counted_of, counted_most}
-use Rattle.aut_scratch.specs.Clauses as Lists
-use Rattle.aut_relations.specs.Behind.{Modifies}
-use Rattle.aut_relations.proofs.Behind.{left_wide, left_trans}
-use Rattle.aut_relations.specs.Clauses.{aut_of, seen_aut, ModifiesBy, Ready, Does}
-use Rattle.aut_relations.proofs.Join.{beside_more}
+use Rattle.aut_scratch.specs.Clauses.{OpenedAll, CountReady, Counts}
 use Rattle.aut_relations.proofs.Order as order
-use Rattle.aut_relations.proofs.Order.{ready_after}
+use Rattle.aut_relations.specs.declared.Aut.{Aut as Lent}
+use Rattle.aut_relations.specs.Lent.{aut_in, Keeps, Does, Asked}
+use Rattle.aut_stage.specs.OnLent.{Goes}
+use Rattle.aut_stage.proofs.Rule as rule
+use Rattle.aut_stage.proofs.OnLent.{lent_laws, made}
 use Rattle.aut_union.specs.Clauses.{ListAt}
-use Rattle.aut_union.proofs.Calls.{ListExits, OfList, PairExits, OfPair}
-use Rattle.aut_intersect.specs.declared.Based.{Based}
-use Rattle.aut_intersect.specs.declared.Based.TheVariants as based
-use Rattle.aut_intersect.specs.Clauses.{BasesReady, Bases, BasesGoes, Going, seen_based, BasedBeside, BasedLeft}
+use Rattle.aut_union.proofs.Calls.{not_done, handed, ListExits, OfList, several, PairExits, OfPair}
+use Rattle.aut_intersect_base.proofs.Opening as opening
+use Rattle.aut_intersect.specs.Clauses.{BasesReady, AllStates}
+
+abbrev no_products : Refusal → Result (Unit {0}) Refusal
+no_products e = Err e
+
+-- what holds after a call, without what its steps promise
+does : {c : Config} {a n : ℕ} {V A : Type 0} {P : Aut → A → Type 0} {see : V → A} {o : Step Aut A} {x y : Lent} (r : Result V Refusal) → Goes c a n P see o x r y → Does c.fields a n aut_in see o x r y
+does (Ok v) G = record { is = G.post.is; left = G.post.then.frame }
+does (Err e) G = record { is = G.post.is; left = tt }
 
 -- ---- distribute
 
-module _ (N : ℕ) (l : Bounds) (t st mem s : List ℕ) (c : Counts) (k : ℕ) (R : Ready N l (aut_of t st mem c) s) (A : ListAt s c.states 64 k 128) where
-  abbrev σ : Aut
-  σ = aut_of t st mem c
+module _ {c : Config} {x : Lent} {k : ℕ} (R : Asked c x) (A : ListAt x.scratch.now x.states.count 64 k 128) where
+  abbrev N : ℕ
+  N = c.fields
+
+  abbrev L : Limits
+  L = limits_of c.limits
 
   abbrev xs : List ℕ
-  xs = words s 64 k
+  xs = words x.scratch.now 64 k
 
-  abbrev whole : Outcome Aut ℕ
-  whole = C.intersect_opened N (limits_of l) (within xs) σ
+  abbrev whole : Step Aut ℕ
+  whole = intersect_opened N L (within xs)
 
-  pub count_ready : CountReady st s l.products 64 k
-  count_ready = record { at = order.below R.good xs A.states; limit = R.products; within = omega (arith, A.apart, R.room) }
+  abbrev count : Within ℕ
+  count = count_all c.limits.products x.states.words.now xs 1
 
-  module _ (r1 : Option ℕ) (K : Lists.Counts (count_all l.products st xs 1) r1) where
-    after_1 : whole ≡ C.distribute N (limits_of l) xs (counted_of r1) σ
-    after_1 = ap (λ (o : Within ℕ). C.distribute N (limits_of l) xs o σ) K.is
+  pub count_ready : CountReady x.states.words.now x.scratch.now c.limits.products 64 k
+  count_ready = record { at = order.below R.ready.good xs A.states; limit = R.ready.products; within = omega (arith, A.apart, R.ready.room) }
 
-    pub too_many : r1 ≡ None → whole ≡ refused 7
-    too_many e = after_1 ∙ ap (λ (r : Option ℕ). C.distribute N (limits_of l) xs (counted_of r) σ) e
+  pub too_many : {y : Lent} → Counts count None → Does N 128 448 aut_in (λ i. i) whole x (Err refusal.Products) y
+  too_many K = not_done refusal.Products (ap (λ (o : Within ℕ). C.distribute N L xs o (aut_in x)) K.is)
 
-    module _ (n : ℕ) (told : r1 ≡ Some n) where
-      number_is : n ≡ sizes st xs
-      number_is = counted l.products st xs 1 n (K.is ∙ ap counted_of told) ∙ one-mul (sizes st xs)
+  module _ {n : ℕ} (K : Counts count (Some n)) where
+    abbrev products : Step Aut (List ℕ)
+    products = C.bases N L xs 0 n []
 
-      few : n ≤ 32
-      few = subst counted_most told K.few
+    pub bases_ready : BasesReady c x k n
+    bases_ready = record { asked = R; list = A; products = omega (arith, counted c.limits.products x.states.words.now xs 1 n K.is, one-mul (sizes x.states.words.now xs)); few = K.few }
 
-      pub bases_ready : BasesReady N l σ s k n
-      bases_ready = record { ready = R; list = A; products = omega (arith, number_is); few = few }
+    after_count : whole (aut_in x) ≡ after (products (aut_in x)) (mk_union_n N L)
+    after_count = ap (λ (o : Within ℕ). C.distribute N L xs o (aut_in x)) K.is
 
-      after_2 : {o : Outcome Aut (List ℕ)} → C.bases N (limits_of l) xs 0 n [] σ ≡ o → whole ≡ after o (mk_union_n N (limits_of l))
-      after_2 e = after_1 ∙ ap (λ (r : Option ℕ). C.distribute N (limits_of l) xs (counted_of r) σ) told ∙ ap (λ (o : Outcome Aut (List ℕ)). after o (mk_union_n N (limits_of l))) e
+    module _ {y : Lent} where
+      pub not_based : {e : Refusal} {r : Result ℕ Refusal} {z : Lent} → IsErr r × IsErrAnd r (λ x. x ≡ e) → Goes c 128 448 AllStates (λ u. words y.scratch.now 128 n) products x (no_products e) y → Does N 128 448 aut_in (λ i. i) whole x r z
+      not_based {e} p G = handed e p (after_count ∙ ap (λ (o : Outcome Aut (List ℕ)). after o (mk_union_n N L)) G.post.is)
 
-      module _ (r2 : Based) (t2 st2 mem2 s2 : List ℕ) (D : Bases N n l σ (C.bases N (limits_of l) xs 0 n [] σ) r2 c t2 st2 mem2 s s2) (len2 : length s2 ≡ length s) where
-        pub not_based : (e : ℕ) → r2 ≡ based.Refused e → whole ≡ refused e
-        not_based e q = after_2 (D.is ∙ ap (λ (r : Based). seen_based r n t2 st2 mem2 s2) q)
+      module _ (E : Keeps x y) {v : Unit {0}} (G : Goes c 128 448 AllStates (λ u. words y.scratch.now 128 n) products x (Ok v) y) where
+        asked : Asked c y
+        asked = record { fields = E.spp.fields ∙ R.fields; ready = G.post.then.ready }
 
-        module _ (d : Counts) (told2 : r2 ≡ based.Done d) where
-          is_2 : C.bases N (limits_of l) xs 0 n [] σ ≡ given (aut_of t2 st2 mem2 d) (words s2 128 n)
-          is_2 = D.is ∙ ap (λ (r : Based). seen_based r n t2 st2 mem2 s2) told2
+        pub union_asked : Asked c y × ListAt y.scratch.now y.states.count 128 n 256
+        union_asked = (asked, record { states = G.post.then.holds; apart = omega (arith, K.few) })
 
-          left_2 : Modifies N 128 448 (table t2 d.spp) s s2
-          left_2 = subst (λ (r : Based). BasedLeft N r t2 s s2) told2 D.left
-
-          beside_2 : (d.sp ≡ c.sp) × (d.transitions ≡ c.transitions)
-          beside_2 = subst (λ (r : Based). BasedBeside r c) told2 D.beside
-
-          gone : BasesGoes N l σ (aut_of t2 st2 mem2 d) (words s2 128 n)
-          gone = subst (λ (r : Based). Going N l σ r n t2 st2 mem2 s2) told2 D.goes
-
-          pub union_ready : Ready N l (aut_of t2 st2 mem2 d) s2 × ListAt s2 d.states 128 n 256
-          union_ready = (ready_after R gone.grown gone.good left_2 len2, record { states = gone.results; apart = omega (arith, few) })
-
-          pub united : (r3 : State) (t3 st3 mem3 s3 : List ℕ) → length s3 ≡ length s2 → Does N 256 320 (mk_union_n N (limits_of l) (words s2 128 n) (aut_of t2 st2 mem2 d)) r3 d t3 st3 mem3 s2 s3
-              → Does N 128 448 whole r3 c t3 st3 mem3 s s3
-          united r3 t3 st3 mem3 s3 len3 E = record { is = after_2 is_2 ∙ E.is; beside = beside_more r3 c d E.beside beside_2.0 beside_2.1; left = left_by r3 E.is E.left }
-            where
-              left_by : (r : State) → mk_union_n N (limits_of l) (words s2 128 n) (aut_of t2 st2 mem2 d) ≡ seen_aut r t3 st3 mem3 → ModifiesBy N 256 320 r t3 s2 s3 → ModifiesBy N 128 448 r t3 s s3
-              left_by (state.Is j e) q v =
-                  let g = came (subst (StepSpec N (limits_of l) _ (aut_of t2 st2 mem2 d)) q (Rattle.aut_steps.proofs.UnionLaws.mk_union_n_goes gone.good (words s2 128 n) gone.results)) in
-                  left_trans g.grown.nodes left_2 (left_wide v (omega arith) (omega arith))
-              left_by (state.Refused e) q v = tt
+        pub united : {r : Result ℕ Refusal} {z : Lent} → Keeps y z → Does N 256 320 aut_in (λ i. i) (mk_union_n N L (words y.scratch.now 128 n)) y r z → Does N 128 448 aut_in (λ i. i) whole x r z
+        united {r} F D = does r (record {
+          post = rule.finish (lent_laws N c.limits) 128 448
+              (rule.next (lent_laws N c.limits) 128 448 G.post (rule.all_of 128 448) (mk_union_n N L) (rule.begin (lent_laws N c.limits) 128 448 R.ready after_count))
+              r (made asked F (mk_union_n_goes G.post.then.ready.good (words y.scratch.now 128 n) G.post.then.holds) D).post (record { from = omega arith; to = omega arith });
+        })
 
 -- ---- mk_intersect_n
 
 -- the members are opened
-abbrev pub opening : ℕ → Limits → List ℕ → Step Aut ℕ
-opening N L xs σ = C.intersect_opened N L (open_all L.list σ.states.words σ.members.words xs []) σ
+abbrev pub open_step : ℕ → Limits → List ℕ → Step Aut ℕ
+open_step N L xs σ = intersect_opened N L (open_all L.list σ.states.words σ.members.words xs []) σ
 
-pub list_exits : ListExits C.mk_intersect_n opening
+pub list_exits : ListExits C.mk_intersect_n open_step
 unfolding C.mk_intersect_n
-list_exits N L xs σ = refl
+list_exits N L ys σ = refl
 
 abbrev pub of_list : OfList
-of_list = record { whole = C.mk_intersect_n; rest = opening; is = list_exits }
+of_list = record { whole = C.mk_intersect_n; rest = open_step; is = list_exits }
+
+module _ {c : Config} {x : Lent} {from k : ℕ} (R : Asked c x) (A : ListAt x.scratch.now x.states.count from k 64) where
+  abbrev all_n : Step Aut ℕ
+  all_n = C.mk_intersect_n c.fields (limits_of c.limits) (words x.scratch.now from k)
+
+  abbrev rest : Within (List ℕ) → Step Aut ℕ
+  rest = intersect_opened c.fields (limits_of c.limits)
+
+  abbrev open_n : Within (List ℕ)
+  open_n = open_all c.limits.list x.states.words.now x.members.words.now (words x.scratch.now from k) []
+
+  module _ (h : k ≤ c.limits.list) (p : k ≡ 1 → ⊥) {s1 : List ℕ} where
+    pub too_long : {y : Lent} → OpenedAll open_n None x.scratch.now s1 64 c.limits.list → Does c.fields 64 512 aut_in (λ i. i) all_n x (Err refusal.List) y
+    too_long O = opening.too_long R A (omega arith) rest (several of_list c x from k h p) refusal.List refl O
+
+    module _ {m : ℕ} (O : OpenedAll open_n (Some m) x.scratch.now s1 64 c.limits.list) (len1 : length s1 ≡ length x.scratch.now) (y : Lent) (tables : aut_in y ≡ aut_in x) (fields : y.spp.fields ≡ x.spp.fields) (s : y.scratch.now ≡ s1) where
+      pub distribute_asked : Asked c y × ListAt y.scratch.now y.states.count 64 m 128
+      distribute_asked = let p = opening.next_ready R A (omega arith) O len1 y tables fields s in (p.0, p.1)
+
+      pub distributed : {r : Result ℕ Refusal} {z : Lent} → Does c.fields 128 448 aut_in (λ i. i) (rest (within (words y.scratch.now 64 m))) y r z → Does c.fields 64 512 aut_in (λ i. i) all_n x r z
+      distributed D = opening.next_done R A (omega arith) O len1 y tables fields s rest (several of_list c x from k h p) (omega arith) D
 
 -- ---- mk_intersect
 

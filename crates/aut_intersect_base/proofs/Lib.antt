@@ -1,4 +1,4 @@
--- Gathering the relations of a list; a list whose members are opened; the chain of calls of an intersection.
+-- The relations of a list intersected, and the state of the list; a list that is opened; the chain of calls of an intersection.
 pub mod Gather
 pub mod Opening
 pub mod Chain

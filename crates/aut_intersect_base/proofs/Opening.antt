@@ -1,58 +1,58 @@
 -- The members of a list are opened to `to`, and the next call writes behind them.
-use Rattle.std.specs.Prelude.{Option, Some, None}
-use mathlib.Core.Path.{◌≡◌, ◌∙◌, ap, subst}
+use Rattle.std.specs.Prelude.{Some, None, Result, Err}
+use mathlib.Core.Path.{◌≡◌, sym, ◌∙◌, ap, subst}
 use mathlib.Core.List.{List, []}
 use Prim.Native.Nat.{ℕ, ◌+◌, ◌≤◌, ◌<◌}
 use native.Mathlib.Omega.{arith}
 use lib.ListN.{length}
-use Rattle.common.specs.Outcome.{Outcome, Step}
+use Rattle.common.specs.Outcome.{refused, Step}
+use Rattle.refusal.specs.declared.Refusal.{Refusal}
+use Rattle.refusal.specs.Numbers.{number_of}
 use Rattle.aut_steps.specs.Tables.{INTERSECT, words, Aut}
+use Rattle.aut_steps.specs.Ascending.{All}
+use Rattle.aut_steps.specs.Scratch.{Kept}
 use Rattle.aut_steps.proofs.Scratch.{kept_wide}
-use Rattle.aut_steps.specs.Constructors.{Within, within, open_all}
-use Rattle.aut_states.specs.declared.Counts.{Counts}
-use Rattle.aut_states.specs.declared.Limits.{Limits as Bounds}
-use Rattle.aut_states.specs.declared.State.{State}
-use Rattle.aut_scratch.specs.Clauses.{OpenReady, Extends, listed_of, listed_most}
+use Rattle.aut_steps.specs.Constructors.{Within, within, beyond, open_all}
+use Rattle.aut_states.specs.declared.Config.{Config}
+use Rattle.aut_scratch.specs.Clauses.{OpenReady, Extends}
 use Rattle.aut_relations.specs.Behind.{LISTS}
-use Rattle.aut_relations.specs.Clauses.{aut_of, Ready, Does}
 use Rattle.aut_relations.proofs.Order as order
 use Rattle.aut_relations.proofs.Opens.{AllWithin, all_states_lem}
+use Rattle.aut_relations.specs.declared.Aut.{Aut as Lent}
+use Rattle.aut_relations.specs.Lent.{aut_in, Does, Asked}
 use Rattle.aut_union.specs.Clauses.{ListAt}
-use Rattle.aut_union.proofs.Calls.{Written, written_ready, written_done}
+use Rattle.aut_union.proofs.Calls.{not_done, Written, written_asked, written_done}
 
-module _ (N : ℕ) (l : Bounds) (t st mem s : List ℕ) (c : Counts) (from k to : ℕ) (R : Ready N l (aut_of t st mem c) s) (A : ListAt s c.states from k to) (room : to + 64 ≤ LISTS) where
-  abbrev σ : Aut
-  σ = aut_of t st mem c
-
+module _ {c : Config} {x : Lent} {from k to : ℕ} (R : Asked c x) (A : ListAt x.scratch.now x.states.count from k to) (room : to + 64 ≤ LISTS) where
   abbrev opened : Within (List ℕ)
-  opened = open_all l.list st mem (words s from k) []
+  opened = open_all c.limits.list x.states.words.now x.members.words.now (words x.scratch.now from k) []
 
-  pub open_ready : OpenReady st mem s l.list INTERSECT from k to
-  open_ready = record { at = order.open_all_at R.good (words s from k) A.states; limit = R.list; apart = A.apart; room = omega (arith, R.list, R.room) }
+  pub open_ready : OpenReady x.states.words.now x.members.words.now x.scratch.now c.limits.list INTERSECT from k to
+  open_ready = record { at = order.open_all_at R.ready.good (words x.scratch.now from k) A.states; limit = R.ready.list; apart = A.apart; room = omega (arith, R.ready.list, R.ready.room) }
 
-  module _ (rest : Within (List ℕ) → Step Aut ℕ) (whole : Outcome Aut ℕ) (is : whole ≡ rest opened σ) (r1 : Option ℕ) (s1 : List ℕ) (O : Extends opened r1 s s1 to l.list) (len1 : length s1 ≡ length s) where
-    after_open : (r : Option ℕ) → r1 ≡ r → whole ≡ rest (listed_of r s1 to) σ
-    after_open r e = is ∙ ap (λ (o : Within (List ℕ)). rest o σ) (O.is ∙ ap (λ (r : Option ℕ). listed_of r s1 to) e)
+  -- too many
+  pub too_long : (rest : Within (List ℕ) → Step Aut ℕ) {whole : Step Aut ℕ} → whole (aut_in x) ≡ rest opened (aut_in x) → {N a n : ℕ} {s1 : List ℕ} {y : Lent} (e : Refusal) → rest beyond (aut_in x) ≡ refused (number_of e)
+      → Extends opened None x.scratch.now s1 to c.limits.list → Does N a n aut_in (λ i. i) whole x (Err e) y
+  too_long rest is e q O = not_done e (is ∙ ap (λ (o : Within (List ℕ)). rest o (aut_in x)) O.is ∙ q)
 
-    pub too_long : r1 ≡ None → whole ≡ rest (listed_of None s1 to) σ
-    too_long e = after_open None e
+  module _ {s1 : List ℕ} {m : ℕ} (O : Extends opened (Some m) x.scratch.now s1 to c.limits.list) (len1 : length s1 ≡ length x.scratch.now) (y : Lent) (tables : aut_in y ≡ aut_in x) (fields : y.spp.fields ≡ x.spp.fields)
+      (s : y.scratch.now ≡ s1) where
+    written : Written to m x y
+    written = record {
+      kept = subst (Kept to 64 x.scratch.now) (sym s) (kept_wide O.kept (omega arith) (omega (arith, R.ready.list)));
+      len = ap length s ∙ len1;
+      few = omega (arith, R.ready.list, O.few);
+      states = subst (λ (s : List ℕ). All (λ i. i < x.states.count) (words s to m)) (sym s)
+          (subst (AllWithin (λ i. i < x.states.count)) O.is (all_states_lem R.ready.good c.limits.list (words x.scratch.now from k) [] A.states tt));
+      tables = tables;
+      fields = fields;
+    }
 
-    module _ (m : ℕ) (told : r1 ≡ Some m) where
-      few_m : m ≤ 64
-      few_m = omega (arith, R.list, subst (λ (r : Option ℕ). listed_most r l.list) told O.few)
+    pub next_ready : Asked c y × ListAt y.scratch.now y.states.count to m (to + 64) × (m ≤ 64)
+    next_ready =
+        let p = written_asked written R room in
+        (p.0, p.1, written.few)
 
-      written : Written c.states to m s s1
-      written = record {
-        kept = kept_wide O.kept (omega arith) (omega (arith, R.list));
-        len = len1;
-        few = few_m;
-        states = subst (AllWithin (λ x. x < c.states)) (O.is ∙ ap (λ (r : Option ℕ). listed_of r s1 to) told) (all_states_lem R.good l.list (words s from k) [] A.states tt);
-      }
-
-      pub next_ready : Ready N l σ s1 × ListAt s1 c.states to m (to + 64) × (m ≤ 64)
-      next_ready =
-          let p = written_ready t st mem c R written room in
-          (p.0, p.1, few_m)
-
-      pub next_done : (n : ℕ) → to + 64 + n ≤ LISTS → (r2 : State) (t2 st2 mem2 s2 : List ℕ) → Does N (to + 64) n (rest (within (words s1 to m)) σ) r2 c t2 st2 mem2 s1 s2 → Does N to (64 + n) whole r2 c t2 st2 mem2 s s2
-      next_done n h r2 t2 st2 mem2 s2 D = written_done r2 t2 st2 mem2 s2 written h (after_open (Some m) told) D
+    pub next_done : (rest : Within (List ℕ) → Step Aut ℕ) {whole : Step Aut ℕ} → whole (aut_in x) ≡ rest opened (aut_in x) → {N n : ℕ} {r : Result ℕ Refusal} {z : Lent} → to + 64 + n ≤ LISTS
+        → Does N (to + 64) n aut_in (λ i. i) (rest (within (words y.scratch.now to m))) y r z → Does N to (64 + n) aut_in (λ i. i) whole x r z
+    next_done rest is h D = written_done written h (is ∙ ap (λ (o : Within (List ℕ)). rest o (aut_in x)) O.is ∙ ap (λ (s : List ℕ). rest (within (words s to m)) (aut_in x)) (sym s)) D

@@ -1,290 +1,225 @@
-// mk_intersect_n_base of aut.rs. A list is k words of scratch (the map of scratch is aut_lists').
+// mk_intersect_n_base of aut.rs. A list is k words of scratch (the map of scratch is aut_scratch's).
 #![tactic(auto)]
 
-ghost use Rattle.std.specs.Prelude.{◌≡◌, true, false, List, [], ◌∷◌, ℕ, ◌+◌, ◌*◌, ◌≤◌, ◌<◌, length};
-ghost use Rattle.common.specs.Runs.{table};
-ghost use Rattle.aut_steps.specs.Tables.{words};
+ghost use Rattle.std.specs.Prelude.{◌≡◌, false, List, [], ℕ, ◌+◌, ◌≤◌};
+ghost use Rattle.aut_steps.specs.Tables.{words, INTERSECT};
 ghost use Rattle.aut_steps.specs.Relations.{top_at};
 ghost use Rattle.aut_steps.specs.Constructors as C;
-ghost use Rattle.aut_steps.specs.Constructors.{met, each};
-ghost use Rattle.aut_states.specs.Clauses.{limits_of, Fits};
-ghost use Rattle.aut_relations.specs.Clauses.{aut_of, Ready, Does};
-ghost use Rattle.aut_union.specs.Clauses.{UniteReady, UnitesReady, Adds, ListAt};
-ghost use Rattle.aut_intersect_base.specs.Clauses.{nothing_of, alone_of, list_of, Meets, AddReady, OnStates, FinishReady, Finishes};
+ghost use Rattle.aut_steps.specs.Constructors.{each, met};
+ghost use Rattle.aut_states.specs.Clauses.{limits_of, states_of, seen, Fits};
+ghost use Rattle.aut_scratch.specs.Clauses.{OpenReady, OpenedAll};
+ghost use Rattle.aut_relations.specs.Lent.{nodes_in, aut_in, Keeps, KeepsExprs, Does, Asked};
+ghost use Rattle.aut_union.specs.Clauses.{Most, UniteReady, UnitesReady, Adds, ListAt};
+ghost use Rattle.aut_intersect_base.specs.Clauses.{some_of, handle_of, met_of, met_at, nothing_of, alone_of, list_of, AddReady, FinishReady, Finishes};
 
-use aut_states::{Config, Counts, Limits, Put, State};
-use spp::{Made, Op, SPP};
+use aut_relations::Aut;
+use aut_states::{Config, Members, States};
+use refusal::Refusal;
+use spp::{Op, SPP};
 
-// whether there is a relation, the relation, the number of nodes, and how many other members there are
+// the relation, if there is one, and how many other members there are
 #[derive(Clone, Copy)]
-pub enum Met {
-    Rest(bool, SPP, usize, usize),
-    Full,
+pub struct Met {
+    pub relation: Option<SPP>,
+    pub others: usize,
 }
 
-// Top goes; x is intersected with h if it is a relation, or goes behind the m words at to
-fn meet_one(
-    nodes: &mut [u32],
-    states: &[u32],
-    scratch: &mut [u32],
-    count: usize,
-    fields: u32,
-    some: bool,
-    h: SPP,
-    x: u32,
-    to: usize,
-    m: usize,
-) -> Met
-    requires { UniteReady fields (table nodes.old count) states.now scratch.old h.0 x to m }
-    ensures { Meets fields (to + m) 1 (m + 1)
-        (C.meet_one fields states.now x (met some h.0 (words scratch.old to m))
-        (table nodes.old count)) result nodes.new scratch.old scratch.new to }
+// with no relation so far it is the top
+fn relation_of(fields: u32, relation: Option<SPP>) -> SPP
+    requires { fields ≤ 31 }
+    ensures { handle_of fields relation ≡ result.0 }
 {
-    let i = x as usize;
-    let kind = states[12 * i];
+    match relation {
+        Some(h) => h,
+        None => spp::top_at_depth(fields, fields),
+    }
+}
+
+// Top goes; x is intersected with the relation if it is one, or goes behind the others, which stand at to
+fn meet_one(aut: &mut Aut, config: Config, p: Met, x: u32, to: usize) -> Result<Met, Refusal>
+    requires { UniteReady config.fields aut.old (handle_of config.fields p.relation) x to p.others }
+    ensures keeps { KeepsExprs aut.old aut.new }
+    ensures gives { Does config.fields (to + p.others) 1 nodes_in
+        (met_at config.fields aut.new.scratch.now to)
+        (C.meet_one config.fields aut.old.states.words.now x
+        (met_at config.fields aut.old.scratch.now to p)) aut.old result aut.new }
+    ensures few { Most (λ q. q.others) result (p.others + 1) }
+{
+    let kind = aut.states.kind(x);
     if kind == aut_states::kind::TOP {
-        return Met::Rest(some, h, count, m);
+        return Ok(p);
     }
     if kind == aut_states::kind::SPP {
-        let g = SPP(states[12 * i + 1]);
-        let Made::Node(u, n) = aut_relations::apply(
-            nodes,
-            scratch,
-            count,
-            fields,
-            Op::Intersect,
-            h,
-            g,
-        ) else {
-            return Met::Full;
-        };
-        return Met::Rest(true, u, n, m);
+        let g = SPP(aut.states.first(x));
+        let h = relation_of(config.fields, p.relation);
+        let u = aut.apply(config, Op::Intersect, h, g)?;
+        return Ok(Met {
+            relation: Some(u),
+            ..p
+        });
     }
-    scratch[to + m] = x;
-    Met::Rest(some, h, count, m + 1)
+    aut.scratch[to + p.others] = x;
+    Ok(Met {
+        others: p.others + 1,
+        ..p
+    })
 }
 
 // the relations of the k states at from, intersected; the others go to to
 fn meet_each(
-    nodes: &mut [u32],
-    states: &[u32],
-    scratch: &mut [u32],
-    count: usize,
-    fields: u32,
+    aut: &mut Aut,
+    config: Config,
     from: usize,
     k: usize,
     to: usize,
-) -> Met
-    requires { UnitesReady fields (table nodes.old count) states.now scratch.old from k to }
-    ensures { Meets fields to k k
-        (each (C.meet_one fields states.now) (words scratch.old from k)
-        (met false (top_at fields) []) (table nodes.old count)) result nodes.new
-        scratch.old scratch.new to }
+) -> Result<Met, Refusal>
+    requires { UnitesReady config.fields aut.old from k to }
+    ensures keeps { KeepsExprs aut.old aut.new }
+    ensures gives { Does config.fields to k nodes_in (met_at config.fields aut.new.scratch.now to)
+        (each (C.meet_one config.fields aut.old.states.words.now)
+        (words aut.old.scratch.now from k) (met false (top_at config.fields) [])) aut.old result
+        aut.new }
+    ensures few { Most (λ q. q.others) result k }
 {
-    let mut some = false;
-    let mut h = spp::top_at_depth(fields, fields);
-    let mut n = count;
-    let mut m = 0;
+    let mut p = Met {
+        relation: None,
+        others: 0,
+    };
     for i in 0..k {
-        let x = scratch[from + i];
-        let Met::Rest(b, h1, n1, m1) = meet_one(
-            nodes, states, scratch, n, fields, some, h, x, to, m,
-        ) else {
-            return Met::Full;
-        };
-        some = b;
-        h = h1;
-        n = n1;
-        m = m1;
+        let x = aut.scratch[from + i];
+        p = meet_one(aut, config, p, x, to)?;
     }
-    Met::Rest(some, h, n, m)
+    Ok(p)
 }
 
 // the relation goes behind the k words at at as a state, if there is one
 fn add_last(
-    states: &mut [u32],
+    states: &mut States,
     scratch: &mut [u32],
-    count: usize,
-    some: bool,
-    h: SPP,
+    relation: Option<SPP>,
     at: usize,
     k: usize,
-) -> aut_union::Added
-    requires { AddReady states.old scratch.old count at k }
-    ensures { (others : List ℕ) → Adds
-        (C.add_last (met some h.0 others) (words scratch.old at k) (table states.old count))
-        result states.new scratch.old scratch.new at k }
+) -> Result<usize, Refusal>
+    requires { AddReady states.old.words.now scratch.old states.old.count at k }
+    ensures same { states.new.words.ghost_name ≡ states.old.words.ghost_name }
+    ensures gives { (N : ℕ) (others : List ℕ) → Adds
+        (C.add_last (met_of N relation others) (words scratch.old at k)) states.old result
+        states.new scratch.old scratch.new at k }
+    ensures few { Most (λ m. m) result (k + 1) }
 {
-    if some {
-        let put = aut_states::mk_spp(states, count, h);
-        match put {
-            Put::Refused(e) => {
-                return aut_union::Added::Refused(e);
-            }
-            Put::At(i, n) => {
-                scratch[at + k] = i;
-                return aut_union::Added::List(k + 1, n);
-            }
-        }
-    }
-    aut_union::Added::List(k, count)
+    let Some(h) = relation else {
+        return Ok(k);
+    };
+    scratch[at + k] = states.mk_spp(h)?;
+    Ok(k + 1)
 }
 
 // whether there is a relation, and it is zero
-fn nothing(fields: u32, some: bool, h: SPP) -> bool
+fn nothing(fields: u32, relation: Option<SPP>) -> bool
     requires { fields ≤ 31 }
-    ensures { nothing_of fields some h.0 ≡ result }
+    ensures { nothing_of fields (some_of relation) (handle_of fields relation) ≡ result }
 {
-    if some {
-        let zero = spp::zero_at_depth(fields);
-        if h.0 == zero.0 {
-            return true;
-        }
-        return false;
+    match relation {
+        Some(h) => spp::is_zero(fields, h),
+        None => false,
     }
-    false
 }
 
 // no other members: the relation's state, or Top
-fn alone(states: &mut [u32], c: Counts, some: bool, h: SPP) -> State
-    requires { Fits states.old c.states }
-    ensures { OnStates (alone_of some h.0) result c states.old states.new }
+fn alone(states: &mut States, relation: Option<SPP>) -> Result<u32, Refusal>
+    requires { Fits states.old.words.now states.old.count }
+    ensures same { states.new.words.ghost_name ≡ states.old.words.ghost_name }
+    ensures gives { (N : ℕ) → alone_of (some_of relation) (handle_of N relation)
+        (states_of states.old) ≡ seen result (states_of states.new) }
 {
-    if some {
-        let put = aut_states::mk_spp(states, c.states, h);
-        return aut_relations::placed(put, c);
+    match relation {
+        Some(h) => states.mk_spp(h),
+        None => states.mk_top(),
     }
-    let put = aut_states::mk_top(states, c.states);
-    aut_relations::placed(put, c)
 }
 
 // the state of the k states at SORTED, with the relation behind them, if there is one
-fn meet_list(
-    states: &mut [u32],
-    members: &mut [u32],
-    scratch: &mut [u32],
-    c: Counts,
-    limits: Limits,
-    some: bool,
-    h: SPP,
-    k: usize,
-) -> State
-    requires { (N : ℕ) × FinishReady N limits states.old members.old scratch.old c some h.0 k }
-    ensures { (others : List ℕ) → Finishes
-        (list_of (limits_of limits) some h.0 others (words scratch.old 448 k)) result c states.old
-        members.old scratch.old states.new members.new
-        scratch.new k }
+fn meet_list(aut: &mut Aut, config: Config, relation: Option<SPP>, k: usize) -> Result<u32, Refusal>
+    requires { FinishReady config aut.old relation k }
+    ensures keeps { Keeps aut.old aut.new }
+    ensures nodes { aut.new.spp ≡ aut.old.spp }
+    ensures gives { (others : List ℕ) → Finishes
+        (list_of (limits_of config.limits) (some_of relation) (handle_of config.fields relation)
+        others (words aut.old.scratch.now 448 k)) aut.old result aut.new k }
 {
-    let added = add_last(states, scratch, c.states, some, h, aut_scratch::SORTED, k);
-    match added {
-        aut_union::Added::Refused(e) => State::Refused(e),
-        aut_union::Added::List(m, n) => {
-            let d = Counts { states: n, ..c };
-            aut_states::intern_list(
-                states,
-                members,
-                scratch,
-                d,
-                limits,
-                aut_states::kind::INTERSECT,
-                aut_scratch::SORTED,
-                m,
-            )
-        }
-    }
+    let at = aut_scratch::SORTED;
+    let m = add_last(&mut aut.states, aut.scratch, relation, at, k)?;
+    let list = &mut aut.scratch[at..at + m];
+    aut.states.intern_list(
+        &mut aut.members,
+        config.limits,
+        aut_states::kind::INTERSECT,
+        list,
+    )
 }
 
 // the state of the k states at SORTED and of the relation
 fn meet_finish(
-    states: &mut [u32],
-    members: &mut [u32],
-    scratch: &mut [u32],
-    c: Counts,
+    aut: &mut Aut,
     config: Config,
-    some: bool,
-    h: SPP,
+    relation: Option<SPP>,
     k: usize,
-) -> State
-    requires { FinishReady config.fields config.limits states.old members.old scratch.old c some h.0
-        k }
-    ensures { (others : List ℕ) → Finishes
-        (C.meet_finish config.fields (limits_of config.limits) (met some h.0 others)
-        (words scratch.old 448 k)) result c states.old members.old
-        scratch.old states.new members.new scratch.new k }
+) -> Result<u32, Refusal>
+    requires { FinishReady config aut.old relation k }
+    ensures keeps { Keeps aut.old aut.new }
+    ensures nodes { aut.new.spp ≡ aut.old.spp }
+    ensures gives { (others : List ℕ) → Finishes
+        (C.meet_finish config.fields (limits_of config.limits)
+        (met_of config.fields relation others) (words aut.old.scratch.now 448 k)) aut.old result
+        aut.new k }
 {
-    if nothing(config.fields, some, h) {
-        let zero = spp::zero_at_depth(config.fields);
-        let put = aut_states::mk_spp(states, c.states, zero);
-        return aut_relations::placed(put, c);
+    if nothing(config.fields, relation) {
+        return aut.states.mk_spp(spp::zero_at_depth(config.fields));
     }
     if k == 0 {
-        return alone(states, c, some, h);
+        return alone(&mut aut.states, relation);
     }
-    meet_list(states, members, scratch, c, config.limits, some, h, k)
+    meet_list(aut, config, relation, k)
 }
 
 // the intersection of the k states at BASE, none of which is an Intersect
-fn meet(
-    nodes: &mut [u32],
-    states: &mut [u32],
-    members: &mut [u32],
-    scratch: &mut [u32],
-    c: Counts,
-    config: Config,
-    k: usize,
-) -> State
-    requires { Ready config.fields config.limits (aut_of nodes.old states.old members.old c)
-        scratch.old × ListAt scratch.old c.states 256 k 320 × (k ≤ 64) }
-    ensures { Does config.fields 320 256
-        (C.meet config.fields (limits_of config.limits) (words scratch.old 256 k)
-        (aut_of nodes.old states.old members.old c)) result c nodes.new
-        states.new members.new scratch.old scratch.new }
+fn meet(aut: &mut Aut, config: Config, k: usize) -> Result<u32, Refusal>
+    requires { Asked config aut.old × ListAt aut.old.scratch.now aut.old.states.count 256 k 320 ×
+        (k ≤ 64) }
+    ensures keeps { Keeps aut.old aut.new }
+    ensures gives { Does config.fields 320 256 aut_in (λ i. i)
+        (C.meet config.fields (limits_of config.limits) (words aut.old.scratch.now 256 k)) aut.old
+        result aut.new }
 {
-    let Met::Rest(some, h, n, m) = meet_each(
-        nodes,
-        states,
-        scratch,
-        c.spp,
-        config.fields,
-        aut_scratch::BASE,
-        k,
-        aut_scratch::OTHERS,
-    ) else {
-        return State::Refused(21);
-    };
-    let r = aut_scratch::sorted(scratch, aut_scratch::OTHERS, m, aut_scratch::SORTED);
-    let d = Counts { spp: n, ..c };
-    meet_finish(states, members, scratch, d, config, some, h, r)
+    let p = meet_each(aut, config, aut_scratch::BASE, k, aut_scratch::OTHERS)?;
+    let at = aut_scratch::SORTED;
+    let r = aut_scratch::sorted(aut.scratch, aut_scratch::OTHERS, p.others, at);
+    meet_finish(aut, config, p.relation, r)
 }
 
 // the intersection of the k states at from, Unions not opened
 pub fn mk_intersect_n_base(
-    nodes: &mut [u32],
-    states: &mut [u32],
-    members: &mut [u32],
-    scratch: &mut [u32],
-    c: Counts,
+    aut: &mut Aut,
     config: Config,
     from: usize,
     k: usize,
-) -> State
-    requires { Ready config.fields config.limits (aut_of nodes.old states.old members.old c)
-        scratch.old × ListAt scratch.old c.states from k 256 }
-    ensures { Does config.fields 256 320
-        (C.mk_intersect_n_base config.fields (limits_of config.limits) (words scratch.old from k)
-        (aut_of nodes.old states.old members.old c)) result c nodes.new
-        states.new members.new scratch.old scratch.new }
+) -> Result<u32, Refusal>
+    requires { Asked config aut.old × ListAt aut.old.scratch.now aut.old.states.count from k 256 }
+    ensures keeps { Keeps aut.old aut.new }
+    ensures gives { Does config.fields 256 320 aut_in (λ i. i)
+        (C.mk_intersect_n_base config.fields (limits_of config.limits)
+        (words aut.old.scratch.now from k)) aut.old result aut.new }
 {
     let Some(m) = aut_scratch::open(
-        states,
-        members,
-        scratch,
+        &aut.states,
+        &aut.members,
+        aut.scratch,
         config.limits.list,
         from,
         k,
         aut_scratch::BASE,
     ) else {
-        return State::Refused(6);
+        return Err(Refusal::List);
     };
-    meet(nodes, states, members, scratch, c, config, m)
+    meet(aut, config, m)
 }

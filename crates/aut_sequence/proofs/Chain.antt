@@ -5,7 +5,7 @@ use mathlib.Core.Bool.{false}
 use mathlib.Core.List.{List, [], ◌∷◌}
 use Prim.Native.Nat.{ℕ, zero, suc, ◌+◌, ◌*◌, ◌≤◌, ◌<◌}
 use native.Mathlib.Omega.{arith}
-use lib.ListN.{length, get_or}
+use lib.ListN.{length}
 use Rattle.common.specs.Outcome.{Outcome, refused, given, Step, return, after, ◌>>=◌}
 use Rattle.aut_steps.specs.Relations as Rel
 use Rattle.aut_steps.specs.Tables.{SEQUENCE, kind_of, op1, op2, nest, Limits, Aut}
@@ -64,10 +64,6 @@ module _ {st : List ℕ} {count : ℕ} (n : Nested st count) {x : ℕ} (l : x < 
   chain_lower top = omega arith
   chain_lower (below {w} p k) = omega (arith, (n.lower w (chain_state p) k).1, chain_lower p)
 
-  pub chain_apart : {u : ℕ} → Chain st x u → (u ≡ x → ⊥) → nest st u < nest st x
-  chain_apart top q = absurd (q refl)
-  chain_apart (below {w} p k) q = omega (arith, (n.lower w (chain_state p) k).1, chain_lower p)
-
   -- a depth that is enough for x is one that is enough for u, and one for each above it
   pub record Depth (es : List ℕ) (u depth : ℕ) : Type 0 where
     pub d : ℕ
@@ -110,26 +106,15 @@ module _ {st : List ℕ} {x e : ℕ} (v : Walked st x e) where
   pub walked_in : 12 * e + 11 < length st
   walked_in = v.from.nested.inside e (chain_state v.from.nested v.from.has v.chain)
 
-  module _ {k : ℕ} (i : get_or st (12 * e) 0 ≡ k) where
-    pub walked_end : (k ≡ SEQUENCE → ⊥) → Ends st x e
-    unfolding kind_of
-    walked_end n = record { chain = v.chain; last = λ q. n (sym i ∙ q) }
+  pub walked_end : {k : ℕ} → k ≡ kind_of st e → (k ≡ SEQUENCE → ⊥) → Ends st x e
+  walked_end i n = record { chain = v.chain; last = λ q. n (i ∙ q) }
 
-  module _ (k : kind_of st e ≡ SEQUENCE) {z : ℕ} (j : op2 st e ≡ z) where
+  module _ (k : kind_of st e ≡ SEQUENCE) {z : ℕ} (j : z ≡ op2 st e) where
     pub walked_on : Walked st x z
-    walked_on = record { from = v.from; chain = subst (Chain st x) j (below v.chain k) }
+    walked_on = record { from = v.from; chain = subst (Chain st x) (sym j) (below v.chain k) }
 
     pub walked_less : nest st z < nest st e
-    walked_less = subst (λ (z : ℕ). nest st z < nest st e) j (v.from.nested.lower e (chain_state v.from.nested v.from.has v.chain) k).1
-
-  module _ {k : ℕ} (i : get_or st (12 * e) 0 ≡ k) (q : k ≡ SEQUENCE) {z : ℕ} (j : get_or st (12 * e + 2) 0 ≡ z) where
-    pub end_on : Walked st x z
-    unfolding kind_of op2
-    end_on = walked_on (i ∙ q) j
-
-    pub end_less : nest st z < nest st e
-    unfolding kind_of op2
-    end_less = walked_less (i ∙ q) j
+    walked_less = subst (λ (z : ℕ). nest st z < nest st e) (sym j) (v.from.nested.lower e (chain_state v.from.nested v.from.has v.chain) k).1
 
 -- ---- link_to
 
@@ -156,17 +141,14 @@ module _ {st : List ℕ} {x u w : ℕ} (v : Linked st x u w) where
       go (here e) = absurd (v.apart e)
       go (there k q) = q
 
-  module _ {z : ℕ} (i : get_or st (12 * w + 2) 0 ≡ z) where
+  module _ {z : ℕ} (i : z ≡ op2 st w) where
     pub link_found : z ≡ u → Links st x u w
-    unfolding op2
-    link_found e = record { chain = v.walked.chain; link = linked_kind; next = i ∙ e }
+    link_found e = record { chain = v.walked.chain; link = linked_kind; next = sym i ∙ e }
 
     pub link_on : (z ≡ u → ⊥) → Linked st x u z
-    unfolding op2
-    link_on n = record { walked = walked_on v.walked linked_kind i; chain = subst (λ (z : ℕ). Chain st z u) i linked_rest; apart = n }
+    link_on n = record { walked = walked_on v.walked linked_kind i; chain = subst (λ (z : ℕ). Chain st z u) (sym i) linked_rest; apart = n }
 
     pub link_less : nest st z < nest st w
-    unfolding op2
     link_less = walked_less v.walked linked_kind i
 
 -- ---- chains in tables in order, and in tables that have grown

@@ -1,240 +1,208 @@
--- mk_sequence: a step that is known, or calls on the end of x's chain and on its first operands, which are nested lower. What is shown is of every depth from the nesting of x on.
+-- mk_sequence: what is not regrouped, or the end of x's chain and its first operands joined one by one. What is shown is of every depth from the nesting of x on.
 use mathlib.Core.Path.{◌≡◌, refl, sym, ◌∙◌, ap, subst}
+use mathlib.Core.Bool.{true, false}
 use mathlib.Core.List.{List, [], ◌∷◌}
 use Prim.Native.Nat.{ℕ, zero, suc, ◌+◌, ◌*◌, ◌≤◌, ◌<◌}
 use native.Mathlib.Omega.{arith}
-use lib.ListN.{length, get_or}
-use Rattle.common.specs.Outcome.{Outcome, refused, Step, return, after, ◌>>=◌}
-use Rattle.common.specs.Runs.{Table, table}
+use lib.ListN.{length}
+use Rattle.std.specs.Prelude.{Result, Ok, Err}
+use Rattle.common.specs.Outcome.{Outcome, after, ◌>>=◌}
+use Rattle.refusal.specs.declared.Refusal.{Refusal}
+use Rattle.refusal.specs.Numbers.{outcome}
 use Rattle.netkat.specs.Rules.{Join}
-use Rattle.spp_steps.specs.Wf.{Ext}
 use Rattle.aut_steps.specs.Tables.{SEQUENCE, kind_of, op1, op2, nest, Limits, Aut}
 use Rattle.aut_steps.specs.Kinds.{form}
-use Rattle.aut_steps.specs.Constructors.{sequence_with, sequence_by, mk_sequence}
+use Rattle.aut_steps.specs.Ascending.{All}
+use Rattle.aut_steps.specs.Constructors.{sequence_by, mk_sequence}
 use Rattle.aut_steps.specs.Wf.{Two, ExtAut}
-use Rattle.aut_steps.proofs.Wf.{ok_as, grown_refl, grown_trans, kind_grown, first_grown, second_grown, nesting_grown, state_grown}
+use Rattle.aut_steps.proofs.Wf.{ok_as, grown_refl, grown_trans, kind_grown, first_grown, second_grown, state_grown}
 use Rattle.aut_steps.specs.StepSpec.{Gone}
-use Rattle.aut_steps.proofs.StepSpec.{StepSpec}
+use Rattle.aut_steps.proofs.StepSpec.{StepSpec, came}
 use Rattle.aut_steps.proofs.Meaning as Meaning
 use Rattle.aut_steps.specs.Meaning.{Holds}
 use Rattle.aut_steps.proofs.SequenceLaws.{mk_sequence_goes}
 use Rattle.aut_states.specs.Clauses.{limits_of}
-use Rattle.aut_states.specs.declared.Counts.{Counts}
-use Rattle.aut_states.specs.declared.Limits.{Limits as Bounds}
-use Rattle.aut_states.specs.declared.State.{State}
-use Rattle.aut_states.specs.declared.State.TheVariants.{Is, Refused}
+use Rattle.aut_states.specs.declared.Config.{Config}
+use Rattle.aut_relations.specs.declared.Aut.{Aut as Lent}
 use Rattle.aut_relations.specs.Behind.{Modifies}
+use Rattle.aut_relations.specs.Lent.{nodes_in, aut_in, Keeps, Does, Unless, Asked}
 use Rattle.aut_relations.proofs.Behind.{left_refl, left_trans}
-use Rattle.aut_relations.specs.Clauses.{aut_of, seen_aut, Beside, ModifiesBy, Ready}
-use Rattle.aut_relations.proofs.Join.{beside_more}
-use Rattle.aut_sequence.specs.declared.Known.{Known}
-use Rattle.aut_sequence.specs.declared.Way.{Way}
-use Rattle.aut_sequence.specs.declared.Way.TheVariants as way
-use Rattle.aut_sequence.specs.Clauses.{Makes, Asks, known_of, way_of, Since, Plans, Chain, top, below, Nested, Walks, Ends, Links, Sequences}
-use Rattle.aut_sequence.proofs.After.{gone, left_of_lem, beside_of, ready_of}
-use Rattle.aut_sequence.proofs.Chain.{firsts, deeper, join_by, after_return, sequence_chain, chain_state, chain_lower, chain_apart, depth_at, nested_of, chain_grown, chain_back}
+use Rattle.aut_relations.proofs.Order.{ready_after}
+use Rattle.aut_sequence.specs.Clauses.{regroups, joined_of, Enough, Chain, top, below, Nested, Walks, Ends, Links}
+use Rattle.aut_sequence.proofs.Ways.{at_any_depth, regrouped, no_sequence}
+use Rattle.aut_sequence.proofs.Chain.{firsts, deeper, join_by, sequence_chain, chain_state, chain_lower, depth_at, nested_of, chain_grown, chain_back}
 
--- what holds of every depth from the nesting of x on
-module _ (N : ℕ) (L : Limits) (x y : ℕ) (r : State) (c : Counts) (t st t' st' : List ℕ) where
-  -- a step that does not call again
-  by_any : ((again : ℕ → ℕ → Step Aut ℕ) (mem : List ℕ) → sequence_with N L again x y (aut_of t st mem c) ≡ seen_aut r t' st' mem)
-      → (depth : ℕ) → nest st x ≤ depth → (mem : List ℕ) → sequence_by N L depth x y (aut_of t st mem c) ≡ seen_aut r t' st' mem
-  unfolding sequence_by
-  by_any f zero l mem = f (λ a b. return a) mem
-  by_any f (suc depth) l mem = f (sequence_by N L depth) mem
+abbrev pub AskedOf : Config → Lent → ℕ → ℕ → Type 0
+AskedOf k l x y = Asked k l × All (λ i. i < l.states.count) (x ∷ y ∷ [])
 
-module _ {N : ℕ} {L : Limits} {x y : ℕ} {r : State} {c : Counts} {t st s t' st' s' : List ℕ} where
-  sequences : ((depth : ℕ) → nest st x ≤ depth → (mem : List ℕ) → sequence_by N L depth x y (aut_of t st mem c) ≡ seen_aut r t' st' mem)
-      → Beside r c → ModifiesBy N 0 0 r t' s s' → Sequences N L x y r c t st s t' st' s'
+-- ---- a step that is not regrouped
+
+module _ (k : Config) (x y : ℕ) {l m : Lent} {r : Result ℕ Refusal} where
+  -- at any depth, and so at the nesting of x
+  pub enough : regroups k.fields l.states.words.now x y ≡ false → Does k.fields 0 0 aut_in (λ i. i) (joined_of k.fields (limits_of k.limits) x y) l r m → Enough k x y l r m
+  enough e D depth le = at_any_depth k.fields (limits_of k.limits) x y (aut_in l) e depth ∙ D.is
+
+module _ (k : Config) (x y : ℕ) (l m : Lent) (r : Result ℕ Refusal) where
+  pub as_mk : Enough k x y l r m → Unless r (Modifies k.fields 0 0 (nodes_in m) l.scratch.now m.scratch.now) → Does k.fields 0 0 aut_in (λ i. i) (mk_sequence k.fields (limits_of k.limits) x y) l r m
   unfolding mk_sequence
-  sequences f b l = record { made = record { is = λ mem. f (nest st x) (omega arith) mem; beside = b; left = l }; by = f }
-
--- scratch after two calls
-left_both : {N : ℕ} {t1 : Table} (r : State) (t2 : List ℕ) {s s1 : List ℕ} (s2 : List ℕ) → ((i : ℕ) (d : Counts) → r ≡ Is i d → Ext t1 (table t2 d.spp)) → Modifies N 0 0 t1 s s1 → ModifiesBy N 0 0 r t2 s1 s2 → ModifiesBy N 0 0 r t2 s s2
-left_both (Is i d) t2 s2 e p q = left_trans (e i d refl) p q
-left_both (Refused n) t2 s2 e p q = tt
-
-module _ {N : ℕ} {l : Bounds} {t st s : List ℕ} {c : Counts} {x y : ℕ} (a : Asks N l t st s c (x ∷ y ∷ [])) {w : Way} (p : Plans N st x y w) where
-  pub known_done : {k : Known} → w ≡ way.Step k → {r : State} {t' st' s' : List ℕ} → Makes N (known_of N (limits_of l) k x y) r c t st s t' st' s' → Sequences N (limits_of l) x y r c t st s t' st' s'
-  known_done e {r} {t'} {st'} m = sequences (by_any N (limits_of l) x y r c t st t' st' (λ again mem. p.is (limits_of l) again t mem c ∙ ap (λ (w : Way). way_of N (limits_of l) again w x y (aut_of t st mem c)) e ∙ m.is mem)) m.beside m.left
-
-  since : w ≡ way.Regroup → Since N st x y way.Regroup
-  since e = subst (Since N st x y) e p.since
+  as_mk f p = record { is = f (nest l.states.words.now x) (omega arith); left = p }
 
 -- ---- the loop: what comes after u on x's chain is joined, e is to be joined in front of z
 
-module _ (N : ℕ) (l : Bounds) (c : Counts) (x y : ℕ) (t₀ st₀ s₀ : List ℕ) where
-  -- e is called as deep as is enough, and then what stands above u, as deep as it stands above it
-  pub record Rest (t st : List ℕ) (u e z : ℕ) (d : Counts) (p : Chain st₀ x u) (at : ℕ) : Type 0 where
-    pub depth : ℕ
-    pub enough : nest st₀ e ≤ depth
-    pub is : (mem : List ℕ) → sequence_by N (limits_of l) (deeper at (firsts p)) x y (aut_of t₀ st₀ mem c) ≡ (sequence_by N (limits_of l) depth e z >>= join_by N (limits_of l) at (firsts p)) (aut_of t st mem d)
+pub record Turn (k : Config) (x y : ℕ) (l₀ l : Lent) (u e z : ℕ) : Type 0 where
+  pub from : AskedOf k l₀ x y
+  pub keeps : Keeps l₀ l
+  pub same : l.members ≡ l₀.members
+  pub asked : Asked k l
+  pub grown : ExtAut (aut_in l₀) (aut_in l)
+  pub left : Modifies k.fields 0 0 (nodes_in l) l₀.scratch.now l.scratch.now
+  pub chain : Chain l₀.states.words.now x u
+  pub has_e : e < l₀.states.count
+  pub last : kind_of l₀.states.words.now e ≡ SEQUENCE → ⊥
+  pub has_z : z < l.states.count
+  -- e is joined, and then what stands above u, as deep as it stands above it
+  pub run : (p : Chain l₀.states.words.now x u) (at : ℕ) → nest l₀.states.words.now u ≤ at
+      → sequence_by k.fields (limits_of k.limits) (deeper at (firsts p)) x y (aut_in l₀) ≡ (joined_of k.fields (limits_of k.limits) e z >>= join_by k.fields (limits_of k.limits) at (firsts p)) (aut_in l)
 
-  pub record Turn (t st s : List ℕ) (u e z : ℕ) (d : Counts) : Type 0 where
-    pub from : Asks N l t₀ st₀ s₀ c (x ∷ y ∷ [])
-    pub chain : Chain st₀ x u
-    pub has_e : e < c.states
-    pub lower : nest st₀ e < nest st₀ x
-    pub last : kind_of st₀ e ≡ SEQUENCE → ⊥
-    pub has_z : z < d.states
-    pub len : length s ≡ length s₀
-    pub grown : ExtAut (aut_of t₀ st₀ from.members c) (aut_of t st from.members d)
-    pub ready : Ready N l (aut_of t st from.members d) s
-    pub left : Modifies N 0 0 (table t d.spp) s₀ s
-    pub beside : (d.sp ≡ c.sp) × (d.transitions ≡ c.transitions)
-    pub run : (p : Chain st₀ x u) (at : ℕ) → nest st₀ u ≤ at → Rest t st u e z d p at
+module _ {k : Config} {l : Lent} {x y : ℕ} (a : AskedOf k l x y) where
+  pub walks : Walks l.states.words.now x
+  walks = record { count = l.states.count; nested = nested_of a.0.ready.good; has = a.1.0 }
 
-module _ {N : ℕ} {l : Bounds} {t st s : List ℕ} {c : Counts} {x y : ℕ} (a : Asks N l t st s c (x ∷ y ∷ [])) where
-  pub walks : Walks st x
-  walks = record { count = c.states; nested = nested_of a.ready.good; has = a.has.0 }
-
-  pub begin : {w : Way} → Plans N st x y w → w ≡ way.Regroup → {e : ℕ} → Ends st x e → Turn N l c x y t st s t st s e e y c
-  begin p q {e} f =
-      let i = since a p q in
+  pub begin : regroups k.fields l.states.words.now x y ≡ true → {e : ℕ} → Ends l.states.words.now x e → Keeps l l → Turn k x y l l e e y
+  begin q {e} f keeps =
+      let i = regrouped k.fields l.states.words.now x y q in
       record {
         from = a;
+        keeps = keeps;
+        same = refl;
+        asked = a.0;
+        grown = grown_refl (aut_in l);
+        left = left_refl 0 0 (nodes_in l) l.scratch.now;
         chain = f.chain;
-        has_e = chain_state (nested_of a.ready.good) a.has.0 f.chain;
-        lower = chain_apart (nested_of a.ready.good) a.has.0 f.chain (λ k. f.last (ap (kind_of st) k ∙ i.0));
+        has_e = chain_state (nested_of a.0.ready.good) a.1.0 f.chain;
         last = f.last;
-        has_z = a.has.1.0;
-        len = refl;
-        grown = grown_refl (aut_of t st a.members c);
-        ready = a.ready;
-        left = left_refl 0 0 (table t c.spp) s;
-        beside = (refl, refl);
-        run = λ p at le. record { depth = at; enough = le; is = λ mem. sequence_chain N (limits_of l) (aut_of t st mem c) x y i.1 i.2 p at };
+        has_z = a.1.1.0;
+        run = λ p at le. sequence_chain k.fields (limits_of k.limits) (aut_in l) x y i.no_one i.no_zero p at
+            ∙ ap (λ (o : Outcome Aut ℕ). after o (join_by k.fields (limits_of k.limits) at (firsts p))) (at_any_depth k.fields (limits_of k.limits) e y (aut_in l) (no_sequence k.fields l.states.words.now e y f.last) at);
       }
 
-module _ {N : ℕ} {l : Bounds} {c : Counts} {x y : ℕ} {t₀ st₀ s₀ t st s : List ℕ} {u e z : ℕ} {d : Counts} (v : Turn N l c x y t₀ st₀ s₀ t st s u e z d) where
+module _ {k : Config} {x y : ℕ} {l₀ l : Lent} {u e z : ℕ} (v : Turn k x y l₀ l u e z) where
+  abbrev N : ℕ
+  N = k.fields
+
   abbrev L : Limits
-  L = limits_of l
+  L = limits_of k.limits
 
-  abbrev mem₀ : List ℕ
-  mem₀ = v.from.members
+  abbrev st₀ : List ℕ
+  st₀ = l₀.states.words.now
 
-  abbrev σ : Aut
-  σ = aut_of t₀ st₀ mem₀ c
+  nested : Nested st₀ l₀.states.count
+  nested = nested_of v.from.0.ready.good
 
-  abbrev τ : Aut
-  τ = aut_of t st mem₀ d
+  has : x < l₀.states.count
+  has = v.from.1.0
 
-  nested : Nested st₀ c.states
-  nested = nested_of v.from.ready.good
-
-  has : x < c.states
-  has = v.from.has.0
-
-  has_e : e < d.states
+  has_e : e < l.states.count
   has_e = state_grown v.grown v.has_e
 
-  same_nest : nest st e ≡ nest st₀ e
-  same_nest = nesting_grown v.grown e v.has_e
+  pub joined_ready : AskedOf k l e z
+  joined_ready = (v.asked, (has_e, (v.has_z, tt)))
 
-  pub call_ready : {m : ℕ} → nest st₀ x ≡ m → (nest st e < m) × Asks N l t st s d (e ∷ z ∷ [])
-  call_ready q = (omega (arith, v.lower, same_nest), record { members = mem₀; ready = v.ready; has = (has_e, (v.has_z, tt)) })
+  -- what is joined is not regrouped, so it calls nothing
+  pub call_last : regroups N l.states.words.now e z ≡ false
+  call_last = no_sequence N l.states.words.now e z (λ q. v.last (sym (kind_grown v.grown e v.has_e) ∙ q))
 
-  -- what is called does not regroup, so it calls nothing: mk_sequence is at most two deep
-  pub call_last : {w : Way} → Plans N st e z w → w ≡ way.Regroup → ⊥
-  call_last p q = v.last (sym (kind_grown v.grown e v.has_e) ∙ (subst (Since N st e z) q p.since).0)
+  module _ {l1 : Lent} {r : Result ℕ Refusal} (D : Does N 0 0 aut_in (λ i. i) (joined_of N L e z) l r l1) where
+    called : (at : ℕ) (es : List ℕ) → (joined_of N L e z >>= join_by N L at es) (aut_in l) ≡ after (outcome (λ i. i) r (aut_in l1)) (join_by N L at es)
+    called at es = ap (λ (o : Outcome Aut ℕ). after o (join_by N L at es)) D.is
 
-  module _ {r : State} {t1 st1 s1 : List ℕ} (o : Sequences N L e z r d t st s t1 st1 s1) where
-    law : StepSpec N L (Meaning.Is N (Join (Holds N τ e) (Holds N τ z))) τ (mk_sequence N L e z τ)
-    law = mk_sequence_goes v.ready.good has_e v.has_z
+  module _ {l1 : Lent} {n : Refusal} (D : Does N 0 0 aut_in (λ i. i) (joined_of N L e z) l (Err n) l1) where
+    pub stuck : {r : Result ℕ Refusal} → r ≡ Err n → Enough k x y l₀ r l1
+    stuck q depth le =
+        let i = depth_at nested has v.chain depth le in
+        ap (λ (d : ℕ). sequence_by N L d x y (aut_in l₀)) (sym i.is) ∙ v.run v.chain i.d i.enough ∙ called D i.d (firsts v.chain) ∙ ap (λ (r : Result ℕ Refusal). outcome (λ i. i) r (aut_in l1)) (sym q)
 
-    called : {k : ℕ} → nest st₀ e ≤ k → (at : ℕ) (es mem : List ℕ) → (sequence_by N L k e z >>= join_by N L at es) (aut_of t st mem d) ≡ after (seen_aut r t1 st1 mem) (join_by N L at es)
-    called {k} le at es mem = ap (λ (o : Outcome Aut ℕ). after o (join_by N L at es)) (o.by k (omega (arith, same_nest)) mem)
+    pub stuck_all : {r : Result ℕ Refusal} → r ≡ Err n → Does N 0 0 aut_in (λ i. i) (mk_sequence N L x y) l₀ r l1
+    stuck_all {r} q = as_mk k x y l₀ l1 r (stuck q) (subst (λ (r : Result ℕ Refusal). Unless r (Modifies N 0 0 (nodes_in l1) l₀.scratch.now l1.scratch.now)) (sym q) tt)
 
-    pub stuck : {n : ℕ} → r ≡ Refused n → Sequences N L x y r c t₀ st₀ s₀ t1 st1 s1
-    stuck {n} q = subst (λ (r : State). Sequences N L x y r c t₀ st₀ s₀ t1 st1 s1) (sym q) (sequences by tt tt)
-      where
-        by : (depth : ℕ) → nest st₀ x ≤ depth → (mem : List ℕ) → sequence_by N L depth x y (aut_of t₀ st₀ mem c) ≡ refused n
-        by depth le mem =
-            let i = depth_at nested has v.chain depth le in
-            let j = v.run v.chain i.d i.enough in
-            ap (λ (k : ℕ). sequence_by N L k x y (aut_of t₀ st₀ mem c)) (sym i.is) ∙ j.is mem ∙ called j.enough i.d (firsts v.chain) mem
-            ∙ ap (λ (r : State). after (seen_aut r t1 st1 mem) (join_by N L i.d (firsts v.chain))) q
+  module _ {l1 : Lent} {z1 : ℕ} (D : Does N 0 0 aut_in (λ i. i) (joined_of N L e z) l (Ok z1) l1) where
+    gone : Gone N L (Meaning.Is N (Join (Holds N (aut_in l) e) (Holds N (aut_in l) z))) (aut_in l) (aut_in l1) z1
+    gone = came (subst (StepSpec N L (Meaning.Is N (Join (Holds N (aut_in l) e) (Holds N (aut_in l) z))) (aut_in l)) (as_mk k e z l l1 (Ok z1) (enough k e z call_last D) D.left).is (mk_sequence_goes v.asked.ready.good has_e v.has_z))
 
-    pub done : {r1 : State} → r ≡ r1 → u ≡ x → Sequences N L x y r1 c t₀ st₀ s₀ t1 st1 s1
-    done k q =
-        subst (λ (r : State). Sequences N L x y r c t₀ st₀ s₀ t1 st1 s1) k (sequences
-        (λ depth le mem. let j = subst (λ (u : ℕ). (p : Chain st₀ x u) (at : ℕ) → nest st₀ u ≤ at → Rest N l c x y t₀ st₀ s₀ t st u e z d p at) q v.run top depth le in
-        j.is mem ∙ called j.enough depth [] mem ∙ after_return (seen_aut r t1 st1 mem))
-        (beside_more r c d o.made.beside v.beside.0 v.beside.1)
-        (left_both r t1 s1 (λ i d1 k. (gone o.made k law).grown.nodes) v.left o.made.left))
+    left_1 : Modifies N 0 0 (nodes_in l1) l₀.scratch.now l1.scratch.now
+    left_1 = left_trans gone.grown.nodes v.left D.left
 
-    module _ {z1 : ℕ} {d1 : Counts} (q : r ≡ Is z1 d1) where
-      gone_1 : Gone N L (Meaning.Is N (Join (Holds N τ e) (Holds N τ z))) τ (aut_of t1 st1 mem₀ d1) z1
-      gone_1 = gone o.made q law
+    pub done : u ≡ x → Enough k x y l₀ (Ok z1) l1
+    done q depth le =
+        subst (λ (u : ℕ). (p : Chain st₀ x u) (at : ℕ) → nest st₀ u ≤ at → sequence_by N L (deeper at (firsts p)) x y (aut_in l₀) ≡ (joined_of N L e z >>= join_by N L at (firsts p)) (aut_in l)) q v.run top depth le
+        ∙ called D depth []
 
-      abbrev τ1 : Aut
-      τ1 = aut_of t1 st1 mem₀ d1
+    pub done_all : u ≡ x → Does N 0 0 aut_in (λ i. i) (mk_sequence N L x y) l₀ (Ok z1) l1
+    done_all q = as_mk k x y l₀ l1 (Ok z1) (done q) left_1
 
-      grown_1 : ExtAut σ τ1
-      grown_1 = grown_trans v.grown gone_1.grown
+    grown_1 : ExtAut (aut_in l₀) (aut_in l1)
+    grown_1 = grown_trans v.grown gone.grown
 
-      walks_1 : Walks st1 x
-      walks_1 = record { count = d1.states; nested = nested_of gone_1.good; has = state_grown grown_1 has }
+    walks_1 : Walks l1.states.words.now x
+    walks_1 = record { count = l1.states.count; nested = nested_of gone.good; has = state_grown grown_1 has }
 
-      module _ (apart : u ≡ x → ⊥) where
-        pub link_ready : Walks st1 x × Chain st1 x u × (x ≡ u → ⊥)
-        link_ready = (walks_1, chain_grown nested grown_1 has v.chain, λ k. apart (sym k))
+    module _ (apart : u ≡ x → ⊥) where
+      pub link_ready : Walks l1.states.words.now x × Chain l1.states.words.now x u × (x ≡ u → ⊥)
+      link_ready = (walks_1, chain_grown nested grown_1 has v.chain, λ q. apart (sym q))
 
-        module _ {w : ℕ} (k : Links st1 x u w) where
-          pub first_ready : 12 * w + 11 < length st1
-          first_ready = walks_1.nested.inside w (chain_state walks_1.nested walks_1.has k.chain)
+      module _ {w : ℕ} (i : Links l1.states.words.now x u w) where
+        pub first_ready : 12 * w + 11 < length l1.states.words.now
+        first_ready = walks_1.nested.inside w (chain_state walks_1.nested walks_1.has i.chain)
 
-          chain_1 : Chain st₀ x w
-          chain_1 = chain_back nested grown_1 has k.chain
+        chain_1 : Chain st₀ x w
+        chain_1 = chain_back nested grown_1 has i.chain
 
-          has_w : w < c.states
-          has_w = chain_state nested has chain_1
+        has_w : w < l₀.states.count
+        has_w = chain_state nested has chain_1
 
-          kind_w : kind_of st₀ w ≡ SEQUENCE
-          kind_w = sym (kind_grown grown_1 w has_w) ∙ k.link
+        kind_w : kind_of st₀ w ≡ SEQUENCE
+        kind_w = sym (kind_grown grown_1 w has_w) ∙ i.link
 
-          next_w : u ≡ op2 st₀ w
-          next_w = sym k.next ∙ second_grown grown_1 w has_w
+        next_w : u ≡ op2 st₀ w
+        next_w = sym i.next ∙ second_grown grown_1 w has_w
 
-          two : Two σ w
-          unfolding form
-          two = ok_as v.from.ready.good SEQUENCE has_w kind_w
+        two : Two (aut_in l₀) w
+        unfolding form
+        two = ok_as v.from.0.ready.good SEQUENCE has_w kind_w
 
-          pub fewer : nest st₀ u < nest st₀ w × nest st₀ w ≤ nest st₀ x
-          fewer = (omega (arith, two.nested, ap (nest st₀) next_w), chain_lower nested has chain_1)
+        pub fewer : nest st₀ u < nest st₀ w × nest st₀ w ≤ nest st₀ x
+        fewer = (omega (arith, two.nested, ap (nest st₀) next_w), chain_lower nested has chain_1)
 
-          module _ {f : ℕ} (i : get_or st1 (12 * w + 1) 0 ≡ f) where
-            first_w : op1 st₀ w ≡ f
-            unfolding op1
-            first_w = sym (first_grown grown_1 w has_w) ∙ i
+        module _ {f : ℕ} (j : f ≡ op1 l1.states.words.now w) where
+          first_w : op1 st₀ w ≡ f
+          first_w = sym (first_grown grown_1 w has_w) ∙ sym j
 
-            nest_f : nest st₀ f < nest st₀ w
-            nest_f = subst (λ (f : ℕ). nest st₀ f < nest st₀ w) first_w (omega (arith, two.nested))
+          last_f : kind_of st₀ f ≡ SEQUENCE → ⊥
+          last_f q = ((v.from.0.ready.good.made w has_w).sequence kind_w).regrouped (ap (kind_of st₀) first_w ∙ q)
 
-            rest : (p : Chain st₀ x w) (at : ℕ) → nest st₀ w ≤ at → Rest N l c x y t₀ st₀ s₀ t1 st1 w f z1 d1 p at
-            rest p zero le = absurd (omega (arith, nest_f))
-            rest p (suc at) le =
-                let j = subst (λ (u : ℕ). (p : Chain st₀ x u) (at : ℕ) → nest st₀ u ≤ at → Rest N l c x y t₀ st₀ s₀ t st u e z d p at) next_w v.run (below p kind_w) at (omega (arith, two.nested)) in
-                record {
-                  depth = at;
-                  enough = omega (arith, nest_f);
-                  is = λ mem. j.is mem ∙ called j.enough at (op1 st₀ w ∷ firsts p) mem
-                      ∙ ap (λ (r : State). after (seen_aut r t1 st1 mem) (join_by N L at (op1 st₀ w ∷ firsts p))) q
-                      ∙ ap (λ (f : ℕ). (sequence_by N L at f z1 >>= join_by N L (suc at) (firsts p)) (aut_of t1 st1 mem d1)) first_w;
-                }
+          has_f : f < l₀.states.count
+          has_f = omega (arith, two.earlier1, first_w, has_w)
 
-            pub again : length s1 ≡ length s → Turn N l c x y t₀ st₀ s₀ t1 st1 s1 w f z1 d1
-            again len = record {
-              from = v.from;
-              chain = chain_1;
-              has_e = omega (arith, two.earlier1, first_w, has_w);
-              lower = omega (arith, nest_f, chain_lower nested has chain_1);
-              last = λ q. ((v.from.ready.good.made w has_w).sequence kind_w).regrouped (ap (kind_of st₀) first_w ∙ q);
-              has_z = gone_1.holds.state;
-              len = len ∙ v.len;
-              grown = grown_1;
-              ready = ready_of o.made q v.ready law len;
-              left = left_trans gone_1.grown.nodes v.left (left_of_lem o.made q);
-              beside = ((beside_of o.made q).0 ∙ v.beside.0, (beside_of o.made q).1 ∙ v.beside.1);
-              run = rest;
-            }
+          rest : (p : Chain st₀ x w) (at : ℕ) → nest st₀ w ≤ at → sequence_by N L (deeper at (firsts p)) x y (aut_in l₀) ≡ (joined_of N L f z1 >>= join_by N L at (firsts p)) (aut_in l1)
+          rest p zero le = absurd (omega (arith, two.nested))
+          rest p (suc at) le =
+              subst (λ (u : ℕ). (p : Chain st₀ x u) (at : ℕ) → nest st₀ u ≤ at → sequence_by N L (deeper at (firsts p)) x y (aut_in l₀) ≡ (joined_of N L e z >>= join_by N L at (firsts p)) (aut_in l)) next_w v.run (below p kind_w) at (omega (arith, two.nested))
+              ∙ called D at (op1 st₀ w ∷ firsts p)
+              ∙ ap (λ (f : ℕ). (sequence_by N L at f z1 >>= join_by N L (suc at) (firsts p)) (aut_in l1)) first_w
+              ∙ ap (λ (o : Outcome Aut ℕ). after o (join_by N L (suc at) (firsts p)))
+              (at_any_depth N L f z1 (aut_in l1) (no_sequence N l1.states.words.now f z1 (λ q. last_f (sym (kind_grown grown_1 f has_f) ∙ q))) at)
+
+          pub again : Keeps l₀ l1 → l1.members ≡ l₀.members → Keeps l l1 → Turn k x y l₀ l1 w f z1
+          again keeps same keep = record {
+            from = v.from;
+            keeps = keeps;
+            same = same;
+            asked = record { fields = keep.spp.fields ∙ v.asked.fields; ready = ready_after v.asked.ready gone.grown gone.good D.left keep.length };
+            grown = grown_1;
+            left = left_1;
+            chain = chain_1;
+            has_e = has_f;
+            last = last_f;
+            has_z = gone.holds.state;
+            run = rest;
+          }

@@ -1,84 +1,61 @@
--- The ways of mk_sequence: each test in turn, and what the step comes to.
-use mathlib.Core.Path.{◌≡◌, ◌∙◌, ap}
-use mathlib.Core.Bool.{true, false}
+-- The two ways of mk_sequence.
+use mathlib.Core.Path.{◌≡◌, refl, sym, ap}
+use mathlib.Core.Bool.{Bool, true, false, not, ◌&&◌}
 use mathlib.Core.List.{List}
-use Prim.Native.Nat.{ℕ, ◌+◌, ◌*◌}
+use Prim.Native.Nat.{ℕ, zero, suc}
 use lib.Dec.{eqb}
-use lib.ListN.{get_or}
-use borrow.Author.Tests.{eq-eqb, ne_eqb, eqb-true}
+use borrow.Author.Tests.{eqb-true, ne_eqb}
+use Rattle.std.specs.Prelude.{if◌then◌else◌}
+use Rattle.common.specs.Outcome.{Outcome, given, Step, return, ◌>>=◌}
 use Rattle.aut_steps.specs.Relations as Rel
-use Rattle.aut_steps.specs.Tables.{SPP, SEQUENCE, TOP, kind_of, op1, op2}
+use Rattle.aut_steps.specs.Tables.{SEQUENCE, TOP, kind_of, op1, op2, Limits, Aut, on_states}
+use Rattle.aut_steps.specs.Intern.{intern2}
 use Rattle.aut_steps.proofs.Facts.{and_true}
-use Rattle.aut_steps.specs.Constructors.{relations, is_relation, sequence_with}
-use Rattle.aut_sequence.specs.declared.Known.TheVariants.{Relations, First, Second, Zero, Top, New}
-use Rattle.aut_sequence.specs.declared.Way.TheVariants.{Regroup, Step}
-use Rattle.aut_sequence.specs.Clauses.{Plans}
+use Rattle.aut_steps.specs.Constructors.{relations, is_relation, mk_spp, mk_top, spp_of, sequence_with, sequence_by}
+use Rattle.aut_sequence.specs.Clauses.{regroups, joined_of}
 
--- is_relation
-module _ (st : List ℕ) (x h : ℕ) where
-  pub no_relation : (get_or st (12 * x) 0 ≡ SPP → ⊥) → is_relation st x h ≡ false
-  unfolding kind_of
-  no_relation p = simp (ne_eqb (get_or st (12 * x) 0) SPP p)
+-- four exits, where the third test does not hold after the first two
+after_tests : {A : Type 0} (s p q : Bool) (a b c d : A) → s && (not p && not q) ≡ false → (if p then a else if q then b else if s then c else d) ≡ (if p then a else if q then b else d)
+after_tests s true q a b c d e = refl
+after_tests s false true a b c d e = refl
+after_tests true false false a b c d e = absurd (apart e)
+  where
+    apart : true ≡ false → ⊥
+    apart e = cc
+after_tests false false false a b c d e = refl
 
-  pub this_relation : get_or st (12 * x) 0 ≡ SPP → is_relation st x h ≡ eqb (get_or st (12 * x + 1) 0) h
-  unfolding kind_of op1
-  this_relation p = simp (eq-eqb (get_or st (12 * x) 0) SPP p)
+not_true : (b : Bool) → not b ≡ true → b ≡ false
+not_true false e = refl
+not_true true e = sym e
 
--- plan
+module _ (N : ℕ) (L : Limits) (again : ℕ → ℕ → Step Aut ℕ) (x y : ℕ) (σ : Aut) where
+  pub alone : regroups N σ.states.words x y ≡ false → sequence_with N L again x y σ ≡ joined_of N L x y σ
+  unfolding sequence_with joined_of
+  alone e =
+      let st : List ℕ = σ.states.words in
+      ap (λ (o : Outcome Aut ℕ). if relations st x y then spp_of (Rel.sequence N (op1 st x) (op1 st y)) σ else if is_relation st x (Rel.one_at N) then given σ y else if is_relation st x (Rel.zero_at N) then on_states (mk_spp (Rel.zero_at N)) σ else o)
+      (after_tests (eqb (kind_of st x) SEQUENCE) (is_relation st y (Rel.one_at N)) (is_relation st y (Rel.zero_at N))
+      (given σ x) (on_states (mk_spp (Rel.zero_at N)) σ) ((again (op2 st x) y >>= again (op1 st x)) σ)
+      (if eqb (kind_of st x) TOP && eqb (kind_of st y) TOP then on_states mk_top σ else on_states (intern2 L SEQUENCE x y) σ) e)
+
+module _ (N : ℕ) (L : Limits) (x y : ℕ) (σ : Aut) where
+  pub at_any_depth : regroups N σ.states.words x y ≡ false → (depth : ℕ) → sequence_by N L depth x y σ ≡ joined_of N L x y σ
+  unfolding sequence_by
+  at_any_depth e zero = alone N L (λ a b. return a) x y σ e
+  at_any_depth e (suc depth) = alone N L (sequence_by N L depth) x y σ e
+
+-- x is a Sequence, and y is neither one nor zero
 module _ (N : ℕ) (st : List ℕ) (x y : ℕ) where
-  pub by_relations : relations st x y ≡ true → Plans N st x y (Step Relations)
-  unfolding sequence_with
-  by_relations q =
-      let (a, b) = and_true (eqb (kind_of st x) SPP) (eqb (kind_of st y) SPP) q in
-      record { is = λ L again t mem c. simp q; since = (eqb-true (kind_of st x) SPP a, eqb-true (kind_of st y) SPP b) }
+  pub record Regrouped : Type 0 where
+    pub kind : kind_of st x ≡ SEQUENCE
+    pub no_one : is_relation st y (Rel.one_at N) ≡ false
+    pub no_zero : is_relation st y (Rel.zero_at N) ≡ false
 
-  module _ (q : relations st x y ≡ false) {one zero : ℕ} (e1 : Rel.one_at N ≡ one) (e0 : Rel.zero_at N ≡ zero) where
-    pub one_first : is_relation st x one ≡ true → Plans N st x y (Step Second)
-    unfolding sequence_with
-    one_first p = record { is = λ L again t mem c. simp (q, ap (is_relation st x) e1 ∙ p); since = tt }
+  pub regrouped : regroups N st x y ≡ true → Regrouped
+  regrouped e =
+      let (k, n) = and_true (eqb (kind_of st x) SEQUENCE) (not (is_relation st y (Rel.one_at N)) && not (is_relation st y (Rel.zero_at N))) e in
+      let (i, j) = and_true (not (is_relation st y (Rel.one_at N))) (not (is_relation st y (Rel.zero_at N))) n in
+      record { kind = eqb-true (kind_of st x) SEQUENCE k; no_one = not_true (is_relation st y (Rel.one_at N)) i; no_zero = not_true (is_relation st y (Rel.zero_at N)) j }
 
-    module _ (n1 : is_relation st x one ≡ false) where
-      pub zero_first : is_relation st x zero ≡ true → Plans N st x y (Step Zero)
-      unfolding sequence_with
-      zero_first p = record { is = λ L again t mem c. simp (q, ap (is_relation st x) e1 ∙ n1, ap (is_relation st x) e0 ∙ p); since = tt }
-
-      module _ (n0 : is_relation st x zero ≡ false) where
-        pub one_second : is_relation st y one ≡ true → Plans N st x y (Step First)
-        unfolding sequence_with
-        one_second p = record { is = λ L again t mem c. simp (q, ap (is_relation st x) e1 ∙ n1, ap (is_relation st x) e0 ∙ n0, ap (is_relation st y) e1 ∙ p); since = tt }
-
-        module _ (m1 : is_relation st y one ≡ false) where
-          pub zero_second : is_relation st y zero ≡ true → Plans N st x y (Step Zero)
-          unfolding sequence_with
-          zero_second p = record { is = λ L again t mem c. simp (q, ap (is_relation st x) e1 ∙ n1, ap (is_relation st x) e0 ∙ n0, ap (is_relation st y) e1 ∙ m1, ap (is_relation st y) e0 ∙ p); since = tt }
-
-          module _ (m0 : is_relation st y zero ≡ false) where
-            pub regrouped : get_or st (12 * x) 0 ≡ SEQUENCE → Plans N st x y Regroup
-            unfolding sequence_with kind_of op1 op2
-            regrouped p = record {
-              is = λ L again t mem c. simp (q, ap (is_relation st x) e1 ∙ n1, ap (is_relation st x) e0 ∙ n0, ap (is_relation st y) e1 ∙ m1, ap (is_relation st y) e0 ∙ m0, eq-eqb (get_or st (12 * x) 0) SEQUENCE p);
-              since = (p, ap (is_relation st y) e1 ∙ m1, ap (is_relation st y) e0 ∙ m0);
-            }
-
-            module _ (s : get_or st (12 * x) 0 ≡ SEQUENCE → ⊥) where
-              pub no_top_first : (get_or st (12 * x) 0 ≡ TOP → ⊥) → Plans N st x y (Step New)
-              unfolding sequence_with kind_of
-              no_top_first p = record {
-                is = λ L again t mem c. simp (q, ap (is_relation st x) e1 ∙ n1, ap (is_relation st x) e0 ∙ n0, ap (is_relation st y) e1 ∙ m1, ap (is_relation st y) e0 ∙ m0, ne_eqb (get_or st (12 * x) 0) SEQUENCE s, ne_eqb (get_or st (12 * x) 0) TOP p);
-                since = tt;
-              }
-
-              module _ (p : get_or st (12 * x) 0 ≡ TOP) where
-                pub no_top_second : (get_or st (12 * y) 0 ≡ TOP → ⊥) → Plans N st x y (Step New)
-                unfolding sequence_with kind_of
-                no_top_second r = record {
-                  is = λ L again t mem c. simp (q, ap (is_relation st x) e1 ∙ n1, ap (is_relation st x) e0 ∙ n0, ap (is_relation st y) e1 ∙ m1, ap (is_relation st y) e0 ∙ m0, ne_eqb (get_or st (12 * x) 0) SEQUENCE s, eq-eqb (get_or st (12 * x) 0) TOP p, ne_eqb (get_or st (12 * y) 0) TOP r);
-                  since = tt;
-                }
-
-                pub both_top : get_or st (12 * y) 0 ≡ TOP → Plans N st x y (Step Top)
-                unfolding sequence_with kind_of
-                both_top r = record {
-                  is = λ L again t mem c. simp (q, ap (is_relation st x) e1 ∙ n1, ap (is_relation st x) e0 ∙ n0, ap (is_relation st y) e1 ∙ m1, ap (is_relation st y) e0 ∙ m0, ne_eqb (get_or st (12 * x) 0) SEQUENCE s, eq-eqb (get_or st (12 * x) 0) TOP p, eq-eqb (get_or st (12 * y) 0) TOP r);
-                  since = tt;
-                }
+  pub no_sequence : (kind_of st x ≡ SEQUENCE → ⊥) → regroups N st x y ≡ false
+  no_sequence n = simp (ne_eqb (kind_of st x) SEQUENCE n)

@@ -1,5 +1,5 @@
--- What the calls of unions and intersections have in common: the exits of a constructor of two states and of a list, a list of states that is written for the next call, and answers that are handed on.
-use Rattle.std.specs.Prelude.{if◌then◌else◌}
+-- What the calls of unions and intersections have in common: answers, a list of states that is written for the next call, the exits of a constructor of two states and of a list, and a list that is interned.
+use Rattle.std.specs.Prelude.{if◌then◌else◌, Result, Ok, Err}
 use mathlib.Core.Path.{◌≡◌, refl, sym, ◌∙◌, ap, ap₂, subst}
 use mathlib.Core.Bool.{Bool, true, false}
 use mathlib.Core.List.{List, [], ◌∷◌}
@@ -8,26 +8,34 @@ use native.Mathlib.Omega.{arith}
 use lib.Dec.{eqb, ltb}
 use lib.ListN.{length, get_or, set, length-set}
 use borrow.Author.Tests.{eq-eqb, ne_eqb, lt-ltb, le-ltb}
+use Rattle.std.specs.Result.{IsErr, IsErrAnd}
 use Rattle.common.specs.Outcome.{Outcome, refused, given, Step}
-use Rattle.common.specs.Runs.{Table, table, placed}
+use Rattle.common.specs.Runs.{Table, placed}
+use Rattle.refusal.specs.declared.Refusal.{Refusal}
+use Rattle.refusal.specs.Numbers.{number_of, outcome}
+use Rattle.refusal.proofs.Passed.{passed}
+use Rattle.netkat.specs.Rules.{Rule, Rules, union, intersection}
 use Rattle.spp_steps.proofs.Laws.{ext_refl}
-use Rattle.aut_steps.specs.Tables.{op1, words, Limits, Aut, aut, put_exprs}
+use Rattle.aut_steps.specs.Tables.{UNION, INTERSECT, op1, words, Limits, Aut, aut, exprs, put_states, put_exprs}
+use Rattle.aut_steps.specs.Kinds as Kinds
+use Rattle.aut_steps.specs.Kinds.{Form, form}
 use Rattle.aut_steps.specs.Ascending.{All}
 use Rattle.aut_steps.proofs.Facts.{words_length, words_sets}
 use Rattle.aut_steps.specs.Scratch.{Kept}
 use Rattle.aut_steps.proofs.Scratch.{kept_sets}
-use Rattle.aut_steps.proofs.Wf.{grown_refl}
+use Rattle.aut_steps.specs.Wf.{states, WfAut, Ok as Holds}
+use Rattle.aut_steps.proofs.Wf.{grown_refl, ok_as}
+use Rattle.aut_steps.proofs.StateLaws.{handle, both_spp}
 use Rattle.aut_steps.specs.Constructors.{relations, spp_of}
-use Rattle.aut_states.specs.declared.Counts.{Counts}
-use Rattle.aut_states.specs.declared.Limits.{Limits as Bounds}
-use Rattle.aut_states.specs.declared.State.{State}
-use Rattle.aut_states.specs.declared.State.TheVariants.{Is, Refused}
-use Rattle.aut_states.specs.Clauses as Put
-use Rattle.aut_states.specs.Clauses.{limits_of, seen_state}
+use Rattle.aut_states.specs.declared.Config.{Config}
+use Rattle.aut_states.specs.declared.States.{States}
+use Rattle.aut_states.specs.Clauses.{limits_of, states_of, seen, ListAsked}
 use Rattle.aut_relations.specs.Behind.{LISTS, Modifies}
 use Rattle.aut_relations.proofs.Behind.{left_refl, left_any, left_wide, left_trans, left_kept, kept_left}
-use Rattle.aut_relations.specs.Clauses.{aut_of, seen_aut, Beside, SameNodes, ModifiesBy, Ready, Does, DoesSpp}
-use Rattle.aut_relations.proofs.Order.{ready_after}
+use Rattle.aut_relations.specs.Clauses.{Ready}
+use Rattle.aut_relations.proofs.Order as order
+use Rattle.aut_relations.specs.declared.Aut.{Aut as Lent}
+use Rattle.aut_relations.specs.Lent.{nodes_in, states_in, members_in, exprs_in, aut_in, Unless, Does, Asked, Relations}
 use Rattle.aut_union.specs.Clauses.{ListAt, PairAt}
 
 -- a step, and then a write among the lists
@@ -36,50 +44,62 @@ left_then {t = t} p k e x y l = left_trans (ext_refl t) p (left_wide (left_kept 
 
 -- ---- answers
 
--- the state itself
-pub itself : (N a n : ℕ) (o : Outcome Aut ℕ) (t st mem s : List ℕ) (c : Counts) (i : ℕ) → o ≡ given (aut_of t st mem c) i → Does N a n o (Is i c) c t st mem s s
-itself N a n o t st mem s c i e = record { is = e; beside = (refl, refl); left = left_refl a n (table t c.spp) s }
+pub unless : {V S T : Type 0} (r : Result V Refusal) → (S → T) → Unless r S → Unless r T
+unless (Ok v) f s = f s
+unless (Err e) f s = tt
 
--- a refusal
-pub not_done : {N a n : ℕ} {o : Outcome Aut ℕ} {c : Counts} {t' st' mem' s s' : List ℕ} (e : ℕ) → o ≡ refused e → Does N a n o (Refused e) c t' st' mem' s s'
-not_done e q = record { is = q; beside = tt; left = tt }
+pub always : {V T : Type 0} (r : Result V Refusal) → T → Unless r T
+always (Ok v) t = t
+always (Err e) t = tt
 
--- an answer on states and members, as one on all tables
-pub interned_is : (t st mem st' mem' : List ℕ) (r : State) (c : Counts) → Put.Beside r c → placed put_exprs (aut_of t st mem c) (seen_state r st' mem') ≡ seen_aut r t st' mem'
-interned_is t st mem st' mem' (Is i d) c b = ap (λ (z : ℕ). given (aut (table t z) (table st' d.states) (table mem' d.members)) i) (sym b.1)
-interned_is t st mem st' mem' (Refused e) c b = refl
+module _ {N a n : ℕ} {S V A : Type 0} {view : Lent → S} {see : V → A} {o : Step S A} {x : Lent} where
+  -- the value itself
+  pub itself : {v : V} → o (view x) ≡ given (view x) (see v) → Does N a n view see o x (Ok v) x
+  itself e = record { is = e; left = left_refl a n (nodes_in x) x.scratch.now }
 
-pub interned_beside : (r : State) (c d : Counts) → Put.Beside r d → d.sp ≡ c.sp → d.transitions ≡ c.transitions → Beside r c
-interned_beside (Is i e) c d b x y = (b.0 ∙ x, b.2 ∙ y)
-interned_beside (Refused e) c d b x y = tt
+  -- a refusal, and one that `?` hands on
+  pub not_done : {y : Lent} (e : Refusal) → o (view x) ≡ refused (number_of e) → Does N a n view see o x (Err e) y
+  not_done e q = record { is = q; left = tt }
 
-pub interned_nodes : (r : State) (c d : Counts) → Put.Beside r d → d.spp ≡ c.spp → SameNodes r c
-interned_nodes (Is i e) c d b x = b.1 ∙ x
-interned_nodes (Refused e) c d b x = tt
+  pub handed : {y : Lent} {r : Result V Refusal} (e : Refusal) → IsErr r × IsErrAnd r (λ x. x ≡ e) → o (view x) ≡ refused (number_of e) → Does N a n view see o x r y
+  handed {y} {r} e p q = subst (λ (r : Result V Refusal). Does N a n view see o x r y) (sym (passed p)) (not_done e q)
+
+-- an answer on states alone, and one on states and members, as one on all tables
+pub states_is : (x y : Lent) (t : States) (r : Result ℕ Refusal) → aut_in y ≡ aut (nodes_in x) (states_of t) (members_in x) → placed put_states (aut_in x) (seen r (states_of t)) ≡ outcome (λ i. i) r (aut_in y)
+states_is x y t (Ok i) e = ap (λ (σ : Aut). given σ i) (sym e)
+states_is x y t (Err e) q = refl
+
+pub exprs_is : (σ : Aut) (y : Lent) (r : Result ℕ Refusal) → nodes_in y ≡ σ.nodes → placed put_exprs σ (seen r (exprs_in y)) ≡ outcome (λ i. i) r (aut_in y)
+exprs_is σ y (Ok i) n = ap (λ (τ : Table). given (aut τ (states_in y) (members_in y)) i) (sym n)
+exprs_is σ y (Err e) n = refl
 
 -- ---- a list for the next call, which writes behind it
 
--- the k words at a are states; of the words below those 64 from a on were written
-pub record Written (n a k : ℕ) (s s' : List ℕ) : Type 0 where
-  pub kept : Kept a 64 s s'
-  pub len : length s' ≡ length s
+-- the k words at a are states; of the words below those 64 from a on were written, and the tables are as they were
+pub record Written (a k : ℕ) (x y : Lent) : Type 0 where
+  pub kept : Kept a 64 x.scratch.now y.scratch.now
+  pub len : length y.scratch.now ≡ length x.scratch.now
   pub few : k ≤ 64
-  pub states : All (λ x. x < n) (words s' a k)
+  pub states : All (λ i. i < x.states.count) (words y.scratch.now a k)
+  pub tables : aut_in y ≡ aut_in x
+  pub fields : y.spp.fields ≡ x.spp.fields
 
-pub written_ready : {N : ℕ} {l : Bounds} {a k : ℕ} {s s' : List ℕ} (t st mem : List ℕ) (c : Counts) → Ready N l (aut_of t st mem c) s → Written c.states a k s s' → a + 64 ≤ LISTS
-    → Ready N l (aut_of t st mem c) s' × ListAt s' c.states a k (a + 64)
-written_ready t st mem c r w h = (
-  ready_after r (grown_refl (aut_of t st mem c)) r.good (left_kept w.kept w.len h) w.len,
-  record { states = w.states; apart = omega (arith, w.few) },
-)
+module _ {a k : ℕ} {x y : Lent} (w : Written a k x y) where
+  pub written_asked : {c : Config} → Asked c x → a + 64 ≤ LISTS → Asked c y × ListAt y.scratch.now y.states.count a k (a + 64)
+  written_asked {c} R h = (
+    record {
+      fields = w.fields ∙ R.fields;
+      ready = subst (λ (σ : Aut). Ready c.fields c.limits σ y.scratch.now) (sym w.tables) (order.ready_after R.ready (grown_refl (aut_in x)) R.ready.good (left_kept w.kept w.len h) w.len);
+    },
+    record { states = subst (λ (σ : Aut). All (λ i. i < states σ) (words y.scratch.now a k)) (sym w.tables) w.states; apart = omega (arith, w.few) },
+  )
 
-pub written_done : {N m n a k : ℕ} {whole o : Outcome Aut ℕ} {c : Counts} {s s' : List ℕ} (r : State) (t'' st'' mem'' s'' : List ℕ) → Written m a k s s' → a + 64 + n ≤ LISTS → whole ≡ o
-    → Does N (a + 64) n o r c t'' st'' mem'' s' s'' → Does N a (64 + n) whole r c t'' st'' mem'' s s''
-written_done {N} {m} {n} {a} {k} {s = s} {s' = s'} r t'' st'' mem'' s'' w h e D = record { is = e ∙ D.is; beside = D.beside; left = left_by r D.left }
-  where
-    left_by : (r : State) → ModifiesBy N (a + 64) n r t'' s' s'' → ModifiesBy N a (64 + n) r t'' s s''
-    left_by (Is i d) v = kept_left w.kept w.len (omega arith) (omega arith) (omega arith) (left_wide v (omega arith) (omega arith))
-    left_by (Refused e) v = tt
+  pub written_done : {N n : ℕ} {V A : Type 0} {see : V → A} {whole o : Step Aut A} {z : Lent} {r : Result V Refusal} → a + 64 + n ≤ LISTS → whole (aut_in x) ≡ o (aut_in x) → Does N (a + 64) n aut_in see o y r z
+      → Does N a (64 + n) aut_in see whole x r z
+  written_done {o = o} {r = r} h e D = record {
+    is = e ∙ ap o (sym w.tables) ∙ D.is;
+    left = unless r (λ v. kept_left w.kept w.len (omega arith) (omega arith) (omega arith) (left_wide v (omega arith) (omega arith))) D.left;
+  }
 
 -- ---- the exits of a constructor of a list
 
@@ -93,28 +113,31 @@ pub record OfList : Type 0 where
   pub rest : ℕ → Limits → List ℕ → Step Aut ℕ
   pub is : ListExits whole rest
 
-module _ (O : OfList) (N : ℕ) (l : Bounds) (t st mem s : List ℕ) (c : Counts) (from k : ℕ) where
-  abbrev σn : Aut
-  σn = aut_of t st mem c
+module _ (O : OfList) (c : Config) (x : Lent) (from k : ℕ) where
+  abbrev xs : List ℕ
+  xs = words x.scratch.now from k
 
-  abbrev whole_n : Outcome Aut ℕ
-  whole_n = O.whole N (limits_of l) (words s from k) σn
+  abbrev pub whole_n : Step Aut ℕ
+  whole_n = O.whole c.fields (limits_of c.limits) xs
+
+  abbrev pub rest_n : Step Aut ℕ
+  rest_n = O.rest c.fields (limits_of c.limits) xs
 
   abbrev ways_n : Bool → Bool → Outcome Aut ℕ
-  ways_n a b = if a then refused 6 else if b then given σn (get_or (words s from k) 0 0) else O.rest N (limits_of l) (words s from k) σn
+  ways_n a b = if a then refused 6 else if b then given (aut_in x) (get_or xs 0 0) else rest_n (aut_in x)
 
-  is_way_n : (a b : Bool) → ltb l.list k ≡ a → eqb k 1 ≡ b → whole_n ≡ ways_n a b
-  is_way_n a b p q = O.is N (limits_of l) (words s from k) σn ∙ ap₂ ways_n (ap (ltb l.list) (words_length s from k) ∙ p) (ap (λ (j : ℕ). eqb j 1) (words_length s from k) ∙ q)
+  is_way_n : (a b : Bool) → ltb c.limits.list k ≡ a → eqb k 1 ≡ b → whole_n (aut_in x) ≡ ways_n a b
+  is_way_n a b p q = O.is c.fields (limits_of c.limits) xs (aut_in x) ∙ ap₂ ways_n (ap (ltb c.limits.list) (words_length x.scratch.now from k) ∙ p) (ap (λ (j : ℕ). eqb j 1) (words_length x.scratch.now from k) ∙ q)
 
-  pub too_many : l.list < k → whole_n ≡ refused 6
-  too_many h = is_way_n true (eqb k 1) (lt-ltb l.list k h) refl
+  pub too_many : c.limits.list < k → whole_n (aut_in x) ≡ refused 6
+  too_many h = is_way_n true (eqb k 1) (lt-ltb c.limits.list k h) refl
 
-  pub single : k ≤ l.list → k ≡ 1 → whole_n ≡ given σn (get_or s from 0)
+  pub single : k ≤ c.limits.list → k ≡ 1 → whole_n (aut_in x) ≡ given (aut_in x) (get_or x.scratch.now from 0)
   unfolding words
-  single h e = is_way_n false true (le-ltb l.list k h) (eq-eqb k 1 e) ∙ ap (λ (j : ℕ). given σn (get_or (words s from j) 0 0)) e
+  single h e = is_way_n false true (le-ltb c.limits.list k h) (eq-eqb k 1 e) ∙ ap (λ (j : ℕ). given (aut_in x) (get_or (words x.scratch.now from j) 0 0)) e
 
-  pub several : k ≤ l.list → (k ≡ 1 → ⊥) → whole_n ≡ O.rest N (limits_of l) (words s from k) σn
-  several h p = is_way_n false false (le-ltb l.list k h) (ne_eqb k 1 p)
+  pub several : k ≤ c.limits.list → (k ≡ 1 → ⊥) → whole_n (aut_in x) ≡ rest_n (aut_in x)
+  several h p = is_way_n false false (le-ltb c.limits.list k h) (ne_eqb k 1 p)
 
 -- ---- a constructor of two states
 
@@ -134,48 +157,81 @@ pub record OfPair : Type 0 where
   pub many : ℕ → Limits → List ℕ → Step Aut ℕ
   pub is : PairExits whole relation many
 
-module _ (O : OfPair) (N : ℕ) (l : Bounds) (t st mem s : List ℕ) (c : Counts) (x y : ℕ) (R : Ready N l (aut_of t st mem c) s) (A : PairAt c.states x y) where
-  abbrev σ : Aut
-  σ = aut_of t st mem c
+module _ {c : Config} {x : Lent} {i j : ℕ} (R : Asked c x) (A : PairAt x.states.count i j) where
+  -- both are relations
+  pub both_asked : relations x.states.words.now i j ≡ true → Relations c.fields x i j
+  both_asked q =
+      let e = both_spp R.ready.good i j q in
+      record {
+        fits = order.fits R.ready.good;
+        has_x = A.has_x;
+        has_y = A.has_y;
+        handles = record { fields = R.fields; backed = order.backed_of R.ready; at_a = handle R.ready.good A.has_x e.0; at_b = handle R.ready.good A.has_y e.1 };
+      }
 
-  abbrev whole_2 : Outcome Aut ℕ
-  whole_2 = O.whole N (limits_of l) x y σ
+  module _ (O : OfPair) where
+    abbrev N : ℕ
+    N = c.fields
 
-  abbrev ways : Bool → Bool → Outcome Aut ℕ
-  ways a b = if a then given σ x else if b then spp_of (O.relation N (op1 st x) (op1 st y)) σ else O.many N (limits_of l) (x ∷ y ∷ []) σ
+    abbrev whole_2 : Step Aut ℕ
+    whole_2 = O.whole N (limits_of c.limits) i j
 
-  is_way : (a b : Bool) → eqb x y ≡ a → relations st x y ≡ b → whole_2 ≡ ways a b
-  is_way a b p q = O.is N (limits_of l) x y σ ∙ ap₂ ways p q
+    abbrev relation_2 : Step Table ℕ
+    relation_2 = O.relation N (op1 x.states.words.now i) (op1 x.states.words.now j)
 
-  pub same : x ≡ y → Does N O.at (64 + O.n) whole_2 (Is x c) c t st mem s s
-  same e = itself N O.at (64 + O.n) whole_2 t st mem s c x (is_way true (relations st x y) (eq-eqb x y e) refl)
+    abbrev ways : Bool → Bool → Outcome Aut ℕ
+    ways a b = if a then given (aut_in x) i else if b then spp_of relation_2 (aut_in x) else O.many N (limits_of c.limits) (i ∷ j ∷ []) (aut_in x)
 
-  module _ (p : x ≡ y → ⊥) where
-    pub both : relations st x y ≡ true → {r : State} {t' st' s' : List ℕ} → DoesSpp N (O.relation N (op1 st x) (op1 st y)) r c t st s t' st' s' → Does N O.at (64 + O.n) whole_2 r c t' st' mem s s'
-    both q {r} {t'} {st'} {s'} D = record { is = is_way false true (ne_eqb x y p) q ∙ D.is mem; beside = D.beside; left = left_by r D.left }
-      where
-        left_by : (r : State) → ModifiesBy N 0 0 r t' s s' → ModifiesBy N O.at (64 + O.n) r t' s s'
-        left_by (Is i d) v = left_any O.at (64 + O.n) v (omega (arith, O.room))
-        left_by (Refused e) v = tt
+    is_way : (a b : Bool) → eqb i j ≡ a → relations x.states.words.now i j ≡ b → whole_2 (aut_in x) ≡ ways a b
+    is_way a b p q = O.is N (limits_of c.limits) i j (aut_in x) ∙ ap₂ ways p q
 
-    abbrev pair : List ℕ
-    pair = set (set s O.at x) (suc O.at) y
+    pub same : i ≡ j → Does N O.at (64 + O.n) aut_in (λ i. i) whole_2 x (Ok i) x
+    same e = itself (is_way true (relations x.states.words.now i j) (eq-eqb i j e) refl)
 
-    words_pair : words pair O.at 2 ≡ x ∷ y ∷ []
-    words_pair = words_sets (x ∷ y ∷ []) s O.at (omega (arith, R.room, O.room))
+    module _ (p : i ≡ j → ⊥) where
+      pub both : relations x.states.words.now i j ≡ true → {r : Result ℕ Refusal} {y : Lent} → Does N 0 0 aut_in (λ i. i) (spp_of relation_2) x r y → Does N O.at (64 + O.n) aut_in (λ i. i) whole_2 x r y
+      both q {r} D = record { is = is_way false true (ne_eqb i j p) q ∙ D.is; left = unless r (λ v. left_any O.at (64 + O.n) v (omega (arith, O.room))) D.left }
 
-    written : Written c.states O.at 2 s pair
-    written = record {
-      kept = kept_sets (x ∷ y ∷ []) s O.at 64 O.at (omega arith) (omega arith);
-      len = simp length-set;
-      few = omega arith;
-      states = subst (All (λ z. z < c.states)) (sym words_pair) (A.has_x, (A.has_y, tt));
-    }
+      -- the pair is written
+      module _ (y : Lent) (tables : aut_in y ≡ aut_in x) (fields : y.spp.fields ≡ x.spp.fields) (s : y.scratch.now ≡ set (set x.scratch.now O.at i) (suc O.at) j) where
+        words_pair : words y.scratch.now O.at 2 ≡ i ∷ j ∷ []
+        words_pair = ap (λ (s : List ℕ). words s O.at 2) s ∙ words_sets (i ∷ j ∷ []) x.scratch.now O.at (omega (arith, R.ready.room, O.room))
 
-    pub pair_ready : Ready N l σ pair × ListAt pair c.states O.at 2 (O.at + 64)
-    pair_ready = written_ready t st mem c R written (omega (arith, O.room))
+        written : Written O.at 2 x y
+        written = record {
+          kept = subst (Kept O.at 64 x.scratch.now) (sym s) (kept_sets (i ∷ j ∷ []) x.scratch.now O.at 64 O.at (omega arith) (omega arith));
+          len = ap length s ∙ simp length-set;
+          few = omega arith;
+          states = subst (All (λ z. z < x.states.count)) (sym words_pair) (A.has_x, (A.has_y, tt));
+          tables = tables;
+          fields = fields;
+        }
 
-    pub pair_done : relations st x y ≡ false → {r : State} {t' st' mem' s' : List ℕ} → Does N (O.at + 64) O.n (O.many N (limits_of l) (words pair O.at 2) σ) r c t' st' mem' pair s'
-        → Does N O.at (64 + O.n) whole_2 r c t' st' mem' s s'
-    pair_done q {r} {t'} {st'} {mem'} {s'} D =
-        written_done r t' st' mem' s' written O.room (is_way false false (ne_eqb x y p) q ∙ ap (λ (xs : List ℕ). O.many N (limits_of l) xs σ) (sym words_pair)) D
+        pub pair_asked : Asked c y × ListAt y.scratch.now y.states.count O.at 2 (O.at + 64)
+        pair_asked = written_asked written R (omega (arith, O.room))
+
+        pub pair_done : relations x.states.words.now i j ≡ false → {r : Result ℕ Refusal} {z : Lent} → Does N (O.at + 64) O.n aut_in (λ i. i) (O.many N (limits_of c.limits) (words y.scratch.now O.at 2)) y r z
+            → Does N O.at (64 + O.n) aut_in (λ i. i) whole_2 x r z
+        pair_done q D = written_done written O.room (is_way false false (ne_eqb i j p) q ∙ ap (λ (xs : List ℕ). O.many N (limits_of c.limits) xs (aut_in x)) (sym words_pair)) D
+
+-- ---- a list that is interned
+
+module _ {N : ℕ} {L : Limits} {σ : Aut} (g : WfAut N L σ) {xs : List ℕ} (a : All (λ x. x < states σ) xs) where
+  list_asked : (k : ℕ) (m : Rules N → Rule N) → form {N = N} k ≡ Kinds.many m → ListAsked (exprs σ.states σ.members) k xs
+  list_asked k m q = record {
+    push = record { fits = order.fits g; small = g.members_small };
+    lists = λ i l. record { within = λ e. omega (arith, (ok i l e).inside, g.members_fit) };
+    has = a;
+    earlier = λ i l e. (ok i l e).earlier;
+  }
+    where
+      ok : (i : ℕ) → i < states σ → Rattle.aut_steps.specs.Wf.kind σ i ≡ k → Holds {N = N} (Kinds.many m) σ i
+      ok i l e = subst (λ (f : Form N). Holds f σ i) q (ok_as g k l e)
+
+  pub union_asked : ListAsked (exprs σ.states σ.members) UNION xs
+  unfolding form
+  union_asked = list_asked UNION union refl
+
+  pub intersect_asked : ListAsked (exprs σ.states σ.members) INTERSECT xs
+  unfolding form
+  intersect_asked = list_asked INTERSECT intersection refl

@@ -1,49 +1,47 @@
 -- The chain of calls of a union: what each call is asked, and what the whole comes to.
-use Rattle.std.specs.Prelude.{Option, Some, None}
-use mathlib.Core.Path.{◌≡◌, refl, ◌∙◌, ap, subst}
+use Rattle.std.specs.Prelude.{Option, Some, None, Result, Ok, Err}
+use mathlib.Core.Path.{◌≡◌, refl, sym, ◌∙◌, ap, subst}
 use mathlib.Core.List.{List, []}
-use Prim.Native.Nat.{ℕ, ◌+◌, ◌≤◌, ◌<◌}
+use Prim.Native.Nat.{ℕ, ◌+◌, ◌-◌, ◌≤◌, ◌<◌}
 use native.Mathlib.Omega.{arith}
 use lib.Dec.{eqb}
-use lib.ListN.{length}
-use Rattle.common.specs.Outcome.{Outcome, refused, given, Step, after, ◌>>=◌}
-use Rattle.common.specs.Runs.{Table, table, placed}
+use lib.ListN.{length, take, drop}
+use Rattle.std.specs.Result.{IsErr, IsErrAnd}
+use Rattle.common.specs.Outcome.{Outcome, given, Step, after, ◌>>=◌}
+use Rattle.common.specs.Runs.{Table, placed}
+use Rattle.refusal.specs.declared.Refusal.{Refusal}
+use Rattle.refusal.specs.declared.Refusal.TheVariants as refusal
+use Rattle.refusal.specs.Numbers.{outcome}
 use Rattle.spp_steps.specs.Wf.{ValidAt}
-use Rattle.spp_steps.proofs.Laws.{den_zero}
-use Rattle.spp.specs.declared.SPP as Spp
-use Rattle.aut_steps.specs.Tables.{UNION, words, Limits, Aut, aut, Exprs, exprs, put_nodes, put_states, put_exprs, on_states, on_exprs}
+use Rattle.aut_steps.specs.Tables.{UNION, words, Limits, Aut, aut, exprs, put_nodes, put_states, put_exprs, on_states, on_exprs}
 use Rattle.aut_steps.specs.Relations as Rel
 use Rattle.aut_steps.specs.Ascending.{All}
-use Rattle.aut_steps.proofs.ListLaws.{all_map, all_sorted}
+use Rattle.aut_steps.proofs.ListLaws.{all_sorted}
 use Rattle.aut_steps.specs.Lists.{sorted}
 use Rattle.aut_steps.specs.Wf.{states, WfAut}
 use Rattle.aut_steps.specs.StepSpec.{Gone}
-use Rattle.aut_steps.proofs.StepSpec.{StepSpec, goes_return, came, good_nodes, branch_in}
+use Rattle.aut_steps.proofs.StepSpec.{StepSpec, goes_return, came, branch_in}
 use Rattle.aut_steps.specs.Constructors as C
 use Rattle.aut_steps.specs.Constructors.{Parts, parts, each, unite_one, add_relation, mk_top, Opened, list, open_union, unite_opened}
+use Rattle.aut_steps.specs.Scratch.{Kept}
 use Rattle.aut_steps.proofs.Scratch.{kept_wide}
-use Rattle.aut_states.specs.declared.Counts.{Counts}
-use Rattle.aut_states.specs.declared.Limits.{Limits as Bounds}
-use Rattle.aut_states.specs.declared.State.{State}
-use Rattle.aut_states.specs.Clauses.{limits_of, Interned, ListReady}
-use Rattle.aut_scratch.specs.Clauses.{OpenReady, OpenedUnion, opened_of, opened_most, SortReady, Sorts}
+use Rattle.aut_states.specs.declared.Config.{Config}
+use Rattle.aut_states.specs.declared.States.{States}
+use Rattle.aut_states.specs.Clauses.{limits_of, states_of, seen, ListAsked}
+use Rattle.aut_states.proofs.Slices.{part}
+use Rattle.aut_scratch.specs.Clauses.{OpenReady, OpenedUnion, opened_of, SortReady, Sorts}
 use Rattle.aut_scratch.specs.declared.Opened.{Opened as Answer}
 use Rattle.aut_scratch.specs.declared.Opened.TheVariants as answer
 use Rattle.aut_relations.specs.Behind.{Modifies}
 use Rattle.aut_relations.proofs.Behind.{left_wide, left_kept}
-use Rattle.aut_relations.specs.Clauses.{aut_of, Ready, Does}
-use Rattle.aut_relations.proofs.Join as join
 use Rattle.aut_relations.proofs.Order as order
-use Rattle.aut_relations.proofs.Order.{backed_of}
 use Rattle.aut_relations.proofs.Opens.{AllOpen, union_states}
-use Rattle.aut_relations.proofs.Each.{Grows}
-use Rattle.aut_union.specs.declared.Gathered.{Gathered}
-use Rattle.aut_union.specs.declared.Gathered.TheVariants.{Rest}
-use Rattle.aut_union.specs.declared.Added.{Added}
-use Rattle.aut_union.specs.declared.Added.TheVariants as added
-use Rattle.aut_union.specs.Clauses.{seen_parts, PartsLeft, PartsMost, Unites, UnitesReady, seen_added, AddedMost, AddReady, Adds, ListAt}
-use Rattle.aut_union.proofs.Gather.{keeps, Held, gathered, behind_goes}
-use Rattle.aut_union.proofs.Calls.{left_then, interned_is, interned_beside, interned_nodes, Written, written_ready, written_done, ListExits, OfList, several, PairExits, OfPair}
+use Rattle.aut_relations.specs.declared.Aut.{Aut as Lent}
+use Rattle.aut_relations.specs.Lent.{nodes_in, states_in, members_in, exprs_in, aut_in, KeepsExprs, Does, Asked}
+use Rattle.aut_union.specs.declared.Parts.{Parts as Gathered}
+use Rattle.aut_union.specs.Clauses.{parts_at, AddReady, Adds, ListAt}
+use Rattle.aut_union.proofs.Gather.{First, uniting, first_done, tables_after, behind_goes}
+use Rattle.aut_union.proofs.Calls.{left_then, not_done, handed, always, states_is, exprs_is, Written, written_asked, written_done, ListExits, OfList, several, PairExits, OfPair, union_asked}
 
 -- the list with the relation's state
 added_goes : {N : ℕ} {L : Limits} {σ : Aut} → WfAut N L σ → (p : Parts) → ValidAt σ.nodes N p.relation → All (λ x. x < states σ) p.others
@@ -56,108 +54,83 @@ added_goes {N} {L} {σ} g p h a =
 
 -- ---- unite
 
-module _ (N : ℕ) (l : Bounds) (t st mem s : List ℕ) (c : Counts) (k : ℕ) (R : Ready N l (aut_of t st mem c) s) (A : ListAt s c.states 256 k 320) (few : k ≤ 64) where
-  abbrev σ : Aut
-  σ = aut_of t st mem c
+module _ {c : Config} {x : Lent} {k : ℕ} (R : Asked c x) (A : ListAt x.scratch.now x.states.count 256 k 320) (few : k ≤ 64) where
+  abbrev N : ℕ
+  N = c.fields
 
-  abbrev whole : Outcome Aut ℕ
-  whole = C.unite N (limits_of l) (words s 256 k) σ
+  abbrev L : Limits
+  L = limits_of c.limits
 
-  abbrev first : Outcome Table Parts
-  first = each (unite_one N st) (words s 256 k) (parts (Rel.zero_at N) []) (table t c.spp)
+  abbrev whole : Step Aut ℕ
+  whole = C.unite N L (words x.scratch.now 256 k)
+
+  abbrev first : Step Table Parts
+  first = each (unite_one N x.states.words.now) (words x.scratch.now 256 k) (parts (Rel.zero_at N) [])
 
   abbrev rest1 : Parts → Step Aut ℕ
-  rest1 p = on_states (add_relation N p) >>= λ ys. on_exprs (C.finish N (limits_of l) (sorted ys))
+  rest1 p = on_states (add_relation N p) >>= λ ys. on_exprs (C.finish N L (sorted ys))
 
   abbrev rest2 : List ℕ → Step Aut ℕ
-  rest2 ys = on_exprs (C.finish N (limits_of l) (sorted ys))
+  rest2 ys = on_exprs (C.finish N L (sorted ys))
 
-  pub unites_ready : UnitesReady N (table t c.spp) st s 256 k 320
-  unites_ready = record { backed = backed_of R; at = all_map (words s 256 k) (λ x m. order.rel_at R.good m) A.states; apart = A.apart; room = omega arith }
-
-  after_1 : {o : Outcome Table Parts} → first ≡ o → whole ≡ after (placed put_nodes σ o) rest1
+  after_1 : {o : Outcome Table Parts} → first (nodes_in x) ≡ o → whole (aut_in x) ≡ after (placed put_nodes (aut_in x) o) rest1
   unfolding C.unite
-  after_1 e = ap (λ (o : Outcome Table Parts). after (placed put_nodes σ o) rest1) e
+  after_1 e = ap (λ (o : Outcome Table Parts). after (placed put_nodes (aut_in x) o) rest1) e
 
-  pub full : first ≡ refused 21 → whole ≡ refused 21
-  full e = after_1 e
+  pub not_gathered : {y : Lent} {V : Type 0} {see : V → Parts} {r : Result ℕ Refusal} (e : Refusal) → IsErr r × IsErrAnd r (λ x. x ≡ e) → Does N 320 k nodes_in see first x (Err e) y → Does N 320 256 aut_in (λ i. i) whole x r y
+  not_gathered e p D = handed e p (after_1 D.is)
 
-  module _ (r1 : Gathered) (t1 s1 : List ℕ) (U : Unites N 320 k k first r1 t1 s s1 320) (len1 : length s1 ≡ length s) (h : Spp.SPP) (n m : ℕ) (told1 : r1 ≡ Rest h n m) where
-    is_1 : first ≡ given (table t1 n) (parts h.0 (words s1 320 m))
-    is_1 = U.is ∙ ap (λ (r : Gathered). seen_parts r t1 s1 320) told1
+  module _ {y : Lent} {p : Gathered} (E : KeepsExprs x y) (D : Does N 320 k nodes_in (parts_at y.scratch.now 320) first x (Ok p) y) (few_1 : p.others ≤ k) where
+    then_1 : First c (uniting N) y p 320
+    then_1 = first_done (uniting N) R A (omega (arith, few)) E D
 
-    left_1 : Modifies N 320 k (table t1 n) s s1
-    left_1 = subst (λ (r : Gathered). PartsLeft N 320 k r t1 s s1) told1 U.left
+    abbrev second : Step Table (List ℕ)
+    second = add_relation N (parts_at y.scratch.now 320 p)
 
-    few_1 : m ≤ k
-    few_1 = subst (λ (r : Gathered). PartsMost r k) told1 U.few
+    after_2 : {o : Outcome Table (List ℕ)} → second (states_in y) ≡ o → whole (aut_in x) ≡ after (placed put_states (aut_in y) o) rest2
+    after_2 e = after_1 D.is ∙ ap (rest1 (parts_at y.scratch.now 320 p)) (tables_after E) ∙ ap (λ (o : Outcome Table (List ℕ)). after (placed put_states (aut_in y) o) rest2) e
 
-    grows : Grows N (Held N st (λ x. x < c.states)) (table t c.spp) (table t1 n) (parts h.0 (words s1 320 m))
-    grows = gathered R.good (keeps N st (λ x. x < c.states)) (words s 256 k) A.states (parts (Rel.zero_at N) []) ((den_zero R.good.nodes N (omega arith)).at, tt) is_1
+    pub add_ready : AddReady N y.states y.scratch.now 320 p.others
+    add_ready = record { few = R.ready.few; fits = order.fits then_1.asked.ready.good; room = omega (arith, few, few_1, then_1.asked.ready.room) }
 
-    abbrev σ1 : Aut
-    σ1 = aut (table t1 n) (table st c.states) (table mem c.members)
+    module _ {t : States} {s2 : List ℕ} where
+      pub not_added : {z : Lent} {r : Result ℕ Refusal} (e : Refusal) → IsErr r × IsErrAnd r (λ x. x ≡ e) → Adds second y.states (Err e) t y.scratch.now s2 320 p.others → Does N 320 256 aut_in (λ i. i) whole x r z
+      not_added e q B = handed e q (after_2 B.is)
 
-    good_1 : WfAut N (limits_of l) σ1
-    good_1 = good_nodes R.good grows.ext grows.wf
-
-    abbrev second : Outcome Table (List ℕ)
-    second = add_relation N (parts h.0 (words s1 320 m)) (table st c.states)
-
-    pub add_ready : AddReady N st s1 c.states 320 m
-    add_ready = record { few = R.few; fits = order.fits R.good; room = omega (arith, R.room, len1, few_1) }
-
-    after_2 : {o : Outcome Table (List ℕ)} → second ≡ o → whole ≡ after (placed put_states σ1 o) rest2
-    after_2 e = after_1 is_1 ∙ ap (λ (o : Outcome Table (List ℕ)). after (placed put_states σ1 o) rest2) e
-
-    module _ (r2 : Added) (st2 s2 : List ℕ) (D : Adds second r2 st2 s1 s2 320 m) (len2 : length s2 ≡ length s1) where
-      pub not_added : (e : ℕ) → r2 ≡ added.Refused e → whole ≡ refused e
-      not_added e q = after_2 (D.is ∙ ap (λ (r : Added). seen_added r st2 s2 320) q)
-
-      module _ (m2 n2 : ℕ) (told2 : r2 ≡ added.List m2 n2) where
-        is_2 : second ≡ given (table st2 n2) (words s2 320 m2)
-        is_2 = D.is ∙ ap (λ (r : Added). seen_added r st2 s2 320) told2
-
-        few_2 : m2 ≤ m + 1
-        few_2 = subst (λ (r : Added). AddedMost r (m + 1)) told2 D.few
-
+      module _ {l : ℕ} (B : Adds second y.states (Ok l) t y.scratch.now s2 320 p.others) (len2 : length s2 ≡ length y.scratch.now) where
         abbrev σ2 : Aut
-        σ2 = aut (table t1 n) (table st2 n2) (table mem c.members)
+        σ2 = aut (nodes_in y) (states_of t) (members_in y)
 
-        law_2 : Gone N (limits_of l) (λ τ ys. All (λ y. y < states τ) ys) σ1 σ2 (words s2 320 m2)
-        law_2 = came (subst (StepSpec N (limits_of l) (λ τ ys. All (λ y. y < states τ) ys) σ1) (ap (placed put_states σ1) is_2) (added_goes good_1 (parts h.0 (words s1 320 m)) grows.holds.0 grows.holds.1))
+        law_2 : Gone N L (λ τ ys. All (λ y. y < states τ) ys) (aut_in y) σ2 (words s2 320 l)
+        law_2 = came (subst (StepSpec N L (λ τ ys. All (λ y. y < states τ) ys) (aut_in y)) (ap (placed put_states (aut_in y)) B.is) (added_goes then_1.asked.ready.good (parts_at y.scratch.now 320 p) then_1.holds.0 then_1.holds.1))
 
-        pub sort_ready : SortReady s2 320 m2 448
-        sort_ready = record { small = order.small law_2.good (words s2 320 m2) law_2.holds; apart = omega (arith, few_1, few_2); room = omega (arith, few_1, few_2, R.room, len1, len2) }
+        pub sort_ready : SortReady s2 320 l 448
+        sort_ready = record {
+          small = order.small law_2.good (words s2 320 l) law_2.holds;
+          apart = omega (arith, few, few_1, B.few);
+          room = omega (arith, few, few_1, B.few, then_1.asked.ready.room, len2);
+        }
 
-        module _ (r3 : ℕ) (s3 : List ℕ) (S : Sorts (words s2 320 m2) r3 s2 s3 448 m2) (len3 : length s3 ≡ length s2) where
-          abbrev d : Counts
-          d = record { sp = c.sp; spp = n; states = n2; members = c.members; transitions = c.transitions }
+        module _ {q : ℕ} {s3 : List ℕ} (S : Sorts (words s2 320 l) q s2 s3 448 l) (len3 : length s3 ≡ length s2) where
+          abbrev ys : List ℕ
+          ys = take (448 + q - 448) (drop 448 s3)
 
-          pub finish_ready : ListReady st2 mem s3 d UNION 448 r3 × (N ≤ 31)
-          finish_ready = (
-            order.union_ready law_2.good d refl refl s3 448 r3 (subst (All (λ y. y < n2)) S.is ((all_sorted (λ y. y < n2) (words s2 320 m2)).0 law_2.holds))
-                (omega (arith, few_1, few_2, S.few, R.room, len1, len2, len3)) (omega (arith, few_1, few_2, S.few)),
-            R.few,
-          )
+          ys_are : sorted (words s2 320 l) ≡ ys
+          ys_are = S.is ∙ part s3 448 q (omega (arith, few, few_1, B.few, S.few, then_1.asked.ready.room, len2, len3))
 
-          abbrev third : Outcome Exprs ℕ
-          third = C.finish N (limits_of l) (words s3 448 r3) (exprs (table st2 n2) (table mem c.members))
+          pub finish_ready : ListAsked (exprs (states_of t) (members_in y)) UNION ys × (N ≤ 31)
+          finish_ready = (union_asked law_2.good (subst (All (λ y. y < t.count)) ys_are ((all_sorted (λ y. y < t.count) (words s2 320 l)).0 law_2.holds)), R.ready.few)
 
-          after_3 : {o : Outcome Exprs ℕ} → third ≡ o → whole ≡ placed put_exprs σ2 o
-          after_3 e =
-              after_2 is_2
-              ∙ ap (λ (ys : List ℕ). placed put_exprs σ2 (C.finish N (limits_of l) ys (exprs (table st2 n2) (table mem c.members)))) S.is
-              ∙ ap (placed put_exprs σ2) e
+          left_3 : Modifies N 320 256 (nodes_in y) x.scratch.now s3
+          left_3 =
+              left_then
+              (left_then (left_wide D.left (omega arith) (omega (arith, few))) B.kept len2 (omega arith) (omega (arith, few, few_1)) (omega arith))
+              S.kept len3 (omega arith) (omega (arith, few, few_1, B.few)) (omega arith)
 
-          left_3 : Modifies N 320 256 (table t1 n) s s3
-          left_3 = left_then (left_then (left_wide left_1 (omega arith) (omega arith)) D.kept len2 (omega arith) (omega (arith, few_1)) (omega arith)) S.kept len3 (omega arith) (omega (arith, few_1, few_2)) (omega arith)
-
-          pub done : (r4 : State) (st4 mem4 : List ℕ) → Interned third r4 d st4 mem4 → Does N 320 256 whole r4 c t1 st4 mem4 s s3
-          done r4 st4 mem4 I = record {
-            is = after_3 I.is ∙ interned_is t1 st2 mem st4 mem4 r4 d I.beside;
-            beside = interned_beside r4 c d I.beside refl refl;
-            left = join.same_left N 320 256 r4 d t1 s s3 (interned_nodes r4 d d I.beside refl) left_3;
+          pub done : {z : Lent} {r : Result ℕ Refusal} → nodes_in z ≡ nodes_in y → z.scratch.now ≡ s3 → C.finish N L ys (exprs (states_of t) (members_in y)) ≡ seen r (exprs_in z) → Does N 320 256 aut_in (λ i. i) whole x r z
+          done {z} {r} n s f = record {
+            is = after_2 B.is ∙ ap (λ (ys : List ℕ). placed put_exprs σ2 (C.finish N L ys (exprs (states_of t) (members_in y)))) ys_are ∙ ap (placed put_exprs σ2) f ∙ exprs_is σ2 z r n;
+            left = always r (subst (λ (τ : Table). Modifies N 320 256 τ x.scratch.now z.scratch.now) (sym n) (subst (Modifies N 320 256 (nodes_in y) x.scratch.now) (sym s) left_3));
           }
 
 -- ---- mk_union_n
@@ -173,52 +146,61 @@ list_exits N L xs σ = refl
 abbrev pub of_list : OfList
 of_list = record { whole = C.mk_union_n; rest = opening; is = list_exits }
 
-module _ (N : ℕ) (l : Bounds) (t st mem s : List ℕ) (c : Counts) (from k : ℕ) (R : Ready N l (aut_of t st mem c) s) (A : ListAt s c.states from k 256) where
-  abbrev σn : Aut
-  σn = aut_of t st mem c
-
-  abbrev all_n : Outcome Aut ℕ
-  all_n = C.mk_union_n N (limits_of l) (words s from k) σn
+module _ {c : Config} {x : Lent} {from k : ℕ} (R : Asked c x) (A : ListAt x.scratch.now x.states.count from k 256) where
+  abbrev all_n : Step Aut ℕ
+  all_n = C.mk_union_n c.fields (limits_of c.limits) (words x.scratch.now from k)
 
   abbrev open_n : Opened
-  open_n = open_union l.list st mem (words s from k) []
+  open_n = open_union c.limits.list x.states.words.now x.members.words.now (words x.scratch.now from k) []
 
-  module _ (h : k ≤ l.list) where
-    pub open_ready : OpenReady st mem s l.list UNION from k 256
-    open_ready = record { at = order.open_union_at R.good (words s from k) A.states; limit = R.list; apart = A.apart; room = omega (arith, R.list, R.room) }
+  pub open_ready : OpenReady x.states.words.now x.members.words.now x.scratch.now c.limits.list UNION from k 256
+  open_ready = record { at = order.open_union_at R.ready.good (words x.scratch.now from k) A.states; limit = R.ready.list; apart = A.apart; room = omega (arith, R.ready.list, R.ready.room) }
 
-    module _ (p : k ≡ 1 → ⊥) (r1 : Option Answer) (s1 : List ℕ) (O : OpenedUnion open_n r1 s s1 256 l.list) (len1 : length s1 ≡ length s) where
-      after_open : (r : Option Answer) → r1 ≡ r → all_n ≡ unite_opened N (limits_of l) (opened_of r s1 256) σn
-      after_open r e = several of_list N l t st mem s c from k h p ∙ ap (λ (o : Opened). unite_opened N (limits_of l) o σn) (O.is ∙ ap (λ (r : Option Answer). opened_of r s1 256) e)
+  module _ (h : k ≤ c.limits.list) (p : k ≡ 1 → ⊥) {r1 : Option Answer} {s1 : List ℕ} (O : OpenedUnion open_n r1 x.scratch.now s1 256 c.limits.list) where
+    after_open : all_n (aut_in x) ≡ unite_opened c.fields (limits_of c.limits) (opened_of r1 s1 256) (aut_in x)
+    after_open = several of_list c x from k h p ∙ ap (λ (o : Opened). unite_opened c.fields (limits_of c.limits) o (aut_in x)) O.is
 
-      pub top_left : Modifies N 256 320 (table t c.spp) s s1
-      top_left = left_wide (left_kept O.kept len1 (omega (arith, R.list))) (omega arith) (omega (arith, R.list))
+  module _ (h : k ≤ c.limits.list) (p : k ≡ 1 → ⊥) {s1 : List ℕ} where
+    pub too_long : {y : Lent} → OpenedUnion open_n None x.scratch.now s1 256 c.limits.list → Does c.fields 256 320 aut_in (λ i. i) all_n x (Err refusal.List) y
+    too_long O = not_done refusal.List (after_open h p O)
 
-      pub too_long : r1 ≡ None → all_n ≡ refused 6
-      too_long e = after_open None e
+    module _ {o : Answer} (O : OpenedUnion open_n (Some o) x.scratch.now s1 256 c.limits.list) (len1 : length s1 ≡ length x.scratch.now) where
+      told : {v : Answer} → o ≡ v → OpenedUnion open_n (Some v) x.scratch.now s1 256 c.limits.list
+      told e = subst (λ (o : Answer). OpenedUnion open_n (Some o) x.scratch.now s1 256 c.limits.list) e O
 
-      pub meets_top : r1 ≡ Some answer.Top → {o : Outcome Table ℕ} → mk_top (table st c.states) ≡ o → all_n ≡ placed put_states σn o
-      meets_top e q = after_open (Some answer.Top) e ∙ ap (placed put_states σn) q
+      -- Top is among them
+      pub meets_top : o ≡ answer.Top → (t : States) {r : Result ℕ Refusal} {y : Lent} → mk_top (states_in x) ≡ seen r (states_of t) → aut_in y ≡ aut (nodes_in x) (states_of t) (members_in x) → y.scratch.now ≡ s1
+          → Does c.fields 256 320 aut_in (λ i. i) all_n x r y
+      meets_top e t {r} {y} q z s = record {
+        is = after_open h p (told e) ∙ ap (placed put_states (aut_in x)) q ∙ states_is x y t r z;
+        left = always r (subst (λ (σ : Aut). Modifies c.fields 256 320 σ.nodes x.scratch.now y.scratch.now) (sym z) (subst (Modifies c.fields 256 320 (nodes_in x) x.scratch.now) (sym s)
+            (left_wide (left_kept O.kept len1 (omega (arith, R.ready.list))) (omega arith) (omega (arith, R.ready.list)))));
+      }
 
-      module _ (m : ℕ) (told : r1 ≡ Some (answer.List m)) where
+      -- a list
+      module _ {m : ℕ} (e : o ≡ answer.List m) where
         few_m : m ≤ 64
-        few_m = omega (arith, R.list, subst (λ (r : Option Answer). opened_most r l.list) told O.few)
+        few_m = omega (arith, R.ready.list, (told e).few)
 
-        written : Written c.states 256 m s s1
-        written = record {
-          kept = kept_wide O.kept (omega arith) (omega (arith, R.list));
-          len = len1;
-          few = few_m;
-          states = subst (AllOpen (λ x. x < c.states)) (O.is ∙ ap (λ (r : Option Answer). opened_of r s1 256) told) (union_states R.good l.list (words s from k) [] A.states tt);
-        }
+        module _ (y : Lent) (tables : aut_in y ≡ aut_in x) (fields : y.spp.fields ≡ x.spp.fields) (s : y.scratch.now ≡ s1) where
+          written : Written 256 m x y
+          written = record {
+            kept = subst (Kept 256 64 x.scratch.now) (sym s) (kept_wide O.kept (omega arith) (omega (arith, R.ready.list)));
+            len = ap length s ∙ len1;
+            few = few_m;
+            states = subst (λ (s : List ℕ). All (λ i. i < x.states.count) (words s 256 m)) (sym s)
+                (subst (AllOpen (λ i. i < x.states.count)) (told e).is (union_states R.ready.good c.limits.list (words x.scratch.now from k) [] A.states tt));
+            tables = tables;
+            fields = fields;
+          }
 
-        pub unite_ready : Ready N l σn s1 × ListAt s1 c.states 256 m 320 × (m ≤ 64)
-        unite_ready =
-            let p = written_ready t st mem c R written (omega arith) in
-            (p.0, p.1, few_m)
+          pub unite_ready : Asked c y × ListAt y.scratch.now y.states.count 256 m 320 × (m ≤ 64)
+          unite_ready =
+              let q = written_asked written R (omega arith) in
+              (q.0, q.1, few_m)
 
-        pub united : (r2 : State) (t2 st2 mem2 s2 : List ℕ) → Does N 320 256 (C.unite N (limits_of l) (words s1 256 m) σn) r2 c t2 st2 mem2 s1 s2 → Does N 256 320 all_n r2 c t2 st2 mem2 s s2
-        united r2 t2 st2 mem2 s2 D = written_done r2 t2 st2 mem2 s2 written (omega arith) (after_open (Some (answer.List m)) told) D
+          pub united : {r : Result ℕ Refusal} {z : Lent} → Does c.fields 320 256 aut_in (λ i. i) (C.unite c.fields (limits_of c.limits) (words y.scratch.now 256 m)) y r z → Does c.fields 256 320 aut_in (λ i. i) all_n x r z
+          united D = written_done written (omega arith) (after_open h p (told e) ∙ ap (λ (s : List ℕ). C.unite c.fields (limits_of c.limits) (words s 256 m) (aut_in x)) (sym s)) D
 
 -- ---- mk_union
 

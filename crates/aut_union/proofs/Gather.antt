@@ -1,45 +1,73 @@
--- The relations of a list united, and the relation's state.
-use Rattle.std.specs.Prelude.{if◌then◌else◌}
-use mathlib.Core.Path.{◌≡◌, refl, sym, ◌∙◌, ap, ap₂}
+-- The relations of a list gathered into one, the other members behind a place of scratch: said once for unions and intersections. And the relation's state behind a list.
+use Rattle.std.specs.Prelude.{Result, Ok, Err}
+use mathlib.Core.Path.{◌≡◌, refl, sym, ◌∙◌, ap, ap₂, subst}
 use mathlib.Core.Bool.{Bool, true, false}
 use mathlib.Core.List.{List, [], ◌∷◌, ◌++◌}
-use Prim.Native.Nat.{ℕ, ◌+◌, ◌*◌, ◌≤◌, ◌<◌}
+use Prim.Native.Nat.{ℕ, ◌+◌, ◌≤◌, ◌<◌}
 use native.Mathlib.Omega.{arith}
 use lib.Dec.{eqb}
 use lib.ListN.{length, get_or, set, length-set}
 use borrow.Author.Tests.{eq-eqb, ne_eqb, eqb-true}
+use Rattle.std.specs.Result.{IsErr, IsErrAnd}
 use Rattle.common.specs.Outcome.{Outcome, refused, given, Step, return, after, ◌>>=◌, Gives, gives}
 use Rattle.common.proofs.Follow.{call, branch, given_of}
-use Rattle.common.specs.Runs.{Table, table, placed}
+use Rattle.common.specs.Runs.{Table, placed}
+use Rattle.refusal.specs.declared.Refusal.{Refusal}
+use Rattle.refusal.specs.Numbers.{number_of}
+use Rattle.refusal.proofs.Passed.{passed}
+use Rattle.spp_steps.specs.Model.{is_zero}
 use Rattle.spp_steps.specs.Wf.{Wf, Ext, ValidAt}
-use Rattle.spp_steps.proofs.Laws.{ext_refl, at_ext, den_mem}
-use Rattle.spp.specs.declared.SPP as Spp
-use Rattle.aut_steps.specs.Tables.{SPP, UNION, kind_of, op1, words, Limits, Exprs, exprs, Aut, put_states}
+use Rattle.spp_steps.proofs.Laws.{ext_refl, at_ext, den_mem, den_zero}
+use Rattle.spp.specs.declared.SPP.{SPP as Handle}
+use Rattle.aut_steps.specs.Tables.{SPP, kind_of, op1, words, Limits, Aut, aut, put_states}
 use Rattle.aut_steps.specs.Relations as Rel
 use Rattle.aut_steps.proofs.RelationLaws.{union_made}
 use Rattle.aut_steps.specs.Ascending.{All}
 use Rattle.aut_steps.proofs.ListLaws.{all_append, all_map}
-use Rattle.aut_steps.proofs.Facts.{words_length}
 use Rattle.aut_steps.specs.Wf.{states, WfAut}
-use Rattle.aut_steps.proofs.Wf.{states_grown}
-use Rattle.aut_steps.proofs.StepSpec.{StepSpec, placed_map}
+use Rattle.aut_steps.proofs.Wf.{grown_nodes, states_grown}
+use Rattle.aut_steps.proofs.StepSpec.{StepSpec, placed_map, good_nodes}
 use Rattle.aut_steps.proofs.StateLaws.{mk_spp_goes}
-use Rattle.aut_steps.specs.Intern.{intern_l}
 use Rattle.aut_steps.specs.Constructors as C
-use Rattle.aut_steps.specs.Constructors.{Parts, parts, each, unite_one, add_relation, mk_spp}
+use Rattle.aut_steps.specs.Constructors.{parts, each, unite_one, add_relation, mk_spp}
 use Rattle.aut_steps.proofs.Scratch.{kept_refl, kept_sets, words_append}
-use Rattle.aut_states.specs.declared.Counts.{Counts}
-use Rattle.aut_states.specs.declared.State.{State}
-use Rattle.aut_states.specs.declared.State.TheVariants.{Is, Refused}
-use Rattle.aut_states.specs.Clauses as Put
+use Rattle.aut_states.specs.declared.Config.{Config}
+use Rattle.aut_states.specs.declared.States.{States}
+use Rattle.aut_states.specs.Clauses.{states_of}
 use Rattle.aut_relations.specs.Behind.{LISTS, Modifies}
 use Rattle.aut_relations.proofs.Behind.{left_any, left_kept, words_behind}
-use Rattle.aut_relations.specs.Clauses.{RelAt, Beside, SameNodes}
+use Rattle.aut_relations.specs.Clauses.{RelAt}
+use Rattle.aut_relations.specs.declared.Aut.{Aut as Lent}
+use Rattle.aut_relations.specs.Lent.{nodes_in, states_in, members_in, aut_in, KeepsExprs, Does, Asked}
 use Rattle.aut_relations.proofs.Order as order
-use Rattle.aut_relations.proofs.Each.{Grows, Keeps, makes_gives, each_gives}
-use Rattle.aut_union.specs.declared.Gathered.TheVariants.{Rest, Full}
-use Rattle.aut_union.specs.declared.Added.TheVariants as added
-use Rattle.aut_union.specs.Clauses.{Unites, Adds}
+use Rattle.aut_relations.proofs.Each.{Grows, Keeps, Turn, makes_gives, each_gives}
+use Rattle.aut_relations.proofs.Each as turns
+use Rattle.aut_union.specs.declared.Parts.{Parts}
+use Rattle.aut_union.specs.Clauses.{parts_at, UniteReady, UnitesReady, Adds, ListAt}
+
+-- one word is written among the lists
+pub put_left : {N : ℕ} {s s' : List ℕ} (t : Table) (a x : ℕ) → a < LISTS → s' ≡ set s a x → Modifies N a 1 t s s'
+put_left {s = s} t a x l e = subst (Modifies _ a 1 t s) (sym e) (left_kept (kept_sets (x ∷ []) s a 1 a (omega arith) (omega arith)) (simp length-set) (omega arith))
+
+-- ---- what a call keeps
+
+pub exprs_kept : (x : Lent) → KeepsExprs x x
+exprs_kept x = record { sp = refl; spp = record { lent = refl; fields = refl }; states = refl; members = refl; transitions = refl; pending = refl; scratch = refl; length = refl }
+
+pub exprs_kept_on : {x y z : Lent} → KeepsExprs x y → KeepsExprs y z → KeepsExprs x z
+exprs_kept_on a b = record {
+  sp = b.sp ∙ a.sp;
+  spp = record { lent = b.spp.lent ∙ a.spp.lent; fields = b.spp.fields ∙ a.spp.fields };
+  states = b.states ∙ a.states;
+  members = b.members ∙ a.members;
+  transitions = b.transitions ∙ a.transitions;
+  pending = b.pending ∙ a.pending;
+  scratch = b.scratch ∙ a.scratch;
+  length = b.length ∙ a.length;
+}
+
+pub tables_after : {x y : Lent} → KeepsExprs x y → aut (nodes_in y) (states_in x) (members_in x) ≡ aut_in y
+tables_after K = rw K.states (rw K.members refl)
 
 -- ---- the members of a list, of which P holds
 
@@ -63,70 +91,192 @@ pub gathered : {N : ℕ} {L : Limits} {σ : Aut} {A : Type 0} {one : ℕ → A �
     → (xs : List ℕ) → All (λ x. x < states σ) xs → (a : A) → I σ.nodes a → {t1 : Table} {a1 : A} → each one xs a σ.nodes ≡ given t1 a1 → Grows N I σ.nodes t1 a1
 gathered {σ = σ} g K xs h a i e = given_of (each_gives K xs σ.nodes a g.nodes i (all_map xs (λ x m. (order.rel_at g m, m)) h)) e
 
--- ---- one member
+-- ---- a way to gather, for N fields
 
-module _ (N : ℕ) (st : List ℕ) (P : ℕ → Type 0) where
-  abbrev pub Held : Table → Parts → Type 0
-  Held t p = ValidAt t N p.relation × All P p.others
+pub record Gathers (N : ℕ) : Type 1 where
+  -- a value of the code and of the steps
+  pub V : Type 0
+  pub A : Type 0
+  pub see : List ℕ → ℕ → V → A
+  pub many : V → ℕ
+  pub relation : A → ℕ
+  pub others : A → List ℕ
+  -- one more member, and what is there before the first
+  pub one : List ℕ → ℕ → A → Step Table A
+  pub start : A
+  pub start_at : {t : Table} → Wf N t → N ≤ 31 → ValidAt t N (relation start)
+  pub start_none : others start ≡ []
+  pub step : (st : List ℕ) (P : ℕ → Type 0) (t : Table) (x : ℕ) (a : A) → Wf N t → ValidAt t N (relation a) × All P (others a) → Each N st P t x → Gives (Grows N (λ t a. ValidAt t N (relation a) × All P (others a)) t) (one st x a t)
 
-  one : (t : Table) (x : ℕ) (p : Parts) → Wf N t → Held t p → Each N st P t x → Gives (Grows N Held t) (unite_one N st x p t)
-  unfolding unite_one
-  one t x p w h v =
-      branch (eqb (kind_of st x) SPP) (Rel.union N p.relation (op1 st x) >>= (λ u. return (parts u p.others))) (return (parts p.relation (p.others ++ x ∷ []))) t
-      (λ q. call (makes_gives (union_made N t w p.relation (op1 st x) h.0 (v.0.handle (eqb-true (kind_of st x) SPP q)))) (λ t1 u d. gives (record { ext = d.ext; wf = d.wf; holds = (d.den.at, h.1) })))
-      (λ q. gives (record { ext = ext_refl t; wf = w; holds = (h.0, all_append P p.others (x ∷ []) h.1 (v.1, tt)) }))
+module _ {N : ℕ} (G : Gathers N) where
+  abbrev pub Held : (ℕ → Type 0) → Table → G.A → Type 0
+  Held P t a = ValidAt t N (G.relation a) × All P (G.others a)
 
-  -- what a step leaves
-  pub keeps : Keeps N (unite_one N st) (Each N st P) Held
-  keeps = record { later = each_later N st P; step = one }
+  keeps : (st : List ℕ) (P : ℕ → Type 0) → Keeps N (G.one st) (Each N st P) (Held P)
+  keeps st P = record { later = each_later N st P; step = G.step st P }
 
-module _ (N : ℕ) (st : List ℕ) (t : Table) (s : List ℕ) (x h to m : ℕ) where
-  abbrev out : Outcome Table Parts
-  out = unite_one N st x (parts h (words s to m)) t
+  begun : {t : Table} (P : ℕ → Type 0) → Wf N t → N ≤ 31 → Held P t G.start
+  begun P w l = (G.start_at w l, subst (All P) (sym G.start_none) tt)
 
-  is_rel : get_or st (12 * x) 0 ≡ SPP → {o : Outcome Table ℕ} → Rel.union N h (get_or st (12 * x + 1) 0) t ≡ o → out ≡ after o (λ u. return (parts u (words s to m)))
-  unfolding unite_one kind_of op1
-  is_rel p q = simp (eq-eqb (get_or st (12 * x) 0) SPP p) (ap (λ (o : Outcome Table ℕ). after o (λ u. return (parts u (words s to m)))) q)
+  -- ---- the loop
 
-  pub full : get_or st (12 * x) 0 ≡ SPP → Rel.union N h (get_or st (12 * x + 1) 0) t ≡ refused 21 → (t' s' : List ℕ) → Unites N (to + m) 1 (m + 1) out Full t' s s' to
-  full p q t' s' = record { is = is_rel p q; left = tt; few = tt }
+  -- i members of the k at from are done; x was there before the first
+  pub record Turned (x : Lent) (from k to : ℕ) (y : Lent) (v : G.V) (i : ℕ) : Type 0 where
+    pub keeps : KeepsExprs x y
+    pub turn : Turn N (G.one x.states.words.now) (Held Any) G.start (nodes_in x) x.scratch.now from k to (G.see y.scratch.now to v) (nodes_in y) y.scratch.now (G.many v) i
 
-  pub united : get_or st (12 * x) 0 ≡ SPP → (t' s' : List ℕ) (n : ℕ) (u : Spp.SPP) → Rel.union N h (get_or st (12 * x + 1) 0) t ≡ given (table t' n) u.0 → Modifies N 0 0 (table t' n) s s' → to + m < LISTS
-      → Unites N (to + m) 1 (m + 1) out (Rest u n m) t' s s' to
-  united p t' s' n u q l r = record {
-    is = is_rel p q ∙ ap (λ (ys : List ℕ). given (table t' n) (parts u.0 ys)) (sym (words_behind to m l (omega arith) (omega arith)));
-    left = left_any (to + m) 1 l (omega arith);
-    few = omega arith;
+  abbrev All_of : Lent → ℕ → ℕ → Step Table G.A
+  All_of x from k = each (G.one x.states.words.now) (words x.scratch.now from k) G.start
+
+  module _ {x : Lent} {from k to : ℕ} (R : UnitesReady N x from k to) where
+    abbrev st : List ℕ
+    st = x.states.words.now
+
+    abbrev K : Keeps N (G.one st) (Each N st Any) (Held Any)
+    K = keeps st Any
+
+    pub begin : (v : G.V) → G.see x.scratch.now to v ≡ G.start → G.many v ≡ 0 → Turned x from k to x v 0
+    begin v e z = record {
+      keeps = exprs_kept x;
+      turn = subst (λ (a : G.A). Turn N (G.one st) (Held Any) G.start (nodes_in x) x.scratch.now from k to a (nodes_in x) x.scratch.now (G.many v) 0) (sym e)
+          (subst (λ (m : ℕ). Turn N (G.one st) (Held Any) G.start (nodes_in x) x.scratch.now from k to G.start (nodes_in x) x.scratch.now m 0) (sym z)
+          (turns.begin K G.start (nodes_in x) x.scratch.now from k to R.apart R.room R.backed (begun Any R.backed.wf R.backed.few)));
+    }
+
+    module _ {y : Lent} {v : G.V} {i : ℕ} (T : Turned x from k to y v i) where
+      abbrev a : G.A
+      a = G.see y.scratch.now to v
+
+      module _ (l : i < k) {h : ℕ} where
+        pub member : G.relation a ≡ h → UniteReady N y h (get_or y.scratch.now (from + i) 0) to (G.many v)
+        member e = record {
+          fields = T.keeps.spp.fields ∙ R.fields;
+          backed = T.turn.backed;
+          at_h = subst (ValidAt (nodes_in y) N) e T.turn.holds.0;
+          at_x = rw T.keeps.states (turns.member K G.start (nodes_in x) x.scratch.now from k to R.apart R.room a (nodes_in y) y.scratch.now (G.many v) i T.turn l (members_of_lem N st (nodes_in x) (words x.scratch.now from k) R.at)).0;
+          room = omega (arith, T.turn.few, l, R.room);
+        }
+
+      abbrev One : Step Table G.A
+      One = G.one y.states.words.now (get_or y.scratch.now (from + i) 0) a
+
+      module _ (l : i < k) {z : Lent} where
+        pub stuck : {V : Type 0} {see : V → G.A} {see' : G.V → G.A} {r : Result V Refusal} {e : Refusal} {b n : ℕ} → IsErr r × IsErrAnd r (λ x. x ≡ e) → Does N b n nodes_in see' One y (Err e) z → Does N to k nodes_in see (All_of x from k) x r z
+        stuck {V} {see} {r = r} {e = e} p D = subst (λ (r : Result V Refusal). Does N to k nodes_in see (All_of x from k) x r z) (sym (passed p)) (record {
+          is = turns.stuck K G.start (nodes_in x) x.scratch.now from k to R.apart R.room a (nodes_in y) y.scratch.now (G.many v) i T.turn l (subst (λ (s : _). G.one s.words.now (get_or y.scratch.now (from + i) 0) a (nodes_in y) ≡ refused (number_of e)) T.keeps.states D.is);
+          left = tt;
+        })
+
+        pub again : {w : G.V} → KeepsExprs y z → Does N (to + G.many v) 1 nodes_in (G.see z.scratch.now to) One y (Ok w) z → G.many w ≤ G.many v + 1 → Turned x from k to z w (i + 1)
+        again {w} E D f = record {
+          keeps = exprs_kept_on T.keeps E;
+          turn = turns.again K G.start (nodes_in x) x.scratch.now from k to R.apart R.room a (nodes_in y) y.scratch.now (G.many v) i T.turn l (members_of_lem N st (nodes_in x) (words x.scratch.now from k) R.at)
+              (G.see z.scratch.now to w) (nodes_in z) z.scratch.now (G.many w)
+              (subst (λ (s : _). G.one s.words.now (get_or y.scratch.now (from + i) 0) a (nodes_in y) ≡ given (nodes_in z) (G.see z.scratch.now to w)) T.keeps.states D.is) D.left f E.length;
+        }
+
+      pub end : k ≤ i → Does N to k nodes_in (G.see y.scratch.now to) (All_of x from k) x (Ok v) y
+      end l = record {
+        is = turns.end K G.start (nodes_in x) x.scratch.now from k to R.apart R.room a (nodes_in y) y.scratch.now (G.many v) i T.turn l;
+        left = T.turn.left;
+      }
+
+-- ---- in tables that are in order
+
+-- they still are, and what was gathered is a relation and states
+pub record First (c : Config) (G : Gathers c.fields) (y : Lent) (v : G.V) (to : ℕ) : Type 0 where
+  pub asked : Asked c y
+  pub holds : Held G (λ i. i < y.states.count) (nodes_in y) (G.see y.scratch.now to v)
+
+module _ {c : Config} (G : Gathers c.fields) {x : Lent} (R : Asked c x) {from k to : ℕ} (A : ListAt x.scratch.now x.states.count from k to) (r : to + k ≤ LISTS) where
+  pub each_ready : UnitesReady c.fields x from k to
+  each_ready = record {
+    fields = R.fields;
+    backed = order.backed_of R.ready;
+    at = all_map (words x.scratch.now from k) (λ i l. order.rel_at R.ready.good l) A.states;
+    apart = A.apart;
+    room = r;
   }
 
--- a member that is no relation
-pub other : (N : ℕ) (st t s : List ℕ) (n x to m : ℕ) (h : Spp.SPP) → (get_or st (12 * x) 0 ≡ SPP → ⊥) → to + m < LISTS → LISTS ≤ length s
-    → Unites N (to + m) 1 (m + 1) (unite_one N st x (parts h.0 (words s to m)) (table t n)) (Rest h n (m + 1)) t s (set s (to + m) x) to
-unfolding unite_one kind_of
-other N st t s n x to m h p l r = record {
-  is = simp (ne_eqb (get_or st (12 * x) 0) SPP p) (ap (λ (ys : List ℕ). given (table t n) (parts h.0 ys)) (sym (words_append s (x ∷ []) to m 1 refl (omega arith))));
-  left = left_kept (kept_sets (x ∷ []) s (to + m) 1 (to + m) (omega arith) (omega arith)) (simp length-set) (omega arith);
-  few = omega arith;
+  module _ {y : Lent} (E : KeepsExprs x y) {v : G.V} (D : Does c.fields to k nodes_in (G.see y.scratch.now to) (All_of G x from k) x (Ok v) y) where
+    grows : Grows c.fields (Held G (λ i. i < x.states.count)) (nodes_in x) (nodes_in y) (G.see y.scratch.now to v)
+    grows =
+        gathered R.ready.good (keeps G x.states.words.now (λ i. i < x.states.count)) (words x.scratch.now from k) A.states G.start
+        (begun G (λ i. i < x.states.count) R.ready.good.nodes R.ready.few) D.is
+
+    pub first_done : First c G y v to
+    first_done = record {
+      asked = record {
+        fields = E.spp.fields ∙ R.fields;
+        ready = rw E.states (rw E.members (order.ready_after R.ready (grown_nodes grows.ext) (good_nodes R.ready.good grows.ext grows.wf) D.left E.length));
+      };
+      holds = rw E.states grows.holds;
+    }
+
+-- ---- unions
+
+-- one member
+pub unite_gives : (N : ℕ) (st : List ℕ) (P : ℕ → Type 0) (t : Table) (x : ℕ) (p : C.Parts) → Wf N t → ValidAt t N p.relation × All P p.others → Each N st P t x
+    → Gives (Grows N (λ t p. ValidAt t N p.relation × All P p.others) t) (unite_one N st x p t)
+unfolding unite_one
+unite_gives N st P t x p w h v =
+    branch (eqb (kind_of st x) SPP) (Rel.union N p.relation (op1 st x) >>= (λ u. return (parts u p.others))) (return (parts p.relation (p.others ++ x ∷ []))) t
+    (λ q. call (makes_gives (union_made N t w p.relation (op1 st x) h.0 (v.0.handle (eqb-true (kind_of st x) SPP q)))) (λ t1 u d. gives (record { ext = d.ext; wf = d.wf; holds = (d.den.at, h.1) })))
+    (λ q. gives (record { ext = ext_refl t; wf = w; holds = (h.0, all_append P p.others (x ∷ []) h.1 (v.1, tt)) }))
+
+abbrev pub uniting : (N : ℕ) → Gathers N
+uniting N = record {
+  V = Parts;
+  A = C.Parts;
+  see = parts_at;
+  many = λ p. p.others;
+  relation = λ p. p.relation;
+  others = λ p. p.others;
+  one = unite_one N;
+  start = parts (Rel.zero_at N) [];
+  start_at = λ w l. (den_zero w N (omega arith)).at;
+  start_none = refl;
+  step = unite_gives N;
 }
 
--- ---- a state goes behind a list, or none
+-- none yet
+pub none_united : (N : ℕ) (s : List ℕ) (to : ℕ) {z : Handle} → Rel.zero_at N ≡ z.0 → parts_at s to (record { relation = z; others = 0 }) ≡ parts (Rel.zero_at N) []
+unfolding words
+none_united N s to e = ap (λ (h : ℕ). parts h []) (sym e)
 
-pub adds_none : {st s : List ℕ} {n at k : ℕ} {sum : Outcome Table (List ℕ)} → sum ≡ given (table st n) (words s at k) → Adds sum (added.List k n) st s s at k
-adds_none {s = s} {at = at} {k = k} e = record { is = e; kept = kept_refl (at + k) 1 s; few = omega arith }
+module _ {N : ℕ} {x : Lent} {i to : ℕ} (p : Parts) (R : UniteReady N x p.relation.0 i to p.others) where
+  abbrev kinds : List ℕ
+  kinds = x.states.words.now
 
-after_state : (s : List ℕ) (at k : ℕ) {sum : Outcome Table (List ℕ)} {o o' : Outcome Table ℕ} → sum ≡ after o (λ i. return (words s at k ++ i ∷ [])) → o ≡ o' → sum ≡ after o' (λ i. return (words s at k ++ i ∷ []))
-after_state s at k e q = e ∙ ap (λ (o : Outcome Table ℕ). after o (λ i. return (words s at k ++ i ∷ []))) q
+  abbrev sum : Step Table C.Parts
+  sum = unite_one N kinds i (parts_at x.scratch.now to p)
 
-module _ {s : List ℕ} {at k : ℕ} {sum : Outcome Table (List ℕ)} {o : Outcome Table ℕ} (e : sum ≡ after o (λ i. return (words s at k ++ i ∷ []))) where
-  pub adds_refused : {number : ℕ} → o ≡ refused number → (st1 : List ℕ) → Adds sum (added.Refused number) st1 s s at k
-  adds_refused q st1 = record { is = after_state s at k e q; kept = kept_refl (at + k) 1 s; few = tt }
+  module _ (e : kind_of kinds i ≡ SPP) {g : ℕ} (q : g ≡ op1 kinds i) where
+    sum_is : {o : Outcome Table ℕ} → Rel.union N p.relation.0 g (nodes_in x) ≡ o → sum (nodes_in x) ≡ after o (λ u. return (parts u (words x.scratch.now to p.others)))
+    unfolding unite_one
+    sum_is {o} w = simp (eq-eqb (kind_of kinds i) SPP e) (ap (λ (o : Outcome Table ℕ). after o (λ u. return (parts u (words x.scratch.now to p.others)))) (ap (λ (g : ℕ). Rel.union N p.relation.0 g (nodes_in x)) (sym q) ∙ w))
 
-  pub adds_state : {i n1 : ℕ} {st1 : List ℕ} → at + k < length s → o ≡ given (table st1 n1) i → Adds sum (added.List (k + 1) n1) st1 s (set s (at + k) i) at k
-  adds_state {i} {n1} {st1} r q = record {
-    is = after_state s at k e q ∙ ap (given (table st1 n1)) (sym (words_append s (i ∷ []) at k 1 refl (omega arith)));
-    kept = kept_sets (i ∷ []) s (at + k) 1 (at + k) (omega arith) (omega arith);
-    few = omega arith;
+    pub united : {y : Lent} {h : Handle} → Does N 0 0 nodes_in (λ h. h.0) (Rel.union N p.relation.0 g) x (Ok h) y → Does N (to + p.others) 1 nodes_in (parts_at y.scratch.now to) sum x (Ok (record { relation = h; others = p.others })) y
+    united {y} {h} D = record {
+      is = sum_is D.is ∙ ap (λ (ys : List ℕ). given (nodes_in y) (parts h.0 ys)) (sym (words_behind to p.others D.left (omega arith) (omega (arith, R.room))));
+      left = left_any (to + p.others) 1 D.left (omega (arith, R.room));
+    }
+
+    pub not_united : {y : Lent} {V : Type 0} {see : V → C.Parts} {see' : Handle → ℕ} {r : Result V Refusal} {f : Refusal} → IsErr r × IsErrAnd r (λ x. x ≡ f) → Does N 0 0 nodes_in see' (Rel.union N p.relation.0 g) x (Err f) y
+        → Does N (to + p.others) 1 nodes_in see sum x r y
+    not_united {y} {V} {see} {r = r} z D = subst (λ (r : Result V Refusal). Does N (to + p.others) 1 nodes_in see sum x r y) (sym (passed z)) (record { is = sum_is D.is; left = tt })
+
+  -- a member that is no relation
+  pub other : (kind_of kinds i ≡ SPP → ⊥) → {y : Lent} → nodes_in y ≡ nodes_in x → y.scratch.now ≡ set x.scratch.now (to + p.others) i
+      → Does N (to + p.others) 1 nodes_in (parts_at y.scratch.now to) sum x (Ok (record { relation = p.relation; others = p.others + 1 })) y
+  unfolding unite_one
+  other e {y} n s = record {
+    is = simp (ne_eqb (kind_of kinds i) SPP e) (ap₂ (λ (t : Table) (ys : List ℕ). given t (parts p.relation.0 ys)) (sym n)
+        (sym (ap (λ (s : List ℕ). words s to (p.others + 1)) s ∙ words_append x.scratch.now (i ∷ []) to p.others 1 refl (omega (arith, R.room, R.backed.room)))));
+    left = put_left (nodes_in y) (to + p.others) i R.room s;
   }
+
+-- ---- a state goes behind a list, or none
 
 -- they are states
 pub behind_goes : {N : ℕ} {L : Limits} {σ : Aut} → WfAut N L σ → (h : ℕ) (xs : List ℕ) → ValidAt σ.nodes N h → All (λ x. x < states σ) xs
@@ -134,55 +284,31 @@ pub behind_goes : {N : ℕ} {L : Limits} {σ : Aut} → WfAut N L σ → (h : �
 behind_goes {σ = σ} g h xs v a =
     placed_map put_states σ (mk_spp h σ.states) (λ i. xs ++ i ∷ []) (mk_spp_goes g (den_mem v)) (λ τ i w u s. all_append (λ y. y < states τ) xs (i ∷ []) (states_grown w xs a) (s.state, tt))
 
+module _ {o : Step Table (List ℕ)} {x : States} {s : List ℕ} {at k : ℕ} where
+  pub adds_none : o (states_of x) ≡ given (states_of x) (words s at k) → Adds o x (Ok k) x s s at k
+  adds_none e = record { is = e; kept = kept_refl (at + k) 1 s; few = omega arith }
+
+  -- w makes the state
+  module _ {w : Outcome Table ℕ} (e : o (states_of x) ≡ after w (λ i. return (words s at k ++ i ∷ []))) where
+    pub adds_refused : {y : States} {r : Result ℕ Refusal} (f : Refusal) → IsErr r × IsErrAnd r (λ x. x ≡ f) → w ≡ refused (number_of f) → Adds o x r y s s at k
+    adds_refused {y} {r} f z q =
+        subst (λ (r : Result ℕ Refusal). Adds o x r y s s at k) (sym (passed z))
+        (record { is = e ∙ ap (λ (w : Outcome Table ℕ). after w (λ i. return (words s at k ++ i ∷ []))) q; kept = kept_refl (at + k) 1 s; few = tt })
+
+    pub adds_state : {y : States} {i : ℕ} → at + k < length s → w ≡ given (states_of y) i → Adds o x (Ok (k + 1)) y s (set s (at + k) i) at k
+    adds_state {y} {i} r q = record {
+      is = e ∙ ap (λ (w : Outcome Table ℕ). after w (λ i. return (words s at k ++ i ∷ []))) q ∙ ap (given (states_of y)) (sym (words_append s (i ∷ []) at k 1 refl (omega arith)));
+      kept = kept_sets (i ∷ []) s (at + k) 1 (at + k) (omega arith) (omega arith);
+      few = omega arith;
+    }
+
 -- ---- the relation's state
 
-module _ (N : ℕ) (st s : List ℕ) (n z h at k : ℕ) (z-is : Rel.zero_at N ≡ z) where
-  abbrev pub sum : Outcome Table (List ℕ)
-  sum = add_relation N (parts h (words s at k)) (table st n)
+module _ (N : ℕ) (t : Table) (p : C.Parts) {b : Bool} (e : is_zero N N p.relation ≡ b) where
+  pub no_relation : b ≡ true → add_relation N p t ≡ given t p.others
+  unfolding add_relation is_zero
+  no_relation q = simp (e ∙ q)
 
-  pub no_relation : h ≡ z → sum ≡ given (table st n) (words s at k)
-  unfolding add_relation
-  no_relation e = simp (eq-eqb h (Rel.zero_at N) (e ∙ sym z-is))
-
-  pub a_relation : (h ≡ z → ⊥) → sum ≡ after (mk_spp h (table st n)) (λ i. return (words s at k ++ i ∷ []))
-  unfolding add_relation
-  a_relation e = simp (ne_eqb h (Rel.zero_at N) (λ d. e (d ∙ z-is)))
-
--- ---- the list's state
-
-module _ (N : ℕ) (L : Limits) (st mem s : List ℕ) (c : Counts) (at k : ℕ) where
-  abbrev τ : Exprs
-  τ = exprs (table st c.states) (table mem c.members)
-
-  abbrev made : Outcome Exprs ℕ
-  made = C.finish N L (words s at k) τ
-
-  abbrev ways : Bool → Bool → Outcome Exprs ℕ
-  ways a b = if a then given τ (get_or (words s at k) 0 0) else if b then placed (λ s τ. exprs s τ.members) τ (mk_spp (Rel.zero_at N) (table st c.states)) else intern_l L UNION (words s at k) τ
-
-  is_way : (a b : Bool) → eqb k 1 ≡ a → eqb k 0 ≡ b → made ≡ ways a b
-  unfolding C.finish
-  is_way a b p q = step (eqb (length (words s at k)) 1) (eqb (length (words s at k)) 0) refl refl ∙ ap₂ ways (ap (λ (j : ℕ). eqb j 1) (words_length s at k) ∙ p) (ap (λ (j : ℕ). eqb j 0) (words_length s at k) ∙ q)
-    where
-      step : (a b : Bool) → eqb (length (words s at k)) 1 ≡ a → eqb (length (words s at k)) 0 ≡ b
-          → (if a then return (get_or (words s at k) 0 0) else if b then (λ τ. placed (λ s τ. exprs s τ.members) τ (mk_spp (Rel.zero_at N) τ.states)) else intern_l L UNION (words s at k)) τ ≡ ways a b
-      step true b p q = refl
-      step false true p q = refl
-      step false false p q = refl
-
-  pub one_state : k ≡ 1 → made ≡ given τ (get_or s at 0)
-  unfolding words
-  one_state e = is_way true (eqb k 0) (eq-eqb k 1 e) refl ∙ ap (λ (j : ℕ). given τ (get_or (words s at j) 0 0)) e
-
-  pub no_state : k ≡ 0 → {z : ℕ} → Rel.zero_at N ≡ z → {o : Outcome Table ℕ} → mk_spp z (table st c.states) ≡ o → made ≡ placed (λ s τ. exprs s τ.members) τ o
-  no_state e q w =
-      is_way false true (ne_eqb k 1 (λ d. omega arith)) (eq-eqb k 0 e)
-      ∙ ap (placed (λ s τ. exprs s τ.members) τ) (ap (λ (z : ℕ). mk_spp z (table st c.states)) q ∙ w)
-
-  pub more_states : (k ≡ 1 → ⊥) → (k ≡ 0 → ⊥) → {o : Outcome Exprs ℕ} → intern_l L UNION (words s at k) τ ≡ o → made ≡ o
-  more_states p q w = is_way false false (ne_eqb k 1 p) (ne_eqb k 0 q) ∙ w
-
--- counts, where only states may have grown
-pub beside_of : (r : State) (c : Counts) → Beside r c → SameNodes r c → Put.Beside r c
-beside_of (Is i d) c b n = (b.0, n, b.1)
-beside_of (Refused e) c b n = tt
+  pub a_relation : b ≡ false → add_relation N p t ≡ after (mk_spp p.relation t) (λ i. return (p.others ++ i ∷ []))
+  unfolding add_relation is_zero
+  a_relation q = simp (e ∙ q)

@@ -1,70 +1,59 @@
 -- What the answers say in the words of the steps, what is left of scratch, and what is asked.
-use Rattle.std.specs.Prelude.{◌≡◌, List, ℕ, ◌+◌, ◌≤◌, ◌<◌, length}
-use Rattle.common.specs.Outcome.{Outcome, refused, given}
-use Rattle.common.specs.Runs.{Table, table}
+use Rattle.std.specs.Prelude.{◌≡◌, List, ℕ, ◌+◌, ◌≤◌, ◌<◌, length, Result, Ok, Err}
+use Rattle.common.specs.Outcome.{Step}
+use Rattle.common.specs.Runs.{Table}
+use Rattle.refusal.specs.declared.Refusal.{Refusal}
+use Rattle.refusal.specs.Numbers.{outcome}
 use Rattle.spp_steps.specs.Wf.{ValidAt}
 use Rattle.aut_steps.specs.Tables.{words}
 use Rattle.aut_steps.specs.Ascending.{All}
-use Rattle.aut_steps.specs.Constructors.{Parts, parts}
+use Rattle.aut_steps.specs.Constructors as C
 use Rattle.aut_steps.specs.Scratch.{Kept}
-use Rattle.aut_states.specs.Clauses.{Fits}
-use Rattle.aut_relations.specs.Behind.{LISTS, Modifies, CacheReady}
+use Rattle.aut_states.specs.Clauses.{Fits, states_of}
+use Rattle.aut_states.specs.declared.States.{States}
+use Rattle.aut_relations.specs.Behind.{LISTS, CacheReady}
 use Rattle.aut_relations.specs.Clauses.{RelAt}
-use Rattle.aut_union.specs.declared.Gathered.{Gathered}
-use Rattle.aut_union.specs.declared.Gathered.TheVariants.{Rest, Full}
-use Rattle.aut_union.specs.declared.Added.{Added}
-use Rattle.aut_union.specs.declared.Added.TheVariants as added
+use Rattle.aut_relations.specs.declared.Aut.{Aut as Lent}
+use Rattle.aut_relations.specs.Lent.{nodes_in}
+use Rattle.aut_union.specs.declared.Parts.{Parts}
+
+-- at most so many, unless refused
+abbrev pub Most : {V : Type 0} → (V → ℕ) → Result V Refusal → ℕ → Type 0
+Most many (Ok v) most = many v ≤ most
+Most many (Err e) most = Unit
 
 -- ---- the relations united, the other members at `to`
 
-abbrev pub seen_parts : Gathered → List ℕ → List ℕ → ℕ → Outcome Table Parts
-seen_parts (Rest h n m) t s to = given (table t n) (parts h.0 (words s to m))
-seen_parts Full t s to = refused 21
+abbrev pub parts_at : List ℕ → ℕ → Parts → C.Parts
+parts_at s to p = C.parts p.relation.0 (words s to p.others)
 
-abbrev pub PartsLeft : ℕ → ℕ → ℕ → Gathered → List ℕ → List ℕ → List ℕ → Type 0
-PartsLeft N a n (Rest h k m) t s s' = Modifies N a n (table t k) s s'
-PartsLeft N a n Full t s s' = Unit
-
-abbrev pub PartsMost : Gathered → ℕ → Type 0
-PartsMost (Rest h n m) most = m ≤ most
-PartsMost Full most = Unit
-
-pub record Unites (N a n most : ℕ) (o : Outcome Table Parts) (r : Gathered) (t s s' : List ℕ) (to : ℕ) : Type 0 where
-  pub is : o ≡ seen_parts r t s' to
-  pub left : PartsLeft N a n r t s s'
-  pub few : PartsMost r most
-
-pub record UniteReady (N : ℕ) (t : Table) (st s : List ℕ) (h x to m : ℕ) : Type 0 where
-  pub backed : CacheReady N t s
-  pub at_h : ValidAt t N h
-  pub at_x : RelAt N t st x
+-- h is a relation of N fields and x a state, and there is room for one more word
+pub record UniteReady (N : ℕ) (l : Lent) (h x to m : ℕ) : Type 0 where
+  pub fields : l.spp.fields ≡ N
+  pub backed : CacheReady N (nodes_in l) l.scratch.now
+  pub at_h : ValidAt (nodes_in l) N h
+  pub at_x : RelAt N (nodes_in l) l.states.words.now x
   pub room : to + m < LISTS
 
-pub record UnitesReady (N : ℕ) (t : Table) (st s : List ℕ) (from k to : ℕ) : Type 0 where
-  pub backed : CacheReady N t s
-  pub at : All (RelAt N t st) (words s from k)
+pub record UnitesReady (N : ℕ) (l : Lent) (from k to : ℕ) : Type 0 where
+  pub fields : l.spp.fields ≡ N
+  pub backed : CacheReady N (nodes_in l) l.scratch.now
+  pub at : All (RelAt N (nodes_in l) l.states.words.now) (words l.scratch.now from k)
   pub apart : from + k ≤ to
   pub room : to + k ≤ LISTS
 
 -- ---- the relation as a state
 
-abbrev pub seen_added : Added → List ℕ → List ℕ → ℕ → Outcome Table (List ℕ)
-seen_added (added.List m n) st s at = given (table st n) (words s at m)
-seen_added (added.Refused e) st s at = refused e
-
-abbrev pub AddedMost : Added → ℕ → Type 0
-AddedMost (added.List m n) most = m ≤ most
-AddedMost (added.Refused e) most = Unit
-
-pub record AddReady (N : ℕ) (st s : List ℕ) (n at k : ℕ) : Type 0 where
+pub record AddReady (N : ℕ) (x : States) (s : List ℕ) (at k : ℕ) : Type 0 where
   pub few : N ≤ 31
-  pub fits : Fits st n
+  pub fits : Fits x.words.now x.count
   pub room : at + k < length s
 
-pub record Adds (o : Outcome Table (List ℕ)) (r : Added) (st s s' : List ℕ) (at k : ℕ) : Type 0 where
-  pub is : o ≡ seen_added r st s' at
+-- the list is the words at `at`, of which one at most is new
+pub record Adds (o : Step Table (List ℕ)) (x : States) (r : Result ℕ Refusal) (y : States) (s s' : List ℕ) (at k : ℕ) : Type 0 where
+  pub is : o (states_of x) ≡ outcome (words s' at) r (states_of y)
   pub kept : Kept (at + k) 1 s s'
-  pub few : AddedMost r (k + 1)
+  pub few : Most (λ m. m) r (k + 1)
 
 -- ---- what the constructors ask of their operands
 

@@ -1,291 +1,181 @@
-// mk_union_n and mk_union of aut.rs. A list is k words of scratch (the map of scratch is aut_lists').
+// mk_union_n and mk_union of aut.rs. A list is k words of scratch (the map of scratch is aut_scratch's).
 #![tactic(auto)]
 
 ghost use Rattle.std.specs.Prelude.{◌≡◌, List, [], ◌∷◌, ℕ, ◌+◌, ◌*◌, ◌≤◌, ◌<◌, length};
-ghost use Rattle.common.specs.Runs.{table};
-ghost use Rattle.aut_steps.specs.Tables.{exprs, words, UNION};
+ghost use Rattle.aut_steps.specs.Tables.{words, UNION};
 ghost use Rattle.aut_steps.specs.Relations.{zero_at};
 ghost use Rattle.aut_steps.specs.Constructors as C;
-ghost use Rattle.aut_steps.specs.Constructors.{parts, each};
-ghost use Rattle.aut_states.specs.Clauses.{limits_of, Interned, ListReady};
-ghost use Rattle.aut_relations.specs.Clauses.{aut_of, Ready, Does};
-ghost use Rattle.aut_union.specs.Clauses.{UniteReady, Unites, UnitesReady, AddReady, Adds, ListAt, PairAt};
+ghost use Rattle.aut_steps.specs.Constructors.{each, parts};
+ghost use Rattle.aut_states.specs.Clauses.{limits_of, exprs_of, seen, ListAsked};
+ghost use Rattle.aut_relations.specs.Lent.{nodes_in, aut_in, Keeps, KeepsExprs, Does, Asked};
+ghost use Rattle.aut_union.specs.Clauses.{Most, parts_at, UniteReady, UnitesReady, AddReady, Adds, ListAt, PairAt};
 
+use aut_relations::Aut;
 use aut_scratch::Opened;
-use aut_states::{Config, Counts, Put, State};
-use spp::{Made, Op, SPP};
+use aut_states::{Config, Members, States};
+use refusal::Refusal;
+use spp::{Op, SPP};
 
-// the united relation, the number of nodes, and how many other members there are
+// the united relation, and how many other members there are
 #[derive(Clone, Copy)]
-pub enum Gathered {
-    Rest(SPP, usize, usize),
-    Full,
+pub struct Parts {
+    pub relation: SPP,
+    pub others: usize,
 }
 
-// how many words the list has, and the number of states
-#[derive(Clone, Copy)]
-pub enum Added {
-    List(usize, usize),
-    Refused(u32),
-}
-
-// x is united with h if it is a relation, or goes behind the m words at to
-fn unite_one(
-    nodes: &mut [u32],
-    states: &[u32],
-    scratch: &mut [u32],
-    count: usize,
-    fields: u32,
-    h: SPP,
-    x: u32,
-    to: usize,
-    m: usize,
-) -> Gathered
-    requires { UniteReady fields (table nodes.old count) states.now scratch.old h.0 x to m }
-    ensures { Unites fields (to + m) 1 (m + 1)
-        (C.unite_one fields states.now x (parts h.0 (words scratch.old to m))
-        (table nodes.old count)) result nodes.new scratch.old scratch.new to }
+// x is united with the relation if it is one, or goes behind the others, which stand at to
+fn unite_one(aut: &mut Aut, config: Config, p: Parts, x: u32, to: usize) -> Result<Parts, Refusal>
+    requires { UniteReady config.fields aut.old p.relation.0 x to p.others }
+    ensures keeps { KeepsExprs aut.old aut.new }
+    ensures gives { Does config.fields (to + p.others) 1 nodes_in (parts_at aut.new.scratch.now to)
+        (C.unite_one config.fields aut.old.states.words.now x (parts_at aut.old.scratch.now to p))
+        aut.old result aut.new }
+    ensures few { Most (λ q. q.others) result (p.others + 1) }
 {
-    let i = x as usize;
-    if states[12 * i] == aut_states::kind::SPP {
-        let g = SPP(states[12 * i + 1]);
-        let Made::Node(u, n) = aut_relations::apply(nodes, scratch, count, fields, Op::Union, h, g)
-        else {
-            return Gathered::Full;
-        };
-        return Gathered::Rest(u, n, m);
+    if aut.states.kind(x) == aut_states::kind::SPP {
+        let h = SPP(aut.states.first(x));
+        let relation = aut.apply(config, Op::Union, p.relation, h)?;
+        return Ok(Parts { relation, ..p });
     }
-    scratch[to + m] = x;
-    Gathered::Rest(h, count, m + 1)
+    aut.scratch[to + p.others] = x;
+    Ok(Parts {
+        others: p.others + 1,
+        ..p
+    })
 }
 
 // the relations of the k states at from, united; the others go to to
 fn unite_each(
-    nodes: &mut [u32],
-    states: &[u32],
-    scratch: &mut [u32],
-    count: usize,
-    fields: u32,
+    aut: &mut Aut,
+    config: Config,
     from: usize,
     k: usize,
     to: usize,
-) -> Gathered
-    requires { UnitesReady fields (table nodes.old count) states.now scratch.old from k to }
-    ensures { Unites fields to k k
-        (each (C.unite_one fields states.now) (words scratch.old from k)
-        (parts (zero_at fields) []) (table nodes.old count)) result nodes.new scratch.old
-        scratch.new to }
+) -> Result<Parts, Refusal>
+    requires { UnitesReady config.fields aut.old from k to }
+    ensures keeps { KeepsExprs aut.old aut.new }
+    ensures gives { Does config.fields to k nodes_in (parts_at aut.new.scratch.now to)
+        (each (C.unite_one config.fields aut.old.states.words.now)
+        (words aut.old.scratch.now from k) (parts (zero_at config.fields) [])) aut.old result
+        aut.new }
+    ensures few { Most (λ q. q.others) result k }
 {
-    let mut h = spp::zero_at_depth(fields);
-    let mut n = count;
-    let mut m = 0;
+    let mut p = Parts {
+        relation: spp::zero_at_depth(config.fields),
+        others: 0,
+    };
     for i in 0..k {
-        let x = scratch[from + i];
-        let Gathered::Rest(h1, n1, m1) = unite_one(nodes, states, scratch, n, fields, h, x, to, m)
-        else {
-            return Gathered::Full;
-        };
-        h = h1;
-        n = n1;
-        m = m1;
+        let x = aut.scratch[from + i];
+        p = unite_one(aut, config, p, x, to)?;
     }
-    Gathered::Rest(h, n, m)
+    Ok(p)
 }
 
-// the relation goes behind the k words at at as a state, unless it is zero
+// the relation goes behind the others, which stand at at, as a state, unless it is zero
 fn add_relation(
-    states: &mut [u32],
+    states: &mut States,
     scratch: &mut [u32],
-    count: usize,
-    fields: u32,
-    h: SPP,
+    config: Config,
+    p: Parts,
     at: usize,
-    k: usize,
-) -> Added
-    requires { AddReady fields states.old scratch.old count at k }
-    ensures { Adds
-        (C.add_relation fields (parts h.0 (words scratch.old at k)) (table states.old count))
-        result states.new scratch.old scratch.new at k }
+) -> Result<usize, Refusal>
+    requires { AddReady config.fields states.old scratch.old at p.others }
+    ensures same { states.new.words.ghost_name ≡ states.old.words.ghost_name }
+    ensures gives { Adds (C.add_relation config.fields (parts_at scratch.old at p)) states.old
+        result states.new scratch.old scratch.new at p.others }
 {
-    let zero = spp::zero_at_depth(fields);
-    if h.0 == zero.0 {
-        return Added::List(k, count);
+    if spp::is_zero(config.fields, p.relation) {
+        return Ok(p.others);
     }
-    let put = aut_states::mk_spp(states, count, h);
-    match put {
-        Put::Refused(e) => Added::Refused(e),
-        Put::At(i, n) => {
-            scratch[at + k] = i;
-            Added::List(k + 1, n)
-        }
-    }
+    scratch[at + p.others] = states.mk_spp(p.relation)?;
+    Ok(p.others + 1)
 }
 
 // the state of a sorted list
+#[tactic(auto, unfolding(aut_steps::specs::Constructors::finish))]
 fn finish(
-    states: &mut [u32],
-    members: &mut [u32],
-    scratch: &[u32],
-    c: Counts,
+    states: &mut States,
+    members: &mut Members,
     config: Config,
-    at: usize,
-    k: usize,
-) -> State
-    requires { ListReady states.old members.old scratch.now c UNION at k × (config.fields ≤ 31) }
-    ensures { Interned
-        (C.finish config.fields (limits_of config.limits) (words scratch.now at k)
-        (exprs (table states.old c.states) (table members.old c.members))) result c
-        states.new members.new }
+    list: &[u32],
+) -> Result<u32, Refusal>
+    requires { ListAsked (exprs_of states.old members.old) UNION list.now × (config.fields ≤ 31) }
+    ensures same { states.new.words.ghost_name ≡ states.old.words.ghost_name }
+    ensures same_members { members.new.words.ghost_name ≡ members.old.words.ghost_name }
+    ensures gives { C.finish config.fields (limits_of config.limits) list.now
+        (exprs_of states.old members.old) ≡ seen result (exprs_of states.new members.new) }
 {
-    if k == 1 {
-        return State::Is(scratch[at], c);
+    if list.len() == 1 {
+        return Ok(list[0]);
     }
-    if k == 0 {
-        let zero = spp::zero_at_depth(config.fields);
-        let put = aut_states::mk_spp(states, c.states, zero);
-        return aut_relations::placed(put, c);
+    if list.len() == 0 {
+        return states.mk_spp(spp::zero_at_depth(config.fields));
     }
-    aut_states::intern_list(
-        states,
-        members,
-        scratch,
-        c,
-        config.limits,
-        aut_states::kind::UNION,
-        at,
-        k,
-    )
+    states.intern_list(members, config.limits, aut_states::kind::UNION, list)
 }
 
 // the union of the k states at BASE, none of which is a Union or Top
-fn unite(
-    nodes: &mut [u32],
-    states: &mut [u32],
-    members: &mut [u32],
-    scratch: &mut [u32],
-    c: Counts,
-    config: Config,
-    k: usize,
-) -> State
-    requires { Ready config.fields config.limits (aut_of nodes.old states.old members.old c)
-        scratch.old × ListAt scratch.old c.states 256 k 320 × (k ≤ 64) }
-    ensures { Does config.fields 320 256
-        (C.unite config.fields (limits_of config.limits) (words scratch.old 256 k)
-        (aut_of nodes.old states.old members.old c)) result c nodes.new
-        states.new members.new scratch.old scratch.new }
+fn unite(aut: &mut Aut, config: Config, k: usize) -> Result<u32, Refusal>
+    requires { Asked config aut.old × ListAt aut.old.scratch.now aut.old.states.count 256 k 320 ×
+        (k ≤ 64) }
+    ensures keeps { Keeps aut.old aut.new }
+    ensures gives { Does config.fields 320 256 aut_in (λ i. i)
+        (C.unite config.fields (limits_of config.limits) (words aut.old.scratch.now 256 k))
+        aut.old result aut.new }
 {
-    let Gathered::Rest(h, n, m) = unite_each(
-        nodes,
-        states,
-        scratch,
-        c.spp,
-        config.fields,
-        aut_scratch::BASE,
-        k,
-        aut_scratch::OTHERS,
-    ) else {
-        return State::Refused(21);
-    };
-    let added = add_relation(
-        states,
-        scratch,
-        c.states,
-        config.fields,
-        h,
-        aut_scratch::OTHERS,
-        m,
-    );
-    match added {
-        Added::Refused(e) => State::Refused(e),
-        Added::List(l, n2) => {
-            let r = aut_scratch::sorted(scratch, aut_scratch::OTHERS, l, aut_scratch::SORTED);
-            let d = Counts {
-                spp: n,
-                states: n2,
-                ..c
-            };
-            finish(states, members, scratch, d, config, aut_scratch::SORTED, r)
-        }
-    }
+    let p = unite_each(aut, config, aut_scratch::BASE, k, aut_scratch::OTHERS)?;
+    let l = add_relation(&mut aut.states, aut.scratch, config, p, aut_scratch::OTHERS)?;
+    let at = aut_scratch::SORTED;
+    let r = aut_scratch::sorted(aut.scratch, aut_scratch::OTHERS, l, at);
+    let list = &mut aut.scratch[at..at + r];
+    finish(&mut aut.states, &mut aut.members, config, list)
 }
 
 // the union of the k states at from
-pub fn mk_union_n(
-    nodes: &mut [u32],
-    states: &mut [u32],
-    members: &mut [u32],
-    scratch: &mut [u32],
-    c: Counts,
-    config: Config,
-    from: usize,
-    k: usize,
-) -> State
-    requires { Ready config.fields config.limits (aut_of nodes.old states.old members.old c)
-        scratch.old × ListAt scratch.old c.states from k 256 }
-    ensures { Does config.fields 256 320
-        (C.mk_union_n config.fields (limits_of config.limits) (words scratch.old from k)
-        (aut_of nodes.old states.old members.old c)) result c nodes.new
-        states.new members.new scratch.old scratch.new }
+pub fn mk_union_n(aut: &mut Aut, config: Config, from: usize, k: usize) -> Result<u32, Refusal>
+    requires { Asked config aut.old × ListAt aut.old.scratch.now aut.old.states.count from k 256 }
+    ensures keeps { Keeps aut.old aut.new }
+    ensures gives { Does config.fields 256 320 aut_in (λ i. i)
+        (C.mk_union_n config.fields (limits_of config.limits) (words aut.old.scratch.now from k))
+        aut.old result aut.new }
 {
     if k > config.limits.list {
-        return State::Refused(6);
+        return Err(Refusal::List);
     }
     if k == 1 {
-        return State::Is(scratch[from], c);
+        return Ok(aut.scratch[from]);
     }
     let Some(opened) = aut_scratch::open_union(
-        states,
-        members,
-        scratch,
+        &aut.states,
+        &aut.members,
+        aut.scratch,
         config.limits.list,
         from,
         k,
         aut_scratch::BASE,
     ) else {
-        return State::Refused(6);
+        return Err(Refusal::List);
     };
     match opened {
-        Opened::Top => {
-            let put = aut_states::mk_top(states, c.states);
-            aut_relations::placed(put, c)
-        }
-        Opened::List(m) => unite(nodes, states, members, scratch, c, config, m),
+        Opened::Top => aut.states.mk_top(),
+        Opened::List(m) => unite(aut, config, m),
     }
 }
 
-pub fn mk_union(
-    nodes: &mut [u32],
-    states: &mut [u32],
-    members: &mut [u32],
-    scratch: &mut [u32],
-    c: Counts,
-    config: Config,
-    x: u32,
-    y: u32,
-) -> State
-    requires { Ready config.fields config.limits (aut_of nodes.old states.old members.old c)
-        scratch.old × PairAt c.states x y }
-    ensures { Does config.fields 192 384
-        (C.mk_union config.fields (limits_of config.limits) x y
-        (aut_of nodes.old states.old members.old c)) result c nodes.new
-        states.new members.new scratch.old scratch.new }
+pub fn mk_union(aut: &mut Aut, config: Config, x: u32, y: u32) -> Result<u32, Refusal>
+    requires { Asked config aut.old × PairAt aut.old.states.count x y }
+    ensures keeps { Keeps aut.old aut.new }
+    ensures gives { Does config.fields 192 384 aut_in (λ i. i)
+        (C.mk_union config.fields (limits_of config.limits) x y) aut.old result aut.new }
 {
     if x == y {
-        return State::Is(x, c);
+        return Ok(x);
     }
-    if aut_relations::both_relations(states, x, y) {
-        return aut_relations::spp_of(nodes, states, scratch, c, config.fields, Op::Union, x, y);
+    if aut.both_relations(x, y) {
+        return aut.spp_of(config, Op::Union, x, y);
     }
-    scratch[aut_scratch::PRODUCT] = x;
-    scratch[aut_scratch::PRODUCT + 1] = y;
-    mk_union_n(
-        nodes,
-        states,
-        members,
-        scratch,
-        c,
-        config,
-        aut_scratch::PRODUCT,
-        2,
-    )
+    let at = aut_scratch::PRODUCT;
+    aut.scratch[at] = x;
+    aut.scratch[at + 1] = y;
+    mk_union_n(aut, config, at, 2)
 }

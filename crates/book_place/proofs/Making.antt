@@ -42,7 +42,7 @@ module _ (config : Config) (k : ℕ) (l : line.Line) (c : Counts) (t st mem s : 
 
     module _ {z : ℕ} {d : Counts} (q : r ≡ state.Is z d) where
       pub make_small : z < 32768
-      make_small = let (a, b) = subst (λ (x : State). Line.ReadyBy config.fields config.limits x t' st' mem' m) q M.ready in omega (arith, a.good.small)
+      make_small = let (a, b) = subst (λ (x : State). Line.ReadyApart config.fields config.limits x t' st' mem' m) q M.ready in omega (arith, a.good.small)
 
       pub make_given : length m ≡ length (lent s) → PostMake config k l (state.Is z d) c t st mem s t' st' mem' (set (back s m) (LINES + k) (z + 1))
       make_given len =

@@ -184,7 +184,7 @@ pub fn make_line(
         scratch.old nodes.new states.new members.new scratch.new }
 {
     let at = WORK;
-    let made = book_construct::make(nodes, states, members, &mut scratch[at..], c, config, line);
+    let made = book_construct::make_on(nodes, states, members, &mut scratch[at..], c, config, line);
     match made {
         State::Refused(e) => State::Refused(e),
         State::Is(z, d) => {

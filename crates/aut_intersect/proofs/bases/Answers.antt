@@ -1,22 +1,21 @@
+use mathlib.Core.Path.{refl}
+use Rattle.std.proofs.Common.{rules}
 use Rattle.aut_intersect.proofs.Turns as turns
 use Rattle.aut_intersect.proofs.bases.Goals as goal
 
 pub loop-i-init : goal.loop-i-init
-loop-i-init c =
-    turns.begin c.args.config.fields c.args.config.limits c.args.nodes.now c.args.states.now c.args.members.now c.args.scratch.now c.args.c c.args.k c.args.n c.requires
+loop-i-init c = turns.begin c.requires (search rules)
 
-pub base-made-requires : goal.base-made-requires
-base-made-requires c =
-    turns.base_asked c.args.config.fields c.args.config.limits c.args.nodes.now c.args.states.now c.args.members.now c.args.scratch.now c.args.c c.args.k c.args.n c.requires c.loop-i.nodes c.loop-i.states c.loop-i.members c.loop-i.scratch c.loop-i.d c.loop-i.i c.loop-i.invariant c.loop-i-test.true
+pub base-requires : goal.base-requires
+base-requires c = turns.turn_asked c.requires c.loop-i.invariant c.loop-i-test.true
 
-pub returns-in-Refused : goal.returns-in-Refused
-returns-in-Refused c =
-    turns.stuck c.args.config.fields c.args.config.limits c.args.nodes.now c.args.states.now c.args.members.now c.args.scratch.now c.args.c c.args.k c.args.n c.requires c.loop-i.nodes c.loop-i.states c.loop-i.members c.loop-i.scratch c.loop-i.d c.loop-i.i c.loop-i.invariant c.loop-i-test.true c.base-made.result c.base-made.new.nodes c.base-made.new.states c.base-made.new.members c.base-made.new.scratch c.base-made.ensures c.base-made.auto.scratch _ c.in-Refused.is
+pub returns-in_err-z-clause-gives : goal.returns-in_err-z-clause-gives
+returns-in_err-z-clause-gives c =
+    turns.stuck c.requires c.loop-i.invariant c.loop-i-test.true c.from_residual.ensures c.in_err-z.ensures.keeps c.in_err-z.ensures.gives
 
 pub loop-i-preserved : goal.loop-i-preserved
 loop-i-preserved c =
-    turns.again c.args.config.fields c.args.config.limits c.args.nodes.now c.args.states.now c.args.members.now c.args.scratch.now c.args.c c.args.k c.args.n c.requires c.loop-i.nodes c.loop-i.states c.loop-i.members c.loop-i.scratch c.loop-i.d c.loop-i.i c.loop-i.invariant c.loop-i-test.true c.base-made.result c.base-made.new.nodes c.base-made.new.states c.base-made.new.members c.base-made.new.scratch c.base-made.ensures c.base-made.auto.scratch _ _ c.in-Is.is
+    turns.again c.requires c.loop-i.invariant c.loop-i-test.true c.in_ok-z.ensures.keeps c.in_ok-z.ensures.gives refl refl (search rules)
 
-pub returns : goal.returns
-returns c =
-    turns.end c.args.config.fields c.args.config.limits c.args.nodes.now c.args.states.now c.args.members.now c.args.scratch.now c.args.c c.args.k c.args.n c.requires c.loop-i.nodes c.loop-i.states c.loop-i.members c.loop-i.scratch c.loop-i.d c.loop-i.i c.loop-i.invariant c.loop-i-test.false
+pub returns-clause-gives : goal.returns-clause-gives
+returns-clause-gives c = turns.end c.requires c.loop-i.invariant c.loop-i-test.false

@@ -1,13 +1,5 @@
-use Rattle.aut_intersect_base.proofs.Gather as gather
+use Rattle.aut_intersect_base.proofs.Gather.{is_nothing}
 use Rattle.aut_intersect_base.proofs.nothing.Goals as goal
 
-pub returns-then-h-zero : goal.returns-then-h-zero
-returns-then-h-zero c =
-    gather.is_nothing c.args.fields c.args.some c.args.h.0 _ c.if-some.true (c.zero_at_depth-zero.ensures c.args.fields) c.if-h-zero.true
-
-pub returns-then-some : goal.returns-then-some
-returns-then-some c =
-    gather.is_something c.args.fields c.args.some c.args.h.0 _ c.if-some.true (c.zero_at_depth-zero.ensures c.args.fields) c.if-h-zero.false
-
-pub returns : goal.returns
-returns c = gather.none_nothing c.args.fields c.args.some c.args.h.0 0 c.if-some.false
+pub returns-in-Some : goal.returns-in-Some
+returns-in-Some c = is_nothing c.args.fields c.in-Some.is (c.is_zero.ensures c.args.fields)

@@ -1,30 +1,21 @@
-use mathlib.Core.Path.{◌∙◌}
-use lib.ListN.{length-set}
-use Rattle.aut_steps.proofs.StateLaws.{both_spp}
-use Rattle.aut_relations.proofs.Order as order
+use mathlib.Core.Path.{refl, ◌∙◌}
 use Rattle.aut_union.proofs.Calls as calls
-use Rattle.aut_union.proofs.Chain as chain
+use Rattle.aut_union.proofs.Chain.{of_pair}
 use Rattle.aut_union.proofs.mk_union.Goals as goal
 
-pub returns-then-x-y : goal.returns-then-x-y
-returns-then-x-y c =
-    calls.same chain.of_pair c.args.config.fields c.args.config.limits c.args.nodes.now c.args.states.now c.args.members.now c.args.scratch.now c.args.c c.args.x c.args.y c.requires.0 c.requires.1 c.if-x-y.true
+pub returns-then-x-y-clause-gives : goal.returns-then-x-y-clause-gives
+returns-then-x-y-clause-gives c = calls.same c.requires.0 c.requires.1 of_pair c.if-x-y.true
 
 pub spp_of-requires : goal.spp_of-requires
-spp_of-requires c =
-    order.spp_ready c.args.c c.requires.0 c.requires.1.has_x c.requires.1.has_y (both_spp c.requires.0.good c.args.x c.args.y (c.both_relations.ensures ∙ c.if-both_relations.true))
+spp_of-requires c = calls.both_asked c.requires.0 c.requires.1 (c.both_relations.ensures ∙ c.if-both_relations.true)
 
-pub returns-then-both_relations : goal.returns-then-both_relations
-returns-then-both_relations c =
-    calls.both chain.of_pair c.args.config.fields c.args.config.limits c.args.nodes.now c.args.states.now c.args.members.now c.args.scratch.now c.args.c c.args.x c.args.y c.requires.0 c.requires.1 c.if-x-y.false (c.both_relations.ensures ∙ c.if-both_relations.true) c.spp_of.ensures
+pub returns-then-both_relations-clause-gives : goal.returns-then-both_relations-clause-gives
+returns-then-both_relations-clause-gives c =
+    calls.both c.requires.0 c.requires.1 of_pair c.if-x-y.false (c.both_relations.ensures ∙ c.if-both_relations.true) c.spp_of.ensures.gives
 
 pub mk_union_n-requires : goal.mk_union_n-requires
-mk_union_n-requires c =
-    calls.pair_ready chain.of_pair c.args.config.fields c.args.config.limits c.args.nodes.now c.args.states.now c.args.members.now c.args.scratch.now c.args.c c.args.x c.args.y c.requires.0 c.requires.1 c.if-x-y.false
+mk_union_n-requires c = calls.pair_asked c.requires.0 c.requires.1 of_pair c.if-x-y.false _ refl refl refl
 
-pub shape_of-scratch : goal.shape_of-scratch
-shape_of-scratch c = c.mk_union_n.auto.scratch ∙ simp length-set
-
-pub returns : goal.returns
-returns c =
-    calls.pair_done chain.of_pair c.args.config.fields c.args.config.limits c.args.nodes.now c.args.states.now c.args.members.now c.args.scratch.now c.args.c c.args.x c.args.y c.requires.0 c.requires.1 c.if-x-y.false (c.both_relations.ensures ∙ c.if-both_relations.false) c.mk_union_n.ensures
+pub returns-clause-gives : goal.returns-clause-gives
+returns-clause-gives c =
+    calls.pair_done c.requires.0 c.requires.1 of_pair c.if-x-y.false _ refl refl refl (c.both_relations.ensures ∙ c.if-both_relations.false) c.mk_union_n.ensures.gives

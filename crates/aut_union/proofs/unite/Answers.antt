@@ -1,34 +1,31 @@
-use mathlib.Core.Path.{◌∙◌, ap}
-use Rattle.aut_union.specs.Clauses.{seen_parts}
-use Rattle.aut_union.specs.declared.Gathered.{Gathered}
-use Rattle.aut_union.proofs.Calls as calls
+use mathlib.Core.Path.{refl}
+use native.Mathlib.Omega.{arith}
+use borrow.Rule.Slice.PartMut.{put_same}
+use Rattle.aut_union.proofs.Gather as gather
 use Rattle.aut_union.proofs.Chain as chain
 use Rattle.aut_union.proofs.unite.Goals as goal
 
 pub unite_each-requires : goal.unite_each-requires
-unite_each-requires c =
-    chain.unites_ready c.args.config.fields c.args.config.limits c.args.nodes.now c.args.states.now c.args.members.now c.args.scratch.now c.args.c c.args.k c.requires.0 c.requires.1 c.requires.2
+unite_each-requires c = gather.each_ready (gather.uniting c.args.config.fields) c.requires.0 c.requires.1 (omega (arith, c.requires.2))
 
-pub returns-in_default : goal.returns-in_default
-returns-in_default c =
-    calls.not_done 21 (chain.full c.args.config.fields c.args.config.limits c.args.nodes.now c.args.states.now c.args.members.now c.args.scratch.now c.args.c c.args.k c.requires.0 c.requires.1 c.requires.2 (c.unite_each.ensures.is ∙ ap (λ (r : Gathered). seen_parts r c.unite_each.new.nodes c.unite_each.new.scratch 320) c.in_default.is))
+pub returns-in_err-p-clause-gives : goal.returns-in_err-p-clause-gives
+returns-in_err-p-clause-gives c = chain.not_gathered c.requires.0 c.requires.1 c.requires.2 _ c.from_residual.ensures c.in_err-p.ensures.gives
 
-pub add_relation-added-requires : goal.add_relation-added-requires
-add_relation-added-requires c =
-    chain.add_ready c.args.config.fields c.args.config.limits c.args.nodes.now c.args.states.now c.args.members.now c.args.scratch.now c.args.c c.args.k c.requires.0 c.requires.1 c.requires.2 c.unite_each.result c.unite_each.new.nodes c.unite_each.new.scratch c.unite_each.ensures c.unite_each.auto.scratch _ _ _ c.in-Rest.is
+pub add_relation-requires : goal.add_relation-requires
+add_relation-requires c = chain.add_ready c.requires.0 c.requires.1 c.requires.2 c.in_ok-p.ensures.keeps c.in_ok-p.ensures.gives c.in_ok-p.ensures.few
+
+pub returns-in_err-l-clause-gives : goal.returns-in_err-l-clause-gives
+returns-in_err-l-clause-gives c =
+    chain.not_added c.requires.0 c.requires.1 c.requires.2 c.in_ok-p.ensures.keeps c.in_ok-p.ensures.gives c.in_ok-p.ensures.few _ c.from_residual-in_err-l.ensures c.in_err-l.ensures.gives
 
 pub sorted-r-requires : goal.sorted-r-requires
 sorted-r-requires c =
-    chain.sort_ready c.args.config.fields c.args.config.limits c.args.nodes.now c.args.states.now c.args.members.now c.args.scratch.now c.args.c c.args.k c.requires.0 c.requires.1 c.requires.2 c.unite_each.result c.unite_each.new.nodes c.unite_each.new.scratch c.unite_each.ensures c.unite_each.auto.scratch _ _ _ c.in-Rest.is c.add_relation-added.result c.add_relation-added.new.states c.add_relation-added.new.scratch c.add_relation-added.ensures c.add_relation-added.auto.scratch _ _ c.in-List.is
+    chain.sort_ready c.requires.0 c.requires.1 c.requires.2 c.in_ok-p.ensures.keeps c.in_ok-p.ensures.gives c.in_ok-p.ensures.few c.in_ok-l.ensures.gives c.add_relation.auto.scratch
 
 pub finish-requires : goal.finish-requires
 finish-requires c =
-    chain.finish_ready c.args.config.fields c.args.config.limits c.args.nodes.now c.args.states.now c.args.members.now c.args.scratch.now c.args.c c.args.k c.requires.0 c.requires.1 c.requires.2 c.unite_each.result c.unite_each.new.nodes c.unite_each.new.scratch c.unite_each.ensures c.unite_each.auto.scratch _ _ _ c.in-Rest.is c.add_relation-added.result c.add_relation-added.new.states c.add_relation-added.new.scratch c.add_relation-added.ensures c.add_relation-added.auto.scratch _ _ c.in-List.is c.sorted-r.result c.sorted-r.new.scratch c.sorted-r.ensures c.sorted-r.auto.scratch
+    chain.finish_ready c.requires.0 c.requires.1 c.requires.2 c.in_ok-p.ensures.keeps c.in_ok-p.ensures.gives c.in_ok-p.ensures.few c.in_ok-l.ensures.gives c.add_relation.auto.scratch c.sorted-r.ensures c.sorted-r.auto.scratch
 
-pub returns-in-Refused : goal.returns-in-Refused
-returns-in-Refused c =
-    calls.not_done _ (chain.not_added c.args.config.fields c.args.config.limits c.args.nodes.now c.args.states.now c.args.members.now c.args.scratch.now c.args.c c.args.k c.requires.0 c.requires.1 c.requires.2 c.unite_each.result c.unite_each.new.nodes c.unite_each.new.scratch c.unite_each.ensures c.unite_each.auto.scratch _ _ _ c.in-Rest.is c.add_relation-added.result c.add_relation-added.new.states c.add_relation-added.new.scratch c.add_relation-added.ensures c.add_relation-added.auto.scratch _ c.in-Refused.is)
-
-pub returns-in-List : goal.returns-in-List
-returns-in-List c =
-    chain.done c.args.config.fields c.args.config.limits c.args.nodes.now c.args.states.now c.args.members.now c.args.scratch.now c.args.c c.args.k c.requires.0 c.requires.1 c.requires.2 c.unite_each.result c.unite_each.new.nodes c.unite_each.new.scratch c.unite_each.ensures c.unite_each.auto.scratch _ _ _ c.in-Rest.is c.add_relation-added.result c.add_relation-added.new.states c.add_relation-added.new.scratch c.add_relation-added.ensures c.add_relation-added.auto.scratch _ _ c.in-List.is c.sorted-r.result c.sorted-r.new.scratch c.sorted-r.ensures c.sorted-r.auto.scratch c.finish.result c.finish.new.states c.finish.new.members c.finish.ensures
+pub returns-clause-gives : goal.returns-clause-gives
+returns-clause-gives c =
+    chain.done c.requires.0 c.requires.1 c.requires.2 c.in_ok-p.ensures.keeps c.in_ok-p.ensures.gives c.in_ok-p.ensures.few c.in_ok-l.ensures.gives c.add_relation.auto.scratch c.sorted-r.ensures c.sorted-r.auto.scratch refl (put_same 448 _ c.sorted-r.new.scratch) c.finish.ensures.gives

@@ -1,56 +1,22 @@
-use mathlib.Core.Path.{◌≡◌, ◌∙◌, ap, subst}
-use mathlib.Core.List.{List, []}
-use Prim.Native.Nat.{ℕ, ◌≤◌, ◌+◌}
-use native.Mathlib.Omega.{arith}
-use Rattle.common.specs.Runs.{Table, table}
-use Rattle.spp_steps.proofs.Laws.{den_zero}
-use Rattle.aut_steps.specs.Tables.{words}
-use Rattle.aut_steps.specs.Relations.{zero_at}
-use Rattle.aut_steps.specs.Constructors.{parts}
-use Rattle.aut_relations.specs.Behind.{CacheReady}
-use Rattle.aut_relations.proofs.Each as each
-use Rattle.aut_union.specs.declared.Gathered.{Gathered}
-use Rattle.aut_union.specs.Clauses.{seen_parts, PartsLeft, PartsMost}
-use Rattle.aut_union.proofs.Gather.{Any, members_of_lem}
+use mathlib.Core.Path.{refl}
+use Rattle.aut_union.proofs.Gather.{uniting}
 use Rattle.aut_union.proofs.Gather as gather
-use Rattle.aut_union.proofs.unite_each.Invariants.{AtTurn}
 use Rattle.aut_union.proofs.unite_each.Goals as goal
-
-begin_turn : (N : ℕ) (st : List ℕ) (t : Table) (s : List ℕ) (from k to : ℕ) → from + k ≤ to → to + k ≤ 1152 → CacheReady N t s → (z : ℕ) → zero_at N ≡ z → AtTurn N st t s from k to z t s 0 0
-unfolding words
-begin_turn N st t s from k to a r b z e =
-    subst (λ (z : ℕ). AtTurn N st t s from k to z t s 0 0) e
-    (each.begin (gather.keeps N st Any) (parts (zero_at N) []) t s from k to a r b ((den_zero b.wf N (omega arith)).at, tt))
 
 pub loop-i-init : goal.loop-i-init
 loop-i-init c =
-    begin_turn c.args.fields c.args.states.now (table c.args.nodes.now c.args.count) c.args.scratch.now c.args.from c.args.k c.args.to c.requires.apart c.requires.room c.requires.backed _ (c.zero_at_depth-h.ensures c.args.fields)
+    gather.begin (uniting c.args.config.fields) c.requires _ (gather.none_united c.args.config.fields c.args.aut.now.scratch.now c.args.to (c.zero_at_depth.ensures c.args.config.fields)) refl
 
 pub unite_one-requires : goal.unite_one-requires
-unite_one-requires c =
-    record {
-      backed = c.loop-i.invariant.backed;
-      at_h = c.loop-i.invariant.holds.0;
-      at_x = (each.member (gather.keeps c.args.fields c.args.states.now Any) (parts (zero_at c.args.fields) []) (table c.args.nodes.now c.args.count) c.args.scratch.now c.args.from c.args.k c.args.to c.requires.apart c.requires.room (parts c.loop-i.h.0 (words c.loop-i.scratch c.args.to c.loop-i.m)) (table c.loop-i.nodes c.loop-i.n) c.loop-i.scratch c.loop-i.m c.loop-i.i c.loop-i.invariant c.loop-i-test.true (members_of_lem c.args.fields c.args.states.now (table c.args.nodes.now c.args.count) (words c.args.scratch.now c.args.from c.args.k) c.requires.at)).0;
-      room = omega (arith, c.loop-i.invariant.few, c.loop-i-test.true, c.requires.room);
-    }
+unite_one-requires c = gather.member (uniting c.args.config.fields) c.requires c.loop-i.invariant c.loop-i-test.true refl
 
-pub returns-in_default : goal.returns-in_default
-returns-in_default c =
-    record {
-      is = each.stuck (gather.keeps c.args.fields c.args.states.now Any) (parts (zero_at c.args.fields) []) (table c.args.nodes.now c.args.count) c.args.scratch.now c.args.from c.args.k c.args.to c.requires.apart c.requires.room (parts c.loop-i.h.0 (words c.loop-i.scratch c.args.to c.loop-i.m)) (table c.loop-i.nodes c.loop-i.n) c.loop-i.scratch c.loop-i.m c.loop-i.i c.loop-i.invariant c.loop-i-test.true (c.unite_one.ensures.is ∙ ap (λ (r : Gathered). seen_parts r c.unite_one.new.nodes c.unite_one.new.scratch c.args.to) c.in_default.is);
-      left = tt;
-      few = tt;
-    }
+pub returns-in_err-p-clause-gives : goal.returns-in_err-p-clause-gives
+returns-in_err-p-clause-gives c =
+    gather.stuck (uniting c.args.config.fields) c.requires c.loop-i.invariant c.loop-i-test.true c.from_residual.ensures c.in_err-p.ensures.gives
 
 pub loop-i-preserved : goal.loop-i-preserved
 loop-i-preserved c =
-    each.again (gather.keeps c.args.fields c.args.states.now Any) (parts (zero_at c.args.fields) []) (table c.args.nodes.now c.args.count) c.args.scratch.now c.args.from c.args.k c.args.to c.requires.apart c.requires.room (parts c.loop-i.h.0 (words c.loop-i.scratch c.args.to c.loop-i.m)) (table c.loop-i.nodes c.loop-i.n) c.loop-i.scratch c.loop-i.m c.loop-i.i c.loop-i.invariant c.loop-i-test.true (members_of_lem c.args.fields c.args.states.now (table c.args.nodes.now c.args.count) (words c.args.scratch.now c.args.from c.args.k) c.requires.at) _ _ c.unite_one.new.scratch _ (c.unite_one.ensures.is ∙ ap (λ (r : Gathered). seen_parts r c.unite_one.new.nodes c.unite_one.new.scratch c.args.to) c.in-Rest.is) (subst (λ (r : Gathered). PartsLeft c.args.fields (c.args.to + c.loop-i.m) 1 r c.unite_one.new.nodes c.loop-i.scratch c.unite_one.new.scratch) c.in-Rest.is c.unite_one.ensures.left) (subst (λ (r : Gathered). PartsMost r (c.loop-i.m + 1)) c.in-Rest.is c.unite_one.ensures.few) c.unite_one.auto.scratch
+    gather.again (uniting c.args.config.fields) c.requires c.loop-i.invariant c.loop-i-test.true c.in_ok-p.ensures.keeps c.in_ok-p.ensures.gives c.in_ok-p.ensures.few
 
-pub returns : goal.returns
-returns c =
-    record {
-      is = each.end (gather.keeps c.args.fields c.args.states.now Any) (parts (zero_at c.args.fields) []) (table c.args.nodes.now c.args.count) c.args.scratch.now c.args.from c.args.k c.args.to c.requires.apart c.requires.room (parts c.loop-i.h.0 (words c.loop-i.scratch c.args.to c.loop-i.m)) (table c.loop-i.nodes c.loop-i.n) c.loop-i.scratch c.loop-i.m c.loop-i.i c.loop-i.invariant c.loop-i-test.false;
-      left = c.loop-i.invariant.left;
-      few = omega (arith, c.loop-i.invariant.few, c.loop-i.invariant.at);
-    }
+pub returns-clause-gives : goal.returns-clause-gives
+returns-clause-gives c = gather.end (uniting c.args.config.fields) c.requires c.loop-i.invariant c.loop-i-test.false

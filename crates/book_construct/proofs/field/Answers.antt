@@ -1,21 +1,23 @@
-use mathlib.Core.Path.{sym, ◌∙◌, ap}
-use Rattle.std.proofs.Common.{rules}
-use Rattle.common.specs.Runs.{table}
+use mathlib.Core.Path.{refl}
+use Rattle.std.specs.Prelude.{Ok, Err}
+use Rattle.refusal.specs.declared.Refusal.TheVariants.{Spp}
+use Rattle.refusal.proofs.Passed.{passed}
 use Rattle.spp_steps.specs.Model as Spp
-use Rattle.book_construct_steps.specs.Lines as M
-use Rattle.book_words.specs.declared.Bit.{Bit}
-use Rattle.book_words.specs.Clauses.{bit_of}
-use Rattle.book_construct.proofs.Join.{brought_back}
+use Rattle.book_construct.proofs.Join.{did}
 use Rattle.book_construct.proofs.field.Goals as goal
 
-pub returns-in-Test : goal.returns-in-Test
+pub returns-in_err-test-in-Test-clause-gives : goal.returns-in_err-test-in-Test-clause-gives
 unfolding Spp.test
-returns-in-Test c =
-    ap (λ (w : Bit). M.bit_of c.args.fields (bit_of w) c.args.f c.args.v (table c.args.nodes.now c.args.count)) c.in-Test.is
-    ∙ brought_back _ _ c.test-made.ensures.gives c.made_of.ensures (search rules)
+returns-in_err-test-in-Test-clause-gives c = rw (passed c.from_residual.ensures) (did c.requires c.args.v c.in-Test.is _ refl (Err Spp) c.in_err-test-in-Test.ensures.gives)
 
-pub returns-in-Set : goal.returns-in-Set
+pub returns-in_err-assign-in-Set-clause-gives : goal.returns-in_err-assign-in-Set-clause-gives
 unfolding Spp.assign
-returns-in-Set c =
-    ap (λ (w : Bit). M.bit_of c.args.fields (bit_of w) c.args.f c.args.v (table c.args.nodes.now c.args.count)) c.in-Set.is
-    ∙ brought_back _ _ c.assign-made.ensures.gives c.made_of-in-Set.ensures (search rules)
+returns-in_err-assign-in-Set-clause-gives c = rw (passed c.from_residual-in_err-assign-in-Set.ensures) (did c.requires c.args.v c.in-Set.is _ refl (Err Spp) c.in_err-assign-in-Set.ensures.gives)
+
+pub returns-in_ok-test-in-Test-clause-gives : goal.returns-in_ok-test-in-Test-clause-gives
+unfolding Spp.test
+returns-in_ok-test-in-Test-clause-gives c = did c.requires c.args.v c.in-Test.is _ refl (Ok _) c.in_ok-test-in-Test.ensures.gives
+
+pub returns-in_ok-assign-in-Set-clause-gives : goal.returns-in_ok-assign-in-Set-clause-gives
+unfolding Spp.assign
+returns-in_ok-assign-in-Set-clause-gives c = did c.requires c.args.v c.in-Set.is _ refl (Ok _) c.in_ok-assign-in-Set.ensures.gives
