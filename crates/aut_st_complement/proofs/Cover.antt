@@ -1,36 +1,71 @@
--- What holds of the definitions of specs/Cover.
-use mathlib.Core.Path.{◌≡◌, refl, ◌∙◌, ap}
-use mathlib.Core.List.{List, [], ◌∷◌}
+-- The labels united: a loop over a source.
+use mathlib.Core.Path.{◌≡◌, refl, ◌∙◌, subst}
+use mathlib.Core.List.{List}
 use Prim.Native.Nat.{ℕ}
-use Rattle.common.specs.Outcome.{Outcome, refused, given, Step, after}
-use Rattle.common.specs.Runs.{Table, placed}
+use native.Mathlib.Omega.{arith}
+use Rattle.std.specs.Prelude.{Result}
+use Rattle.refusal.specs.declared.Refusal.{Refusal}
+use Rattle.common.specs.Outcome.{Step}
 use Rattle.netkat_steps.specs.ListSteps as St
 use Rattle.netkat_steps.specs.ListSteps.{Edge}
-use Rattle.spp_steps.specs.Model as Spp
-use Rattle.aut_steps.specs.Tables.{Limits, Aut, put_nodes, on_nodes}
+use Rattle.spp.specs.declared.SPP.{SPP}
+use Rattle.aut_steps.specs.Tables.{Aut, on_nodes}
 use Rattle.aut_steps.specs.Relations as Rel
 use Rattle.aut_st_steps.specs.Operations.{ops}
-use Rattle.aut_st_complement.specs.Cover.{cover_nodes, uncovered}
+use Rattle.aut_st_steps.specs.Edges.{EdgeAt}
+use Rattle.aut_st_steps.specs.ListSpec.{Label}
+use Rattle.aut_st_steps.proofs.ListSpec.{zero_label, relation_of, union_goes}
+use Rattle.aut_states.specs.Clauses.{limits_of}
+use Rattle.aut_states.specs.declared.Config.{Config}
+use Rattle.aut_relations.specs.declared.Aut.{Aut as Lent}
+use Rattle.aut_relations.specs.Lent.{nodes_in, aut_in, KeepsExprs, Does, Asked, Handles}
+use Rattle.aut_stage.specs.OnLent.{Goes}
+use Rattle.aut_stage.proofs.OnLent.{related}
+use Rattle.aut_stage.proofs.Rule.{Folds}
+use Rattle.aut_st_insert.proofs.Kept.{same_refl, same_trans}
+use Rattle.aut_st_source.specs.declared.Source.{Source}
+use Rattle.aut_st_stage.proofs.Turns.{TurningIn, turn_begin_in}
+use Rattle.aut_st_each.proofs.Join.{handles}
+use Rattle.aut_st_complement.specs.Asked.{OneAsked}
 
-module _ (N : ℕ) (L : Limits) where
-  again : (σ : Aut) (t : Table) (o : Outcome Table ℕ) → placed put_nodes (put_nodes t σ) o ≡ placed put_nodes σ o
-  again σ t (refused e) = refl
-  again σ t (given u x) = refl
+-- what several operations on relations keep
+pub exprs_refl : (x : Lent) → KeepsExprs x x
+exprs_refl x = record { sp = refl; spp = same_refl x.spp; states = refl; members = refl; transitions = refl; pending = refl; scratch = refl; length = refl }
 
-  pub cover_is : (es : List Edge) (h : ℕ) (σ : Aut) → St.cover_all (ops N L) es h σ ≡ on_nodes (cover_nodes N es h) σ
-  unfolding St.cover_all cover_nodes
-  cover_is [] h σ = refl
-  cover_is (e ∷ es) h σ = go (λ m τ. cover_is es m τ) (Rel.union N h e.label σ.nodes)
-    where
-      go : ((m : ℕ) (τ : Aut) → St.cover_all (ops N L) es m τ ≡ on_nodes (cover_nodes N es m) τ) → (o : Outcome Table ℕ) → after (placed put_nodes σ o) (λ m. St.cover_all (ops N L) es m) ≡ placed put_nodes σ (after o (cover_nodes N es))
-      go ih (refused n) = refl
-      go ih (given t m) = ih m (put_nodes t σ) ∙ again σ t (cover_nodes N es m t)
+pub exprs_trans : {x y z : Lent} → KeepsExprs x y → KeepsExprs y z → KeepsExprs x z
+exprs_trans p q = record {
+  sp = q.sp ∙ p.sp;
+  spp = same_trans p.spp q.spp;
+  states = q.states ∙ p.states;
+  members = q.members ∙ p.members;
+  transitions = q.transitions ∙ p.transitions;
+  pending = q.pending ∙ p.pending;
+  scratch = q.scratch ∙ p.scratch;
+  length = q.length ∙ p.length;
+}
 
-  -- the two steps of the list operation are one on the nodes
-  pub uncovered_is : {B : Type 0} (es : List Edge) (k : ℕ → Step Aut B) (σ : Aut)
-      → after (St.cover_all (ops N L) es (Rel.zero_at N) σ) (λ h τ. after (on_nodes (Spp.complement N N h) τ) k) ≡ after (on_nodes (uncovered N es) σ) k
-  uncovered_is {B} es k σ = ap (λ (o : Outcome Aut ℕ). after o (λ h τ. after (on_nodes (Spp.complement N N h) τ) k)) (cover_is es (Rel.zero_at N) σ) ∙ go (cover_nodes N es (Rel.zero_at N) σ.nodes)
-    where
-      go : (o : Outcome Table ℕ) → after (placed put_nodes σ o) (λ h τ. after (on_nodes (Spp.complement N N h) τ) k) ≡ after (placed put_nodes σ (after o (λ h. Spp.complement N N h))) k
-      go (refused n) = refl
-      go (given t h) = ap (λ (o : Outcome Aut ℕ). after o k) (again σ t (Spp.complement N N h t))
+module _ (k : Config) where
+  abbrev pub cover_one : Edge → ℕ → Step Aut ℕ
+  cover_one e h = on_nodes (Rel.union k.fields h e.label)
+
+  abbrev pub cover : List Edge → ℕ → Step Aut ℕ
+  cover es h = St.cover_all (ops k.fields (limits_of k.limits)) es h
+
+  cover_folds : Folds cover_one cover
+  unfolding St.cover_all
+  cover_folds = record { none = λ h σ. refl; some = λ e es h σ. refl }
+
+-- i labels are united, in h
+abbrev pub Covered : Config → Source → Lent → Lent → ℕ → ℕ → Type 0
+Covered k x b now h i = TurningIn 0 0 k (Label k.fields) (cover_one k) (cover k) x b (Rel.zero_at k.fields) now h i
+
+pub cover_begin : {k : Config} {x : Source} {b : Lent} → OneAsked k b x → {h : ℕ} → Rel.zero_at k.fields ≡ h → Covered k x b b h 0
+cover_begin {k} {x} {b} R e = subst (λ (h : ℕ). Covered k x b b h 0) e (turn_begin_in (record { from = omega arith; to = omega arith }) (cover_folds k) R.walked R.asked (zero_label R.asked.ready.good))
+
+-- h and the label of a transition
+module _ {k : Config} {now : Lent} (R : Asked k now) {h : ℕ} (holds : Label k.fields (aut_in now) h) {e : Edge} (p : EdgeAt k.fields (aut_in now) e) where
+  pub both_labels : Handles k.fields now h e.label
+  both_labels = handles R holds.at p.relation
+
+  pub united : {r : Result SPP Refusal} {next : Lent} → KeepsExprs now next → Does k.fields 0 0 nodes_in (λ h. h.0) (Rel.union k.fields h e.label) now r next → Goes k 0 0 (Label k.fields) (λ h. h.0) (cover_one k e h) now r next
+  united K D = related R K (union_goes R.ready.good holds (relation_of p)) D

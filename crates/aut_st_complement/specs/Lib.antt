@@ -1,3 +1,2 @@
--- st_complement in code. Read in this order.
-pub mod Cover  -- the union of the labels, as a step on relation nodes alone
-pub mod Clauses  -- what is asked
+-- st_complement in code.
+pub mod Asked  -- what is asked

@@ -1,283 +1,164 @@
--- What is made of a transition, as each answer gives it; and a transition made and inserted.
+-- What is made of a transition, by the rule for a run of calls (aut_stage); and a transition made and inserted.
 use mathlib.Core.Path.{◌≡◌, refl, sym, ◌∙◌, ap, subst}
-use mathlib.Core.List.{List, [], ◌∷◌}
-use Prim.Native.Nat.{ℕ, ◌≤◌, ◌<◌}
+use mathlib.Core.List.{List}
+use Prim.Native.Nat.{ℕ, ◌≤◌}
 use native.Mathlib.Omega.{arith}
 use lib.ListN.{length}
+use Rattle.std.specs.Prelude.{Result, Ok}
 use Rattle.common.specs.Outcome.{Outcome, given, Step, return, after}
-use Rattle.common.specs.Runs.{Table, table}
+use Rattle.common.specs.Runs.{Table, placed}
+use Rattle.refusal.specs.declared.Refusal.{Refusal}
 use Rattle.netkat_steps.specs.ListSteps as St
 use Rattle.netkat_steps.specs.ListSteps.{Edge, edge}
+use Rattle.spp_steps.specs.Wf.{ValidAt}
 use Rattle.spp.specs.declared.SPP.{SPP}
-use Rattle.spp.specs.declared.Made.{Made}
-use Rattle.spp.specs.declared.Made.TheVariants.{Node, Full}
-use Rattle.aut_steps.specs.Tables as T
-use Rattle.aut_steps.specs.Tables.{COMPLEMENT, Aut, on_nodes, on_states}
+use Rattle.aut_steps.specs.Tables.{Aut, put_states, on_nodes, on_states}
 use Rattle.aut_steps.specs.Relations as Rel
 use Rattle.aut_steps.specs.Constructors as C
-use Rattle.aut_steps.proofs.Wf.{grown_trans}
-use Rattle.aut_steps.specs.StepSpec.{Gone}
-use Rattle.aut_steps.proofs.StepSpec.{StepSpec, came, goes_map}
+use Rattle.aut_steps.proofs.StepSpec.{goes_map}
+use Rattle.aut_steps.proofs.Wf.{state_grown}
 use Rattle.aut_steps.proofs.IntersectLaws.{mk_intersect_goes}
 use Rattle.aut_st_steps.specs.Operations.{ops}
 use Rattle.aut_st_steps.specs.Edges.{edges, EdgeAt}
 use Rattle.aut_st_steps.proofs.Edges.{edge_grown}
-use Rattle.aut_st_steps.specs.ListSpec as Goes
-use Rattle.aut_st_steps.proofs.ListSpec as GoesLaws
+use Rattle.aut_st_steps.specs.ListSpec.{ListAt, State}
+use Rattle.aut_st_steps.proofs.ListSpec.{list_grown, relation_of, intersect_goes}
 use Rattle.aut_st_steps.specs.EachSteps as M
-use Rattle.aut_st_steps.specs.EachSteps.{EachAt, made, insert_made}
+use Rattle.aut_st_steps.specs.EachSteps.{made, insert_made}
 use Rattle.aut_st_steps.proofs.EachSteps.{made_goes}
-use Rattle.aut_states.specs.Clauses.{limits_of, seen_put, Ready1}
-use Rattle.aut_states.specs.declared.Counts.{Counts}
-use Rattle.aut_states.specs.declared.Limits.{Limits}
-use Rattle.aut_states.specs.declared.Put.{Put}
-use Rattle.aut_states.specs.declared.State.{State}
-use Rattle.aut_states.specs.declared.State.TheVariants as state
+use Rattle.aut_states.specs.Clauses.{limits_of, states_of}
+use Rattle.aut_states.specs.declared.Config.{Config}
+use Rattle.aut_states.specs.declared.States.{States}
+use Rattle.aut_states.specs.declared.Members.{Members}
+use Rattle.aut_relations.specs.declared.Aut.{Aut as Lent}
 use Rattle.aut_relations.specs.Behind.{Modifies}
-use Rattle.aut_relations.proofs.Behind.{left_refl, left_any, left_wide, left_trans}
-use Rattle.aut_relations.specs.Clauses.{aut_of, seen_aut, Beside, ModifiesBy, RelateReady, Relates, Places, Ready, Does}
-use Rattle.aut_relations.proofs.Join.{same_left}
-use Rattle.aut_relations.proofs.Order.{ready_complement, backed_of, ready_after}
-use Rattle.aut_sequence.specs.Clauses.{Enters, Makes, Asks, Sequences}
-use Rattle.aut_sequence.proofs.Join.{enters}
-use Rattle.aut_union.specs.Clauses.{PairAt}
-use Rattle.aut_stage.specs.OnNodes.{with_nodes}
-use Rattle.aut_stage.proofs.OnNodes.{relation_refused}
-use Rattle.aut_st_insert.specs.declared.Listed.{Listed}
-use Rattle.aut_st_insert.specs.declared.Listed.TheVariants as listed
-use Rattle.aut_st_insert.specs.Clauses.{RESULT, ListReady, DoesList}
-use Rattle.aut_st_insert.proofs.Join.{edges_behind, ready_few, list_later, made_is}
+use Rattle.aut_relations.proofs.Behind.{left_refl, left_wide}
+use Rattle.aut_relations.specs.Lent.{nodes_in, states_in, aut_in, Keeps, KeepsExprs, Does, Asked, Handles}
+use Rattle.aut_relations.proofs.Order.{backed_of}
+use Rattle.aut_stage.specs.OnLent.{Goes}
+use Rattle.aut_stage.proofs.OnLent as OnLent
+use Rattle.aut_stage.proofs.OnLent.{by_law, on_all, related}
+use Rattle.aut_stage.proofs.Rule.{Inside, all_of}
+use Rattle.aut_st_insert.specs.Clauses.{RESULT}
+use Rattle.aut_st_insert.specs.Asked.{ListAsked}
+use Rattle.aut_st_insert.proofs.Join.{edges_behind, list_few}
 use Rattle.aut_st_source.specs.declared.Transition.{Transition}
 use Rattle.aut_st_source.specs.Clauses.{edge_of}
+use Rattle.aut_st_stage.proofs.Run.{Run, run_begin, run_next, run_as, run_done, run_finish, stated}
 use Rattle.aut_st_each.specs.declared.Each.{Each}
-use Rattle.aut_st_each.specs.declared.Each.TheVariants as each
-use Rattle.aut_st_each.specs.declared.Edged.{Edged}
-use Rattle.aut_st_each.specs.declared.Edged.TheVariants as edged
-use Rattle.aut_st_each.specs.Clauses.{each_of, state_edge, label_edge, MakeReady, seen_edge, EdgeBeside, EdgeLeft, EdgeNext, DoesEdge}
+use Rattle.aut_st_each.specs.Clauses.{each_of}
+use Rattle.aut_st_each.specs.Asked.{MakeAsked}
 
--- ---- the steps o have been done
+-- two relations of tables in order
+pub handles : {k : Config} {x : Lent} → Asked k x → {a b : ℕ} → ValidAt (nodes_in x) k.fields a → ValidAt (nodes_in x) k.fields b → Handles k.fields x a b
+handles R a b = record { fields = R.fields; backed = backed_of R.ready; at_a = a; at_b = b }
 
-module _ {N : ℕ} {l : Limits} {σ : Aut} {s : List ℕ} (o : Step Aut Edge) (R : Ready N l σ s) (G : StepSpec N (limits_of l) (EdgeAt N) σ (o σ)) where
-  edge_next : (r : Edged) (t' st' mem' s' : List ℕ) → o σ ≡ seen_edge r t' st' mem' → EdgeLeft N 0 576 r t' s s' → length s' ≡ length s → EdgeNext N l σ r t' st' mem' s'
-  edge_next (edged.Edge d t) t' st' mem' s' e p len =
-      let i = came (subst (StepSpec N (limits_of l) (EdgeAt N) σ) e G) in
-      record { gone = i; ready = ready_after R i.grown i.good p len }
-  edge_next (edged.Refused e) t' st' mem' s' q p len = tt
+-- an operation on relations keeps what a constructor keeps
+pub keeps_of : {x y : Lent} → KeepsExprs x y → Keeps x y
+keeps_of K = record {
+  sp = K.sp;
+  spp = K.spp;
+  states = ap (λ (s : States). s.words.ghost_name) K.states;
+  members = ap (λ (m : Members). m.words.ghost_name) K.members;
+  transitions = K.transitions;
+  pending = K.pending;
+  scratch = K.scratch;
+  length = K.length;
+}
 
-  does_edge : {c : Counts} (r : Edged) (t' st' mem' s' : List ℕ) → o σ ≡ seen_edge r t' st' mem' → EdgeBeside r c → EdgeLeft N 0 576 r t' s s' → length s' ≡ length s → DoesEdge N l 0 576 o σ r c t' st' mem' s s'
-  does_edge r t' st' mem' s' e b p len = record { is = e; beside = b; left = p; next = edge_next r t' st' mem' s' e p len }
+nothing : (n : ℕ) → Inside 0 n 0 0
+nothing n = record { from = omega arith; to = omega arith }
 
--- ---- a target made, a label made
+-- ---- make_edge: `a` is told to be `b`
 
-any_by : (N : ℕ) (t s s' : List ℕ) (r : State) → ModifiesBy N 0 0 r t s s' → ModifiesBy N 0 576 r t s s'
-any_by N t s s' (state.Is z d) p = left_any 0 576 p (omega arith)
-any_by N t s s' (state.Refused e) p = tt
+module _ {k : Config} {x : Lent} {a b : Each} {t : Transition} (q : a ≡ b) (R : MakeAsked k x (each_of a) (edge_of t)) where
+  abbrev makes : Step Aut Edge
+  makes = made k.fields (limits_of k.limits) (each_of a) (edge_of t)
 
-module _ {N : ℕ} {r : State} {c : Counts} where
-  of_makes : {o : Step Aut ℕ} {t st s t' st' s' : List ℕ} (mem : List ℕ) → Makes N o r c t st s t' st' s' → Does N 0 576 (o (aut_of t st mem c)) r c t' st' mem s s'
-  of_makes {s = s} {t' = t'} {s' = s'} mem d = record { is = d.is mem; beside = d.beside; left = any_by N t' s s' r d.left }
+  abbrev told : Step Aut Edge
+  told = made k.fields (limits_of k.limits) (each_of b) (edge_of t)
 
-  of_enters : {o : Step Table ℕ} {st st' : List ℕ} (t mem s : List ℕ) → Enters o r c st st' → Does N 0 576 (on_states o (aut_of t st mem c)) r c t st' mem s s
-  of_enters t mem s d = record { is = d.is t mem; beside = d.beside; left = same_left N 0 576 r c t s s d.nodes (left_refl 0 576 (table t c.spp) s) }
+  -- what the steps come to is what one call does, and then the transition with what it gave
+  one : {y : Lent} {o : Outcome Aut ℕ} {w : Transition} (put : ℕ → Edge) {h : ℕ} → length y.scratch.now ≡ length x.scratch.now → Modifies k.fields 0 576 (nodes_in y) x.scratch.now y.scratch.now → o ≡ given (aut_in y) h → told (aut_in x) ≡ after o (λ z. return (put z)) → put h ≡ edge_of w
+      → Goes k 0 576 (EdgeAt k.fields) edge_of makes x (Ok w) y
+  one {y} {o} {w} put {h} len left e is p = record {
+    post = by_law R.asked y len (made_goes R.asked.ready.good (each_of a) R.operands R.edge) (Ok w)
+        (ap (λ (a : Each). made k.fields (limits_of k.limits) (each_of a) (edge_of t) (aut_in x)) q ∙ is ∙ ap (λ (r : Outcome Aut ℕ). after r (λ z. return (put z))) e ∙ ap (λ (z : Edge). return z (aut_in y)) p) left;
+  }
 
-module _ {N : ℕ} {l : Limits} {σ : Aut} {s : List ℕ} (o : Step Aut Edge) (R : Ready N l σ s) (G : StepSpec N (limits_of l) (EdgeAt N) σ (o σ)) {c : Counts} where
-  from_state : (p : Outcome Aut ℕ) (h : SPP) → o σ ≡ after p (λ x. return (edge x h.0)) → (r : State) {t' st' mem' s' : List ℕ} → Does N 0 576 p r c t' st' mem' s s' → length s' ≡ length s
-      → DoesEdge N l 0 576 o σ (state_edge r h) c t' st' mem' s s'
-  from_state p h e (state.Is x d) {t'} {st'} {mem'} {s'} D len =
-      does_edge o R G (state_edge (state.Is x d) h) t' st' mem' s' (e ∙ ap (λ (p : Outcome Aut ℕ). after p (λ x. return (edge x h.0))) D.is) D.beside D.left len
-  from_state p h e (state.Refused n) {t'} {st'} {mem'} {s'} D len =
-      does_edge o R G (edged.Refused n) t' st' mem' s' (e ∙ ap (λ (p : Outcome Aut ℕ). after p (λ x. return (edge x h.0))) D.is) tt tt len
+  -- a target is made
+  pub by_target : {y : Lent} {o : Step Aut ℕ} {n z : ℕ} → length y.scratch.now ≡ length x.scratch.now → Does k.fields 0 n aut_in (λ i. i) o x (Ok z) y → n ≤ 576 → told (aut_in x) ≡ after (o (aut_in x)) (λ z. return (edge z t.label.0))
+      → Goes k 0 576 (EdgeAt k.fields) edge_of makes x (Ok (record { target = z; label = t.label })) y
+  by_target len D l is = one (λ z. edge z t.label.0) len (left_wide D.left (omega arith) (omega arith)) D.is is refl
 
-  -- the label is made in tables that have come from σ
-  from_label : (q : Step Table ℕ) (x : ℕ) (t st mem s1 : List ℕ) (d : Counts) → o σ ≡ after (on_nodes q (aut_of t st mem d)) (λ m. return (edge x m)) → (d.sp ≡ c.sp) × (d.transitions ≡ c.transitions)
-      → ((t' s' : List ℕ) (n : ℕ) (m : ℕ) → on_nodes q (aut_of t st mem d) ≡ given (aut_of t' st mem (with_nodes d n)) m → Modifies N 0 0 (table t' n) s1 s' → Modifies N 0 576 (table t' n) s s')
-      → (r : Made) {t' s' : List ℕ} → Relates N q (table t d.spp) r t' s1 s' → length s' ≡ length s → DoesEdge N l 0 576 o σ (label_edge r d x) c t' st mem s s'
-  from_label q x t st mem s1 d e b f (Node h n) {t'} {s'} A len =
-      does_edge o R G (label_edge (Node h n) d x) t' st mem s' (e ∙ ap (λ (p : Outcome Aut ℕ). after p (λ m. return (edge x m))) (made_is d A refl st mem)) b (f t' s' n h.0 (made_is d A refl st mem) A.left) len
-  from_label q x t st mem s1 d e b f Full {t'} {s'} A len =
-      does_edge o R G (edged.Refused 21) t' st mem s' (e ∙ ap (λ (p : Outcome Aut ℕ). after p (λ m. return (edge x m))) (relation_refused st mem d A refl)) tt tt len
+  pub by_states : (o : Step Table ℕ) {s : States} {z : ℕ} → o (states_in x) ≡ given (states_of s) z → told (aut_in x) ≡ after (on_states o (aut_in x)) (λ z. return (edge z t.label.0))
+      → Goes k 0 576 (EdgeAt k.fields) edge_of makes x (Ok (record { target = z; label = t.label })) (stated x s)
+  by_states o e is = one (λ z. edge z t.label.0) refl (left_refl 0 576 (nodes_in x) x.scratch.now) (ap (placed put_states (aut_in x)) e) is refl
+
+  -- a label
+  pub by_label : {y : Lent} {o : Step Table ℕ} {h : SPP} → KeepsExprs x y → Does k.fields 0 0 nodes_in (λ h. h.0) o x (Ok h) y → told (aut_in x) ≡ after (on_nodes o (aut_in x)) (λ z. return (edge t.target z))
+      → Goes k 0 576 (EdgeAt k.fields) edge_of makes x (Ok (record { target = t.target; label = h })) y
+  by_label {y} {o} K D is = let D' = on_all K D in one (λ z. edge t.target z) K.length (left_wide D'.left (omega arith) (omega arith)) D'.is is refl
 
 -- ---- meet_of: the target is made before the label
 
-module _ (N : ℕ) (l : Limits) (t st mem s : List ℕ) (c : Counts) (x : ℕ) (h : SPP) (u : Transition) (R : MakeReady N l (aut_of t st mem c) s (M.meet (edge x h.0)) (edge_of u)) where
-  abbrev L : T.Limits
-  L = limits_of l
-
-  abbrev σ : Aut
-  σ = aut_of t st mem c
-
-  abbrev meet : Step Aut Edge
-  meet = made N L (M.meet (edge x h.0)) (edge_of u)
+module _ {k : Config} {x : Lent} {s l : ℕ} {u : Edge} (R : MakeAsked k x (M.meet (edge s l)) u) where
+  abbrev met : Step Aut Edge
+  met = made k.fields (limits_of k.limits) (M.meet (edge s l)) u
 
   abbrev label : ℕ → Step Aut Edge
-  label z τ = after (on_nodes (Rel.intersect N h.0 u.label.0) τ) (λ m. return (edge z m))
+  label z τ = after (on_nodes (Rel.intersect k.fields l u.label) τ) (λ m. return (edge z m))
 
-  meet_goes : StepSpec N L (EdgeAt N) σ (meet σ)
-  meet_goes = made_goes R.ready.good (M.meet (edge x h.0)) R.operands R.edge
+  met_0 : Run k 0 576 met (λ σ. after (C.mk_intersect k.fields (limits_of k.limits) s u.target σ) label) x x
+  met_0 = run_begin R.asked refl
 
-  pub states_ready : Ready N l σ s × PairAt c.states x u.target
-  states_ready = (R.ready, record { has_x = R.operands.state; has_y = R.edge.state })
+  module _ {y : Lent} {z : ℕ} (K : Keeps x y) (D : Does k.fields 0 576 aut_in (λ i. i) (C.mk_intersect k.fields (limits_of k.limits) s u.target) x (Ok z) y) where
+    target : Goes k 0 576 State (λ i. i) (C.mk_intersect k.fields (limits_of k.limits) s u.target) x (Ok z) y
+    target = OnLent.made R.asked K (goes_map (mk_intersect_goes R.asked.ready.good R.operands.state R.edge.state) (λ τ x w v i. i.state)) D
 
-  module _ (r1 : State) (t1 st1 mem1 s1 : List ℕ) (D : Does N 0 576 (C.mk_intersect N L x u.target σ) r1 c t1 st1 mem1 s s1) (len1 : length s1 ≡ length s) where
-    meet_is : meet σ ≡ after (seen_aut r1 t1 st1 mem1) label
-    meet_is = ap (λ (o : Outcome Aut ℕ). after o label) D.is
+    met_1 : Run k 0 576 met (label z) x y
+    met_1 = run_next label met_0 (all_of 0 576) K target
 
-    pub no_state : (e : ℕ) → r1 ≡ state.Refused e → DoesEdge N l 0 576 meet σ (edged.Refused e) c t1 st1 mem1 s s1
-    no_state e q = does_edge meet R.ready meet_goes (edged.Refused e) t1 st1 mem1 s1 (meet_is ∙ ap (λ (r : State). after (seen_aut r t1 st1 mem1) label) q) tt tt len1
+    at_l : EdgeAt k.fields (aut_in y) (edge s l)
+    at_l = edge_grown met_1.stage.ext.grown R.operands
 
-    module _ (z : ℕ) (d : Counts) (told : r1 ≡ state.Is z d) where
-      abbrev τ : Aut
-      τ = aut_of t1 st1 mem1 d
+    at_u : EdgeAt k.fields (aut_in y) u
+    at_u = edge_grown met_1.stage.ext.grown R.edge
 
-      gone : Gone N L (λ τ x. x < τ.states.count) σ τ z
-      gone = came (subst (StepSpec N L (λ τ x. x < τ.states.count) σ) (D.is ∙ ap (λ (r : State). seen_aut r t1 st1 mem1) told)
-          (goes_map (mk_intersect_goes R.ready.good R.operands.state R.edge.state) (λ τ x w v i. i.state)))
+    pub labels : Handles k.fields y l u.label
+    labels = handles met_1.asked at_l.relation at_u.relation
 
-      left_1 : Modifies N 0 576 (table t1 d.spp) s s1
-      left_1 = subst (λ (r : State). ModifiesBy N 0 576 r t1 s s1) told D.left
-
-      beside_1 : (d.sp ≡ c.sp) × (d.transitions ≡ c.transitions)
-      beside_1 = subst (λ (r : State). Beside r c) told D.beside
-
-      pub labels_ready : RelateReady N (table t1 d.spp) s1 h.0 u.label.0
-      labels_ready = record {
-        backed = backed_of (ready_after R.ready gone.grown gone.good left_1 len1);
-        at_a = (edge_grown gone.grown R.operands).relation;
-        at_b = (edge_grown gone.grown R.edge).relation;
-      }
-
-      pub met : (r2 : Made) (t2 s2 : List ℕ) → Relates N (Rel.intersect N h.0 u.label.0) (table t1 d.spp) r2 t2 s1 s2 → length s2 ≡ length s1 → (w : Edged) → w ≡ label_edge r2 d z
-          → DoesEdge N l 0 576 meet σ w c t2 st1 mem1 s s2
-      met r2 t2 s2 A len2 w q =
-          subst (λ (w : Edged). DoesEdge N l 0 576 meet σ w c t2 st1 mem1 s s2) (sym q)
-          (from_label meet R.ready meet_goes (Rel.intersect N h.0 u.label.0) z t1 st1 mem1 s1 d (meet_is ∙ ap (λ (r : State). after (seen_aut r t1 st1 mem1) label) told) beside_1
-          (λ t' s' n m e p. left_trans (came (subst (StepSpec N L (Goes.Label N) τ) e (GoesLaws.intersect_goes gone.good (GoesLaws.relation_of (edge_grown gone.grown R.operands)) (GoesLaws.relation_of (edge_grown gone.grown R.edge))))).grown.nodes left_1 (left_any 0 576 p (omega arith)))
-          r2 A (len2 ∙ len1))
-
--- ---- make_edge
-
-module _ (N : ℕ) (l : Limits) (t st mem s : List ℕ) (c : Counts) (a : Each) (u : Transition) (R : MakeReady N l (aut_of t st mem c) s (each_of a) (edge_of u)) where
-  abbrev Lₘ : T.Limits
-  Lₘ = limits_of l
-
-  abbrev ρ : Aut
-  ρ = aut_of t st mem c
-
-  abbrev DoesIt : Edged → List ℕ → List ℕ → List ℕ → List ℕ → Type 0
-  DoesIt w t' st' mem' s' = DoesEdge N l 0 576 (made N Lₘ (each_of a) (edge_of u)) ρ w c t' st' mem' s s'
-
-  goes : StepSpec N Lₘ (EdgeAt N) ρ (made N Lₘ (each_of a) (edge_of u) ρ)
-  goes = made_goes R.ready.good (each_of a) R.operands R.edge
-
-  is : {b : Each} → a ≡ b → made N Lₘ (each_of a) (edge_of u) ρ ≡ made N Lₘ (each_of b) (edge_of u) ρ
-  is q = ap (λ (a : Each). made N Lₘ (each_of a) (edge_of u) ρ) q
-
-  operands : {b : Each} → a ≡ b → EachAt N ρ (each_of b)
-  operands q = subst (λ (a : Each). EachAt N ρ (each_of a)) q R.operands
-
-  by_state : (p : Outcome Aut ℕ) → made N Lₘ (each_of a) (edge_of u) ρ ≡ after p (λ x. return (edge x u.label.0)) → (r : State) {t' st' mem' s' : List ℕ} → Does N 0 576 p r c t' st' mem' s s' → length s' ≡ length s
-      → (w : Edged) → w ≡ state_edge r u.label → DoesIt w t' st' mem' s'
-  by_state p e r {t'} {st'} {mem'} {s'} D len w q = subst (λ (w : Edged). DoesIt w t' st' mem' s') (sym q) (from_state (made N Lₘ (each_of a) (edge_of u)) R.ready goes p u.label e r D len)
-
-  by_label : (o : Step Table ℕ) → made N Lₘ (each_of a) (edge_of u) ρ ≡ after (on_nodes o ρ) (λ m. return (edge u.target m)) → (r : Made) {t' s' : List ℕ} → Relates N o (table t c.spp) r t' s s' → length s' ≡ length s
-      → (w : Edged) → w ≡ label_edge r c u.target → DoesIt w t' st mem s'
-  by_label o e r {t'} {s'} A len w q =
-      subst (λ (w : Edged). DoesIt w t' st mem s') (sym q)
-      (from_label (made N Lₘ (each_of a) (edge_of u)) R.ready goes o u.target t st mem s c e (refl, refl) (λ t' s' n m e p. left_any 0 576 p (omega arith)) r A len)
-
-  pub same : a ≡ each.Same → DoesIt (edged.Edge c u) t st mem s
-  same q = does_edge (made N Lₘ (each_of a) (edge_of u)) R.ready goes (edged.Edge c u) t st mem s (is q) (refl, refl) (left_refl 0 576 (table t c.spp) s) refl
-
-  pub sequence_ready : {x : ℕ} → a ≡ each.Sequence x → Asks N l t st s c (u.target ∷ x ∷ [])
-  sequence_ready q = record { members = mem; ready = R.ready; has = (R.edge.state, (operands q, tt)) }
-
-  pub sequenced : {x : ℕ} → a ≡ each.Sequence x → (r : State) (t' st' s' : List ℕ) → Sequences N Lₘ u.target x r c t st s t' st' s' → length s' ≡ length s → (w : Edged) → w ≡ state_edge r u.label → DoesIt w t' st' mem s'
-  sequenced {x} q r t' st' s' D len w e = by_state (C.mk_sequence N Lₘ u.target x ρ) (is q) r (of_makes {o = C.mk_sequence N Lₘ u.target x} mem D.made) len w e
-
-  pub after_ready : {h : SPP} → a ≡ each.After h → RelateReady N (table t c.spp) s h.0 u.label.0
-  after_ready q = record { backed = backed_of R.ready; at_a = (operands q).at; at_b = R.edge.relation }
-
-  pub followed : {h : SPP} → a ≡ each.After h → (r : Made) (t' s' : List ℕ) → Relates N (Rel.sequence N h.0 u.label.0) (table t c.spp) r t' s s' → length s' ≡ length s → (w : Edged) → w ≡ label_edge r c u.target → DoesIt w t' st mem s'
-  followed {h} q r t' s' A len w e = by_label (Rel.sequence N h.0 u.label.0) (is q) r A len w e
-
-  pub intersect_ready : {x : ℕ} → a ≡ each.Intersect x → Ready N l ρ s × PairAt c.states u.target x
-  intersect_ready q = (R.ready, record { has_x = R.edge.state; has_y = operands q })
-
-  pub intersected : {x : ℕ} → a ≡ each.Intersect x → (r : State) (t' st' mem' s' : List ℕ) → Does N 0 576 (C.mk_intersect N Lₘ u.target x ρ) r c t' st' mem' s s' → length s' ≡ length s → (w : Edged) → w ≡ state_edge r u.label → DoesIt w t' st' mem' s'
-  intersected {x} q r t' st' mem' s' D len w e = by_state (C.mk_intersect N Lₘ u.target x ρ) (is q) r D len w e
-
-  pub complement_ready : Ready1 st c.states COMPLEMENT u.target × (N ≤ 31)
-  complement_ready = (ready_complement R.ready.good R.edge.state, R.ready.few)
-
-  pub complemented : a ≡ each.Complement → (p : Put) (r : State) (st' : List ℕ) → C.mk_complement N Lₘ u.target (table st c.states) ≡ seen_put p st' → Places p c r → (w : Edged) → w ≡ state_edge r u.label → DoesIt w t st' mem s
-  complemented q p r st' e v w f = by_state (on_states (C.mk_complement N Lₘ u.target) ρ) (is q) r (of_enters t mem s (enters {o = C.mk_complement N Lₘ u.target} p r e v)) refl w f
-
-  pub rest_ready : {h : SPP} → a ≡ each.Rest h → RelateReady N (table t c.spp) s u.label.0 h.0
-  rest_ready q = record { backed = backed_of R.ready; at_a = R.edge.relation; at_b = (operands q).at }
-
-  pub rested : {h : SPP} → a ≡ each.Rest h → (r : Made) (t' s' : List ℕ) → Relates N (Rel.difference N u.label.0 h.0) (table t c.spp) r t' s s' → length s' ≡ length s → (w : Edged) → w ≡ label_edge r c u.target → DoesIt w t' st mem s'
-  rested {h} q r t' s' A len w e = by_label (Rel.difference N u.label.0 h.0) (is q) r A len w e
-
-  pub meet_ready : {x : ℕ} {h : SPP} → a ≡ each.Meet x h → MakeReady N l ρ s (M.meet (edge x h.0)) (edge_of u)
-  meet_ready q = record { ready = R.ready; operands = operands q; edge = R.edge }
-
-  pub meets : {x : ℕ} {h : SPP} → a ≡ each.Meet x h → (w : Edged) (t' st' mem' s' : List ℕ) → DoesEdge N l 0 576 (made N Lₘ (M.meet (edge x h.0)) (edge_of u)) ρ w c t' st' mem' s s' → DoesIt w t' st' mem' s'
-  meets q w t' st' mem' s' D = record { is = is q ∙ D.is; beside = D.beside; left = D.left; next = D.next }
-
--- ---- an insertion after other steps
-
-module _ {N : ℕ} {l : Limits} {A : Type 0} {P : Aut → A → Type 0} {a : A} {σ τ : Aut} {s s1 s2 : List ℕ} {c d : Counts} {o p : Step Aut (List Edge)} where
-  pub then_list : Gone N (limits_of l) P σ τ a → Modifies N 0 832 τ.nodes s s1 → (d.sp ≡ c.sp) × (d.transitions ≡ c.transitions) → o σ ≡ p τ → (r : Listed) {t2 st2 mem2 : List ℕ}
-      → DoesList N l 0 832 p τ r d t2 st2 mem2 s1 s2 → DoesList N l 0 832 o σ r c t2 st2 mem2 s s2
-  then_list g v b e (listed.List d2 k) D = record {
-    is = e ∙ D.is;
-    beside = (D.beside.0 ∙ b.0, D.beside.1 ∙ b.1);
-    left = left_trans D.next.gone.grown.nodes v D.left;
-    next = record {
-      gone = record {
-        grown = grown_trans g.grown D.next.gone.grown;
-        memos = λ i w l m. D.next.gone.memos i w l m ∙ g.memos i w l m;
-        good = D.next.gone.good;
-        holds = D.next.gone.holds;
-      };
-      ready = D.next.ready;
-    };
-  }
-  then_list g v b e (listed.Refused n) D = record { is = e ∙ D.is; beside = tt; left = tt; next = tt }
+    pub meets : {v : Lent} {h : SPP} → KeepsExprs y v → Does k.fields 0 0 nodes_in (λ h. h.0) (Rel.intersect k.fields l u.label) y (Ok h) v → Goes k 0 576 (EdgeAt k.fields) edge_of met x (Ok (record { target = z; label = h })) v
+    meets K' E =
+        let g = related met_1.asked K' (intersect_goes met_1.asked.ready.good (relation_of at_l) (relation_of at_u)) E in
+        run_done (run_next (λ m. return (edge z m)) met_1 (nothing 576) (keeps_of K') g) (record { state = state_grown g.post.then.ext.grown target.post.then.holds; relation = g.post.then.holds.at })
 
 -- ---- insert_made
 
-module _ (N : ℕ) (l : Limits) (t st mem s : List ℕ) (c : Counts) (a : M.Each) (u : Edge) (m : ℕ) (R : ListReady N l (aut_of t st mem c) s m × MakeReady N l (aut_of t st mem c) s a u) where
-  abbrev Lᵢ : T.Limits
-  Lᵢ = limits_of l
-
-  abbrev κ : Aut
-  κ = aut_of t st mem c
-
+module _ {k : Config} {x : Lent} {a : M.Each} {u : Edge} {m : ℕ} (R : ListAsked k x m × MakeAsked k x a u) where
   abbrev insert_in : List Edge → Edge → Step Aut (List Edge)
-  insert_in es new = St.insert (ops N Lᵢ) new.target new.label es
+  insert_in es new = St.insert (ops k.fields (limits_of k.limits)) new.target new.label es
 
-  module _ (r1 : Edged) (t1 st1 mem1 s1 : List ℕ) (D : DoesEdge N l 0 576 (made N Lᵢ a u) κ r1 c t1 st1 mem1 s s1) (len1 : length s1 ≡ length s) where
-    made_then : insert_made N Lᵢ a u (edges s RESULT m) κ ≡ after (seen_edge r1 t1 st1 mem1) (insert_in (edges s RESULT m))
-    made_then = ap (λ (o : Outcome Aut Edge). after o (insert_in (edges s RESULT m))) D.is
+  abbrev inserts : Step Aut (List Edge)
+  inserts = insert_made k.fields (limits_of k.limits) a u (edges x.scratch.now RESULT m)
 
-    pub no_edge : (e : ℕ) → r1 ≡ edged.Refused e → DoesList N l 0 832 (insert_made N Lᵢ a u (edges s RESULT m)) κ (listed.Refused e) c t1 st1 mem1 s s1
-    no_edge e q = record { is = made_then ∙ ap (λ (r : Edged). after (seen_edge r t1 st1 mem1) (insert_in (edges s RESULT m))) q; beside = tt; left = tt; next = tt }
+  module _ {y : Lent} {new : Transition} (K : Keeps x y) (D : Goes k 0 576 (EdgeAt k.fields) edge_of (made k.fields (limits_of k.limits) a u) x (Ok new) y) where
+    -- the list stands while the transition is made
+    list_is : edges y.scratch.now RESULT m ≡ edges x.scratch.now RESULT m
+    list_is = edges_behind D.post.then.frame RESULT m (omega arith) (omega (arith, list_few x.scratch.now RESULT m R.0.list R.0.limit))
 
-    module _ (d : Counts) (new : Transition) (told : r1 ≡ edged.Edge d new) where
-      next_1 : EdgeNext N l κ (edged.Edge d new) t1 st1 mem1 s1
-      next_1 = subst (λ (r : Edged). EdgeNext N l κ r t1 st1 mem1 s1) told D.next
+    ran : Run k 0 832 inserts (insert_in (edges y.scratch.now RESULT m) (edge_of new)) x y
+    ran = run_as (run_next (insert_in (edges x.scratch.now RESULT m)) (run_begin R.0.asked refl) (record { from = omega arith; to = omega arith }) K D) (ap (λ (es : List Edge). insert_in es (edge_of new) (aut_in y)) (sym list_is))
 
-      left_e : Modifies N 0 576 (table t1 d.spp) s s1
-      left_e = subst (λ (r : Edged). EdgeLeft N 0 576 r t1 s s1) told D.left
+    pub insert_ready : ListAsked k y m × EdgeAt k.fields (aut_in y) (edge_of new)
+    insert_ready = (
+      record {
+        asked = ran.asked;
+        list = subst (ListAt k.fields (limits_of k.limits) (aut_in y)) (sym list_is) (list_grown D.post.then.ext.grown R.0.list);
+        limit = R.0.limit;
+      },
+      D.post.then.holds,
+    )
 
-      pub insert_ready : ListReady N l (aut_of t1 st1 mem1 d) s1 m × EdgeAt N (aut_of t1 st1 mem1 d) (edge_of new)
-      insert_ready = (list_later R.0 next_1.gone.grown next_1.gone.good left_e (omega arith) len1, next_1.gone.holds)
-
-      pub inserted : (r2 : Listed) (t2 st2 mem2 s2 : List ℕ) → DoesList N l 0 832 (St.insert (ops N Lᵢ) new.target new.label.0 (edges s1 RESULT m)) (aut_of t1 st1 mem1 d) r2 d t2 st2 mem2 s1 s2
-          → DoesList N l 0 832 (insert_made N Lᵢ a u (edges s RESULT m)) κ r2 c t2 st2 mem2 s s2
-      inserted r2 t2 st2 mem2 s2 E =
-          then_list next_1.gone (left_wide left_e (omega arith) (omega arith)) (subst (λ (r : Edged). EdgeBeside r c) told D.beside)
-          (made_then ∙ ap (λ (r : Edged). after (seen_edge r t1 st1 mem1) (insert_in (edges s RESULT m))) told
-          ∙ ap (λ (es : List Edge). St.insert (ops N Lᵢ) new.target new.label.0 es (aut_of t1 st1 mem1 d)) (sym (edges_behind left_e RESULT m (omega arith) (omega (arith, ready_few R.0)))))
-          r2 E
+    pub inserted : {V : Type 0} {see : V → List Edge} {r : Result V Refusal} {v : Lent} → Goes k 0 832 (ListAt k.fields (limits_of k.limits)) see (insert_in (edges y.scratch.now RESULT m) (edge_of new)) y r v → Goes k 0 832 (ListAt k.fields (limits_of k.limits)) see inserts x r v
+    inserted E = run_finish ran (all_of 0 832) E

@@ -1,2 +1,3 @@
--- Loops over transition lists: what the answers say in the words of the steps, what is asked and what is left.
+-- Loops over transition lists: what is made of a transition, and what is asked.
 pub mod Clauses
+pub mod Asked

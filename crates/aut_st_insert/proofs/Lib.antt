@@ -1,5 +1,7 @@
+-- Lemmas for the proofs of this crate.
+pub mod Kept
 pub mod Join
-pub mod Readings
+pub mod Calls
 pub mod Placing
 pub mod Halves
 pub mod Walking

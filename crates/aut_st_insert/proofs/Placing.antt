@@ -1,6 +1,6 @@
 -- A transition placed in a list: its label united with that of the same target, or a new record by ascending targets.
-use Rattle.std.specs.Prelude.{if◌then◌else◌}
-use mathlib.Core.Path.{◌≡◌, refl, sym, ◌∙◌, ap, subst}
+use Rattle.std.specs.Prelude.{if◌then◌else◌, Result, Ok, Err}
+use mathlib.Core.Path.{◌≡◌, refl, sym, ◌∙◌, ap, ap₂, subst}
 use mathlib.Core.Bool.{Bool, true, false}
 use mathlib.Core.List.{List}
 use Prim.Native.Nat.{ℕ, ◌+◌, ◌*◌, ◌≤◌, ◌<◌}
@@ -10,45 +10,44 @@ use lib.ListN.{length, get_or, set, length-set}
 use lib.Seq.{get_or-set_other}
 use borrow.Author.Tests.{eq-eqb, ne_eqb, lt-ltb, le-ltb}
 use Rattle.common.specs.Outcome.{Outcome, refused, given, Step, return, after}
-use Rattle.common.specs.Runs.{Table, table, placed}
+use Rattle.refusal.specs.declared.Refusal.{Refusal}
+use Rattle.refusal.specs.declared.Refusal.TheVariants.{TransitionList}
+use Rattle.refusal.specs.Numbers.{number_of, outcome}
 use Rattle.netkat_steps.specs.ListSteps as St
 use Rattle.netkat_steps.specs.ListSteps.{Edge, edge, unite, enter_in}
 use Rattle.spp_steps.proofs.Laws.{ext_refl}
 use Rattle.spp.specs.declared.SPP.{SPP}
-use Rattle.spp.specs.declared.Made.{Made}
-use Rattle.spp.specs.declared.Made.TheVariants.{Node, Full}
-use Rattle.spp.specs.Clauses.{seen_made as seen}
 use Rattle.aut_steps.specs.Tables as T
-use Rattle.aut_steps.specs.Tables.{Aut, put_nodes, put_states, on_states}
+use Rattle.aut_steps.specs.Tables.{Aut, on_nodes, on_states}
 use Rattle.aut_steps.specs.Relations as Rel
 use Rattle.aut_steps.specs.Constructors.{mk_spp}
 use Rattle.aut_steps.specs.Scratch.{Kept}
 use Rattle.aut_steps.proofs.Scratch.{kept_wide}
+use Rattle.aut_steps.proofs.StepSpec.{StepSpec}
 use Rattle.aut_st_steps.specs.Operations.{ops}
-use Rattle.aut_steps.specs.StepSpec.{Gone}
-use Rattle.aut_steps.proofs.StepSpec.{StepSpec, came}
 use Rattle.aut_st_steps.specs.Edges.{edges}
 use Rattle.aut_st_steps.proofs.Edges.{edge_grown}
-use Rattle.aut_st_steps.specs.ListSpec.{State}
-use Rattle.aut_st_steps.proofs.ListSpec.{list_grown, zero_state_goes}
+use Rattle.aut_st_steps.specs.ListSpec.{ListAt, State}
+use Rattle.aut_st_steps.proofs.ListSpec.{relation_of, zero_state_goes}
 use Rattle.aut_st_steps.specs.Places.{seek_target}
 use Rattle.aut_st_steps.proofs.Places.{edges_length, edge_at_lem, leads, leads_not, unite_at, relabelled}
 use Rattle.aut_st_steps.specs.InsertSteps.{place_in}
-use Rattle.aut_st_steps.proofs.InsertSteps.{place_is}
-use Rattle.aut_states.specs.Clauses.{limits_of, seen_put}
-use Rattle.aut_states.specs.declared.Counts.{Counts}
-use Rattle.aut_states.specs.declared.Limits.{Limits}
-use Rattle.aut_states.specs.declared.Put.{Put}
-use Rattle.aut_states.specs.declared.Put.TheVariants as put
+use Rattle.aut_st_steps.proofs.InsertSteps.{place_is, place_in_goes}
+use Rattle.aut_states.specs.Clauses.{limits_of}
+use Rattle.aut_states.specs.declared.Config.{Config}
 use Rattle.aut_relations.specs.Behind.{LISTS, Modifies}
-use Rattle.aut_relations.proofs.Behind.{left_refl, left_any, left_trans, left_kept}
-use Rattle.aut_relations.specs.Clauses.{aut_of, MadeLeft, RelateReady, Relates}
-use Rattle.aut_relations.proofs.Order.{backed_of, ready_after}
+use Rattle.aut_relations.proofs.Behind.{left_any, left_trans, left_kept}
+use Rattle.aut_relations.specs.declared.Aut.{Aut as Lent}
+use Rattle.aut_relations.specs.Lent.{nodes_in, states_in, aut_in, KeepsExprs, Does, Handles}
+use Rattle.aut_stage.specs.OnLent.{Goes}
+use Rattle.aut_stage.proofs.OnLent.{lent_laws, by_law, on_all}
+use Rattle.aut_stage.proofs.Rule.{all_of, begin, instead, next, stuck, finish, done}
 use Rattle.aut_st_edges.specs.Clauses.{Seeks, Wrote}
-use Rattle.aut_st_insert.specs.declared.Listed.{Listed}
-use Rattle.aut_st_insert.specs.declared.Listed.TheVariants as listed
-use Rattle.aut_st_insert.specs.Clauses.{RESULT, PlaceReady, PlaceInReady, MakesList}
-use Rattle.aut_st_insert.proofs.Join.{edges_behind, ready_few, beside_list}
+use Rattle.aut_st_insert.specs.Clauses.{RESULT, list_in}
+use Rattle.aut_st_insert.specs.Asked.{PlaceAsked}
+use Rattle.aut_st_insert.proofs.Kept.{same_refl}
+use Rattle.aut_st_insert.proofs.Join.{edges_behind, ready_few, list_same, list_after}
+use Rattle.aut_st_insert.proofs.Calls.{Run, anywhere, handles, StatesOnly, on_states_goes}
 
 -- ---- place_in
 
@@ -73,143 +72,112 @@ new_one N L s m x h i e le b q σ =
     go true q = ap (λ (b : Bool). (if b then return (St.enter (ops N L) x h (edges s RESULT m)) else λ σ. refused 9) σ) q
     go false q = ap (λ (b : Bool). (if b then return (St.enter (ops N L) x h (edges s RESULT m)) else λ σ. refused 9) σ) q
 
-module _ (N : ℕ) (l : Limits) (t s : List ℕ) (c : Counts) (m x h : ℕ) (R : PlaceInReady N l t s c m (edge x h)) where
+module _ {k : Config} {a : Lent} {m x h : ℕ} (R : PlaceAsked k a m (edge x h)) where
   abbrev L : T.Limits
-  L = limits_of l
-
-  abbrev es : List Edge
-  es = edges s RESULT m
+  L = limits_of k.limits
 
   abbrev step : Step Aut (List Edge)
-  step = place_in N L x h es
+  step = place_in k.fields L x h (list_in a m)
 
   pub few : m ≤ 64
-  few = ready_few R.place.ready
+  few = ready_few R.list
 
-  pub room : LISTS ≤ length s
-  room = R.place.ready.ready.room
+  pub room : LISTS ≤ length a.scratch.now
+  room = R.list.asked.ready.room
 
-  module _ (i : ℕ) (S : Seeks (seek_target x es) m i) where
+  law : StepSpec k.fields L (ListAt k.fields L) (aut_in a) (step (aut_in a))
+  law = place_in_goes R.list.asked.ready.good R.edge.state (relation_of R.edge) R.list.list
+
+  module _ {i : ℕ} (S : Seeks (seek_target x (list_in a m)) m i) where
     module _ (lt : i < m) where
       abbrev j : ℕ
       j = 2 * (RESULT + i) + 1
 
-      pub relate_ready : RelateReady N (table t c.spp) s (get_or s j 0) h
-      relate_ready = record {
-        backed = backed_of R.place.ready.ready;
-        at_a = (edge_at_lem s RESULT m i lt R.place.ready.list.edges).relation;
-        at_b = R.place.edge.relation;
-      }
+      pub place_handles : Handles k.fields a (get_or a.scratch.now j 0) h
+      place_handles = handles R.list.asked (relation_of (edge_at_lem a.scratch.now RESULT m i lt R.list.list.edges)) (relation_of R.edge)
 
-      module _ (r1 : Made) (t1 s1 : List ℕ) (A : Relates N (Rel.union N (get_or s j 0) h) (table t c.spp) r1 t1 s s1) where
-        pub full : r1 ≡ Full → (st : List ℕ) → MakesList N 576 128 step (listed.Refused 21) c t st s t1 st s1
-        full e st = record {
-          is = λ mem. united N L s m x h i (omega (arith, few, room)) S.is lt (aut_of t st mem c) (refused 21)
-              (ap (placed put_nodes (aut_of t st mem c)) (A.gives ∙ ap (λ (r : Made). seen r t1) e));
-          beside = tt;
-          left = tt;
-        }
+      module _ {b : Lent} (K : KeepsExprs a b) where
+        pub full : {V : Type 0} {see : V → List Edge} {e : Refusal} {c : Lent} → Does k.fields 0 0 nodes_in (λ (u : SPP). u.0) (Rel.union k.fields (get_or a.scratch.now j 0) h) a (Err e) b → Goes k 576 128 (ListAt k.fields L) see step a (Err e) c
+        full {e = e} D = record { post = record { is = united k.fields L a.scratch.now m x h i (omega (arith, few, room)) S.is lt (aut_in a) (refused (number_of e)) (on_all K D).is; then = tt } }
 
-        module _ (u : SPP) (n : ℕ) (e : r1 ≡ Node u n) (len : length s1 ≡ length s) where
-          left_1 : Modifies N 0 0 (table t1 n) s s1
-          left_1 = subst (λ (r : Made). MadeLeft N r t1 s s1) e A.left
+        module _ {u : SPP} (D : Does k.fields 0 0 nodes_in (λ (u : SPP). u.0) (Rel.union k.fields (get_or a.scratch.now j 0) h) a (Ok u) b) where
+          same : list_in b m ≡ list_in a m
+          same = edges_behind D.left RESULT m (omega arith) (omega (arith, few))
 
-          same : edges s1 RESULT m ≡ es
-          same = edges_behind left_1 RESULT m (omega arith) (omega (arith, few))
-
-          kept_2 : Kept 576 128 s1 (set s1 j u.0)
+          kept_2 : Kept 576 128 b.scratch.now (set b.scratch.now j u.0)
           kept_2 = record {
-            below = λ p b. get_or-set_other s1 j p u.0 0 (λ q. omega arith);
-            above = λ p b. get_or-set_other s1 j p u.0 0 (λ q. omega (arith, few));
+            below = λ p l. get_or-set_other b.scratch.now j p u.0 0 (λ q. omega arith);
+            above = λ p l. get_or-set_other b.scratch.now j p u.0 0 (λ q. omega (arith, few));
           }
 
-          abbrev d : Counts
-          d = record { sp = c.sp; spp = n; states = c.states; members = c.members; transitions = c.transitions }
+          relabels_is : step (aut_in a) ≡ given (aut_in b) (edges (set b.scratch.now j u.0) RESULT m)
+          relabels_is =
+              ap (λ (fs : List Edge). place_in k.fields L x h fs (aut_in a)) (sym same)
+              ∙ united k.fields L b.scratch.now m x h i (omega (arith, few, room, K.length)) (ap (seek_target x) same ∙ S.is) lt (aut_in a) (given (aut_in b) u.0)
+              (ap (λ (g : ℕ). on_nodes (Rel.union k.fields g h) (aut_in a)) (D.left.above j (omega arith) (omega (arith, few))) ∙ (on_all K D).is)
 
-          pub relabels : (st : List ℕ) → MakesList N 576 128 step (listed.List d m) c t st s t1 st (set s1 j u.0)
-          relabels st = record {
-            is = λ mem.
-                ap (λ (fs : List Edge). place_in N L x h fs (aut_of t st mem c)) (sym same)
-                ∙ united N L s1 m x h i (omega (arith, few, room, len)) (ap (seek_target x) same ∙ S.is) lt (aut_of t st mem c) (given (aut_of t1 st mem d) u.0)
-                (ap (λ (g : ℕ). placed put_nodes (aut_of t st mem c) (Rel.union N g h (table t c.spp))) (left_1.above j (omega arith) (omega (arith, few)))
-                ∙ ap (placed put_nodes (aut_of t st mem c)) (A.gives ∙ ap (λ (r : Made). seen r t1) e));
-            beside = (refl, refl);
-            left = left_trans (ext_refl (table t1 n)) (left_any 576 128 left_1 (omega arith)) (left_kept kept_2 (simp length-set) (omega arith));
+          relabels_left : Modifies k.fields 576 128 (nodes_in b) a.scratch.now (set b.scratch.now j u.0)
+          relabels_left = left_trans (ext_refl (nodes_in b)) (left_any 576 128 D.left (omega arith)) (left_kept kept_2 (simp length-set) (omega arith))
+
+          -- the label is written
+          pub relabels : {c : Lent} → aut_in c ≡ aut_in b → c.scratch.now ≡ set b.scratch.now j u.0 → Goes k 576 128 (ListAt k.fields L) (list_in c) step a (Ok m) c
+          relabels {c} e q = record {
+            post = by_law R.list.asked c (ap length q ∙ (simp length-set) ∙ K.length) law (Ok m) (relabels_is ∙ ap₂ (λ (τ : Aut) (s : List ℕ). given τ (edges s RESULT m)) (sym e) (sym q))
+                (subst (λ (τ : Aut). Modifies k.fields 576 128 τ.nodes a.scratch.now c.scratch.now) (sym e) (subst (λ (s : List ℕ). Modifies k.fields 576 128 (nodes_in b) a.scratch.now s) (sym q) relabels_left));
           }
 
     module _ (le : m ≤ i) where
-      pub too_long : l.transitions ≤ m → (st : List ℕ) → MakesList N 576 128 step (listed.Refused 9) c t st s t st s
-      too_long f st = record { is = λ mem. new_one N L s m x h i S.is le false (le-ltb m l.transitions f) (aut_of t st mem c); beside = tt; left = tt }
+      pub too_long : k.limits.transitions ≤ m → {V : Type 0} {see : V → List Edge} {c : Lent} → Goes k 576 128 (ListAt k.fields L) see step a (Err TransitionList) c
+      too_long f = record { post = record { is = new_one k.fields L a.scratch.now m x h i S.is le false (le-ltb m k.limits.transitions f) (aut_in a); then = tt } }
 
-      pub enters : m < l.transitions → (s1 : List ℕ) → ((N : ℕ) (L : T.Limits) → Wrote RESULT (m + 1) (St.enter (ops N L) x h es) s s1) → length s1 ≡ length s
-          → (st : List ℕ) → MakesList N 576 128 step (listed.List c (m + 1)) c t st s t st s1
-      enters f s1 W len st = record {
-        is = λ mem. new_one N L s m x h i S.is le true (lt-ltb m l.transitions f) (aut_of t st mem c) ∙ ap (λ (fs : List Edge). given (aut_of t st mem c) fs) (sym (W N L).is);
-        beside = (refl, refl);
-        left = left_kept (kept_wide (W N L).kept (omega arith) (omega (arith, few, R.place.ready.limit))) len (omega arith);
+      pub enters : m < k.limits.transitions → {c : Lent} → ((N : ℕ) (L : T.Limits) → Wrote RESULT (m + 1) (St.enter (ops N L) x h (list_in a m)) a.scratch.now c.scratch.now) → aut_in c ≡ aut_in a → length c.scratch.now ≡ length a.scratch.now
+          → Goes k 576 128 (ListAt k.fields L) (list_in c) step a (Ok (m + 1)) c
+      enters f {c} W e len = record {
+        post = by_law R.list.asked c len law (Ok (m + 1))
+            (new_one k.fields L a.scratch.now m x h i S.is le true (lt-ltb m k.limits.transitions f) (aut_in a) ∙ ap₂ (λ (τ : Aut) (fs : List Edge). given τ fs) (sym e) (sym (W k.fields L).is))
+            (left_kept (kept_wide (W k.fields L).kept (omega arith) (omega (arith, few, R.list.limit))) len (omega arith));
       }
 
 -- ---- place
 
-module _ (N : ℕ) (l : Limits) (t st s : List ℕ) (c : Counts) (m x h : ℕ) (R : PlaceReady N l t st s c m (edge x h)) (z : ℕ) (z-is : Rel.zero_at N ≡ z) where
-  abbrev list : List Edge
-  list = edges s RESULT m
-
+module _ {k : Config} {a : Lent} {m x h : ℕ} (R : PlaceAsked k a m (edge x h)) {z : ℕ} (z-is : Rel.zero_at k.fields ≡ z) where
   abbrev all : Step Aut (List Edge)
-  all = St.place (ops N (limits_of l)) x h list
+  all = St.place (ops k.fields (limits_of k.limits)) x h (list_in a m)
 
   abbrev behind : ℕ → Step Aut (List Edge)
-  behind i = if eqb x i then return list else place_in N (limits_of l) x h list
+  behind i = if eqb x i then return (list_in a m) else place_in k.fields (limits_of k.limits) x h (list_in a m)
 
-  pub no_label : h ≡ z → MakesList N 576 128 all (listed.List c m) c t st s t st s
-  no_label e = record {
-    is = λ mem.
-        place_is N (limits_of l) x h list (aut_of t st mem c)
-        ∙ ap (λ (b : Bool). if b then given (aut_of t st mem c) list else after (on_states (mk_spp (Rel.zero_at N)) (aut_of t st mem c)) behind) (eq-eqb h (Rel.zero_at N) (e ∙ sym z-is));
-    beside = (refl, refl);
-    left = left_refl 576 128 (table t c.spp) s;
-  }
+  stage : (b : Bool) → eqb h (Rel.zero_at k.fields) ≡ b → Run k 576 128 all a (if b then given (aut_in a) (list_in a m) else after (on_states (mk_spp (Rel.zero_at k.fields)) (aut_in a)) behind) a
+  stage b q = begin (lent_laws k.fields k.limits) 576 128 R.list.asked.ready
+      (place_is k.fields (limits_of k.limits) x h (list_in a m) (aut_in a) ∙ ap (λ (b : Bool). if b then given (aut_in a) (list_in a m) else after (on_states (mk_spp (Rel.zero_at k.fields)) (aut_in a)) behind) q)
 
-  module _ (ne : h ≡ z → ⊥) (p : Put) (st1 : List ℕ) (D : mk_spp z (table st c.states) ≡ seen_put p st1) where
-    is_put : (mem : List ℕ) → all (aut_of t st mem c) ≡ after (placed put_states (aut_of t st mem c) (seen_put p st1)) behind
-    is_put mem =
-        place_is N (limits_of l) x h list (aut_of t st mem c)
-        ∙ ap (λ (b : Bool). if b then given (aut_of t st mem c) list else after (on_states (mk_spp (Rel.zero_at N)) (aut_of t st mem c)) behind) (ne_eqb h (Rel.zero_at N) (λ e. ne (e ∙ z-is)))
-        ∙ ap (λ (o : Outcome Table ℕ). after (placed put_states (aut_of t st mem c) o) behind) (ap (λ (g : ℕ). mk_spp g (table st c.states)) z-is ∙ D)
+  pub no_label : h ≡ z → Goes k 576 128 (ListAt k.fields (limits_of k.limits)) (list_in a) all a (Ok m) a
+  no_label e = record { post = done (lent_laws k.fields k.limits) 576 128 (stage true (eq-eqb h (Rel.zero_at k.fields) (e ∙ sym z-is))) R.list.list }
 
-    pub not_put : (e : ℕ) → p ≡ put.Refused e → MakesList N 576 128 all (listed.Refused e) c t st s t st1 s
-    not_put e q = record { is = λ mem. is_put mem ∙ ap (λ (p : Put). after (placed put_states (aut_of t st mem c) (seen_put p st1)) behind) q; beside = tt; left = tt }
+  module _ (ne : h ≡ z → ⊥) where
+    stage_0 : Run k 576 128 all a (after (on_states (mk_spp (Rel.zero_at k.fields)) (aut_in a)) behind) a
+    stage_0 = stage false (ne_eqb h (Rel.zero_at k.fields) (λ e. ne (e ∙ z-is)))
 
-    module _ (i n : ℕ) (told : p ≡ put.At i n) where
-      abbrev d1 : Counts
-      d1 = record { sp = c.sp; spp = c.spp; states = n; members = c.members; transitions = c.transitions }
+    noted : {b : Lent} → StatesOnly a b → (r : Result ℕ Refusal) → mk_spp z (states_in a) ≡ outcome (λ i. i) r (states_in b) → Goes k 0 0 State (λ i. i) (on_states (mk_spp (Rel.zero_at k.fields))) a r b
+    noted U r e = on_states_goes (mk_spp (Rel.zero_at k.fields)) (λ i. i) r R.list.asked (zero_state_goes R.list.asked.ready.good) U (ap (λ (g : ℕ). mk_spp g (states_in a)) z-is ∙ e)
 
-      is_at : (b : Bool) → eqb x i ≡ b → (mem : List ℕ) → all (aut_of t st mem c) ≡ (if b then return list else place_in N (limits_of l) x h list) (aut_of t st1 mem d1)
-      is_at b q mem =
-          is_put mem ∙ ap (λ (p : Put). after (placed put_states (aut_of t st mem c) (seen_put p st1)) behind) told
-          ∙ ap (λ (b : Bool). (if b then return list else place_in N (limits_of l) x h list) (aut_of t st1 mem d1)) q
+    pub not_noted : {V : Type 0} {see : V → List Edge} {e : Refusal} {c : Lent} → mk_spp z (states_in a) ≡ refused (number_of e) → Goes k 576 128 (ListAt k.fields (limits_of k.limits)) see all a (Err e) c
+    not_noted {e = e} D = record { post = stuck (lent_laws k.fields k.limits) 576 128 (noted {b = a} (record { spp = refl; members = refl; scratch = refl }) (Err e) D).post behind stage_0 }
 
-      pub no_state : x ≡ i → MakesList N 576 128 all (listed.List d1 m) c t st s t st1 s
-      no_state q = record { is = is_at true (eq-eqb x i q); beside = (refl, refl); left = left_refl 576 128 (table t c.spp) s }
+    module _ {b : Lent} (U : StatesOnly a b) {i : ℕ} (D : mk_spp z (states_in a) ≡ given (states_in b) i) where
+      same_b : list_in b m ≡ list_in a m
+      same_b = list_same R.list (noted U (Ok i) D) (omega arith)
 
-      gone : Gone N (limits_of l) State (aut_of t st R.members c) (aut_of t st1 R.members d1) i
-      gone = came (subst (StepSpec N (limits_of l) State (aut_of t st R.members c))
-          (ap (placed put_states (aut_of t st R.members c)) (ap (λ (g : ℕ). mk_spp g (table st c.states)) z-is ∙ D ∙ ap (λ (p : Put). seen_put p st1) told))
-          (zero_state_goes R.ready.ready.good))
+      stage_1 : (t : Bool) → eqb x i ≡ t → Run k 576 128 all a ((if t then return (list_in b m) else place_in k.fields (limits_of k.limits) x h (list_in b m)) (aut_in b)) b
+      stage_1 t q = instead (lent_laws k.fields k.limits) 576 128 (next (lent_laws k.fields k.limits) 576 128 (anywhere 576 128 (omega arith) (noted U (Ok i) D)).post (all_of 576 128) behind stage_0)
+          (ap₂ (λ (t : Bool) (fs : List Edge). (if t then return fs else place_in k.fields (limits_of k.limits) x h fs) (aut_in b)) q (sym same_b))
 
-      pub in_ready : PlaceInReady N l t s d1 m (edge x h)
-      in_ready = record {
-        states = st1;
-        place = record {
-          members = R.members;
-          ready = record {
-            ready = ready_after R.ready.ready gone.grown gone.good (left_refl 0 0 (table t c.spp) s) refl;
-            list = list_grown gone.grown R.ready.list;
-            limit = R.ready.limit;
-          };
-          edge = edge_grown gone.grown R.edge;
-        };
-      }
+      pub in_asked : PlaceAsked k b m (edge x h)
+      in_asked = record { list = list_after R.list (noted U (Ok i) D) (omega arith) (rw U.spp (same_refl a.spp)); edge = edge_grown (noted U (Ok i) D).post.then.ext.grown R.edge }
 
-      pub placed_in : (x ≡ i → ⊥) → (r : Listed) (t2 s2 : List ℕ) → ((st : List ℕ) → MakesList N 576 128 (place_in N (limits_of l) x h list) r d1 t st s t2 st s2) → MakesList N 576 128 all r c t st s t2 st1 s2
-      placed_in q r t2 s2 M = record { is = λ mem. is_at false (ne_eqb x i q) mem ∙ (M st1).is mem; beside = beside_list r c d1 (M st1).beside refl refl; left = (M st1).left }
+      pub no_state : x ≡ i → Goes k 576 128 (ListAt k.fields (limits_of k.limits)) (list_in b) all a (Ok m) b
+      no_state q = record { post = done (lent_laws k.fields k.limits) 576 128 (stage_1 true (eq-eqb x i q)) in_asked.list.list }
+
+      pub placed_in : (x ≡ i → ⊥) → {r : Result ℕ Refusal} {c : Lent} → Goes k 576 128 (ListAt k.fields (limits_of k.limits)) (list_in c) (place_in k.fields (limits_of k.limits) x h (list_in b m)) b r c
+          → Goes k 576 128 (ListAt k.fields (limits_of k.limits)) (list_in c) all a r c
+      placed_in q {r} g = record { post = finish (lent_laws k.fields k.limits) 576 128 (stage_1 false (ne_eqb x i q)) r g.post (all_of 576 128) }

@@ -6,22 +6,28 @@
 //     FIRST, SECOND   lists that an insertion leaves
 #![tactic(auto)]
 
-ghost use Rattle.std.specs.Prelude.{List, [], ℕ};
+ghost use Rattle.std.specs.Prelude.{◌≡◌, [], ◌+◌, ◌*◌, ◌≤◌, length};
 ghost use Rattle.netkat_steps.specs.ListSteps as St;
 ghost use Rattle.netkat_steps.specs.ListSteps.{edge};
 ghost use Rattle.aut_steps.specs.Relations.{zero_at};
 ghost use Rattle.aut_st_steps.specs.Operations.{ops};
 ghost use Rattle.aut_st_steps.specs.Edges.{edges, EdgeAt};
-ghost use Rattle.aut_st_steps.specs.ListSpec.{Label};
+ghost use Rattle.aut_st_steps.specs.ListSpec.{ListAt, Label};
 ghost use Rattle.aut_st_steps.specs.InsertSteps as M;
-ghost use Rattle.aut_st_steps.specs.InsertSteps.{part};
+ghost use Rattle.aut_st_steps.specs.InsertSteps.{part, PartAt};
+ghost use Rattle.aut_st_steps.specs.Places.{seek_target};
 ghost use Rattle.aut_states.specs.Clauses.{limits_of};
-ghost use Rattle.aut_relations.specs.Clauses.{aut_of};
+ghost use Rattle.aut_relations.specs.Lent.{aut_in, Keeps, KeepsExprs};
+ghost use Rattle.aut_stage.specs.OnLent.{Goes};
+ghost use Rattle.aut_st_edges.specs.Clauses.{Seeks};
 ghost use Rattle.aut_st_insert.specs.Clauses as Seen;
-ghost use Rattle.aut_st_insert.specs.Clauses.{ListReady, PlaceReady, PlaceInReady, RestReady, MeetReady, WalkReady, DoesList, MakesList, DoesPart, MakesPart};
+ghost use Rattle.aut_st_insert.specs.Clauses.{list_in, part_in};
+ghost use Rattle.aut_st_insert.specs.Asked.{ListAsked, PlaceAsked, RestAsked, MeetAsked, WalkAsked};
 
-use aut_states::{Config, Counts, Put, State};
-use spp::{Made, Op, SPP};
+use aut_relations::Aut;
+use aut_states::Config;
+use refusal::Refusal;
+use spp::{Op, SPP};
 
 pub const RESULT: usize = 288;
 
@@ -31,201 +37,115 @@ pub const FIRST: usize = 416;
 
 pub const SECOND: usize = 480;
 
-// the number of transitions at RESULT, or 01's number
-#[derive(Clone, Copy)]
-pub enum Listed {
-    List(Counts, usize),
-    Refused(u32),
-}
-
-// a label beside it
-#[derive(Clone, Copy)]
-enum Met {
-    Next(Counts, SPP, usize),
-    Refused(u32),
+// the first of the m at RESULT whose target is s, or m
+fn place_of(aut: &Aut, s: u32, m: usize) -> usize
+    requires { 2 * (Seen.RESULT + m) ≤ length aut.now.scratch.now }
+    ensures { Seeks (seek_target s (list_in aut.now m)) m result }
+{
+    aut_st_edges::seek_target(aut.scratch, s, RESULT, m)
 }
 
 // l is united with the label of the transition to s, or goes in as a new one
-fn place_in(
-    nodes: &mut [u32],
-    scratch: &mut [u32],
-    c: Counts,
-    config: Config,
-    s: u32,
-    l: SPP,
-    m: usize,
-) -> Listed
-    requires { PlaceInReady config.fields config.limits nodes.old scratch.old c m (edge s l.0) }
-    ensures { (st : List ℕ) → MakesList config.fields 576 128
-        (M.place_in config.fields (limits_of config.limits) s l.0
-        (edges scratch.old Seen.RESULT m)) result c nodes.old st scratch.old
-        nodes.new st scratch.new }
+fn place_in(aut: &mut Aut, config: Config, s: u32, l: SPP, m: usize) -> Result<usize, Refusal>
+    requires { PlaceAsked config aut.old m (edge s l.0) }
+    ensures keeps { KeepsExprs aut.old aut.new }
+    ensures gives { Goes config 576 128 (ListAt config.fields (limits_of config.limits))
+        (list_in aut.new)
+        (M.place_in config.fields (limits_of config.limits) s l.0 (list_in aut.old m)) aut.old result
+        aut.new }
 {
-    let i = aut_st_edges::seek_target(scratch, s, RESULT, m);
+    let i = place_of(aut, s, m);
     if i < m {
         let j = 2 * (RESULT + i) + 1;
-        let g = SPP(scratch[j]);
-        let Made::Node(u, n) = aut_relations::apply(
-            nodes,
-            scratch,
-            c.spp,
-            config.fields,
-            Op::Union,
-            g,
-            l,
-        ) else {
-            return Listed::Refused(21);
-        };
-        scratch[j] = u.0;
-        let d = Counts { spp: n, ..c };
-        return Listed::List(d, m);
+        let g = SPP(aut.scratch[j]);
+        let u = aut.apply(config, Op::Union, g, l)?;
+        aut.scratch[j] = u.0;
+        return Ok(m);
     }
-    if m < config.limits.transitions {
-        aut_st_edges::enter(scratch, RESULT, m, s, l.0);
-        return Listed::List(c, m + 1);
+    if m >= config.limits.transitions {
+        return Err(Refusal::TransitionList);
     }
-    Listed::Refused(9)
+    aut_st_edges::enter(aut.scratch, RESULT, m, s, l.0);
+    Ok(m + 1)
 }
 
 // st_insert_helper
 fn st_insert_helper(
-    nodes: &mut [u32],
-    states: &mut [u32],
-    scratch: &mut [u32],
-    c: Counts,
+    aut: &mut Aut,
     config: Config,
     s: u32,
     l: SPP,
     m: usize,
-) -> Listed
-    requires { PlaceReady config.fields config.limits nodes.old states.old scratch.old c m
-        (edge s l.0) }
-    ensures { MakesList config.fields 576 128
-        (St.place (ops config.fields (limits_of config.limits)) s l.0
-        (edges scratch.old Seen.RESULT m)) result c nodes.old states.old
-        scratch.old nodes.new states.new scratch.new }
+) -> Result<usize, Refusal>
+    requires { PlaceAsked config aut.old m (edge s l.0) }
+    ensures keeps { Keeps aut.old aut.new }
+    ensures members { aut.new.members ≡ aut.old.members }
+    ensures gives { Goes config 576 128 (ListAt config.fields (limits_of config.limits))
+        (list_in aut.new)
+        (St.place (ops config.fields (limits_of config.limits)) s l.0 (list_in aut.old m)) aut.old
+        result aut.new }
 {
     let zero = spp::zero_at_depth(config.fields);
     if l.0 == zero.0 {
-        return Listed::List(c, m);
+        return Ok(m);
     }
-    let put = aut_states::mk_spp(states, c.states, zero);
-    match put {
-        Put::Refused(e) => Listed::Refused(e),
-        Put::At(z, n) => {
-            let d = Counts { states: n, ..c };
-            if s == z {
-                return Listed::List(d, m);
-            }
-            place_in(nodes, scratch, d, config, s, l, m)
-        }
+    let z = aut.states.mk_spp(zero)?;
+    if s == z {
+        return Ok(m);
     }
+    place_in(aut, config, s, l, m)
 }
 
 // what the transition to target2 meets l in goes to the union of the targets
 fn meet_in(
-    nodes: &mut [u32],
-    states: &mut [u32],
-    members: &mut [u32],
-    scratch: &mut [u32],
-    c: Counts,
+    aut: &mut Aut,
     config: Config,
     s: u32,
     l: SPP,
     target2: u32,
     label2: SPP,
     m: usize,
-) -> Met
-    requires { MeetReady config.fields config.limits (aut_of nodes.old states.old members.old c)
-        scratch.old m (edge s l.0) (edge target2 label2.0) }
-    ensures { DoesPart config.fields 192 512
+) -> Result<(SPP, usize), Refusal>
+    requires { MeetAsked config aut.old m (edge s l.0) (edge target2 label2.0) }
+    ensures keeps { Keeps aut.old aut.new }
+    ensures gives { Goes config 192 512 (PartAt config.fields (limits_of config.limits))
+        (part_in aut.new)
         (M.meet_in config.fields (limits_of config.limits) s l.0 (edge target2 label2.0)
-        (edges scratch.old Seen.RESULT m))
-        (aut_of nodes.old states.old members.old c) result c nodes.new
-        states.new members.new scratch.old scratch.new }
+        (list_in aut.old m)) aut.old result aut.new }
 {
-    let Made::Node(meet, n) = aut_relations::apply(
-        nodes,
-        scratch,
-        c.spp,
-        config.fields,
-        Op::Intersect,
-        l,
-        label2,
-    ) else {
-        return Met::Refused(21);
-    };
-    let c1 = Counts { spp: n, ..c };
-    let both = aut_union::mk_union(nodes, states, members, scratch, c1, config, s, target2);
-    match both {
-        State::Refused(e) => Met::Refused(e),
-        State::Is(x, c2) => {
-            let listed = st_insert_helper(nodes, states, scratch, c2, config, x, meet, m);
-            match listed {
-                Listed::Refused(e) => Met::Refused(e),
-                Listed::List(c3, m3) => Met::Next(c3, meet, m3),
-            }
-        }
-    }
+    let meet = aut.apply(config, Op::Intersect, l, label2)?;
+    let both = aut_union::mk_union(aut, config, s, target2)?;
+    let n = st_insert_helper(aut, config, both, meet, m)?;
+    Ok((meet, n))
 }
 
 // its rest stays with target2
 fn rest_in(
-    nodes: &mut [u32],
-    states: &mut [u32],
-    scratch: &mut [u32],
-    c: Counts,
+    aut: &mut Aut,
     config: Config,
     total: SPP,
     meet: SPP,
     target2: u32,
     label2: SPP,
     m: usize,
-) -> Met
-    requires { RestReady config.fields config.limits nodes.old states.old scratch.old c m total.0
-        meet.0 (edge target2 label2.0) }
-    ensures { MakesPart config.fields 576 128
+) -> Result<(SPP, usize), Refusal>
+    requires { RestAsked config aut.old m total.0 meet.0 (edge target2 label2.0) }
+    ensures keeps { Keeps aut.old aut.new }
+    ensures members { aut.new.members ≡ aut.old.members }
+    ensures gives { Goes config 576 128 (PartAt config.fields (limits_of config.limits))
+        (part_in aut.new)
         (M.rest_in config.fields (limits_of config.limits) total.0 meet.0 (edge target2 label2.0)
-        (edges scratch.old Seen.RESULT m)) result c nodes.old states.old
-        scratch.old nodes.new states.new scratch.new }
+        (list_in aut.old m)) aut.old result aut.new }
 {
-    let Made::Node(sum, n1) = aut_relations::apply(
-        nodes,
-        scratch,
-        c.spp,
-        config.fields,
-        Op::Union,
-        total,
-        meet,
-    ) else {
-        return Met::Refused(21);
-    };
-    let Made::Node(others, n2) = aut_relations::apply(
-        nodes,
-        scratch,
-        n1,
-        config.fields,
-        Op::Difference,
-        label2,
-        meet,
-    ) else {
-        return Met::Refused(21);
-    };
-    let c2 = Counts { spp: n2, ..c };
-    let listed = st_insert_helper(nodes, states, scratch, c2, config, target2, others, m);
-    match listed {
-        Listed::Refused(e) => Met::Refused(e),
-        Listed::List(c3, m3) => Met::Next(c3, sum, m3),
-    }
+    let sum = aut.apply(config, Op::Union, total, meet)?;
+    let others = aut.apply(config, Op::Difference, label2, meet)?;
+    let n = st_insert_helper(aut, config, target2, others, m)?;
+    Ok((sum, n))
 }
 
 // one transition of the list
 fn split_one(
-    nodes: &mut [u32],
-    states: &mut [u32],
-    members: &mut [u32],
-    scratch: &mut [u32],
-    c: Counts,
+    aut: &mut Aut,
     config: Config,
     s: u32,
     l: SPP,
@@ -233,109 +153,52 @@ fn split_one(
     target2: u32,
     label2: SPP,
     m: usize,
-) -> Met
-    requires { MeetReady config.fields config.limits (aut_of nodes.old states.old members.old c)
-        scratch.old m (edge s l.0) (edge target2 label2.0) × Label config.fields
-        (aut_of nodes.old states.old members.old c) total.0 }
-    ensures { DoesPart config.fields 192 512
+) -> Result<(SPP, usize), Refusal>
+    requires { MeetAsked config aut.old m (edge s l.0) (edge target2 label2.0) ×
+        Label config.fields (aut_in aut.old) total.0 }
+    ensures keeps { Keeps aut.old aut.new }
+    ensures gives { Goes config 192 512 (PartAt config.fields (limits_of config.limits))
+        (part_in aut.new)
         (M.split_one config.fields (limits_of config.limits) s l.0 (edge target2 label2.0)
-        (part total.0 (edges scratch.old Seen.RESULT m)))
-        (aut_of nodes.old states.old members.old c) result c nodes.new
-        states.new members.new scratch.old scratch.new }
+        (part total.0 (list_in aut.old m))) aut.old result aut.new }
 {
-    let met = meet_in(
-        nodes, states, members, scratch, c, config, s, l, target2, label2, m,
-    );
-    match met {
-        Met::Refused(e) => Met::Refused(e),
-        Met::Next(c1, meet, m1) => rest_in(
-            nodes, states, scratch, c1, config, total, meet, target2, label2, m1,
-        ),
-    }
+    let (meet, n) = meet_in(aut, config, s, l, target2, label2, m)?;
+    rest_in(aut, config, total, meet, target2, label2, n)
 }
 
 // the m transitions at TAKEN, one after the other; the new list begins empty
-fn walk(
-    nodes: &mut [u32],
-    states: &mut [u32],
-    members: &mut [u32],
-    scratch: &mut [u32],
-    c: Counts,
-    config: Config,
-    s: u32,
-    l: SPP,
-    m: usize,
-) -> Met
-    requires { WalkReady config.fields config.limits (aut_of nodes.old states.old members.old c)
-        scratch.old m (edge s l.0) }
-    ensures { DoesPart config.fields 192 512
-        (M.walk config.fields (limits_of config.limits) s l.0 (edges scratch.old Seen.TAKEN m)
-        (part (zero_at config.fields) []))
-        (aut_of nodes.old states.old members.old c) result c nodes.new
-        states.new members.new scratch.old scratch.new }
+fn walk(aut: &mut Aut, config: Config, s: u32, l: SPP, m: usize) -> Result<(SPP, usize), Refusal>
+    requires { WalkAsked config aut.old m (edge s l.0) }
+    ensures keeps { Keeps aut.old aut.new }
+    ensures gives { Goes config 192 512 (PartAt config.fields (limits_of config.limits))
+        (part_in aut.new)
+        (M.walk config.fields (limits_of config.limits) s l.0 (edges aut.old.scratch.now Seen.TAKEN m)
+        (part (zero_at config.fields) [])) aut.old result aut.new }
 {
     let mut total = spp::zero_at_depth(config.fields);
-    let mut d = c;
     let mut k = 0;
     for i in 0..m {
         let j = 2 * (TAKEN + i);
-        let target2 = scratch[j];
-        let label2 = SPP(scratch[j + 1]);
-        let met = split_one(
-            nodes, states, members, scratch, d, config, s, l, total, target2, label2, k,
-        );
-        match met {
-            Met::Refused(e) => {
-                return Met::Refused(e);
-            }
-            Met::Next(c1, h, k1) => {
-                total = h;
-                d = c1;
-                k = k1;
-            }
-        }
+        let target2 = aut.scratch[j];
+        let label2 = SPP(aut.scratch[j + 1]);
+        let (sum, n) = split_one(aut, config, s, l, total, target2, label2, k)?;
+        total = sum;
+        k = n;
     }
-    Met::Next(d, total, k)
+    Ok((total, k))
 }
 
 // st_insert: a transition to s with the label l goes into the m at RESULT
-pub fn st_insert(
-    nodes: &mut [u32],
-    states: &mut [u32],
-    members: &mut [u32],
-    scratch: &mut [u32],
-    c: Counts,
-    config: Config,
-    s: u32,
-    l: SPP,
-    m: usize,
-) -> Listed
-    requires { ListReady config.fields config.limits (aut_of nodes.old states.old members.old c)
-        scratch.old m × EdgeAt config.fields (aut_of nodes.old states.old members.old c) (edge s l.0) }
-    ensures { DoesList config.fields config.limits 0 832
-        (St.insert (ops config.fields (limits_of config.limits)) s l.0
-        (edges scratch.old Seen.RESULT m))
-        (aut_of nodes.old states.old members.old c) result c nodes.new
-        states.new members.new scratch.old scratch.new }
+pub fn st_insert(aut: &mut Aut, config: Config, s: u32, l: SPP, m: usize) -> Result<usize, Refusal>
+    requires { ListAsked config aut.old m × EdgeAt config.fields (aut_in aut.old) (edge s l.0) }
+    ensures keeps { Keeps aut.old aut.new }
+    ensures gives { Goes config 0 832 (ListAt config.fields (limits_of config.limits))
+        (list_in aut.new)
+        (St.insert (ops config.fields (limits_of config.limits)) s l.0 (list_in aut.old m)) aut.old
+        result aut.new }
 {
-    aut_st_edges::copy(scratch, RESULT, m, TAKEN);
-    let met = walk(nodes, states, members, scratch, c, config, s, l, m);
-    match met {
-        Met::Refused(e) => Listed::Refused(e),
-        Met::Next(c1, total, k) => {
-            let Made::Node(rest, n) = aut_relations::apply(
-                nodes,
-                scratch,
-                c1.spp,
-                config.fields,
-                Op::Difference,
-                l,
-                total,
-            ) else {
-                return Listed::Refused(21);
-            };
-            let c2 = Counts { spp: n, ..c1 };
-            st_insert_helper(nodes, states, scratch, c2, config, s, rest, k)
-        }
-    }
+    aut_st_edges::copy(aut.scratch, RESULT, m, TAKEN);
+    let (total, k) = walk(aut, config, s, l, m)?;
+    let rest = aut.apply(config, Op::Difference, l, total)?;
+    st_insert_helper(aut, config, s, rest, k)
 }

@@ -1,16 +1,15 @@
--- One transition of each list: the chain of calls, by the rule for a run of calls (aut_stage).
-use mathlib.Core.Path.{◌≡◌, refl, ◌∙◌, ap}
+-- One transition of each list: a run of calls (aut_st_stage).
+use mathlib.Core.Path.{◌≡◌, refl, sym, ◌∙◌, ap}
 use mathlib.Core.List.{List}
 use Prim.Native.Nat.{ℕ}
 use native.Mathlib.Omega.{arith}
-use lib.ListN.{length}
-use Rattle.common.specs.Outcome.{Outcome, Step, return, after, ◌>>=◌}
-use Rattle.common.specs.Runs.{table}
+use Rattle.std.specs.Prelude.{Result, Ok, Err}
+use Rattle.std.specs.Result.{IsErr, IsErrAnd}
+use Rattle.common.specs.Outcome.{Step, return, after, ◌>>=◌}
+use Rattle.refusal.specs.declared.Refusal.{Refusal}
 use Rattle.netkat_steps.specs.ListSteps as St
-use Rattle.netkat_steps.specs.ListSteps.{Edge, edge, Summed as Sum}
+use Rattle.netkat_steps.specs.ListSteps.{Edge, edge, Summed}
 use Rattle.spp.specs.declared.SPP.{SPP}
-use Rattle.spp.specs.declared.Made.{Made}
-use Rattle.spp.specs.declared.Made.TheVariants.{Node, Full}
 use Rattle.aut_steps.specs.Tables as T
 use Rattle.aut_steps.specs.Tables.{Aut, on_nodes}
 use Rattle.aut_steps.specs.Relations as Rel
@@ -19,144 +18,143 @@ use Rattle.aut_steps.proofs.StepSpec.{goes_map}
 use Rattle.aut_steps.specs.Constructors.{mk_difference}
 use Rattle.aut_steps.proofs.StateLaws.{mk_difference_goes}
 use Rattle.aut_st_steps.specs.Operations.{ops}
-use Rattle.aut_st_steps.specs.Edges.{edges, EdgeAt}
+use Rattle.aut_st_steps.specs.Edges.{EdgeAt}
 use Rattle.aut_st_steps.proofs.Edges.{edge_grown}
-use Rattle.aut_st_steps.specs.ListSpec.{Label, State}
-use Rattle.aut_st_steps.proofs.ListSpec.{label_grown, relation_of, union_goes, intersect_goes}
+use Rattle.aut_st_steps.specs.ListSpec.{Label, State, ListAt, SumAt}
+use Rattle.aut_st_steps.proofs.ListSpec.{label_grown, relation_of}
 use Rattle.aut_st_steps.specs.EachSteps.{subtract_one}
 use Rattle.aut_st_steps.proofs.MinusSteps.{summed}
 use Rattle.aut_states.specs.Clauses.{limits_of}
-use Rattle.aut_states.specs.declared.Counts.{Counts}
-use Rattle.aut_states.specs.declared.Limits.{Limits}
-use Rattle.aut_states.specs.declared.State as S
-use Rattle.aut_states.specs.declared.State.TheVariants as state
-use Rattle.aut_relations.specs.Clauses.{aut_of, RelateReady, Relates}
-use Rattle.aut_relations.proofs.Order.{backed_of}
-use Rattle.aut_sequence.specs.Clauses.{Makes}
-use Rattle.aut_stage.specs.Stage.{gave, Post, Stage}
-use Rattle.aut_stage.proofs.Stage.{begin, next as follow, done, all_of}
-use Rattle.aut_stage.proofs.OnAut.{aut_layer}
-use Rattle.aut_stage.specs.OnNodes.{with_nodes}
-use Rattle.aut_stage.proofs.OnNodes.{relation_given, relation_refused}
-use Rattle.aut_st_insert.specs.declared.Listed.{Listed}
-use Rattle.aut_st_insert.specs.declared.Listed.TheVariants as listed
-use Rattle.aut_st_insert.specs.Clauses.{RESULT, ListReady, DoesList}
-use Rattle.aut_st_insert.proofs.Readings.{list_ready, list_stage}
-use Rattle.aut_st_stage.proofs.Readings.{made_given, made_refused, list_given, list_refused}
-use Rattle.aut_st_minus.specs.declared.Summed.TheVariants as next
-use Rattle.aut_st_minus.specs.Clauses.{OneReady, sum_of, DoesSum}
-use Rattle.aut_st_minus.proofs.Readings.{to_sum, no_sum}
+use Rattle.aut_states.specs.declared.Config.{Config}
+use Rattle.aut_relations.specs.declared.Aut.{Aut as Lent}
+use Rattle.aut_relations.specs.Lent.{nodes_in, aut_in, Keeps, KeepsExprs, Does, Handles}
+use Rattle.aut_stage.specs.OnLent.{Goes}
+use Rattle.aut_stage.proofs.Rule.{Inside, all_of}
+use Rattle.aut_stage.proofs.OnLent.{made}
+use Rattle.aut_st_insert.specs.Clauses.{list_in}
+use Rattle.aut_st_insert.specs.Asked.{ListAsked}
+use Rattle.aut_st_insert.proofs.Join.{list_same, list_after}
+use Rattle.aut_st_insert.proofs.Calls.{handles, intersects, unites}
+use Rattle.aut_st_stage.proofs.Run.{Run, run_begin, run_next, run_stuck, run_as, run_done}
+use Rattle.aut_st_minus.specs.Clauses.{OneAsked, sum_in}
 
-module _ (c : Counts) {N : ℕ} {l : Limits} {t st mem s : List ℕ} {T₁ U : Edge} {h m : ℕ} (R : OneReady N l (aut_of t st mem c) s T₁ U h m) where
+exprs_kept : {x y : Lent} → KeepsExprs x y → Keeps x y
+exprs_kept K = record { sp = K.sp; spp = K.spp; states = ap (λ s. s.words.ghost_name) K.states; members = ap (λ s. s.words.ghost_name) K.members; transitions = K.transitions; pending = K.pending; scratch = K.scratch; length = K.length }
+
+-- a call that writes no list
+none_in : Inside 0 832 0 0
+none_in = record { from = omega arith; to = omega arith }
+
+module _ {k : Config} {x : Lent} {t u : Edge} {h m : ℕ} (R : OneAsked k x t u h m) where
+  abbrev N : ℕ
+  N = k.fields
+
   abbrev L : T.Limits
-  L = limits_of l
+  L = limits_of k.limits
 
-  abbrev σ : Aut
-  σ = aut_of t st mem c
+  abbrev whole : Step Aut Summed
+  whole = subtract_one N L t u (summed N L h (list_in x m))
 
-  abbrev es : List Edge
-  es = edges s RESULT m
+  abbrev fourth : ℕ → ℕ → ℕ → Step Aut Summed
+  fourth a meet g = St.insert (ops N L) a meet (list_in x m) >>= λ fs. return (summed N L g fs)
 
-  abbrev whole : Step Aut Sum
-  whole = subtract_one N L T₁ U (sum_of N l s h m)
+  abbrev third : ℕ → ℕ → Step Aut Summed
+  third a meet = on_nodes (Rel.union N h meet) >>= fourth a meet
 
-  abbrev fourth : ℕ → ℕ → ℕ → Step Aut Sum
-  fourth x meet g = St.insert (ops N L) x meet es >>= λ fs. return (summed N L g fs)
+  abbrev second : ℕ → Step Aut Summed
+  second a = on_nodes (Rel.intersect N t.label u.label) >>= third a
 
-  abbrev third : ℕ → ℕ → Step Aut Sum
-  third x meet = on_nodes (Rel.union N h meet) >>= fourth x meet
+  abbrev Done : Result (SPP × ℕ) Refusal → Lent → Type 0
+  Done r y = Goes k 0 832 (SumAt N L) (sum_in y) whole x r y
 
-  abbrev second : ℕ → Step Aut Sum
-  second x = on_nodes (Rel.intersect N T₁.label U.label) >>= third x
-
-  stage_0 : Stage (aut_layer N l) 0 0 (whole σ) (after (mk_difference N L T₁.target U.target σ) second) σ σ c c s s
+  run_0 : Run k 0 832 whole (λ σ. after (mk_difference N L t.target u.target σ) second) x x
   unfolding subtract_one
-  stage_0 = begin (aut_layer N l) 0 0 R.list.ready refl
+  run_0 = run_begin R.list.asked refl
 
-  module _ {r1 : S.State} {t1 st1 s1 : List ℕ} (M : Makes N (mk_difference N L T₁.target U.target) r1 c t st s t1 st1 s1) where
-    pub not_1 : {e : ℕ} → r1 ≡ state.Refused e → DoesSum N l 0 832 whole σ (next.Refused e) c t1 st1 mem s s1
-    not_1 q = no_sum (stage_0.is ∙ ap (λ (o : Outcome Aut ℕ). after o second) (made_refused mem M q))
+  -- ---- the difference of the targets
 
-    module _ {x : ℕ} {c1 : Counts} (told1 : r1 ≡ state.Is x c1) (len1 : length s1 ≡ length s) where
-      abbrev σ1 : Aut
-      σ1 = aut_of t1 st1 mem c1
+  module _ {y1 : Lent} {r1 : Result ℕ Refusal} (K1 : Keeps x y1) (D1 : Does N 0 0 aut_in (λ i. i) (mk_difference N L t.target u.target) x r1 y1) where
+    differs : Goes k 0 0 State (λ i. i) (mk_difference N L t.target u.target) x r1 y1
+    differs = made R.list.asked K1 (goes_map (mk_difference_goes R.list.asked.ready.good R.first.state R.second.state) (λ τ z w v i. i.state)) D1
 
-      post_1 : Post (aut_layer N l) 0 0 State (mk_difference N L T₁.target U.target σ) σ c (gave c1 x) (aut_of t1 st1 mem) s s1
-      post_1 = made_given mem M told1 R.list.ready (goes_map (mk_difference_goes R.list.ready.good R.first.state R.second.state) (λ τ z w v i. i.state)) len1
+  pub stuck_1 : {y1 : Lent} {e : Refusal} {r : Result (SPP × ℕ) Refusal} → IsErr r × IsErrAnd r (λ z. z ≡ e) → Keeps x y1 → Does N 0 0 aut_in (λ i. i) (mk_difference N L t.target u.target) x (Err e) y1 → Done r y1
+  stuck_1 q K1 D1 = run_stuck second run_0 q (differs K1 D1)
 
-      stage_1 : Stage (aut_layer N l) 0 0 (whole σ) (after (on_nodes (Rel.intersect N T₁.label U.label) σ1) (third x)) σ σ1 c c1 s s1
-      stage_1 = follow (aut_layer N l) 0 0 post_1 (all_of 0 0) second stage_0
+  module _ {y1 : Lent} {a : ℕ} (K1 : Keeps x y1) (D1 : Does N 0 0 aut_in (λ i. i) (mk_difference N L t.target u.target) x (Ok a) y1) where
+    run_1 : Run k 0 832 whole (λ σ. after (on_nodes (Rel.intersect N t.label u.label) σ) (third a)) x y1
+    run_1 = run_next second run_0 none_in K1 (differs K1 D1)
 
-      first_1 : Label N σ1 T₁.label
-      first_1 = relation_of (edge_grown stage_1.ext.grown R.first)
+    list_1 : ListAsked k y1 m
+    list_1 = list_after R.list (differs K1 D1) (omega arith) K1.spp
 
-      second_1 : Label N σ1 U.label
-      second_1 = relation_of (edge_grown stage_1.ext.grown R.second)
+    first_1 : Label N (aut_in y1) t.label
+    first_1 = relation_of (edge_grown run_1.stage.ext.grown R.first)
 
-      pub intersect_ready : RelateReady N (table t1 c1.spp) s1 T₁.label U.label
-      intersect_ready = record { backed = backed_of stage_1.ready; at_a = first_1.at; at_b = second_1.at }
+    second_1 : Label N (aut_in y1) u.label
+    second_1 = relation_of (edge_grown run_1.stage.ext.grown R.second)
 
-      module _ {r2 : Made} {t2 s2 : List ℕ} (A : Relates N (Rel.intersect N T₁.label U.label) (table t1 c1.spp) r2 t2 s1 s2) where
-        pub full_2 : r2 ≡ Full → DoesSum N l 0 832 whole σ (next.Refused 21) c t2 st1 mem s s2
-        full_2 q = no_sum (stage_1.is ∙ ap (λ (o : Outcome Aut ℕ). after o (third x)) (relation_refused st1 mem c1 A q))
+    -- ---- where the labels meet
 
-        module _ {u : SPP} {n2 : ℕ} (told2 : r2 ≡ Node u n2) (len2 : length s2 ≡ length s1) where
-          abbrev c2 : Counts
-          c2 = with_nodes c1 n2
+    pub meet_asked : Handles N y1 t.label u.label
+    meet_asked = handles run_1.asked first_1 second_1
 
-          abbrev σ2 : Aut
-          σ2 = aut_of t2 st1 mem c2
+    module _ {y2 : Lent} {r2 : Result SPP Refusal} (K2 : KeepsExprs y1 y2) (D2 : Does N 0 0 nodes_in (λ (l : SPP). l.0) (Rel.intersect N t.label u.label) y1 r2 y2) where
+      meets : Goes k 0 0 (Label N) (λ (l : SPP). l.0) (on_nodes (Rel.intersect N t.label u.label)) y1 r2 y2
+      meets = intersects run_1.asked first_1 second_1 K2 D2
 
-          post_2 : Post (aut_layer N l) 0 0 (Label N) (on_nodes (Rel.intersect N T₁.label U.label) σ1) σ1 c1 (gave c2 u.0) (aut_of t2 st1 mem) s1 s2
-          post_2 = relation_given st1 mem c1 A told2 stage_1.ready (intersect_goes stage_1.ready.good first_1 second_1) len2
+    pub stuck_2 : {y2 : Lent} {e : Refusal} {r : Result (SPP × ℕ) Refusal} → IsErr r × IsErrAnd r (λ z. z ≡ e) → KeepsExprs y1 y2 → Does N 0 0 nodes_in (λ (l : SPP). l.0) (Rel.intersect N t.label u.label) y1 (Err e) y2 → Done r y2
+    stuck_2 q K2 D2 = run_stuck (third a) run_1 q (meets K2 D2)
 
-          stage_2 : Stage (aut_layer N l) 0 0 (whole σ) (after (on_nodes (Rel.union N h u.0) σ2) (fourth x u.0)) σ σ2 c c2 s s2
-          stage_2 = follow (aut_layer N l) 0 0 post_2 (all_of 0 0) (third x) stage_1
+    module _ {y2 : Lent} {v : SPP} (K2 : KeepsExprs y1 y2) (D2 : Does N 0 0 nodes_in (λ (l : SPP). l.0) (Rel.intersect N t.label u.label) y1 (Ok v) y2) where
+      run_2 : Run k 0 832 whole (λ σ. after (on_nodes (Rel.union N h v.0) σ) (fourth a v.0)) x y2
+      run_2 = run_next (third a) run_1 none_in (exprs_kept K2) (meets K2 D2)
 
-          sum_2 : Label N σ2 h
-          sum_2 = label_grown stage_2.ext.grown R.sum
+      list_2 : ListAsked k y2 m
+      list_2 = list_after list_1 (meets K2 D2) (omega arith) K2.spp
 
-          pub union_ready : RelateReady N (table t2 n2) s2 h u.0
-          union_ready = record { backed = backed_of stage_2.ready; at_a = sum_2.at; at_b = post_2.then.holds.at }
+      sum_2 : Label N (aut_in y2) h
+      sum_2 = label_grown run_2.stage.ext.grown R.sum
 
-          module _ {r3 : Made} {t3 s3 : List ℕ} (B : Relates N (Rel.union N h u.0) (table t2 n2) r3 t3 s2 s3) where
-            pub full_3 : r3 ≡ Full → DoesSum N l 0 832 whole σ (next.Refused 21) c t3 st1 mem s s3
-            full_3 q = no_sum (stage_2.is ∙ ap (λ (o : Outcome Aut ℕ). after o (fourth x u.0)) (relation_refused st1 mem c2 B q))
+      meet_2 : Label N (aut_in y2) v.0
+      meet_2 = (meets K2 D2).post.then.holds
 
-            module _ {v : SPP} {n3 : ℕ} (told3 : r3 ≡ Node v n3) (len3 : length s3 ≡ length s2) where
-              abbrev c3 : Counts
-              c3 = with_nodes c1 n3
+      -- ---- the labels met so far
 
-              abbrev σ3 : Aut
-              σ3 = aut_of t3 st1 mem c3
+      pub sum_asked : Handles N y2 h v.0
+      sum_asked = handles run_2.asked sum_2 meet_2
 
-              post_3 : Post (aut_layer N l) 0 0 (Label N) (on_nodes (Rel.union N h u.0) σ2) σ2 c2 (gave c3 v.0) (aut_of t3 st1 mem) s2 s3
-              post_3 = relation_given st1 mem c2 B told3 stage_2.ready (union_goes stage_2.ready.good sum_2 post_2.then.holds) len3
+      module _ {y3 : Lent} {r3 : Result SPP Refusal} (K3 : KeepsExprs y2 y3) (D3 : Does N 0 0 nodes_in (λ (l : SPP). l.0) (Rel.union N h v.0) y2 r3 y3) where
+        sums : Goes k 0 0 (Label N) (λ (l : SPP). l.0) (on_nodes (Rel.union N h v.0)) y2 r3 y3
+        sums = unites run_2.asked sum_2 meet_2 K3 D3
 
-              abbrev put : List Edge → Step Aut (List Edge)
-              put fs = St.insert (ops N L) x u.0 fs
+      pub stuck_3 : {y3 : Lent} {e : Refusal} {r : Result (SPP × ℕ) Refusal} → IsErr r × IsErrAnd r (λ z. z ≡ e) → KeepsExprs y2 y3 → Does N 0 0 nodes_in (λ (l : SPP). l.0) (Rel.union N h v.0) y2 (Err e) y3 → Done r y3
+      stuck_3 q K3 D3 = run_stuck (fourth a v.0) run_2 q (sums K3 D3)
 
-              abbrev last : List Edge → Step Aut Sum
-              last fs = return (summed N L v.0 fs)
+      module _ {y3 : Lent} {w : SPP} (K3 : KeepsExprs y2 y3) (D3 : Does N 0 0 nodes_in (λ (l : SPP). l.0) (Rel.union N h v.0) y2 (Ok w) y3) where
+        abbrev put : List Edge → Step Aut (List Edge)
+        put fs = St.insert (ops N L) a v.0 fs
 
-              stage_3 : Stage (aut_layer N l) 0 0 (whole σ) (after (put es σ3) last) σ σ3 c c3 s s3
-              stage_3 = follow (aut_layer N l) 0 0 post_3 (all_of 0 0) (fourth x u.0) stage_2
+        abbrev last : List Edge → Step Aut Summed
+        last fs = return (summed N L w.0 fs)
 
-              stage_4 : Stage (aut_layer N l) 0 832 (whole σ) (after (put (edges s3 RESULT m) σ3) last) σ σ3 c c3 s s3
-              stage_4 = list_stage R.list (omega arith) put last stage_3 (record { from = omega arith; to = omega arith })
+        same : list_in y3 m ≡ list_in x m
+        same = list_same list_2 (sums K3 D3) (omega arith) ∙ list_same list_1 (meets K2 D2) (omega arith) ∙ list_same R.list (differs K1 D1) (omega arith)
 
-              pub insert_ready : ListReady N l σ3 s3 m × EdgeAt N σ3 (edge x u.0)
-              insert_ready = (
-                list_ready R.list (omega arith) put last stage_3,
-                record { state = state_grown (grown_trans post_2.then.ext.grown post_3.then.ext.grown) post_1.then.holds; relation = (label_grown post_3.then.ext.grown post_2.then.holds).at },
-              )
+        run_3 : Run k 0 832 whole (λ σ. after (put (list_in y3 m) σ) last) x y3
+        run_3 = run_as (run_next (fourth a v.0) run_2 none_in (exprs_kept K3) (sums K3 D3)) (ap (λ (fs : List Edge). after (put fs (aut_in y3)) last) (sym same))
 
-              module _ {r4 : Listed} {t4 st4 mem4 s4 : List ℕ} (D : DoesList N l 0 832 (put (edges s3 RESULT m)) σ3 r4 c3 t4 st4 mem4 s3 s4) where
-                pub not_4 : {e : ℕ} → r4 ≡ listed.Refused e → DoesSum N l 0 832 whole σ (next.Refused e) c t4 st4 mem4 s s4
-                not_4 q = no_sum (stage_4.is ∙ ap (λ (o : Outcome Aut (List Edge)). after o last) (list_refused D q))
+        -- ---- the insertion
 
-                pub one_done : {d : Counts} {k : ℕ} → r4 ≡ listed.List d k → DoesSum N l 0 832 whole σ (next.Next d v k) c t4 st4 mem4 s s4
-                one_done {d} {k} q =
-                    let p = list_given D q in
-                    to_sum whole (next.Next d v k) R.list.limit
-                    (done (aut_layer N l) 0 832 (aut_of t4 st4 mem4) (follow (aut_layer N l) 0 832 p (all_of 0 832) last stage_4) (record { sum = label_grown p.then.ext.grown post_3.then.holds; result = p.then.holds }))
+        pub insert_asked : ListAsked k y3 m × EdgeAt N (aut_in y3) (edge a v.0)
+        insert_asked =
+            let met = (sums K3 D3).post.then.ext.grown in (
+              list_after list_2 (sums K3 D3) (omega arith) K3.spp,
+              record { state = state_grown (grown_trans (meets K2 D2).post.then.ext.grown met) (differs K1 D1).post.then.holds; relation = (label_grown met meet_2).at },
+            )
+
+        module _ {y4 : Lent} where
+          pub stuck_4 : {e : Refusal} {r : Result (SPP × ℕ) Refusal} → IsErr r × IsErrAnd r (λ z. z ≡ e) → Goes k 0 832 (ListAt N L) (list_in y4) (put (list_in y3 m)) y3 (Err e) y4 → Done r y4
+          stuck_4 q G = run_stuck last run_3 q G
+
+          pub met : {n : ℕ} → Keeps y3 y4 → Goes k 0 832 (ListAt N L) (list_in y4) (put (list_in y3 m)) y3 (Ok n) y4 → Done (Ok (w, n)) y4
+          met K4 G = run_done (run_next last run_3 (all_of 0 832) K4 G) (record { sum = label_grown G.post.then.ext.grown (sums K3 D3).post.then.holds; result = G.post.then.holds })

@@ -1,2 +1,2 @@
--- st_difference's loops: what the answers say in the words of the steps, what is asked and what is left.
+-- st_difference's loops: what is asked, and their answer in the words of the steps.
 pub mod Clauses

@@ -1,2 +1,2 @@
 -- st_union, st_intersect and st_difference: what is asked.
-pub mod Clauses
+pub mod Asked

@@ -3,148 +3,71 @@
 
 ghost use Rattle.netkat_steps.specs.ListSteps as St;
 ghost use Rattle.aut_st_steps.specs.Operations.{ops};
+ghost use Rattle.aut_st_steps.specs.ListSpec.{ListAt};
 ghost use Rattle.aut_states.specs.Clauses.{limits_of};
-ghost use Rattle.aut_relations.specs.Clauses.{aut_of};
-ghost use Rattle.aut_st_insert.specs.Clauses.{DoesList};
+ghost use Rattle.aut_relations.specs.Lent.{Keeps};
+ghost use Rattle.aut_stage.specs.OnLent.{Goes};
+ghost use Rattle.aut_st_insert.specs.Clauses.{list_in};
 ghost use Rattle.aut_st_source.specs.Clauses.{source_of};
-ghost use Rattle.aut_st_ops.specs.Clauses.{TwoReady};
+ghost use Rattle.aut_st_ops.specs.Asked.{TwoAsked};
 
+use aut_relations::Aut;
 use aut_st_each::Each;
-use aut_st_insert::Listed;
-use aut_st_minus::Summed;
 use aut_st_source::Source;
-use aut_states::{Config, Counts};
+use aut_states::Config;
+use refusal::Refusal;
 
 pub fn st_union(
-    nodes: &mut [u32],
-    states: &mut [u32],
-    members: &mut [u32],
-    transitions: &[u32],
-    scratch: &mut [u32],
-    c: Counts,
+    aut: &mut Aut,
     config: Config,
     first: Source,
     second: Source,
-) -> Listed
-    requires { TwoReady config.fields config.limits (aut_of nodes.old states.old members.old c)
-        transitions.now scratch.old first second }
-    ensures { DoesList config.fields config.limits 0 832
+) -> Result<usize, Refusal>
+    requires { TwoAsked config aut.old first second }
+    ensures keeps { Keeps aut.old aut.new }
+    ensures gives { Goes config 0 832 (ListAt config.fields (limits_of config.limits))
+        (list_in aut.new)
         (St.st_union (ops config.fields (limits_of config.limits))
-        (source_of first transitions.now scratch.old)
-        (source_of second transitions.now scratch.old))
-        (aut_of nodes.old states.old members.old c) result c nodes.new
-        states.new members.new scratch.old scratch.new }
+        (source_of first aut.old.transitions.words.now aut.old.scratch.now)
+        (source_of second aut.old.transitions.words.now aut.old.scratch.now)) aut.old result aut.new }
 {
-    let listed = aut_st_each::insert_each(
-        nodes,
-        states,
-        members,
-        transitions,
-        scratch,
-        c,
-        config,
-        Each::Same,
-        first,
-        0,
-    );
-    match listed {
-        Listed::Refused(e) => Listed::Refused(e),
-        Listed::List(d, n) => aut_st_each::insert_each(
-            nodes,
-            states,
-            members,
-            transitions,
-            scratch,
-            d,
-            config,
-            Each::Same,
-            second,
-            n,
-        ),
-    }
+    let n = aut_st_each::insert_each(aut, config, Each::Same, first, 0)?;
+    aut_st_each::insert_each(aut, config, Each::Same, second, n)
 }
 
+#[tactic(auto, unfolding(netkat_steps::specs::ListSteps::st_intersect, aut_st_steps::specs::Edges::edges))]
 pub fn st_intersect(
-    nodes: &mut [u32],
-    states: &mut [u32],
-    members: &mut [u32],
-    transitions: &[u32],
-    scratch: &mut [u32],
-    c: Counts,
+    aut: &mut Aut,
     config: Config,
     first: Source,
     second: Source,
-) -> Listed
-    requires { TwoReady config.fields config.limits (aut_of nodes.old states.old members.old c)
-        transitions.now scratch.old first second }
-    ensures { DoesList config.fields config.limits 0 832
+) -> Result<usize, Refusal>
+    requires { TwoAsked config aut.old first second }
+    ensures keeps { Keeps aut.old aut.new }
+    ensures gives { Goes config 0 832 (ListAt config.fields (limits_of config.limits))
+        (list_in aut.new)
         (St.st_intersect (ops config.fields (limits_of config.limits))
-        (source_of first transitions.now scratch.old)
-        (source_of second transitions.now scratch.old))
-        (aut_of nodes.old states.old members.old c) result c nodes.new
-        states.new members.new scratch.old scratch.new }
+        (source_of first aut.old.transitions.words.now aut.old.scratch.now)
+        (source_of second aut.old.transitions.words.now aut.old.scratch.now)) aut.old result aut.new }
 {
-    aut_st_each::insert_pairs(
-        nodes,
-        states,
-        members,
-        transitions,
-        scratch,
-        c,
-        config,
-        first,
-        second,
-        0,
-    )
+    aut_st_each::insert_pairs(aut, config, first, second, 0)
 }
 
 pub fn st_difference(
-    nodes: &mut [u32],
-    states: &mut [u32],
-    members: &mut [u32],
-    transitions: &[u32],
-    scratch: &mut [u32],
-    c: Counts,
+    aut: &mut Aut,
     config: Config,
     first: Source,
     second: Source,
-) -> Listed
-    requires { TwoReady config.fields config.limits (aut_of nodes.old states.old members.old c)
-        transitions.now scratch.old first second }
-    ensures { DoesList config.fields config.limits 0 832
+) -> Result<usize, Refusal>
+    requires { TwoAsked config aut.old first second }
+    ensures keeps { Keeps aut.old aut.new }
+    ensures gives { Goes config 0 832 (ListAt config.fields (limits_of config.limits))
+        (list_in aut.new)
         (St.st_difference (ops config.fields (limits_of config.limits))
-        (source_of first transitions.now scratch.old)
-        (source_of second transitions.now scratch.old))
-        (aut_of nodes.old states.old members.old c) result c nodes.new
-        states.new members.new scratch.old scratch.new }
+        (source_of first aut.old.transitions.words.now aut.old.scratch.now)
+        (source_of second aut.old.transitions.words.now aut.old.scratch.now)) aut.old result aut.new }
 {
     let zero = spp::zero_at_depth(config.fields);
-    let summed = aut_st_minus::subtract_rows(
-        nodes,
-        states,
-        members,
-        transitions,
-        scratch,
-        c,
-        config,
-        first,
-        second,
-        zero,
-        0,
-    );
-    match summed {
-        Summed::Refused(e) => Listed::Refused(e),
-        Summed::Next(d, sum, n) => aut_st_each::insert_each(
-            nodes,
-            states,
-            members,
-            transitions,
-            scratch,
-            d,
-            config,
-            Each::Rest(sum),
-            first,
-            n,
-        ),
-    }
+    let (sum, n) = aut_st_minus::subtract_rows(aut, config, first, second, zero, 0)?;
+    aut_st_each::insert_each(aut, config, Each::Rest(sum), first, n)
 }

@@ -1,6 +1,5 @@
 -- What holds of the definitions of specs/Clauses.
 use Prim.Native.Nat.{ℕ}
-use lib.ListN.{length}
 use Rattle.aut_st_source.specs.declared.Place.TheVariants as place
 use Rattle.aut_st_source.specs.declared.Source.{Source}
 

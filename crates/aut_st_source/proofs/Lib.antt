@@ -1,4 +1,3 @@
 -- Lemmas for the proofs of this crate.
 pub mod Contracts
-pub mod Join
 pub mod Sources

@@ -5,6 +5,7 @@ ghost use Rattle.std.specs.Prelude.{◌≡◌, ◌+◌, ◌*◌, ◌<◌, length
 ghost use Rattle.netkat_steps.specs.ListSteps.{edge};
 ghost use Rattle.aut_st_source.specs.Clauses.{edge_of, entry_of, EntryIn};
 
+use aut_relations::Aut;
 use spp::SPP;
 
 // a list's first record: among the stored transitions, or in scratch, from record FIRST of st on
@@ -38,13 +39,12 @@ fn entry(words: &[u32], i: usize) -> Transition
 }
 
 // transition i of the list
-pub fn read(transitions: &[u32], scratch: &[u32], source: Source, i: usize) -> Transition
-    requires { EntryIn transitions.now scratch.now source i }
-    ensures { edge_of result ≡ entry_of source transitions.now scratch.now i }
+pub fn read(aut: &Aut, source: Source, i: usize) -> Transition
+    requires { EntryIn aut.now.transitions.words.now aut.now.scratch.now source i }
+    ensures { edge_of result ≡ entry_of source aut.now.transitions.words.now aut.now.scratch.now i }
 {
-    let place = source.place;
-    match place {
-        Place::Stored(a) => entry(transitions, a + i),
-        Place::Scratch(a) => entry(scratch, a + i),
+    match source.place {
+        Place::Stored(a) => entry(aut.transitions.words, a + i),
+        Place::Scratch(a) => entry(aut.scratch, a + i),
     }
 }

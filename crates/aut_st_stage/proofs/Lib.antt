@@ -1,3 +1,4 @@
--- The laws of the readings of specs/.
-pub mod Readings
-pub mod Loops
+-- The loops over a source, the runs of calls on lists, and the lists that wait in them.
+pub mod Turns
+pub mod Run
+pub mod Waits

@@ -1,2 +1,2 @@
-// The answers of the list operations as answers of the rule of aut_stage: no function of its own, only specs/.
+// How the functions on lists of transitions are proved: no function of its own, only laws in proofs/.
 #![tactic(auto)]

@@ -4,6 +4,7 @@ use mathlib.Core.Path.{◌≡◌, refl}
 use mathlib.Core.Bool.{Bool, true, false}
 use mathlib.Core.List.{List, [], ◌∷◌}
 use Prim.Native.Nat.{ℕ}
+use native.Mathlib.Omega.{arith}
 use lib.Dec.{eqb}
 use Rattle.common.specs.Outcome.{Outcome, refused, given, Step, return, after, ◌>>=◌}
 use Rattle.netkat_steps.specs.ListSteps.{Edge, leads_to, unite, enter_in, place, split, insert}
@@ -12,14 +13,14 @@ use Rattle.aut_steps.specs.Relations as Rel
 use Rattle.aut_steps.specs.Constructors.{mk_union, mk_spp}
 use Rattle.aut_steps.specs.Wf.{WfAut}
 use Rattle.aut_steps.proofs.Wf.{grown_trans, state_grown}
-use Rattle.aut_steps.proofs.StepSpec.{StepSpec, goes_return, goes_bind}
+use Rattle.aut_steps.proofs.StepSpec.{StepSpec, goes_return, goes_bind, goes_map, branch}
 use Rattle.aut_steps.proofs.UnionLaws.{mk_union_goes}
 use Rattle.aut_st_steps.specs.Operations.{ops}
 use Rattle.aut_st_steps.specs.Edges.{EdgeAt, EdgesAt}
 use Rattle.aut_st_steps.proofs.Edges.{first_at, rest_at, edge_grown, edges_grown}
 use Rattle.aut_st_steps.specs.ListSpec.{ListAt, Label, State}
-use Rattle.aut_st_steps.proofs.ListSpec.{list_grown, label_grown, relation_of, union_goes, intersect_goes, difference_goes, place_goes}
-use Rattle.aut_st_steps.specs.InsertSteps.{Part, part, place_in, meet_in, rest_in, split_one, walk}
+use Rattle.aut_st_steps.proofs.ListSpec.{list_grown, label_grown, relation_of, union_goes, intersect_goes, difference_goes, unite_goes, enter_in_goes, place_goes}
+use Rattle.aut_st_steps.specs.InsertSteps.{Part, part, PartAt, place_in, meet_in, rest_in, split_one, walk}
 
 module _ (N : ℕ) (L : Limits) where
   -- what is left of l
@@ -96,12 +97,12 @@ module _ (N : ℕ) (L : Limits) where
 
 -- ---- what they leave
 
--- the label is a relation, the list in order
-pub record PartAt (N : ℕ) (L : Limits) (σ : Aut) (p : Part) : Type 0 where
-  pub label : Label N σ p.label
-  pub list : ListAt N L σ p.list
-
 module _ {N : ℕ} {L : Limits} {σ : Aut} (g : WfAut N L σ) where
+  pub place_in_goes : {s l : ℕ} → State σ s → Label N σ l → {es : List Edge} → ListAt N L σ es → StepSpec N L (ListAt N L) σ (place_in N L s l es σ)
+  unfolding place_in
+  place_in_goes {s} {l} x a {es} p =
+      branch (leads_to (ops N L) s es) _ _ (λ _. goes_map (unite_goes g s l a p.edges) (λ τ fs w v b. record { edges = b.0; short = omega (arith, b.1, p.short) })) (λ _. enter_in_goes g x a p)
+
   pub meet_in_goes : {s l : ℕ} → State σ s → Label N σ l → {u : Edge} → EdgeAt N σ u → {es : List Edge} → ListAt N L σ es → StepSpec N L (PartAt N L) σ (meet_in N L s l u es σ)
   unfolding meet_in
   meet_in_goes x a u p =

@@ -9,7 +9,7 @@ use lib.Dec.{eqb, ltb}
 use lib.ListN.{length}
 use borrow.Author.Tests.{ltb-true, ltb-false}
 use Rattle.common.specs.Packets.{Relation}
-use Rattle.common.specs.Outcome.{Step, return, after}
+use Rattle.common.specs.Outcome.{Step, return}
 use Rattle.common.specs.Runs.{Table}
 use Rattle.netkat_steps.specs.ListSteps as St
 use Rattle.netkat_steps.specs.ListSteps.{Edge, edge, leads_to, unite, enter, enter_in, place, st_singleton, split, insert, insert_each, insert_pairs, st_union, meet_of, st_intersect, Summed, subtract_row, subtract_rows, rest_of, st_difference, st_xor, complement_of, cover_all, st_complement, followed_by, st_postcompose, st_precompose, met_with, st_intersect_expr}
@@ -98,7 +98,7 @@ module _ (N : ℕ) (L : Limits) where
   enter_length s l (u ∷ us) = enter_more s l u us (enter (ops N L) s l us) (enter_length s l us) (ltb s u.target)
 
 module _ {N : ℕ} {L : Limits} where
-  unite_goes : {σ : Aut} → WfAut N L σ → (s l : ℕ) → Label N σ l → {es : List Edge} → EdgesAt N σ es
+  pub unite_goes : {σ : Aut} → WfAut N L σ → (s l : ℕ) → Label N σ l → {es : List Edge} → EdgesAt N σ es
       → StepSpec N L (λ τ fs. EdgesAt N τ fs × (length fs ≡ length es)) σ (unite (ops N L) s l es σ)
   unfolding unite
   unite_goes g s l a none = goes_return [] g (none, refl)

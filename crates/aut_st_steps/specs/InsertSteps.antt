@@ -7,6 +7,7 @@ use Rattle.aut_steps.specs.Tables.{Limits, Aut, on_nodes}
 use Rattle.aut_steps.specs.Relations as Rel
 use Rattle.aut_steps.specs.Constructors.{mk_union}
 use Rattle.aut_st_steps.specs.Operations.{ops}
+use Rattle.aut_st_steps.specs.ListSpec.{ListAt, Label}
 
 -- a label, and the list so far
 pub record Part : Type 0 where
@@ -15,6 +16,11 @@ pub record Part : Type 0 where
 
 abbrev pub part : ℕ → List Edge → Part
 part l es = record { label = l; list = es }
+
+-- the label is a relation, the list in order
+pub record PartAt (N : ℕ) (L : Limits) (σ : Aut) (p : Part) : Type 0 where
+  pub label : Label N σ p.label
+  pub list : ListAt N L σ p.list
 
 module _ (N : ℕ) (L : Limits) where
   -- st_insert_helper behind its tests for zero

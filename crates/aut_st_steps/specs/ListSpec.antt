@@ -5,7 +5,6 @@ use Rattle.netkat_steps.specs.ListSteps.{Edge, Summed}
 use Rattle.spp_steps.specs.Wf.{ValidAt}
 use Rattle.aut_steps.specs.Tables.{Limits, Aut}
 use Rattle.aut_steps.specs.Wf.{states}
-use Rattle.aut_st_steps.specs.Operations.{ops}
 use Rattle.aut_st_steps.specs.Edges.{EdgesAt}
 
 -- a list in order, within the limit

@@ -1,2 +1,3 @@
 -- Lemmas for the proofs of this crate.
-pub mod Join
+pub mod Joins
+pub mod Xor

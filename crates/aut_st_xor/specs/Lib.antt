@@ -1,2 +1,2 @@
 -- st_xor: what is asked.
-pub mod Clauses
+pub mod Asked

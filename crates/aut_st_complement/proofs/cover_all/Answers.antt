@@ -1,26 +1,30 @@
-use Rattle.aut_st_complement.proofs.Turns as turns
+use Rattle.refusal.proofs.Passed.{passed}
+use Rattle.aut_st_stage.proofs.Turns.{turn_read, turn_edge, turn_stuck, turn_again, turn_end}
+use Rattle.aut_st_each.proofs.Join.{keeps_of}
+use Rattle.aut_st_complement.proofs.Cover.{exprs_refl, exprs_trans, cover_begin, both_labels, united}
 use Rattle.aut_st_complement.proofs.cover_all.Goals as goal
 
 pub loop-i-init : goal.loop-i-init
-loop-i-init c =
-    turns.cover_begin c.requires (c.zero_at_depth-sum.ensures c.args.fields) c.args.count
+loop-i-init c = (cover_begin c.requires (c.zero_at_depth-sum.ensures c.args.config.fields), exprs_refl c.args.aut.now)
 
 pub read-t-requires : goal.read-t-requires
-read-t-requires c =
-    turns.cover_read c.requires (c.zero_at_depth-sum.ensures c.args.fields) c.args.count c.loop-i.invariant c.loop-i-test.true
+read-t-requires c = turn_read c.loop-i.invariant.0 c.loop-i-test.true
 
 pub apply-requires : goal.apply-requires
 apply-requires c =
-    turns.cover_ready c.requires (c.zero_at_depth-sum.ensures c.args.fields) c.args.count c.loop-i.invariant c.loop-i-test.true c.read-t.ensures
+    let v = c.loop-i.invariant.0 in
+    both_labels v.asked v.turned.holds (turn_edge v c.loop-i-test.true c.read-t.ensures)
 
-pub returns-in_default : goal.returns-in_default
-returns-in_default c =
-    turns.cover_stuck c.requires (c.zero_at_depth-sum.ensures c.args.fields) c.args.count c.loop-i.invariant c.loop-i-test.true c.read-t.ensures c.apply.ensures c.in_default.is
+pub returns-in_err-sum-clause-gives : goal.returns-in_err-sum-clause-gives
+returns-in_err-sum-clause-gives c =
+    let v = c.loop-i.invariant.0 in
+    rw (passed c.from_residual.ensures) (turn_stuck v c.loop-i-test.true c.read-t.ensures (united v.asked v.turned.holds (turn_edge v c.loop-i-test.true c.read-t.ensures) c.in_err-sum.ensures.keeps c.in_err-sum.ensures.gives))
 
 pub loop-i-preserved : goal.loop-i-preserved
 loop-i-preserved c =
-    turns.cover_again c.requires (c.zero_at_depth-sum.ensures c.args.fields) c.args.count c.loop-i.invariant c.loop-i-test.true c.read-t.ensures c.apply.ensures c.in-Node.is c.apply.auto.scratch
+    let v = c.loop-i.invariant.0 in
+    let K = c.in_ok-sum.ensures.keeps in
+    (turn_again v c.loop-i-test.true c.read-t.ensures (keeps_of K) (united v.asked v.turned.holds (turn_edge v c.loop-i-test.true c.read-t.ensures) K c.in_ok-sum.ensures.gives), exprs_trans c.loop-i.invariant.1 K)
 
-pub returns : goal.returns
-returns c =
-    turns.cover_end c.requires (c.zero_at_depth-sum.ensures c.args.fields) c.args.count c.loop-i.invariant c.loop-i-test.false
+pub returns-clause-gives : goal.returns-clause-gives
+returns-clause-gives c = turn_end c.loop-i.invariant.0 c.loop-i-test.false

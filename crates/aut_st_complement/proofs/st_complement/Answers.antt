@@ -1,31 +1,43 @@
+use Rattle.std.specs.Prelude.{Err}
+use Rattle.aut_st_stage.proofs.Run.{run_stuck}
 use Rattle.aut_st_complement.proofs.Join as join
 use Rattle.aut_st_complement.proofs.st_complement.Goals as goal
 
-pub insert_each-listed-requires : goal.insert_each-listed-requires
-insert_each-listed-requires c = join.targets_ready c.requires
+pub insert_each-requires : goal.insert_each-requires
+insert_each-requires c = join.targets_asked c.requires
 
-pub rest_of-requires : goal.rest_of-requires
-rest_of-requires c = join.cover_ready c.requires c.insert_each-listed.ensures c.in-List.is
+pub returns-in_err-n-clause-gives : goal.returns-in_err-n-clause-gives
+returns-in_err-n-clause-gives c = run_stuck _ (join.run_0 c.requires) c.from_residual.ensures c.in_err-n.ensures.gives
 
-pub returns-in_default : goal.returns-in_default
-returns-in_default c =
-    join.stuck_2 c.requires c.insert_each-listed.ensures c.in-List.is c.rest_of.result c.rest_of.ensures c.in_default.is
+pub cover_all-requires : goal.cover_all-requires
+cover_all-requires c = join.cover_asked c.requires c.in_ok-n.ensures.keeps c.in_ok-n.ensures.gives
 
-pub mk_top-put-requires : goal.mk_top-put-requires
-mk_top-put-requires c =
-    join.top_ready c.requires c.insert_each-listed.ensures c.in-List.is c.rest_of.result c.rest_of.ensures c.in-Node.is
+pub returns-in_err-sum-clause-gives : goal.returns-in_err-sum-clause-gives
+returns-in_err-sum-clause-gives c =
+    run_stuck _ (join.run_1 c.requires c.in_ok-n.ensures.keeps c.in_ok-n.ensures.gives) c.from_residual-in_err-sum.ensures (join.covered c.requires c.in_ok-n.ensures.keeps c.in_ok-n.ensures.gives c.in_err-sum.ensures.gives)
+
+pub apply-requires : goal.apply-requires
+apply-requires c =
+    join.rest_asked c.requires c.in_ok-n.ensures.keeps c.in_ok-n.ensures.gives c.in_ok-sum.ensures.keeps c.in_ok-sum.ensures.gives
+
+pub returns-in_err-rest-clause-gives : goal.returns-in_err-rest-clause-gives
+returns-in_err-rest-clause-gives c =
+    run_stuck _ (join.run_2 c.requires c.in_ok-n.ensures.keeps c.in_ok-n.ensures.gives c.in_ok-sum.ensures.keeps c.in_ok-sum.ensures.gives) c.from_residual-in_err-rest.ensures
+    (join.rested c.requires c.in_ok-n.ensures.keeps c.in_ok-n.ensures.gives c.in_ok-sum.ensures.keeps c.in_ok-sum.ensures.gives c.in_err-rest.ensures.keeps c.in_err-rest.ensures.gives)
+
+pub mk_top-requires : goal.mk_top-requires
+mk_top-requires c =
+    join.top_asked c.requires c.in_ok-n.ensures.keeps c.in_ok-n.ensures.gives c.in_ok-sum.ensures.keeps c.in_ok-sum.ensures.gives c.in_ok-rest.ensures.keeps c.in_ok-rest.ensures.gives
+
+pub returns-in_err-top-clause-gives : goal.returns-in_err-top-clause-gives
+returns-in_err-top-clause-gives c =
+    run_stuck _ (join.run_3 c.requires c.in_ok-n.ensures.keeps c.in_ok-n.ensures.gives c.in_ok-sum.ensures.keeps c.in_ok-sum.ensures.gives c.in_ok-rest.ensures.keeps c.in_ok-rest.ensures.gives) c.from_residual-in_err-top.ensures
+    (join.topped c.requires c.in_ok-n.ensures.keeps c.in_ok-n.ensures.gives c.in_ok-sum.ensures.keeps c.in_ok-sum.ensures.gives c.in_ok-rest.ensures.keeps c.in_ok-rest.ensures.gives {r = Err c.in_err-top.field-0.0} c.in_err-top.ensures.gives)
 
 pub st_insert-requires : goal.st_insert-requires
 st_insert-requires c =
-    join.insert_ready c.requires c.insert_each-listed.ensures c.in-List.is c.rest_of.result c.rest_of.ensures c.in-Node.is c.mk_top-put.result c.mk_top-put.new.states c.mk_top-put.ensures c.placed-state.ensures c.in-Is.is
+    join.insert_asked c.requires c.in_ok-n.ensures.keeps c.in_ok-n.ensures.gives c.in_ok-sum.ensures.keeps c.in_ok-sum.ensures.gives c.in_ok-rest.ensures.keeps c.in_ok-rest.ensures.gives c.in_ok-top.ensures.same_table c.in_ok-top.ensures.gives
 
-pub returns-in-Refused : goal.returns-in-Refused
-returns-in-Refused c = join.stuck_1 c.requires c.insert_each-listed.ensures c.in-Refused.is
-
-pub returns-in-Refused-state : goal.returns-in-Refused-state
-returns-in-Refused-state c =
-    join.stuck_3 c.requires c.insert_each-listed.ensures c.in-List.is c.rest_of.result c.rest_of.ensures c.in-Node.is c.mk_top-put.result c.mk_top-put.new.states c.mk_top-put.ensures c.placed-state.ensures c.in-Refused-state.is
-
-pub returns-in-Is : goal.returns-in-Is
-returns-in-Is c =
-    join.inserted c.requires c.insert_each-listed.ensures c.in-List.is c.rest_of.result c.rest_of.ensures c.in-Node.is c.mk_top-put.result c.mk_top-put.new.states c.mk_top-put.ensures c.placed-state.ensures c.in-Is.is c.st_insert.ensures
+pub returns-clause-gives : goal.returns-clause-gives
+returns-clause-gives c =
+    join.inserted c.requires c.in_ok-n.ensures.keeps c.in_ok-n.ensures.gives c.in_ok-sum.ensures.keeps c.in_ok-sum.ensures.gives c.in_ok-rest.ensures.keeps c.in_ok-rest.ensures.gives c.in_ok-top.ensures.same_table c.in_ok-top.ensures.gives c.st_insert.ensures.gives

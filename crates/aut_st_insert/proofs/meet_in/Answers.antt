@@ -1,26 +1,26 @@
+use Rattle.refusal.proofs.Passed.{passed}
 use Rattle.aut_st_insert.proofs.Halves as halves
 use Rattle.aut_st_insert.proofs.meet_in.Goals as goal
 
-pub returns-in_default : goal.returns-in_default
-returns-in_default c =
-    halves.full_1 c.args.config.fields c.args.config.limits c.args.nodes.now c.args.states.now c.args.members.now c.args.scratch.now c.args.c c.args.s c.args.l.0 c.args.target2 c.args.label2.0 c.args.m c.requires c.apply.result c.apply.new.nodes c.apply.new.scratch c.apply.ensures c.in_default.is
+pub apply-requires : goal.apply-requires
+apply-requires c = halves.meet_handles c.requires
 
-pub mk_union-both-requires : goal.mk_union-both-requires
-mk_union-both-requires c =
-    halves.union_ready c.args.config.fields c.args.config.limits c.args.nodes.now c.args.states.now c.args.members.now c.args.scratch.now c.args.c c.args.s c.args.l.0 c.args.target2 c.args.label2.0 c.args.m c.requires c.apply.result c.apply.new.nodes c.apply.new.scratch c.apply.ensures _ _ c.in-Node.is c.apply.auto.scratch
+pub returns-in_err-meet-clause-gives : goal.returns-in_err-meet-clause-gives
+returns-in_err-meet-clause-gives c = rw (passed c.from_residual.ensures) (halves.no_meet c.requires c.in_err-meet.ensures.keeps c.in_err-meet.ensures.gives)
 
-pub st_insert_helper-listed-requires : goal.st_insert_helper-listed-requires
-st_insert_helper-listed-requires c =
-    halves.place_ready c.args.config.fields c.args.config.limits c.args.nodes.now c.args.states.now c.args.members.now c.args.scratch.now c.args.c c.args.s c.args.l.0 c.args.target2 c.args.label2.0 c.args.m c.requires c.apply.result c.apply.new.nodes c.apply.new.scratch c.apply.ensures _ _ c.in-Node.is c.apply.auto.scratch c.mk_union-both.result c.mk_union-both.new.nodes c.mk_union-both.new.states c.mk_union-both.new.members c.mk_union-both.new.scratch c.mk_union-both.ensures c.mk_union-both.auto.scratch _ _ c.in-Is.is
+pub mk_union-requires : goal.mk_union-requires
+mk_union-requires c = halves.union_asked c.requires c.in_ok-meet.ensures.keeps c.in_ok-meet.ensures.gives
 
-pub returns-in-Refused : goal.returns-in-Refused
-returns-in-Refused c =
-    halves.not_2 c.args.config.fields c.args.config.limits c.args.nodes.now c.args.states.now c.args.members.now c.args.scratch.now c.args.c c.args.s c.args.l.0 c.args.target2 c.args.label2.0 c.args.m c.requires c.apply.result c.apply.new.nodes c.apply.new.scratch c.apply.ensures _ _ c.in-Node.is c.apply.auto.scratch c.mk_union-both.result c.mk_union-both.new.nodes c.mk_union-both.new.states c.mk_union-both.new.members c.mk_union-both.new.scratch c.mk_union-both.ensures c.mk_union-both.auto.scratch _ c.in-Refused.is
+pub returns-in_err-both-clause-gives : goal.returns-in_err-both-clause-gives
+returns-in_err-both-clause-gives c =
+    rw (passed c.from_residual-in_err-both.ensures) (halves.no_union c.requires c.in_ok-meet.ensures.keeps c.in_ok-meet.ensures.gives c.in_err-both.ensures.keeps c.in_err-both.ensures.gives)
 
-pub returns-in-Refused-listed : goal.returns-in-Refused-listed
-returns-in-Refused-listed c =
-    halves.not_3 c.args.config.fields c.args.config.limits c.args.nodes.now c.args.states.now c.args.members.now c.args.scratch.now c.args.c c.args.s c.args.l.0 c.args.target2 c.args.label2.0 c.args.m c.requires c.apply.result c.apply.new.nodes c.apply.new.scratch c.apply.ensures _ _ c.in-Node.is c.apply.auto.scratch c.mk_union-both.result c.mk_union-both.new.nodes c.mk_union-both.new.states c.mk_union-both.new.members c.mk_union-both.new.scratch c.mk_union-both.ensures c.mk_union-both.auto.scratch _ _ c.in-Is.is c.st_insert_helper-listed.result c.st_insert_helper-listed.new.nodes c.st_insert_helper-listed.new.states c.st_insert_helper-listed.new.scratch c.st_insert_helper-listed.ensures _ c.in-Refused-listed.is
+pub st_insert_helper-requires : goal.st_insert_helper-requires
+st_insert_helper-requires c = halves.meet_placed c.requires c.in_ok-meet.ensures.keeps c.in_ok-meet.ensures.gives c.in_ok-both.ensures.keeps c.in_ok-both.ensures.gives
 
-pub returns-in-List : goal.returns-in-List
-returns-in-List c =
-    halves.met_in c.args.config.fields c.args.config.limits c.args.nodes.now c.args.states.now c.args.members.now c.args.scratch.now c.args.c c.args.s c.args.l.0 c.args.target2 c.args.label2.0 c.args.m c.requires c.apply.result c.apply.new.nodes c.apply.new.scratch c.apply.ensures _ _ c.in-Node.is c.apply.auto.scratch c.mk_union-both.result c.mk_union-both.new.nodes c.mk_union-both.new.states c.mk_union-both.new.members c.mk_union-both.new.scratch c.mk_union-both.ensures c.mk_union-both.auto.scratch _ _ c.in-Is.is c.st_insert_helper-listed.result c.st_insert_helper-listed.new.nodes c.st_insert_helper-listed.new.states c.st_insert_helper-listed.new.scratch c.st_insert_helper-listed.ensures _ _ c.in-List.is c.st_insert_helper-listed.auto.scratch
+pub returns-in_err-n-clause-gives : goal.returns-in_err-n-clause-gives
+returns-in_err-n-clause-gives c =
+    rw (passed c.from_residual-in_err-n.ensures) (halves.not_met c.requires c.in_ok-meet.ensures.keeps c.in_ok-meet.ensures.gives c.in_ok-both.ensures.keeps c.in_ok-both.ensures.gives c.in_err-n.ensures.gives)
+
+pub returns-clause-gives : goal.returns-clause-gives
+returns-clause-gives c = halves.met_in c.requires c.in_ok-meet.ensures.keeps c.in_ok-meet.ensures.gives c.in_ok-both.ensures.keeps c.in_ok-both.ensures.gives c.in_ok-n.ensures.gives

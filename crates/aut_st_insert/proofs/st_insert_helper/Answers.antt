@@ -1,22 +1,23 @@
+use mathlib.Core.Path.{refl}
+use Rattle.refusal.proofs.Passed.{passed}
 use Rattle.aut_st_insert.proofs.Placing as placing
 use Rattle.aut_st_insert.proofs.st_insert_helper.Goals as goal
 
-pub returns-then-l-zero : goal.returns-then-l-zero
-returns-then-l-zero c =
-    placing.no_label c.args.config.fields c.args.config.limits c.args.nodes.now c.args.states.now c.args.scratch.now c.args.c c.args.m c.args.s c.args.l.0 c.requires c.zero_at_depth-zero.result.0 (c.zero_at_depth-zero.ensures c.args.config.fields) c.if-l-zero.true
+pub returns-then-l-zero-clause-gives : goal.returns-then-l-zero-clause-gives
+returns-then-l-zero-clause-gives c = placing.no_label c.requires (c.zero_at_depth-zero.ensures c.args.config.fields) c.if-l-zero.true
 
-pub returns-then-s-z : goal.returns-then-s-z
-returns-then-s-z c =
-    placing.no_state c.args.config.fields c.args.config.limits c.args.nodes.now c.args.states.now c.args.scratch.now c.args.c c.args.m c.args.s c.args.l.0 c.requires c.zero_at_depth-zero.result.0 (c.zero_at_depth-zero.ensures c.args.config.fields) c.if-l-zero.false c.mk_spp-put.result c.mk_spp-put.new.states c.mk_spp-put.ensures _ _ c.in-At.is c.if-s-z.true
+pub returns-in_err-z-clause-gives : goal.returns-in_err-z-clause-gives
+returns-in_err-z-clause-gives c =
+    rw (passed c.from_residual.ensures) (placing.not_noted c.requires (c.zero_at_depth-zero.ensures c.args.config.fields) c.if-l-zero.false c.in_err-z.ensures.gives)
+
+pub returns-then-s-z-clause-gives : goal.returns-then-s-z-clause-gives
+returns-then-s-z-clause-gives c =
+    placing.no_state c.requires (c.zero_at_depth-zero.ensures c.args.config.fields) c.if-l-zero.false (record { spp = refl; members = refl; scratch = refl }) c.in_ok-z.ensures.gives c.if-s-z.true
 
 pub place_in-requires : goal.place_in-requires
 place_in-requires c =
-    placing.in_ready c.args.config.fields c.args.config.limits c.args.nodes.now c.args.states.now c.args.scratch.now c.args.c c.args.m c.args.s c.args.l.0 c.requires c.zero_at_depth-zero.result.0 (c.zero_at_depth-zero.ensures c.args.config.fields) c.if-l-zero.false c.mk_spp-put.result c.mk_spp-put.new.states c.mk_spp-put.ensures _ _ c.in-At.is
+    placing.in_asked c.requires (c.zero_at_depth-zero.ensures c.args.config.fields) c.if-l-zero.false (record { spp = refl; members = refl; scratch = refl }) c.in_ok-z.ensures.gives
 
-pub returns-in-Refused : goal.returns-in-Refused
-returns-in-Refused c =
-    placing.not_put c.args.config.fields c.args.config.limits c.args.nodes.now c.args.states.now c.args.scratch.now c.args.c c.args.m c.args.s c.args.l.0 c.requires c.zero_at_depth-zero.result.0 (c.zero_at_depth-zero.ensures c.args.config.fields) c.if-l-zero.false c.mk_spp-put.result c.mk_spp-put.new.states c.mk_spp-put.ensures _ c.in-Refused.is
-
-pub returns-else-s-z : goal.returns-else-s-z
-returns-else-s-z c =
-    placing.placed_in c.args.config.fields c.args.config.limits c.args.nodes.now c.args.states.now c.args.scratch.now c.args.c c.args.m c.args.s c.args.l.0 c.requires c.zero_at_depth-zero.result.0 (c.zero_at_depth-zero.ensures c.args.config.fields) c.if-l-zero.false c.mk_spp-put.result c.mk_spp-put.new.states c.mk_spp-put.ensures _ _ c.in-At.is c.if-s-z.false c.place_in.result c.place_in.new.nodes c.place_in.new.scratch c.place_in.ensures
+pub returns-clause-gives : goal.returns-clause-gives
+returns-clause-gives c =
+    placing.placed_in c.requires (c.zero_at_depth-zero.ensures c.args.config.fields) c.if-l-zero.false (record { spp = refl; members = refl; scratch = refl }) c.in_ok-z.ensures.gives c.if-s-z.false c.place_in.ensures.gives

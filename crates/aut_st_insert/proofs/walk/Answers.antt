@@ -1,52 +1,40 @@
 use native.Mathlib.Omega.{arith}
-use Rattle.aut_relations.specs.Clauses.{aut_of}
+use Rattle.refusal.proofs.Passed.{passed}
 use Rattle.aut_st_insert.proofs.Walking as walking
 use Rattle.aut_st_insert.proofs.walk.Goals as goal
 
 pub loop-i-init : goal.loop-i-init
-loop-i-init c =
-    walking.begin c.args.config.fields c.args.config.limits c.args.s c.args.l.0 (aut_of c.args.nodes.now c.args.states.now c.args.members.now c.args.c) c.args.c c.args.scratch.now c.args.m c.requires _ (c.zero_at_depth-total.ensures c.args.config.fields)
+loop-i-init c = walking.walk_begin c.requires (c.zero_at_depth-total.ensures c.args.config.fields)
 
 pub overflow_add-j : goal.overflow_add-j
-overflow_add-j c =
-    omega (arith, c.loop-i-test.true, walking.taken_few c.args.config.fields c.args.config.limits c.args.s c.args.l.0 (aut_of c.args.nodes.now c.args.states.now c.args.members.now c.args.c) c.args.c c.args.scratch.now c.args.m c.requires)
+overflow_add-j c = omega (arith, walking.taken_few c.requires, c.loop-i-test.true)
 
 pub overflow_mul-j : goal.overflow_mul-j
-overflow_mul-j c =
-    omega (arith, c.loop-i-test.true, walking.taken_few c.args.config.fields c.args.config.limits c.args.s c.args.l.0 (aut_of c.args.nodes.now c.args.states.now c.args.members.now c.args.c) c.args.c c.args.scratch.now c.args.m c.requires, c.loop-i.auto.scratch, c.requires.ready.room)
+overflow_mul-j c = omega (arith, walking.taken_few c.requires, c.loop-i-test.true)
 
-pub offset_bounds-scratch-j : goal.offset_bounds-scratch-j
-offset_bounds-scratch-j c =
-    omega (arith, c.loop-i-test.true, walking.taken_few c.args.config.fields c.args.config.limits c.args.s c.args.l.0 (aut_of c.args.nodes.now c.args.states.now c.args.members.now c.args.c) c.args.c c.args.scratch.now c.args.m c.requires, c.loop-i.auto.scratch, c.requires.ready.room)
+pub offset_bounds-aut-j : goal.offset_bounds-aut-j
+offset_bounds-aut-j c = omega (arith, walking.taken_few c.requires, c.loop-i-test.true)
 
-pub bounds-scratch-j : goal.bounds-scratch-j
-bounds-scratch-j c =
-    omega (arith, c.loop-i-test.true, walking.taken_few c.args.config.fields c.args.config.limits c.args.s c.args.l.0 (aut_of c.args.nodes.now c.args.states.now c.args.members.now c.args.c) c.args.c c.args.scratch.now c.args.m c.requires, c.loop-i.auto.scratch, c.requires.ready.room)
+pub bounds-aut-j : goal.bounds-aut-j
+bounds-aut-j c = omega (arith, walking.word_in c.loop-i.invariant c.loop-i-test.true)
 
 pub overflow_add-label2 : goal.overflow_add-label2
-overflow_add-label2 c =
-    omega (arith, c.loop-i-test.true, walking.taken_few c.args.config.fields c.args.config.limits c.args.s c.args.l.0 (aut_of c.args.nodes.now c.args.states.now c.args.members.now c.args.c) c.args.c c.args.scratch.now c.args.m c.requires)
+overflow_add-label2 c = omega (arith, walking.taken_few c.requires, c.loop-i-test.true)
 
-pub offset_bounds-scratch-j-in-loop-i : goal.offset_bounds-scratch-j-in-loop-i
-offset_bounds-scratch-j-in-loop-i c =
-    omega (arith, c.loop-i-test.true, walking.taken_few c.args.config.fields c.args.config.limits c.args.s c.args.l.0 (aut_of c.args.nodes.now c.args.states.now c.args.members.now c.args.c) c.args.c c.args.scratch.now c.args.m c.requires, c.loop-i.auto.scratch, c.requires.ready.room)
+pub offset_bounds-aut-j-in-loop-i : goal.offset_bounds-aut-j-in-loop-i
+offset_bounds-aut-j-in-loop-i c = omega (arith, walking.taken_few c.requires, c.loop-i-test.true)
 
-pub bounds-scratch-j-in-loop-i : goal.bounds-scratch-j-in-loop-i
-bounds-scratch-j-in-loop-i c =
-    omega (arith, c.loop-i-test.true, walking.taken_few c.args.config.fields c.args.config.limits c.args.s c.args.l.0 (aut_of c.args.nodes.now c.args.states.now c.args.members.now c.args.c) c.args.c c.args.scratch.now c.args.m c.requires, c.loop-i.auto.scratch, c.requires.ready.room)
+pub bounds-aut-j-in-loop-i : goal.bounds-aut-j-in-loop-i
+bounds-aut-j-in-loop-i c = walking.word_in c.loop-i.invariant c.loop-i-test.true
 
-pub split_one-met-requires : goal.split_one-met-requires
-split_one-met-requires c =
-    walking.split_ready c.args.config.fields c.args.config.limits c.args.s c.args.l.0 (aut_of c.args.nodes.now c.args.states.now c.args.members.now c.args.c) c.args.c c.args.scratch.now c.args.m c.requires c.loop-i.nodes c.loop-i.states c.loop-i.members c.loop-i.scratch c.loop-i.d c.loop-i.total c.loop-i.k c.loop-i.i c.loop-i.invariant c.loop-i-test.true
+pub split_one-requires : goal.split_one-requires
+split_one-requires c = walking.split_asked c.loop-i.invariant c.loop-i-test.true
 
-pub returns-in-Refused : goal.returns-in-Refused
-returns-in-Refused c =
-    walking.stuck c.args.config.fields c.args.config.limits c.args.s c.args.l.0 (aut_of c.args.nodes.now c.args.states.now c.args.members.now c.args.c) c.args.c c.args.scratch.now c.args.m c.requires c.loop-i.nodes c.loop-i.states c.loop-i.members c.loop-i.scratch c.loop-i.d c.loop-i.total c.loop-i.k c.loop-i.i c.loop-i.invariant c.loop-i-test.true c.split_one-met.result c.split_one-met.new.nodes c.split_one-met.new.states c.split_one-met.new.members c.split_one-met.new.scratch c.split_one-met.ensures c.split_one-met.auto.scratch _ c.in-Refused.is
+pub returns-in_err-sum-clause-gives : goal.returns-in_err-sum-clause-gives
+returns-in_err-sum-clause-gives c = rw (passed c.from_residual.ensures) (walking.walk_stuck c.loop-i.invariant c.loop-i-test.true c.in_err-sum.ensures.gives)
 
 pub loop-i-preserved : goal.loop-i-preserved
-loop-i-preserved c =
-    walking.again c.args.config.fields c.args.config.limits c.args.s c.args.l.0 (aut_of c.args.nodes.now c.args.states.now c.args.members.now c.args.c) c.args.c c.args.scratch.now c.args.m c.requires c.loop-i.nodes c.loop-i.states c.loop-i.members c.loop-i.scratch c.loop-i.d c.loop-i.total c.loop-i.k c.loop-i.i c.loop-i.invariant c.loop-i-test.true c.split_one-met.result c.split_one-met.new.nodes c.split_one-met.new.states c.split_one-met.new.members c.split_one-met.new.scratch c.split_one-met.ensures c.split_one-met.auto.scratch _ _ _ c.in-Next.is
+loop-i-preserved c = walking.walk_again c.loop-i.invariant c.loop-i-test.true c.in_ok-sum.ensures.keeps c.in_ok-sum.ensures.gives
 
-pub returns : goal.returns
-returns c =
-    walking.end c.args.config.fields c.args.config.limits c.args.s c.args.l.0 (aut_of c.args.nodes.now c.args.states.now c.args.members.now c.args.c) c.args.c c.args.scratch.now c.args.m c.requires c.loop-i.nodes c.loop-i.states c.loop-i.members c.loop-i.scratch c.loop-i.d c.loop-i.total c.loop-i.k c.loop-i.i c.loop-i.invariant c.loop-i-test.false
+pub returns-clause-gives : goal.returns-clause-gives
+returns-clause-gives c = walking.walk_end c.loop-i.invariant c.loop-i-test.false

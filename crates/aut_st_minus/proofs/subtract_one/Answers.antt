@@ -1,33 +1,32 @@
 use Rattle.aut_st_minus.proofs.Single as one
 use Rattle.aut_st_minus.proofs.subtract_one.Goals as goal
 
+pub returns-in_err-x-clause-gives : goal.returns-in_err-x-clause-gives
+returns-in_err-x-clause-gives c = one.stuck_1 c.requires c.from_residual.ensures c.in_err-x.ensures.keeps c.in_err-x.ensures.gives
+
 pub apply-requires : goal.apply-requires
-apply-requires c =
-    one.intersect_ready c.args.c c.requires c.mk_difference-state.ensures c.in-Is.is c.mk_difference-state.auto.scratch
+apply-requires c = one.meet_asked c.requires c.in_ok-x.ensures.keeps c.in_ok-x.ensures.gives
 
-pub returns-in_default : goal.returns-in_default
-returns-in_default c =
-    one.full_2 c.args.c c.requires c.mk_difference-state.ensures c.in-Is.is c.mk_difference-state.auto.scratch c.apply.ensures c.in_default.is
+pub returns-in_err-meet-clause-gives : goal.returns-in_err-meet-clause-gives
+returns-in_err-meet-clause-gives c =
+    one.stuck_2 c.requires c.in_ok-x.ensures.keeps c.in_ok-x.ensures.gives c.from_residual-in_err-meet.ensures c.in_err-meet.ensures.keeps c.in_err-meet.ensures.gives
 
-pub apply-requires-in-Is : goal.apply-requires-in-Is
-apply-requires-in-Is c =
-    one.union_ready c.args.c c.requires c.mk_difference-state.ensures c.in-Is.is c.mk_difference-state.auto.scratch c.apply.ensures c.in-Node.is c.apply.auto.scratch
+pub apply-requires-2 : goal.apply-requires-2
+apply-requires-2 c =
+    one.sum_asked c.requires c.in_ok-x.ensures.keeps c.in_ok-x.ensures.gives c.in_ok-meet.ensures.keeps c.in_ok-meet.ensures.gives
 
-pub returns-in_default-apply : goal.returns-in_default-apply
-returns-in_default-apply c =
-    one.full_3 c.args.c c.requires c.mk_difference-state.ensures c.in-Is.is c.mk_difference-state.auto.scratch c.apply.ensures c.in-Node.is c.apply.auto.scratch c.apply-in-Is.ensures c.in_default-apply.is
+pub returns-in_err-met-clause-gives : goal.returns-in_err-met-clause-gives
+returns-in_err-met-clause-gives c =
+    one.stuck_3 c.requires c.in_ok-x.ensures.keeps c.in_ok-x.ensures.gives c.in_ok-meet.ensures.keeps c.in_ok-meet.ensures.gives c.from_residual-in_err-met.ensures c.in_err-met.ensures.keeps c.in_err-met.ensures.gives
 
-pub st_insert-listed-requires : goal.st_insert-listed-requires
-st_insert-listed-requires c =
-    one.insert_ready c.args.c c.requires c.mk_difference-state.ensures c.in-Is.is c.mk_difference-state.auto.scratch c.apply.ensures c.in-Node.is c.apply.auto.scratch c.apply-in-Is.ensures c.in-Node-apply.is c.apply-in-Is.auto.scratch
+pub st_insert-requires : goal.st_insert-requires
+st_insert-requires c =
+    one.insert_asked c.requires c.in_ok-x.ensures.keeps c.in_ok-x.ensures.gives c.in_ok-meet.ensures.keeps c.in_ok-meet.ensures.gives c.in_ok-met.ensures.keeps c.in_ok-met.ensures.gives
 
-pub returns-in-Refused : goal.returns-in-Refused
-returns-in-Refused c = one.not_1 c.args.c c.requires c.mk_difference-state.ensures c.in-Refused.is
+pub returns-in_err-n-clause-gives : goal.returns-in_err-n-clause-gives
+returns-in_err-n-clause-gives c =
+    one.stuck_4 c.requires c.in_ok-x.ensures.keeps c.in_ok-x.ensures.gives c.in_ok-meet.ensures.keeps c.in_ok-meet.ensures.gives c.in_ok-met.ensures.keeps c.in_ok-met.ensures.gives c.from_residual-in_err-n.ensures c.in_err-n.ensures.gives
 
-pub returns-in-Refused-listed : goal.returns-in-Refused-listed
-returns-in-Refused-listed c =
-    one.not_4 c.args.c c.requires c.mk_difference-state.ensures c.in-Is.is c.mk_difference-state.auto.scratch c.apply.ensures c.in-Node.is c.apply.auto.scratch c.apply-in-Is.ensures c.in-Node-apply.is c.apply-in-Is.auto.scratch c.st_insert-listed.ensures c.in-Refused-listed.is
-
-pub returns-in-List : goal.returns-in-List
-returns-in-List c =
-    one.one_done c.args.c c.requires c.mk_difference-state.ensures c.in-Is.is c.mk_difference-state.auto.scratch c.apply.ensures c.in-Node.is c.apply.auto.scratch c.apply-in-Is.ensures c.in-Node-apply.is c.apply-in-Is.auto.scratch c.st_insert-listed.ensures c.in-List.is
+pub returns-clause-gives : goal.returns-clause-gives
+returns-clause-gives c =
+    one.met c.requires c.in_ok-x.ensures.keeps c.in_ok-x.ensures.gives c.in_ok-meet.ensures.keeps c.in_ok-meet.ensures.gives c.in_ok-met.ensures.keeps c.in_ok-met.ensures.gives c.in_ok-n.ensures.keeps c.in_ok-n.ensures.gives

@@ -1,32 +1,26 @@
-use mathlib.Core.Path.{refl}
+use Rattle.refusal.proofs.Passed.{passed}
 use Rattle.aut_st_steps.proofs.Edges.{edge_grown}
-use Rattle.aut_st_stage.proofs.Loops.{turn_begin, turn_read, turn_edge, turn_stuck, turn_again, turn_end}
 use Rattle.aut_st_source.specs.Clauses.{edge_of}
-use Rattle.aut_st_minus.specs.declared.Summed.TheVariants as next
-use Rattle.aut_st_minus.proofs.Readings.{sum_kind}
-use Rattle.aut_st_minus.proofs.Loops.{row_folds}
+use Rattle.aut_st_stage.proofs.Turns.{turn_begin, turn_edge, turn_stuck, turn_again, turn_end}
+use Rattle.aut_st_minus.proofs.Loops.{row_folds, sum_list}
 use Rattle.aut_st_minus.proofs.subtract_row.Goals as goal
 
 pub loop-i-init : goal.loop-i-init
 loop-i-init c =
-    turn_begin (sum_kind c.args.config.fields c.args.config.limits c.requires.list.limit) (row_folds c.args.config.fields c.args.config.limits (edge_of c.args.t)) c.requires.second c.requires.list.ready (record { sum = c.requires.sum; result = c.requires.list.list })
+    turn_begin (row_folds c.args.config (edge_of c.args.t)) c.requires.second c.requires.list.asked (record { sum = c.requires.sum; result = c.requires.list.list })
 
-pub read-u-requires : goal.read-u-requires
-read-u-requires c =
-    turn_read (sum_kind c.args.config.fields c.args.config.limits c.requires.list.limit) (row_folds c.args.config.fields c.args.config.limits (edge_of c.args.t)) c.requires.second c.loop-i.invariant c.loop-i-test.true
+pub subtract_one-requires : goal.subtract_one-requires
+subtract_one-requires c =
+    let v = c.loop-i.invariant in
+    record { list = sum_list v c.requires.list.limit; first = edge_grown v.turned.stage.ext.grown c.requires.first; second = turn_edge v c.loop-i-test.true c.read-u.ensures; sum = v.turned.holds.sum }
 
-pub subtract_one-summed-requires : goal.subtract_one-summed-requires
-subtract_one-summed-requires c =
-    record { list = record { ready = c.loop-i.invariant.stage.ready; list = c.loop-i.invariant.holds.result; limit = c.requires.list.limit }; first = edge_grown c.loop-i.invariant.stage.ext.grown c.requires.first; second = turn_edge (sum_kind c.args.config.fields c.args.config.limits c.requires.list.limit) (row_folds c.args.config.fields c.args.config.limits (edge_of c.args.t)) c.requires.second c.loop-i.invariant c.loop-i-test.true c.read-u.ensures; sum = c.loop-i.invariant.holds.sum }
-
-pub returns-in-Refused : goal.returns-in-Refused
-returns-in-Refused c =
-    turn_stuck (sum_kind c.args.config.fields c.args.config.limits c.requires.list.limit) (row_folds c.args.config.fields c.args.config.limits (edge_of c.args.t)) c.requires.second c.loop-i.invariant c.loop-i-test.true c.read-u.ensures c.subtract_one-summed.ensures c.in-Refused.is refl
+pub returns-in_err-met-clause-gives : goal.returns-in_err-met-clause-gives
+returns-in_err-met-clause-gives c =
+    rw (passed c.from_residual.ensures)
+    (turn_stuck c.loop-i.invariant c.loop-i-test.true c.read-u.ensures c.in_err-met.ensures.gives)
 
 pub loop-i-preserved : goal.loop-i-preserved
-loop-i-preserved c =
-    turn_again (sum_kind c.args.config.fields c.args.config.limits c.requires.list.limit) (row_folds c.args.config.fields c.args.config.limits (edge_of c.args.t)) c.requires.second c.loop-i.invariant c.loop-i-test.true c.read-u.ensures c.subtract_one-summed.ensures c.in-Next.is refl
+loop-i-preserved c = turn_again c.loop-i.invariant c.loop-i-test.true c.read-u.ensures c.in_ok-met.ensures.keeps c.in_ok-met.ensures.gives
 
-pub returns : goal.returns
-returns c =
-    turn_end (sum_kind c.args.config.fields c.args.config.limits c.requires.list.limit) (row_folds c.args.config.fields c.args.config.limits (edge_of c.args.t)) c.requires.second (next.Next c.loop-i.d c.loop-i.h c.loop-i.n) refl c.loop-i.invariant c.loop-i-test.false
+pub returns-clause-gives : goal.returns-clause-gives
+returns-clause-gives c = turn_end c.loop-i.invariant c.loop-i-test.false

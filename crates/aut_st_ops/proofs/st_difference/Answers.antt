@@ -1,17 +1,18 @@
-use Rattle.aut_st_ops.proofs.Join as join
+use Rattle.aut_st_ops.proofs.Loops.{rows_asked, difference_loops, first_stuck, loop_asked, loop_done}
 use Rattle.aut_st_ops.proofs.st_difference.Goals as goal
 
-pub subtract_rows-summed-requires : goal.subtract_rows-summed-requires
-subtract_rows-summed-requires c = join.rows_ready c.requires (c.zero_at_depth-zero.ensures c.args.config.fields)
+pub subtract_rows-requires : goal.subtract_rows-requires
+subtract_rows-requires c = rows_asked c.requires (c.zero_at_depth-zero.ensures c.args.config.fields)
+
+pub returns-in_err-sum-clause-gives : goal.returns-in_err-sum-clause-gives
+returns-in_err-sum-clause-gives c =
+    first_stuck (difference_loops c.requires (c.zero_at_depth-zero.ensures c.args.config.fields)) c.from_residual.ensures c.in_err-sum.ensures.gives
 
 pub insert_each-requires : goal.insert_each-requires
 insert_each-requires c =
-    join.rest_ready c.requires (c.zero_at_depth-zero.ensures c.args.config.fields) c.subtract_rows-summed.ensures c.in-Next.is
+    let g = c.in_ok-sum.ensures.gives in
+    loop_asked (difference_loops c.requires (c.zero_at_depth-zero.ensures c.args.config.fields)) c.in_ok-sum.ensures.keeps g g.post.then.holds.result g.post.then.holds.sum
 
-pub returns-in-Refused : goal.returns-in-Refused
-returns-in-Refused c =
-    join.difference_refused c.requires (c.zero_at_depth-zero.ensures c.args.config.fields) c.subtract_rows-summed.ensures c.in-Refused.is
-
-pub returns-in-Next : goal.returns-in-Next
-returns-in-Next c =
-    join.difference_does c.requires (c.zero_at_depth-zero.ensures c.args.config.fields) c.subtract_rows-summed.ensures c.in-Next.is c.insert_each.ensures
+pub returns-clause-gives : goal.returns-clause-gives
+returns-clause-gives c =
+    loop_done (difference_loops c.requires (c.zero_at_depth-zero.ensures c.args.config.fields)) c.in_ok-sum.ensures.keeps c.in_ok-sum.ensures.gives c.insert_each.ensures.gives

@@ -1,14 +1,16 @@
-use Rattle.aut_st_ops.proofs.Join as join
+use Rattle.aut_st_ops.proofs.Loops.{same_asked, union_loops, first_stuck, loop_asked, loop_done}
 use Rattle.aut_st_ops.proofs.st_union.Goals as goal
 
-pub insert_each-listed-requires : goal.insert_each-listed-requires
-insert_each-listed-requires c = join.same_ready c.requires.first
-
 pub insert_each-requires : goal.insert_each-requires
-insert_each-requires c = join.union_ready c.requires c.insert_each-listed.ensures c.in-List.is
+insert_each-requires c = same_asked c.requires.first
 
-pub returns-in-Refused : goal.returns-in-Refused
-returns-in-Refused c = join.union_refused c.requires c.insert_each-listed.ensures c.in-Refused.is
+pub returns-in_err-n-clause-gives : goal.returns-in_err-n-clause-gives
+returns-in_err-n-clause-gives c = first_stuck (union_loops c.requires) c.from_residual.ensures c.in_err-n.ensures.gives
 
-pub returns-in-List : goal.returns-in-List
-returns-in-List c = join.union_does c.requires c.insert_each-listed.ensures c.in-List.is c.insert_each.ensures
+pub insert_each-requires-2 : goal.insert_each-requires-2
+insert_each-requires-2 c =
+    let g = c.in_ok-n.ensures.gives in
+    loop_asked (union_loops c.requires) c.in_ok-n.ensures.keeps g g.post.then.holds tt
+
+pub returns-clause-gives : goal.returns-clause-gives
+returns-clause-gives c = loop_done (union_loops c.requires) c.in_ok-n.ensures.keeps c.in_ok-n.ensures.gives c.insert_each-2.ensures.gives

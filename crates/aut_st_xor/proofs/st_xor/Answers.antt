@@ -1,54 +1,24 @@
-use mathlib.Core.Path.{◌∙◌}
-use Rattle.aut_st_xor.proofs.Join as join
+use Rattle.aut_st_xor.proofs.Joins as join
+use Rattle.aut_st_xor.proofs.Xor.{xor_joins, other_asked, other_is}
 use Rattle.aut_st_xor.proofs.st_xor.Goals as goal
 
+pub returns-in_err-n-clause-gives : goal.returns-in_err-n-clause-gives
+returns-in_err-n-clause-gives c = join.stuck_1 (xor_joins c.requires) c.from_residual.ensures c.in_err-n.ensures.gives
+
 pub copy-requires : goal.copy-requires
-copy-requires c = join.copy_1 (join.xor_joins c.requires) c.st_difference-one.ensures c.in-List.is
+copy-requires c = join.copy_1 (xor_joins c.requires) c.in_ok-n.ensures.keeps c.in_ok-n.ensures.gives
 
-pub st_difference-other-requires : goal.st_difference-other-requires
-st_difference-other-requires c =
-    let v = join.stage_2 (join.xor_joins c.requires) c.st_difference-one.ensures c.in-List.is c.copy.ensures c.copy.auto.words in join.stored_later c.requires v.ready v.ext.grown
+pub st_difference-requires-2 : goal.st_difference-requires-2
+st_difference-requires-2 c = other_asked c.requires c.in_ok-n.ensures.keeps c.in_ok-n.ensures.gives c.copy.ensures c.copy.auto.words
 
-pub copy-requires-in-List-other : goal.copy-requires-in-List-other
-copy-requires-in-List-other c =
-    join.copy_2 (join.xor_joins c.requires) c.st_difference-one.ensures c.in-List.is c.copy.ensures c.copy.auto.words c.st_difference-other.ensures c.in-List-other.is
+pub returns-in_err-m-clause-gives : goal.returns-in_err-m-clause-gives
+returns-in_err-m-clause-gives c = join.stuck_2 (xor_joins c.requires) c.in_ok-n.ensures.keeps c.in_ok-n.ensures.gives c.copy.ensures c.copy.auto.words c.from_residual-in_err-m.ensures (other_is c.requires c.in_ok-n.ensures.keeps c.in_ok-n.ensures.gives c.copy.ensures c.copy.auto.words c.in_err-m.ensures.gives)
+
+pub copy-requires-2 : goal.copy-requires-2
+copy-requires-2 c = join.copy_2 (xor_joins c.requires) c.in_ok-n.ensures.keeps c.in_ok-n.ensures.gives c.copy.ensures c.copy.auto.words c.in_ok-m.ensures.keeps (other_is c.requires c.in_ok-n.ensures.keeps c.in_ok-n.ensures.gives c.copy.ensures c.copy.auto.words c.in_ok-m.ensures.gives)
 
 pub st_union-requires : goal.st_union-requires
-st_union-requires c =
-    join.join_ready (join.xor_joins c.requires) c.st_difference-one.ensures c.in-List.is c.copy.ensures c.copy.auto.words c.st_difference-other.ensures c.in-List-other.is c.copy-in-List-other.ensures c.copy-in-List-other.auto.words
+st_union-requires c = join.join_asked (xor_joins c.requires) c.in_ok-n.ensures.keeps c.in_ok-n.ensures.gives c.copy.ensures c.copy.auto.words c.in_ok-m.ensures.keeps (other_is c.requires c.in_ok-n.ensures.keeps c.in_ok-n.ensures.gives c.copy.ensures c.copy.auto.words c.in_ok-m.ensures.gives) c.copy-2.ensures c.copy-2.auto.words
 
-pub returns-in-Refused : goal.returns-in-Refused
-returns-in-Refused c = join.stuck_1 (join.xor_joins c.requires) c.st_difference-one.ensures c.in-Refused.is
-
-pub shape_of-nodes-in-Refused-other : goal.shape_of-nodes-in-Refused-other
-shape_of-nodes-in-Refused-other c = c.st_difference-other.auto.nodes ∙ c.st_difference-one.auto.nodes
-
-pub shape_of-states-in-Refused-other : goal.shape_of-states-in-Refused-other
-shape_of-states-in-Refused-other c = c.st_difference-other.auto.states ∙ c.st_difference-one.auto.states
-
-pub shape_of-members-in-Refused-other : goal.shape_of-members-in-Refused-other
-shape_of-members-in-Refused-other c = c.st_difference-other.auto.members ∙ c.st_difference-one.auto.members
-
-pub shape_of-scratch-in-Refused-other : goal.shape_of-scratch-in-Refused-other
-shape_of-scratch-in-Refused-other c = c.st_difference-other.auto.scratch ∙ c.copy.auto.words ∙ c.st_difference-one.auto.scratch
-
-pub returns-in-Refused-other : goal.returns-in-Refused-other
-returns-in-Refused-other c =
-    join.stuck_2 (join.xor_joins c.requires) c.st_difference-one.ensures c.in-List.is c.copy.ensures c.copy.auto.words c.st_difference-other.ensures c.in-Refused-other.is
-
-pub shape_of-nodes-in-List-other : goal.shape_of-nodes-in-List-other
-shape_of-nodes-in-List-other c = c.st_union.auto.nodes ∙ c.st_difference-other.auto.nodes ∙ c.st_difference-one.auto.nodes
-
-pub shape_of-states-in-List-other : goal.shape_of-states-in-List-other
-shape_of-states-in-List-other c = c.st_union.auto.states ∙ c.st_difference-other.auto.states ∙ c.st_difference-one.auto.states
-
-pub shape_of-members-in-List-other : goal.shape_of-members-in-List-other
-shape_of-members-in-List-other c = c.st_union.auto.members ∙ c.st_difference-other.auto.members ∙ c.st_difference-one.auto.members
-
-pub shape_of-scratch-in-List-other : goal.shape_of-scratch-in-List-other
-shape_of-scratch-in-List-other c =
-    c.st_union.auto.scratch ∙ c.copy-in-List-other.auto.words ∙ c.st_difference-other.auto.scratch ∙ c.copy.auto.words ∙ c.st_difference-one.auto.scratch
-
-pub returns-in-List-other : goal.returns-in-List-other
-returns-in-List-other c =
-    join.joined (join.xor_joins c.requires) c.st_difference-one.ensures c.in-List.is c.copy.ensures c.copy.auto.words c.st_difference-other.ensures c.in-List-other.is c.copy-in-List-other.ensures c.copy-in-List-other.auto.words c.st_union.ensures
+pub returns-clause-gives : goal.returns-clause-gives
+returns-clause-gives c = join.joined (xor_joins c.requires) c.in_ok-n.ensures.keeps c.in_ok-n.ensures.gives c.copy.ensures c.copy.auto.words c.in_ok-m.ensures.keeps (other_is c.requires c.in_ok-n.ensures.keeps c.in_ok-n.ensures.gives c.copy.ensures c.copy.auto.words c.in_ok-m.ensures.gives) c.copy-2.ensures c.copy-2.auto.words c.st_union.ensures.gives

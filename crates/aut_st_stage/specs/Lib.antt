@@ -1,2 +1,0 @@
--- The answers of the list operations as answers of the rule for a run of calls.
-pub mod Readings
