@@ -1,113 +1,99 @@
 -- enter: the epsilon of a state, the star of it, and which of them by kind.
 use mathlib.Core.Path.{◌≡◌, refl, sym, ◌∙◌, ap, subst}
 use mathlib.Core.Bool.{Bool}
-use mathlib.Core.List.{List}
-use Prim.Native.Nat.{ℕ, ◌+◌, ◌*◌, ◌≤◌, ◌<◌}
-use lib.Dec.{ltb}
-use lib.ListN.{length, get_or}
+use Prim.Native.Nat.{ℕ, ◌≤◌, ◌<◌}
 use borrow.Author.Tests.{ne_eqb, lt-ltb, le-ltb}
+use Rattle.std.specs.Prelude.{Result, Ok, Err}
 use Rattle.common.specs.Outcome.{Outcome, given, Step, after, ◌>>=◌}
-use Rattle.common.specs.Runs.{Table, table, placed}
 use Rattle.netkat.specs.Rules.{sequence, star}
-use Rattle.spp.specs.Clauses as Spp
+use Rattle.refusal.specs.declared.Refusal.{Refusal}
+use Rattle.spp_steps.specs.Wf.{Denotes, ValidAt}
+use Rattle.spp_steps.specs.Closure.{closure}
 use Rattle.spp.specs.declared.SPP.{SPP}
-use Rattle.spp.specs.declared.Made.{Made}
-use Rattle.spp.specs.declared.Made.TheVariants.{Node, Full}
 use Rattle.aut_steps.specs.Relations as Rel
-use Rattle.aut_steps.specs.Tables.{SEQUENCE, STAR, op1, Aut, put_nodes, on_nodes}
+use Rattle.aut_steps.specs.Tables.{SEQUENCE, STAR, kind_of, op1, Aut, on_nodes}
 use Rattle.aut_steps.specs.Kinds.{form}
-use Rattle.aut_steps.specs.Wf.{WfAut}
 use Rattle.aut_steps.proofs.StateLaws.{nodes_goes}
 use Rattle.aut_delta_steps.specs.Epsilon.{epsilon}
-use Rattle.aut_delta_steps.specs.Delta.{Store, put_aut, on_aut}
+use Rattle.aut_delta_steps.specs.Delta.{Store, on_aut}
 use Rattle.aut_delta_steps.proofs.Operands.{below_one, below_two}
 use Rattle.aut_delta_steps.proofs.Labels.{star_makes}
-use Rattle.aut_delta_steps.proofs.Extends.{went_trans}
 use Rattle.aut_delta_steps.specs.DeltaReads.{quit, enter_with, enter}
-use Rattle.aut_states.specs.declared.Counts.{Counts}
-use Rattle.aut_states.specs.declared.Limits.{Limits}
-use Rattle.aut_relations.proofs.Behind.{left_trans}
-use Rattle.aut_relations.specs.Clauses.{aut_of, RelateReady, Relates, Ready}
+use Rattle.aut_states.specs.declared.Config.{Config}
+use Rattle.aut_relations.specs.declared.Aut.{Aut as Lent}
+use Rattle.aut_relations.specs.Lent.{nodes_in, aut_in, Keeps, KeepsExprs, Does, Handles}
 use Rattle.aut_relations.proofs.Order.{backed_of}
 use Rattle.aut_sequence.specs.Clauses.{task_of}
 use Rattle.aut_sequence.specs.declared.Task.TheVariants as task
-use Rattle.aut_epsilon.specs.Clauses.{seen_epsilon, After, AfterBy, Works}
-use Rattle.aut_stage.specs.OnNodes.{with_nodes}
-use Rattle.aut_stage.proofs.OnNodes.{relation_given}
-use Rattle.aut_delta_stage.specs.OnStore.{store_of, store_layer}
-use Rattle.aut_delta_stage.proofs.OnStore.{aut_given, epsilon_given}
-use Rattle.aut_delta.specs.declared.Entered.{Entered}
-use Rattle.aut_delta.specs.declared.Entered.TheVariants as entered
-use Rattle.aut_operands.proofs.Shapes.{kind_word}
-use Rattle.aut_delta.specs.Readings.{PreEnter, Enters, PostEpsilon, PostStar, PostEnter, unless, PostNew}
+use Rattle.aut_epsilon.specs.Asked.{EpsilonAsked, Later}
+use Rattle.aut_stage.specs.Rule.{Laws, Stage}
+use Rattle.aut_stage.proofs.Rule.{all_of, begin, instead, next, stuck, done}
+use Rattle.aut_stage.proofs.OnLent.{related}
+use Rattle.aut_delta_stage.specs.OnTables.{store_in, StoreAsked, tables_layer, GoesStore}
+use Rattle.aut_delta_stage.proofs.OnTables.{tables_laws, asked_of, store_after, refused_goes, step_goes, keeps_exprs, then_on, aut_goes, epsilon_goes}
+use Rattle.aut_delta.specs.Readings.{EnterAsked, Enters, epsilon_quit, star_quit, unless, unless_entered}
 
 -- ---- nothing is done
 
-nothing : {N : ℕ} {l : Limits} {c : Counts} {t st mem s : List ℕ} (o : Step Store Unit) → ((tr : List ℕ) → o (store_of t st mem tr c) ≡ given (store_of t st mem tr c) tt) → Enters N l o (entered.Nodes c.spp) c t st mem s t st s
-nothing {N} {l} {c} {t} {st} {mem} {s} o e tr R =
-    let 𝓛 = store_layer N l in
-    record {
-      is = e tr;
-      then = record { ext = 𝓛.ext_refl (store_of t st mem tr c); beside = refl; frame = 𝓛.frame_refl 0 0 (store_of t st mem tr c) s; ready = R; holds = tt };
-    }
+pub nothing : {k : Config} {x : Lent} {o : Step Store Unit} {V : Type 0} {v : V} → StoreAsked k x → o (store_in x) ≡ given (store_in x) tt → Enters k o x (Ok v) x
+nothing {k} R e = let W = tables_laws k.fields k.limits in record { post = done W 0 0 (begin W 0 0 R.prepared e) tt }
 
 -- ---- epsilon, and the star of it
 
-module _ {N : ℕ} (l : Limits) {a : ℕ} {r : Made} {c : Counts} {t st mem s t1 st1 s1 : List ℕ} (E : Works N a r c t st mem s t1 st1 s1) where
-  full_is : r ≡ Full → epsilon N a (aut_of t st mem c) ≡ seen_epsilon Full c t1 st1 mem
-  full_is q = E.is ∙ ap (λ (r : Made). seen_epsilon r c t1 st1 mem) q
+module _ {k : Config} {x y : Lent} {a : ℕ} (R : EnterAsked k x a) (K : Keeps x y) where
+  abbrev N : ℕ
+  N = k.fields
 
-  pub epsilon_full : r ≡ Full → {st' s' : List ℕ} → PostEpsilon N l a entered.Full c t st mem s t1 st' s'
-  epsilon_full q tr R = record { is = ap (λ (o : Outcome Aut ℕ). placed put_aut (store_of t st mem tr c) (after o quit)) (full_is q); then = tt }
+  W : Laws (tables_layer N k.limits)
+  W = tables_laws N k.limits
 
-  pub star_full : r ≡ Full → {st' s' : List ℕ} → PostStar N l a entered.Full c t st mem s t1 st' s'
-  star_full q tr R = record { is = ap (λ (o : Outcome Aut ℕ). placed put_aut (store_of t st mem tr c) (after o (λ e τ. after (on_nodes (Rel.star N e) τ) quit))) (full_is q); then = tt }
+  module _ (f : ℕ → Step Aut Unit) where
+    abbrev whole : Outcome Store Unit
+    whole = on_aut (epsilon N a >>= f) (store_in x)
 
-  module _ {h : SPP} {n : ℕ} (q : r ≡ Node h n) where
-    made_is : epsilon N a (aut_of t st mem c) ≡ given (aut_of t1 st1 mem (with_nodes c n)) h.0
-    made_is = E.is ∙ ap (λ (r : Made). seen_epsilon r c t1 st1 mem) q
+    g0 : Stage (tables_layer N k.limits) 0 0 whole (after (on_aut (epsilon N a) (store_in x)) (λ e. on_aut (f e))) (store_in x) (store_in x) x.scratch.now x.scratch.now
+    g0 = begin W 0 0 R.store.prepared (then_on (epsilon N a (aut_in x)) f (store_in x))
 
-    pub epsilon_made : PostEpsilon N l a (entered.Nodes n) c t st mem s t1 st1 s1
-    epsilon_made tr R =
-        let p = (epsilon_given t st mem tr c E R q).then in
-        record {
-          is = ap (λ (o : Outcome Aut ℕ). placed put_aut (store_of t st mem tr c) (after o quit)) made_is;
-          then = record { ext = p.ext; beside = p.beside; frame = p.frame; ready = p.ready; holds = tt };
-        }
+    pub no_epsilon : {e : Refusal} {V : Type 0} {r : Result V Refusal} {z : Lent} → r ≡ Err e → Does N 0 0 {V = SPP} aut_in (λ h. h.0) (epsilon N a) x (Err e) y → Enters k (on_aut (epsilon N a >>= f)) x r z
+    no_epsilon {e} {V} q D =
+        refused_goes q (stuck W 0 0 {see' = λ (v : V). tt} {Q = λ τ u. Unit} {υ' = store_in x} {z = x.scratch.now} (epsilon_goes R.store K a {r = Err e} D tt).post (λ e. on_aut (f e)) g0).is
 
-    after_it : Ready N l (aut_of t st mem c) s → After N l a (aut_of t st mem c) (aut_of t1 st1 mem (with_nodes c n)) s1 h.0
-    after_it R = subst (λ (r : Made). AfterBy N l a r c (aut_of t st mem c) t1 st1 mem s1) q (E.after l R)
+    module _ {h : SPP} (D : Does N 0 0 aut_in (λ h. h.0) (epsilon N a) x (Ok h) y) (A : Later k a x (Ok h) y) where
+      E : GoesStore k 0 0 (λ τ e. ValidAt τ.aut.nodes N e) (λ (h : SPP). h.0) (on_aut (epsilon N a)) x (Ok h) y
+      E = epsilon_goes R.store K a D A
 
-    pub relate_ready : Ready N l (aut_of t st mem c) s → RelateReady N (table t1 n) s1 h.0 h.0
-    relate_ready R = let A = after_it R in record { backed = backed_of A.ready; at_a = A.law.found.means.den.at; at_b = A.law.found.means.den.at }
+      g1 : Stage (tables_layer N k.limits) 0 0 whole (on_aut (f h.0) (store_in y)) (store_in x) (store_in y) x.scratch.now y.scratch.now
+      g1 = next W 0 0 E.post (all_of 0 0) (λ e. on_aut (f e)) g0
 
-    module _ {r2 : Made} {t2 s2 : List ℕ} (S : Relates N (task_of N task.Star h.0 h.0) (table t1 n) r2 t2 s1 s2) where
-      star_is : (tr : List ℕ) → on_aut (epsilon N a >>= λ e. on_nodes (Rel.star N e) >>= quit) (store_of t st mem tr c)
-          ≡ placed put_aut (store_of t st mem tr c) (after (placed put_nodes (aut_of t1 st1 mem (with_nodes c n)) (Spp.seen_made r2 t2)) quit)
-      star_is tr =
-          ap (λ (o : Outcome Aut ℕ). placed put_aut (store_of t st mem tr c) (after o (λ e τ. after (on_nodes (Rel.star N e) τ) quit))) made_is
-          ∙ ap (λ (o : Outcome Table ℕ). placed put_aut (store_of t st mem tr c) (after (placed put_nodes (aut_of t1 st1 mem (with_nodes c n)) o) quit)) S.gives
+  module _ {h : SPP} (D : Does N 0 0 aut_in (λ h. h.0) (epsilon N a) x (Ok h) y) (A : Later k a x (Ok h) y) where
+    pub epsilon_made : {V : Type 0} {v : V} → Enters k (epsilon_quit N a) x (Ok v) y
+    epsilon_made = record { post = done W 0 0 (g1 quit D A) tt }
 
-      pub no_star : r2 ≡ Full → {st' s' : List ℕ} → PostStar N l a entered.Full c t st mem s t2 st' s'
-      no_star p tr R = record { is = star_is tr ∙ ap (λ (r : Made). placed put_aut (store_of t st mem tr c) (after (placed put_nodes (aut_of t1 st1 mem (with_nodes c n)) (Spp.seen_made r t2)) quit)) p; then = tt }
+    pub relate_ready : Handles N y h.0 h.0
+    relate_ready = record { fields = K.spp.fields ∙ R.store.fields; backed = backed_of A.ready; at_a = A.law.found.means.den.at; at_b = A.law.found.means.den.at }
 
-      pub star_made : {g : SPP} {m : ℕ} → r2 ≡ Node g m → length s2 ≡ length s1 → PostStar N l a (entered.Nodes m) c t st mem s t2 st1 s2
-      star_made {g} {m} p len tr R =
-          let v = (epsilon_given t st mem tr c E R q).then in
-          let A = after_it R.ready in
-          let G : WfAut N _ (aut_of t1 st1 mem (with_nodes c n)) = A.ready.good in
-          let w = (aut_given t1 st1 mem tr (with_nodes c n) (on_nodes (Rel.star N h.0)) v.ready
-          (relation_given st1 mem (with_nodes c n) S p A.ready (nodes_goes G (star_makes G.nodes A.law.found.means.den)) len)).then in
-          record {
-            is = star_is tr ∙ ap (λ (r : Made). placed put_aut (store_of t st mem tr c) (after (placed put_nodes (aut_of t1 st1 mem (with_nodes c n)) (Spp.seen_made r t2)) quit)) p;
-            then = record {
-              ext = went_trans v.ext w.ext;
-              beside = refl;
-              frame = left_trans w.ext.grown.nodes v.frame w.frame;
-              ready = w.ready;
-              holds = tt;
-            };
-          }
+    abbrev then_star : ℕ → Step Aut Unit
+    then_star e = on_nodes (Rel.star N e) >>= quit
+
+    S1 : StoreAsked k y
+    S1 = store_after R.store K.spp (E then_star D A)
+
+    g2 : Stage (tables_layer N k.limits) 0 0 (star_quit N a (store_in x)) (after (on_aut (on_nodes (Rel.star N h.0)) (store_in y)) (λ g. on_aut (quit g))) (store_in x) (store_in y) x.scratch.now y.scratch.now
+    g2 = instead W 0 0 (g1 then_star D A) (then_on (on_nodes (Rel.star N h.0) (aut_in y)) quit (store_in y))
+
+    module _ {z : Lent} (L : KeepsExprs y z) {r : Result SPP Refusal} (S : Does N 0 0 nodes_in (λ h. h.0) (task_of N task.Star h.0 h.0) y r z) where
+      abbrev Starred : Result SPP Refusal → Type 0
+      Starred r = GoesStore k 0 0 (λ τ e. Denotes τ.aut.nodes N e (closure A.law.found.means.relation)) (λ (h : SPP). h.0) (on_aut (on_nodes (Rel.star N h.0))) y r z
+
+      starred : Starred r
+      starred = aut_goes S1 (keeps_exprs L) (on_nodes (Rel.star N h.0)) (related (asked_of S1) L (nodes_goes A.ready.good (star_makes A.ready.good.nodes A.law.found.means.den)) S)
+
+      pub no_star : {e : Refusal} {V : Type 0} {q : Result V Refusal} {u : Lent} → q ≡ Err e → r ≡ Err e → Enters k (star_quit N a) x q u
+      no_star {e} {V} q p =
+          refused_goes q (stuck W 0 0 {see' = λ (v : V). tt} {Q = λ τ u. Unit} {υ' = store_in x} {z = x.scratch.now} (subst (λ (r : Result SPP Refusal). Starred r) p starred).post (λ g. on_aut (quit g)) g2).is
+
+      pub star_made : {g : SPP} {V : Type 0} {v : V} → r ≡ Ok g → Enters k (star_quit N a) x (Ok v) z
+      star_made p = record { post = done W 0 0 (next W 0 0 (subst (λ (r : Result SPP Refusal). Starred r) p starred).post (all_of 0 0) (λ g. on_aut (quit g)) g2) tt }
 
 -- ---- by kind
 
@@ -115,43 +101,62 @@ other_kind : (N k a : ℕ) → (k ≡ SEQUENCE → ⊥) → (k ≡ STAR → ⊥)
 unfolding enter_with
 other_kind N k a n m σ = simp (ne_eqb k SEQUENCE n, ne_eqb k STAR m)
 
-module _ (N : ℕ) (l : Limits) (x : ℕ) (c : Counts) (t st mem s : List ℕ) where
-  abbrev a : ℕ
-  a = get_or st (12 * x + 1) 0
+enter_kind : (N : ℕ) (x : Lent) (i : ℕ) {q : ℕ} → kind_of x.states.words.now i ≡ q → enter N i (store_in x) ≡ on_aut (enter_with N q (op1 x.states.words.now i)) (store_in x)
+enter_kind N x i e = ap (λ (q : ℕ). on_aut (enter_with N q (op1 x.states.words.now i)) (store_in x)) e
 
-  enter_kind : (k : ℕ) → get_or st (12 * x + 0) 0 ≡ k → (tr : List ℕ) → enter N x (store_of t st mem tr c) ≡ on_aut (enter_with N k a) (store_of t st mem tr c)
-  unfolding op1
-  enter_kind k e tr = ap (λ (k : ℕ). on_aut (enter_with N k a) (store_of t st mem tr c)) (sym (kind_word st x) ∙ e)
+module _ {k : Config} {x : Lent} (i : ℕ) where
+  module _ {y : Lent} {V : Type 0} {r : Result V Refusal} where
+    pub in_sequence : kind_of x.states.words.now i ≡ SEQUENCE → Enters k (epsilon_quit k.fields (op1 x.states.words.now i)) x r y → Enters k (enter k.fields i) x r y
+    unfolding enter_with
+    in_sequence e g = step_goes (enter_kind k.fields x i e) g
 
-  -- by what is done
-  entered_by : (o : Step Store Unit) (r : Entered) {t1 st1 s1 : List ℕ} → ((tr : List ℕ) → enter N x (store_of t st mem tr c) ≡ o (store_of t st mem tr c)) → Enters N l o r c t st mem s t1 st1 s1 → PostEnter N l x r c t st mem s t1 st1 s1
-  entered_by o r e p tr R = let v = p tr R in record { is = e tr ∙ v.is; then = v.then }
+    pub in_star : kind_of x.states.words.now i ≡ STAR → Enters k (star_quit k.fields (op1 x.states.words.now i)) x r y → Enters k (enter k.fields i) x r y
+    unfolding enter_with
+    in_star e g = step_goes (enter_kind k.fields x i e) g
 
-  pub in_sequence : get_or st (12 * x + 0) 0 ≡ SEQUENCE → (r : Entered) {t1 st1 s1 : List ℕ} → PostEpsilon N l a r c t st mem s t1 st1 s1 → PostEnter N l x r c t st mem s t1 st1 s1
-  unfolding enter_with
-  in_sequence e r p = entered_by (on_aut (epsilon N a >>= quit)) r (enter_kind SEQUENCE e) p
+module _ {k : Config} {x : Lent} {i : ℕ} (R : EnterAsked k x i) where
+  pub in_other : {V : Type 0} {v : V} → (kind_of x.states.words.now i ≡ SEQUENCE → ⊥) → (kind_of x.states.words.now i ≡ STAR → ⊥) → Enters k (enter k.fields i) x (Ok v) x
+  in_other n7 n8 = nothing R.store (other_kind k.fields (kind_of x.states.words.now i) (op1 x.states.words.now i) n7 n8 (store_in x))
 
-  pub in_star : get_or st (12 * x + 0) 0 ≡ STAR → (r : Entered) {t1 st1 s1 : List ℕ} → PostStar N l a r c t st mem s t1 st1 s1 → PostEnter N l x r c t st mem s t1 st1 s1
-  unfolding enter_with
-  in_star e r p = entered_by (on_aut (epsilon N a >>= λ e. on_nodes (Rel.star N e) >>= quit)) r (enter_kind STAR e) p
+  pub sequence_ready : kind_of x.states.words.now i ≡ SEQUENCE → EnterAsked k x (op1 x.states.words.now i)
+  unfolding form
+  sequence_ready e = record { store = R.store; has = (below_two R.store.prepared.ready.good R.has SEQUENCE e sequence refl).0.state }
 
-  pub in_other : (get_or st (12 * x + 0) 0 ≡ SEQUENCE → ⊥) → (get_or st (12 * x + 0) 0 ≡ STAR → ⊥) → PostEnter N l x (entered.Nodes c.spp) c t st mem s t st s
-  in_other n7 n8 = nothing (enter N x) (λ tr. enter_kind (get_or st (12 * x + 0) 0) refl tr ∙ other_kind N (get_or st (12 * x + 0) 0) a n7 n8 (store_of t st mem tr c))
+  pub star_ready : kind_of x.states.words.now i ≡ STAR → EnterAsked k x (op1 x.states.words.now i)
+  unfolding form
+  star_ready e = record { store = R.store; has = (below_one R.store.prepared.ready.good R.has STAR e star refl).state }
 
-  module _ (R : PreEnter N l (aut_of t st mem c) s x) where
-    pub sequence_ready : get_or st (12 * x + 0) 0 ≡ SEQUENCE → PreEnter N l (aut_of t st mem c) s a
-    unfolding form op1
-    sequence_ready e = record { ready = R.ready; epsilons = R.epsilons; has = (below_two R.ready.good R.has SEQUENCE (sym (kind_word st x) ∙ e) sequence refl).0.state }
+  -- with its first operand in a variable
+  module _ {a : ℕ} (is : a ≡ op1 x.states.words.now i) where
+    module _ (e : kind_of x.states.words.now i ≡ SEQUENCE) where
+      ready : EnterAsked k x a
+      ready = subst (EnterAsked k x) (sym is) (sequence_ready e)
 
-    pub star_ready : get_or st (12 * x + 0) 0 ≡ STAR → PreEnter N l (aut_of t st mem c) s a
-    unfolding form op1
-    star_ready e = record { ready = R.ready; epsilons = R.epsilons; has = (below_one R.ready.good R.has STAR (sym (kind_word st x) ∙ e) star refl).state }
+      pub first_ready : EpsilonAsked k x a
+      first_ready = record { asked = asked_of ready.store; epsilons = ready.store.prepared.worked.epsilons; has = ready.has }
+
+      as_enter : {y : Lent} {V : Type 0} {r : Result V Refusal} → Enters k (epsilon_quit k.fields a) x r y → Enters k (enter k.fields i) x r y
+      as_enter {y} {r = r} g = in_sequence i e (subst (λ (a : ℕ). Enters k (epsilon_quit k.fields a) x r y) is g)
+
+      module _ {y : Lent} (K : Keeps x y) where
+        pub first_stuck : {q : Refusal} {V : Type 0} {r : Result V Refusal} {z : Lent} → r ≡ Err q → Does k.fields 0 0 {V = SPP} aut_in (λ h. h.0) (epsilon k.fields a) x (Err q) y → Enters k (enter k.fields i) x r z
+        first_stuck p D = as_enter (no_epsilon ready K quit p D)
+
+        pub first_made : {h : SPP} {V : Type 0} {v : V} → Does k.fields 0 0 aut_in (λ h. h.0) (epsilon k.fields a) x (Ok h) y → Later k a x (Ok h) y → Enters k (enter k.fields i) x (Ok v) y
+        first_made D A = as_enter (epsilon_made ready K D A)
+
+    module _ (e : kind_of x.states.words.now i ≡ STAR) where
+      pub star_first : EnterAsked k x a
+      star_first = subst (EnterAsked k x) (sym is) (star_ready e)
+
+      pub first_starred : {y : Lent} {V : Type 0} {r : Result V Refusal} → Enters k (star_quit k.fields a) x r y → Enters k (enter k.fields i) x r y
+      first_starred {y} {r = r} g = in_star i e (subst (λ (a : ℕ). Enters k (star_quit k.fields a) x r y) is g)
 
 -- ---- unless it was done before
 
-module _ (N : ℕ) (l : Limits) (x i k : ℕ) (c : Counts) (t st mem s : List ℕ) where
-  pub new_done : i < k → PostNew N l x i k (entered.Nodes c.spp) c t st mem s t st s
-  new_done m = nothing (unless (ltb i k) (enter N x)) (λ tr. ap (λ (b : Bool). unless b (enter N x) (store_of t st mem tr c)) (lt-ltb i k m))
+module _ {k : Config} {x : Lent} (i n e : ℕ) {V : Type 0} where
+  pub new_done : {v : V} → StoreAsked k x → n < e → Enters k (unless_entered k.fields i n e) x (Ok v) x
+  new_done R m = nothing R (ap (λ (b : Bool). unless b (enter k.fields i) (store_in x)) (lt-ltb n e m))
 
-  pub new_enters : k ≤ i → (r : Entered) {t1 st1 s1 : List ℕ} → PostEnter N l x r c t st mem s t1 st1 s1 → PostNew N l x i k r c t st mem s t1 st1 s1
-  new_enters m r p tr R = let v = p tr R in record { is = ap (λ (b : Bool). unless b (enter N x) (store_of t st mem tr c)) (le-ltb i k m) ∙ v.is; then = v.then }
+  pub new_enters : {y : Lent} {r : Result V Refusal} → e ≤ n → Enters k (enter k.fields i) x r y → Enters k (unless_entered k.fields i n e) x r y
+  new_enters m g = step_goes (ap (λ (b : Bool). unless b (enter k.fields i) (store_in x)) (le-ltb n e m)) g

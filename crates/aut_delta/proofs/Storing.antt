@@ -1,5 +1,5 @@
 -- finish: a state of which all operands have their lists is entered, its list put together and stored.
-use Rattle.std.specs.Prelude.{if◌then◌else◌}
+use Rattle.std.specs.Prelude.{if◌then◌else◌, Result, Ok, Err}
 use mathlib.Core.Path.{◌≡◌, refl, sym, ◌∙◌, ap, subst}
 use mathlib.Core.Bool.{Bool, true, false}
 use mathlib.Core.List.{List, [], ◌∷◌}
@@ -31,31 +31,26 @@ use Rattle.aut_delta_steps.specs.DeltaReads.{list_operands, enter}
 use Rattle.aut_delta_steps.proofs.DeltaReads.{together, finish_list, list_operands_below, delta_stored, delta_works}
 use Rattle.aut_delta_steps.specs.DeltaDown.{Has}
 use Rattle.aut_delta_steps.proofs.DeltaDown.{Entered, enter_gives, enter_count, enter_went, same_list_operands}
+use Rattle.refusal.specs.declared.Refusal.{Refusal}
+use Rattle.refusal.specs.Numbers.{outcome}
 use Rattle.aut_states.specs.Clauses.{limits_of}
-use Rattle.aut_states.specs.declared.Counts.{Counts}
-use Rattle.aut_states.specs.declared.Limits.{Limits as Bounds}
+use Rattle.aut_states.specs.declared.Config.{Config}
 use Rattle.aut_relations.specs.Behind.{Modifies}
-use Rattle.aut_relations.specs.Clauses.{aut_of}
+use Rattle.aut_relations.specs.declared.Aut.{Aut as Lent}
+use Rattle.aut_relations.specs.Lent.{Keeps}
 use Rattle.aut_relations.proofs.Order.{in_table}
-use Rattle.aut_stage.specs.Stage.{gave, Post, Stage}
-use Rattle.aut_stage.proofs.Stage.{all_of, begin, instead, next, stuck}
-use Rattle.aut_stage.proofs.OnAut.{aut_layer, ready_left}
-use Rattle.aut_stage.specs.OnNodes.{with_nodes}
+use Rattle.aut_stage.specs.Rule.{Laws, Stage}
+use Rattle.aut_stage.proofs.Rule.{all_of, begin, instead, next}
+use Rattle.aut_stage.specs.OnLent.{Goes}
+use Rattle.aut_stage.proofs.OnAut.{ready_left}
 use Rattle.aut_st_insert.specs.Clauses.{RESULT}
-use Rattle.aut_st_insert.specs.declared.Listed.{Listed}
-use Rattle.aut_st_insert.specs.declared.Listed.TheVariants as listed
-use Rattle.aut_st_stage.specs.Readings.{list_of, GivesList}
-use Rattle.aut_delta_stage.specs.OnStore.{store_of, store_layer}
-use Rattle.aut_delta_stage.proofs.OnStore.{aut_given, aut_refused}
-use Rattle.aut_delta_kinds.specs.Clauses.{PreTogether, together_of}
-use Rattle.aut_delta_keep.specs.Clauses.{PreKeep, seen_kept, SameSets, PostKeep}
-use Rattle.aut_delta_keep.specs.declared.Kept.{Kept}
-use Rattle.aut_delta_keep.specs.declared.Kept.TheVariants as kept
-use Rattle.aut_delta.specs.declared.Entered as Entering
-use Rattle.aut_delta.specs.declared.Entered.TheVariants as entered
-use Rattle.aut_delta.specs.declared.Worked.TheVariants as worked
-use Rattle.aut_delta.specs.Clauses.{PostDelta}
-use Rattle.aut_delta.specs.Readings.{nodes_of, PostEnter, PreFinish}
+use Rattle.aut_delta_stage.specs.OnStore.{Prepared}
+use Rattle.aut_delta_stage.specs.OnTables.{store_in, StoreAsked, tables_layer, GoesStore}
+use Rattle.aut_delta_stage.proofs.OnTables.{tables_laws, store_after, refused_goes, step_goes, aut_goes}
+use Rattle.aut_delta_kinds.specs.Clauses.{TogetherAsked, together_of}
+use Rattle.aut_delta_keep.specs.Clauses.{KeepAsked, KeepsOthers}
+use Rattle.aut_delta.specs.Clauses.{Deltas}
+use Rattle.aut_delta.specs.Readings.{EnterAsked, Enters, FinishAsked}
 
 -- nothing is worked out of lists that are stored
 work_has : {N : ℕ} {L : Limits} {σ : Store} → WfStore N L σ → (ys : List ℕ) → All (λ y. y < states σ.aut) ys → All (Has σ) ys → work_all (delta N L) ys σ ≡ given σ tt
@@ -75,126 +70,130 @@ keep_nodes x es σ {τ} {fs} q = go (room_t σ.transitions (length es)) q
     go true p = ap (λ (υ : Store). υ.aut.nodes) (sym (given_store p))
     go false p = absurd (refused≢given p)
 
-module _ {N : ℕ} {l : Bounds} {x : ℕ} (c : Counts) {t st mem tr s : List ℕ} (F : PreFinish N l (store_of t st mem tr c) s x) where
+module _ {k : Config} {i : ℕ} {x : Lent} (F : FinishAsked k x i) where
+  abbrev N : ℕ
+  N = k.fields
+
   abbrev L : Limits
-  L = limits_of l
+  L = limits_of k.limits
 
   abbrev σ : Store
-  σ = store_of t st mem tr c
+  σ = store_in x
 
-  W : WfStore N L σ
-  W = F.prepared.worked
+  W : Laws (tables_layer N k.limits)
+  W = tables_laws N k.limits
+
+  V : WfStore N L σ
+  V = F.store.prepared.worked
 
   abbrev whole : Outcome Store (List Edge)
-  whole = delta N L x σ
+  whole = delta N L i σ
 
-  g0 : Stage (store_layer N l) 0 1088 whole (after (enter N x σ) (λ u. finish_list N L (list_operands σ x) x)) σ σ c c s s
-  g0 = begin (store_layer N l) 0 1088 F.prepared (delta_works W F.has F.not_yet)
+  g0 : Stage (tables_layer N k.limits) 0 1088 whole (after (enter N i σ) (λ u. finish_list N L (list_operands σ i) i)) σ σ x.scratch.now x.scratch.now
+  g0 = begin W 0 1088 F.store.prepared (delta_works V F.has F.not_yet)
 
-  module _ {r : Entering.Entered} {t1 st1 s1 : List ℕ} (E : PostEnter N l x r c t st mem s t1 st1 s1) where
-    entered_as : {q : Entering.Entered} → r ≡ q → Post (store_layer N l) 0 0 (λ τ u. Unit) (enter N x σ) σ c (nodes_of c q) (store_of t1 st1 mem tr) s s1
-    entered_as e = subst (λ (r : Entering.Entered). Post (store_layer N l) 0 0 (λ τ u. Unit) (enter N x σ) σ c (nodes_of c r) (store_of t1 st1 mem tr) s s1) e (E tr F.prepared)
+  pub enter_ready : EnterAsked k x i
+  enter_ready = record { store = F.store; has = F.has }
 
-    pub no_node : r ≡ entered.Full → {at : Counts → Store} {s' : List ℕ} → PostDelta N l x σ c (worked.Refused 21) at s s'
-    no_node q = stuck (store_layer N l) 0 1088 (entered_as q).is (λ u. finish_list N L (list_operands σ x) x) g0
+  pub no_node : {e : Refusal} {r : Result (Unit {0}) Refusal} {y z : Lent} → r ≡ Err e → Enters {V = Unit {0}} k (enter N i) x (Err e) y → Deltas k i x r z
+  no_node q P = refused_goes q (g0.is ∙ ap (λ (o : Outcome Store Unit). after o (λ u. finish_list N L (list_operands σ i) i)) P.post.is)
 
-    module _ {n : ℕ} (q : r ≡ entered.Nodes n) where
-      abbrev d1 : Counts
-      d1 = with_nodes c n
+  module _ {y1 : Lent} (P1 : Enters k (enter N i) x (Ok (tt {0})) y1) (K1 : Keeps x y1) where
+    abbrev τ1 : Store
+    τ1 = store_in y1
 
-      abbrev τ1 : Store
-      τ1 = store_of t1 st1 mem tr d1
+    I : Entered N L σ i τ1
+    I = enter_gives V F.has P1.post.is
 
-      P1 : Post (store_layer N l) 0 0 (λ τ u. Unit) (enter N x σ) σ c (gave d1 tt) (store_of t1 st1 mem tr) s s1
-      P1 = entered_as q
+    S1 : StoreAsked k y1
+    S1 = store_after F.store K1.spp P1
 
-      I : Entered N L σ x τ1
-      I = enter_gives W F.has P1.is
+    W1 : WfStore N L τ1
+    W1 = S1.prepared.worked
 
-      W1 : WfStore N L τ1
-      W1 = P1.then.ready.worked
+    same : list_operands τ1 i ≡ list_operands σ i
+    same = same_list_operands V (enter_went I) F.has
 
-      same : list_operands τ1 x ≡ list_operands σ x
-      same = same_list_operands W (enter_went I) F.has
+    has1 : i < states τ1.aut
+    has1 = state_grown (enter_went I).grown F.has
 
-      has1 : x < states τ1.aut
-      has1 = state_grown (enter_went I).grown F.has
+    lists1 : All (Has τ1) (list_operands σ i)
+    lists1 = all_map (list_operands σ i) (λ y h. omega (arith, enter_count I y)) F.lists
 
-      lists1 : All (Has τ1) (list_operands σ x)
-      lists1 = all_map (list_operands σ x) (λ y h. omega (arith, enter_count I y)) F.lists
-
-      pub together_ready : PreTogether N l τ1 s1 x
-      together_ready = record {
-        prepared = P1.then.ready;
+    pub together_ready : TogetherAsked k y1 i
+    together_ready = record {
+      fields = S1.fields;
+      ready = record {
+        prepared = S1.prepared;
         limit = F.limit;
         has = has1;
         lists = subst (All (Has τ1)) (sym same) lists1;
         known = λ a b.
-            let k = kind_grown (enter_went I).grown x F.has in
-            subst (Known τ1.aut.states.words) (sym (first_grown (enter_went I).grown x F.has)) (I.known (omega (arith, k)) (omega (arith, k)));
-      }
+            let j = kind_grown (enter_went I).grown i F.has in
+            subst (Known τ1.aut.states.words) (sym (first_grown (enter_went I).grown i F.has)) (I.known (omega (arith, j)) (omega (arith, j)));
+      };
+    }
 
-      all_there : work_all (delta N L) (list_operands σ x) τ1 ≡ given τ1 tt
-      all_there = work_has W1 (list_operands σ x) (subst (All (λ y. y < states τ1.aut)) same (all_map (list_operands τ1 x) (λ y b. b.state) (list_operands_below W1 has1))) lists1
+    all_there : work_all (delta N L) (list_operands σ i) τ1 ≡ given τ1 tt
+    all_there = work_has W1 (list_operands σ i) (subst (All (λ y. y < states τ1.aut)) same (all_map (list_operands τ1 i) (λ y b. b.state) (list_operands_below W1 has1))) lists1
 
-      g2 : Stage (store_layer N l) 0 1088 whole (after (together N L x τ1) (keep_list x)) σ τ1 c d1 s s1
-      g2 =
-          instead (store_layer N l) 0 1088
-          (next (store_layer N l) 0 1088 P1 (record { from = omega arith; to = omega arith }) (λ u. finish_list N L (list_operands σ x) x) g0)
-          (ap (λ (o : Outcome Store Unit). after o (λ u υ. after (together N L x υ) (keep_list x))) all_there)
+    g2 : Stage (tables_layer N k.limits) 0 1088 whole (after (together N L i τ1) (keep_list i)) σ τ1 x.scratch.now y1.scratch.now
+    g2 =
+        instead W 0 1088
+        (next W 0 1088 P1.post (record { from = omega arith; to = omega arith }) (λ u. finish_list N L (list_operands σ i) i) g0)
+        (ap (λ (o : Outcome Store Unit). after o (λ u υ. after (together N L i υ) (keep_list i))) all_there)
 
-      module _ {r2 : Listed} {t2 st2 mem2 s2 : List ℕ} (T : GivesList N l 0 1088 (together_of N l τ1 x) (aut_of t1 st1 mem d1) d1 r2 (aut_of t2 st2 mem2) s1 s2) where
-        list_as : {q : Listed} → r2 ≡ q → Post (aut_layer N l) 0 1088 (ListAt N L) (together_of N l τ1 x (aut_of t1 st1 mem d1)) (aut_of t1 st1 mem d1) d1 (list_of q s2) (aut_of t2 st2 mem2) s1 s2
-        list_as e = subst (λ (r : Listed). Post (aut_layer N l) 0 1088 (ListAt N L) (together_of N l τ1 x (aut_of t1 st1 mem d1)) (aut_of t1 st1 mem d1) d1 (list_of r s2) (aut_of t2 st2 mem2) s1 s2) e T
+    module _ {y2 : Lent} (K2 : Keeps y1 y2) where
+      -- what `together` answers
+      abbrev Joins : Result ℕ Refusal → Type 0
+      Joins r = Goes k 0 1088 (ListAt N L) (λ m. edges y2.scratch.now RESULT m) (together_of N k.limits τ1 i) y1 r y2
 
-        pub no_list : {e : ℕ} → r2 ≡ listed.Refused e → {at : Counts → Store} {s' : List ℕ} → PostDelta N l x σ c (worked.Refused e) at s s'
-        no_list p = stuck (store_layer N l) 0 1088 (aut_refused t1 st1 mem tr d1 (together_of N l τ1 x) (list_as p).is) (keep_list x) g2
+      joined : {r : Result ℕ Refusal} → Joins r → GoesStore k 0 1088 (λ τ. ListAt N L τ.aut) (λ m. edges y2.scratch.now RESULT m) (together N L i) y1 r y2
+      joined T = step_goes refl (aut_goes S1 K2 (together_of N k.limits τ1 i) T)
 
-        module _ {d2 : Counts} {m : ℕ} (p : r2 ≡ listed.List d2 m) where
-          abbrev es : List Edge
-          es = edges s2 RESULT m
+      pub no_list : {e : Refusal} {r : Result (Unit {0}) Refusal} {z : Lent} → r ≡ Err e → Joins (Err e) → Deltas k i x r z
+      no_list q T = refused_goes q (g2.is ∙ ap (λ (o : Outcome Store (List Edge)). after o (keep_list i)) (joined T).post.is)
 
-          abbrev τ2 : Store
-          τ2 = store_of t2 st2 mem2 tr d2
+      module _ {m : ℕ} (T : Joins (Ok m)) where
+        abbrev es : List Edge
+        es = edges y2.scratch.now RESULT m
 
-          P2 : Post (store_layer N l) 0 1088 (λ τ y. ListAt N L τ.aut y) (together N L x τ1) τ1 d1 (gave d2 es) (store_of t2 st2 mem2 tr) s1 s2
-          P2 = aut_given t1 st1 mem tr d1 (together_of N l τ1 x) P1.then.ready (list_as p)
+        abbrev τ2 : Store
+        τ2 = store_in y2
 
-          g3 : Stage (store_layer N l) 0 1088 whole (keep_list x es τ2) σ τ2 c d2 s s2
-          g3 = next (store_layer N l) 0 1088 P2 (all_of 0 1088) (keep_list x) g2
+        g3 : Stage (tables_layer N k.limits) 0 1088 whole (keep_list i es τ2) σ τ2 x.scratch.now y2.scratch.now
+        g3 = next W 0 1088 (joined T).post (all_of 0 1088) (keep_list i) g2
 
-          pub keep_ready : PreKeep tr st2 s2 d2 x m
-          keep_ready = record {
-            state = in_table P2.then.ready.ready.good (state_grown P2.then.ext.grown has1);
-            fit = P2.then.ready.worked.lists.fit;
-            inside = omega (arith, P2.then.ready.ready.room, P2.then.holds.short, edges_length s2 RESULT m, F.limit);
-          }
+        pub keep_ready : KeepAsked y2 i m
+        keep_ready =
+            let c = (joined T).post.then in
+            record {
+              state = in_table c.ready.ready.good (state_grown c.ext.grown has1);
+              fit = c.ready.worked.lists.fit;
+              inside = omega (arith, c.ready.ready.room, c.holds.short, edges_length y2.scratch.now RESULT m, F.limit);
+            }
 
-          module _ {r3 : Kept} (st3 tr3 : List ℕ) (K : PostKeep x m d2 r3 st2 tr s2 st3 tr3) where
-            kept_is : {q : Kept} → r3 ≡ q → whole ≡ seen_kept q es t2 st3 mem2 tr3
-            kept_is e = g3.is ∙ K.is t2 mem2 ∙ ap (λ (r : Kept). seen_kept r es t2 st3 mem2 tr3) e
+        module _ {y3 : Lent} (K3 : KeepsOthers y2 y3) where
+          abbrev τ3 : Store
+          τ3 = store_in y3
 
-            pub no_room : {e : ℕ} → r3 ≡ kept.Refused e → {at : Counts → Store} {s' : List ℕ} → PostDelta N l x σ c (worked.Refused e) at s s'
-            no_room z = record { is = kept_is z; then = tt }
-
-            module _ {f : Counts} (z : r3 ≡ kept.Done f) (len : length s2 ≡ length s) where
-              abbrev τ3 : Store
-              τ3 = store_of t2 st3 mem2 tr3 f
-
-              D : Deltaed N L x σ τ3 es
-              D = agree_came (subst (λ o. Agree (Halted N L σ) (Deltaed N L x σ) o whole) (kept_is z) (delta_goes W F.has))
-
-              frame : Modifies N 0 1088 τ3.aut.nodes s s2
-              frame = subst (λ (t : Table). Modifies N 0 1088 t s s2) (sym (keep_nodes x es τ2 (K.is t2 mem2 ∙ ap (λ (r : Kept). seen_kept r es t2 st3 mem2 tr3) z))) g3.frame
-
-              pub stored : PostDelta N l x σ c (worked.Done f) (store_of t2 st3 mem2 tr3) s s2
-              stored = record {
-                is = kept_is z ∙ ap (λ (es : List Edge). given τ3 es) (sym D.stored.reads);
-                then = record {
-                  ext = D.listed.went;
-                  beside = subst (SameSets d2) z K.sets ∙ g3.beside;
-                  frame = frame;
-                  ready = record { ready = ready_left N l 0 1088 σ.aut τ3.aut s s2 D.listed.went.grown D.listed.worked.good len frame F.prepared.ready; worked = D.listed.worked };
-                  holds = record { marked = D.stored.marked; reads = refl };
+          pub stored : (r : Result (Unit {0}) Refusal) → keep_list i es τ2 ≡ outcome (λ u. es) r τ3 → Deltas k i x r y3
+          stored (Err e) q = record { post = record { is = g3.is ∙ q; then = tt } }
+          stored (Ok u) q =
+              let D : Deltaed N L i σ τ3 es = agree_came (subst (λ o. Agree (Halted N L σ) (Deltaed N L i σ) o whole) (g3.is ∙ q) (delta_goes V F.has)) in
+              let at : y2.scratch.now ≡ y3.scratch.now = sym (ap (λ s. s.now) K3.scratch) in
+              let frame : Modifies N 0 1088 τ3.aut.nodes x.scratch.now y2.scratch.now = subst (λ (t : Table). Modifies N 0 1088 t x.scratch.now y2.scratch.now) (sym (keep_nodes i es τ2 q)) g3.frame in
+              record {
+                post = record {
+                  is = g3.is ∙ q ∙ ap (λ (es : List Edge). given τ3 es) (sym D.stored.reads);
+                  then = record {
+                    ext = D.listed.went;
+                    frame = subst (λ (s : List ℕ). Modifies N 0 1088 τ3.aut.nodes x.scratch.now s) at frame;
+                    ready = subst (λ (s : List ℕ). Prepared N k.limits τ3 s) at (record {
+                      ready = ready_left N k.limits 0 1088 σ.aut τ3.aut x.scratch.now y2.scratch.now D.listed.went.grown D.listed.worked.good (K2.length ∙ K1.length) frame F.store.prepared.ready;
+                      worked = D.listed.worked;
+                    });
+                    holds = record { marked = D.stored.marked; reads = refl };
+                  };
                 };
               }

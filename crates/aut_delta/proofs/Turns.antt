@@ -9,9 +9,9 @@ use Rattle.aut_steps.specs.Tables.{nest, Limits}
 use Rattle.aut_steps.specs.Ascending.{All}
 use Rattle.aut_steps.specs.Wf.{states, nesting}
 use Rattle.aut_steps.proofs.Wf.{nesting_grown, state_grown}
-use Rattle.aut_delta_steps.specs.Delta.{count_of, Store, delta}
+use Rattle.aut_delta_steps.specs.Delta.{count_of, Store, list_at, delta}
 use Rattle.aut_delta_steps.proofs.Operands.{Below}
-use Rattle.aut_delta_steps.specs.Wf.{WfStore, Stored}
+use Rattle.aut_delta_steps.specs.Wf.{WfStore}
 use Rattle.aut_delta_steps.specs.Extends.{ExtStore}
 use Rattle.aut_delta_steps.proofs.EpsilonReads.{given_store}
 use Rattle.aut_delta_steps.specs.EpsilonDown.{First}
@@ -20,21 +20,24 @@ use Rattle.aut_delta_steps.specs.DeltaReads.{list_operands}
 use Rattle.aut_delta_steps.proofs.DeltaReads.{list_operands_below, delta_stored}
 use Rattle.aut_delta_steps.specs.DeltaDown.{Has, HasNot, ListWay, bottom, down, enters}
 use Rattle.aut_delta_steps.proofs.DeltaDown.{same_list_operands, list_way_state, delta_down, enters_rest, has_more}
+use Rattle.std.specs.Prelude.{Result, Ok, Err}
+use Rattle.netkat_steps.specs.ListSteps.{Edge}
+use Rattle.refusal.specs.declared.Refusal.{Refusal}
+use Rattle.spp.specs.Clauses.{SameStore}
 use Rattle.aut_states.specs.Clauses.{limits_of}
-use Rattle.aut_states.specs.declared.Counts.{Counts}
-use Rattle.aut_states.specs.declared.Limits.{Limits as Bounds}
+use Rattle.aut_states.specs.declared.Config.{Config}
+use Rattle.aut_relations.specs.declared.Aut.{Aut as Lent}
+use Rattle.aut_relations.specs.declared.Transitions.{Transitions}
+use Rattle.aut_relations.specs.Lent.{Keeps}
 use Rattle.aut_relations.proofs.Order.{in_table}
-use Rattle.aut_stage.proofs.Stage as Stages
-use Rattle.aut_stage.specs.Stage.{Post, Stage}
-use Rattle.aut_stage.proofs.Stage.{Inside, all_of, instead, next, stuck}
-use Rattle.aut_stage.specs.OnNodes.{with_nodes}
-use Rattle.aut_delta_stage.specs.OnStore.{store_of, store_layer}
-use Rattle.aut_delta.specs.declared.Down.{Down}
-use Rattle.aut_delta.specs.declared.Down.TheVariants as downs
-use Rattle.aut_delta.specs.declared.Worked as Working
-use Rattle.aut_delta.specs.declared.Worked.TheVariants as worked
-use Rattle.aut_delta.specs.Clauses.{PreDelta, listed_at, PostDelta}
-use Rattle.aut_delta.specs.Readings.{PreDescend, Ends, EndsFull, EndsBy, PostDescend, PreFinish}
+use Rattle.aut_stage.specs.Rule.{Laws, Stage}
+use Rattle.aut_stage.proofs.Rule as Rule
+use Rattle.aut_stage.proofs.Rule.{Inside, all_of, instead, next, finish, done}
+use Rattle.aut_st_insert.proofs.Kept.{same_trans, keeps_refl}
+use Rattle.aut_delta_stage.specs.OnTables.{store_in, KeepsStore, StoreAsked, tables_layer}
+use Rattle.aut_delta_stage.proofs.OnTables.{tables_laws, store_after, refused_goes}
+use Rattle.aut_delta.specs.Clauses.{DeltaAsked, Deltas}
+use Rattle.aut_delta.specs.Readings.{DescendAsked, EndsBy, FinishAsked}
 use Rattle.aut_delta.proofs.Ways.{none_left}
 
 -- ---- the end of a way
@@ -60,150 +63,177 @@ then_both : {A B C : Type 0} (o : Outcome Store A) (f : A → Step Store B) (g :
 then_both (refused number) f g = refl
 then_both (given τ a) f g = refl
 
+-- ---- what several calls keep together
+
+pub store_keeps : {x y : Lent} → Keeps x y → KeepsStore x y
+store_keeps K = record {
+  sp = K.sp;
+  spp = K.spp;
+  states = K.states;
+  members = K.members;
+  transitions = ap (λ (t : Transitions). t.words.ghost_name) K.transitions;
+  pending = K.pending;
+  scratch = K.scratch;
+  length = K.length;
+}
+
+pub store_trans : {x y z : Lent} → KeepsStore x y → KeepsStore y z → KeepsStore x z
+store_trans p q = record {
+  sp = q.sp ∙ p.sp;
+  spp = same_trans p.spp q.spp;
+  states = q.states ∙ p.states;
+  members = q.members ∙ p.members;
+  transitions = q.transitions ∙ p.transitions;
+  pending = q.pending ∙ p.pending;
+  scratch = q.scratch ∙ p.scratch;
+  length = q.length ∙ p.length;
+}
+
 -- ---- the loop
 
-module _ (N : ℕ) (l : Bounds) (x : ℕ) (c : Counts) (t₀ st₀ mem₀ tr₀ s₀ : List ℕ) where
-  -- the run has come to these tables, and k states of the way down are entered
-  pub record Turn (t st mem tr s : List ℕ) (d : Counts) (k : ℕ) : Type 0 where
-    pub len : length s ≡ length s₀
-    pub stage : Stage (store_layer N l) 0 1088 (delta N (limits_of l) x (store_of t₀ st₀ mem₀ tr₀ c)) (delta N (limits_of l) x (store_of t st mem tr d)) (store_of t₀ st₀ mem₀ tr₀ c) (store_of t st mem tr d) c d s₀ s
-    pub rest : (y : ℕ) (xs : List ℕ) → ListWay (store_of t st mem tr d) y xs x → enters N xs (store_of t st mem tr d) ≡ enters N (drop k xs) (store_of t st mem tr d)
+-- the run has come to the tables z, and e states of the way down are entered
+pub record Turn (k : Config) (i : ℕ) (x z : Lent) (e : ℕ) : Type 0 where
+  pub keeps : KeepsStore x z
+  pub stage : Stage (tables_layer k.fields k.limits) 0 1088 (delta k.fields (limits_of k.limits) i (store_in x)) (delta k.fields (limits_of k.limits) i (store_in z)) (store_in x) (store_in z) x.scratch.now z.scratch.now
+  pub rest : (y : ℕ) (ys : List ℕ) → ListWay (store_in z) y ys i → enters k.fields ys (store_in z) ≡ enters k.fields (drop e ys) (store_in z)
 
-module _ {N : ℕ} {l : Bounds} {x : ℕ} (c : Counts) {t₀ st₀ mem₀ tr₀ s₀ : List ℕ} (a : PreDelta N l (store_of t₀ st₀ mem₀ tr₀ c) s₀ x) where
+module _ {k : Config} {i : ℕ} {x : Lent} (A : DeltaAsked k x i) where
+  abbrev N : ℕ
+  N = k.fields
+
   abbrev L : Limits
-  L = limits_of l
+  L = limits_of k.limits
 
-  abbrev σ : Store
-  σ = store_of t₀ st₀ mem₀ tr₀ c
+  W : Laws (tables_layer N k.limits)
+  W = tables_laws N k.limits
 
-  pub begin : Turn N l x c t₀ st₀ mem₀ tr₀ s₀ t₀ st₀ mem₀ tr₀ s₀ c 0
-  begin = record { len = refl; stage = Stages.begin (store_layer N l) 0 1088 a.prepared refl; rest = λ y xs v. refl }
+  pub begin : Turn k i x x 0
+  begin = record {
+    keeps = store_keeps (keeps_refl x);
+    stage = Rule.begin W 0 1088 A.store.prepared refl;
+    rest = λ y ys v. refl;
+  }
 
-  module _ {t st mem tr s : List ℕ} {d : Counts} {k : ℕ} (v : Turn N l x c t₀ st₀ mem₀ tr₀ s₀ t st mem tr s d k) where
+  module _ {z : Lent} {e : ℕ} (v : Turn k i x z e) where
     abbrev τ : Store
-    τ = store_of t st mem tr d
+    τ = store_in z
 
-    W : WfStore N L τ
-    W = v.stage.ready.worked
+    V : WfStore N L τ
+    V = v.stage.ready.worked
 
-    has : x < states τ.aut
-    has = state_grown v.stage.ext.grown a.has
+    has : i < states τ.aut
+    has = state_grown v.stage.ext.grown A.has
 
-    pub look_ready : 12 * x + 11 < length st
-    look_ready = in_table W.good has
+    asked : StoreAsked k z
+    asked = record { fields = v.keeps.spp.fields ∙ A.store.fields; prepared = v.stage.ready }
+
+    pub look_ready : 12 * i + 11 < length z.states.words.now
+    look_ready = in_table V.good has
 
     -- the list is stored
-    pub listed : (get_or st (12 * x + 6) 0 ≡ 0 → ⊥) → PostDelta N l x σ c (worked.Done d) (store_of t st mem tr) s₀ s
+    pub listed : (get_or z.states.words.now (12 * i + 6) 0 ≡ 0 → ⊥) → Deltas k i x (Ok (tt {0})) z
     unfolding count_of
     listed q =
-        let h : Has τ x = omega arith in
-        Stages.done (store_layer N l) 0 1088 (store_of t st mem tr) (instead (store_layer N l) 0 1088 v.stage (delta_stored W has h)) (record { marked = h; reads = refl })
+        let h : Has τ i = omega arith in
+        record { post = done W 0 1088 {see = λ (u : Unit {0}). list_at τ i} (instead W 0 1088 v.stage (delta_stored V has h)) (record { marked = h; reads = refl }) }
 
-    pub descend_ready : get_or st (12 * x + 6) 0 ≡ 0 → PreDescend N l t st mem s d x
+    pub descend_ready : get_or z.states.words.now (12 * i + 6) 0 ≡ 0 → DescendAsked k z i
     unfolding count_of
-    descend_ready q = record { transitions = tr; prepared = v.stage.ready; has = has; not_yet = q }
+    descend_ready q = record { store = asked; has = has; not_yet = q }
 
-    module _ (r : Down) (t1 st1 s1 : List ℕ) (D : PostDescend N l x k r d t st mem s t1 st1 s1) where
-      pub full : r ≡ downs.Full → {at : Counts → Store} {s' : List ℕ} → PostDelta N l x σ c (worked.Refused 21) at s₀ s'
-      full q =
-          let e : EndsFull N x k τ = subst (λ (r : Down). EndsBy N l x k r τ d (store_of t1 st1 mem tr) s s1) q (D tr v.stage.ready) in
-          record {
-            is = v.stage.is ∙ sym (delta_down e.above W has e.way)
-                ∙ ap (λ (o : Outcome Store Unit). after (after o (λ u. delta N L e.end)) (λ es. delta N L x)) (v.rest e.end e.above e.way ∙ e.is);
-            then = tt;
-          }
+    module _ {z1 : Lent} where
+      pub full : {q : Refusal} {r : Result (Unit {0}) Refusal} → r ≡ Err q → EndsBy k i e z (Err q) z1 → Deltas k i x r z1
+      full c E =
+          refused_goes c
+          (v.stage.is ∙ sym (delta_down E.above V has E.way)
+          ∙ ap (λ (o : Outcome Store Unit). after (after o (λ u. delta N L E.end)) (λ es. delta N L i)) (v.rest E.end E.above E.way ∙ E.entered.post.is))
 
-      module _ {y i n : ℕ} (q : r ≡ downs.At y i n) where
-        E : Ends N l x k y i n τ d (store_of t1 st1 mem tr) s s1
-        E = subst (λ (r : Down). EndsBy N l x k r τ d (store_of t1 st1 mem tr) s s1) q (D tr v.stage.ready)
-
-        abbrev d1 : Counts
-        d1 = with_nodes d n
-
+      module _ {y n : ℕ} (E : EndsBy k i e z (Ok (y, n)) z1) where
         abbrev τ1 : Store
-        τ1 = store_of t1 st1 mem tr d1
+        τ1 = store_in z1
+
+        asked1 : SameStore z.spp z1.spp → StoreAsked k z1
+        asked1 K = store_after asked K E.entered
 
         within : Inside 0 1088 0 0
         within = record { from = omega arith; to = omega arith }
 
-        -- ---- all operands of x have their lists
+        -- ---- all operands of i have their lists
 
-        module _ (same : y ≡ x) where
-          here : (E.above ≡ []) × All (Has τ) (list_operands τ x)
-          here = go (end_of W has E.way)
+        module _ (same : y ≡ i) where
+          here : (E.above ≡ []) × All (Has τ) (list_operands τ i)
+          here = go (end_of V has E.way)
             where
-              go : EndOf τ y x E.above → (E.above ≡ []) × All (Has τ) (list_operands τ x)
-              go (itself e z h) = (z, h)
+              go : EndOf τ y i E.above → (E.above ≡ []) × All (Has τ) (list_operands τ i)
+              go (itself q s h) = (s, h)
               go (lower m) = absurd (omega (arith, ap (nesting τ.aut) same))
 
-          nothing : enters N (drop k E.above) τ ≡ given τ tt
-          nothing = ap (λ (xs : List ℕ). enters N (drop k xs) τ) here.0 ∙ none_left N k τ
+          nothing : enters N (drop e E.above) τ ≡ given τ tt
+          nothing = ap (λ (ys : List ℕ). enters N (drop e ys) τ) here.0 ∙ none_left N e τ
 
           stays : τ ≡ τ1
-          stays = given_store (sym nothing ∙ E.post.is)
+          stays = given_store (sym nothing ∙ E.entered.post.is)
 
-          pub finish_ready : get_or st (12 * x + 6) 0 ≡ 0 → PreFinish N l τ1 s1 x
+          pub finish_ready : Keeps z z1 → get_or z.states.words.now (12 * i + 6) 0 ≡ 0 → FinishAsked k z1 i
           unfolding count_of
-          finish_ready p = record {
-            prepared = E.post.then.ready;
-            limit = a.limit;
-            has = state_grown E.post.then.ext.grown has;
-            not_yet = subst (λ (υ : Store). HasNot υ x) stays p;
-            lists = subst (λ (υ : Store). All (Has υ) (list_operands υ x)) stays here.1;
+          finish_ready K p = record {
+            store = asked1 K.spp;
+            limit = A.limit;
+            has = state_grown E.entered.post.then.ext.grown has;
+            not_yet = subst (λ (υ : Store). HasNot υ i) stays p;
+            lists = subst (λ (υ : Store). All (Has υ) (list_operands υ i)) stays here.1;
           }
 
-          pub finished : (z : Working.Worked) {at : Counts → Store} {s2 : List ℕ} → PostDelta N l x τ1 d1 z at s1 s2 → PostDelta N l x σ c z at s₀ s2
-          finished z {at} P =
-              Stages.finish (store_layer N l) 0 1088
-              (next (store_layer N l) 0 1088 E.post within (λ u. delta N L x) (instead (store_layer N l) 0 1088 v.stage (sym (ap (λ (o : Outcome Store Unit). after o (λ u. delta N L x)) nothing))))
-              (listed_at x z at) P (all_of 0 1088)
+          pub finished : {r : Result (Unit {0}) Refusal} {z2 : Lent} → Deltas k i z1 r z2 → Deltas k i x r z2
+          finished {r} P = record {
+            post = finish W 0 1088
+                (next W 0 1088 E.entered.post within (λ u. delta N L i) (instead W 0 1088 v.stage (sym (ap (λ (o : Outcome Store Unit). after o (λ u. delta N L i)) nothing))))
+                r P.post (all_of 0 1088);
+          }
 
         -- ---- a state below
 
-        module _ (apart : y ≡ x → ⊥) where
+        module _ (apart : y ≡ i → ⊥) where
           entered : enters N E.above τ ≡ given τ1 tt
-          entered = v.rest y E.above E.way ∙ E.post.is
+          entered = v.rest y E.above E.way ∙ E.entered.post.is
 
-          g1 : Stage (store_layer N l) 0 1088 (delta N L x σ) (after (delta N L y τ1) (λ es. delta N L x)) σ τ1 c d1 s₀ s1
+          g1 : Stage (tables_layer N k.limits) 0 1088 (delta N L i (store_in x)) (after (delta N L y τ1) (λ es. delta N L i)) (store_in x) τ1 x.scratch.now z1.scratch.now
           g1 =
-              next (store_layer N l) 0 1088 E.post within (λ u υ. after (delta N L y υ) (λ es. delta N L x))
-              (instead (store_layer N l) 0 1088 v.stage
-              (sym (delta_down E.above W has E.way)
-              ∙ ap (λ (o : Outcome Store Unit). after (after o (λ u. delta N L y)) (λ es. delta N L x)) (v.rest y E.above E.way)
-              ∙ then_both (enters N (drop k E.above) τ) (λ u. delta N L y) (λ es. delta N L x)))
+              next W 0 1088 E.entered.post within (λ u υ. after (delta N L y υ) (λ es. delta N L i))
+              (instead W 0 1088 v.stage
+              (sym (delta_down E.above V has E.way)
+              ∙ ap (λ (o : Outcome Store Unit). after (after o (λ u. delta N L y)) (λ es. delta N L i)) (v.rest y E.above E.way)
+              ∙ then_both (enters N (drop e E.above) τ) (λ u. delta N L y) (λ es. delta N L i)))
 
           y_state : y < states τ.aut
-          y_state = (list_way_state W has E.way).0
+          y_state = (list_way_state V has E.way).0
 
-          y_lower : nesting τ.aut y < nesting τ.aut x
-          y_lower = go (end_of W has E.way)
+          y_lower : nesting τ.aut y < nesting τ.aut i
+          y_lower = go (end_of V has E.way)
             where
-              go : EndOf τ y x E.above → nesting τ.aut y < nesting τ.aut x
-              go (itself e z h) = absurd (apart e)
+              go : EndOf τ y i E.above → nesting τ.aut y < nesting τ.aut i
+              go (itself q s h) = absurd (apart q)
               go (lower m) = m
 
-          pub call_ready : {m : ℕ} → nest st₀ x ≡ m → (nest st1 y < m) × PreDelta N l τ1 s1 y
-          call_ready e = (
-            omega (arith, y_lower, nesting_grown E.post.then.ext.grown y y_state, nesting_grown v.stage.ext.grown x a.has),
-            record { prepared = E.post.then.ready; limit = a.limit; has = state_grown E.post.then.ext.grown y_state },
+          pub call_ready : Keeps z z1 → {m : ℕ} → nest x.states.words.now i ≡ m → (nest z1.states.words.now y < m) × DeltaAsked k z1 y
+          call_ready K q = (
+            omega (arith, y_lower, nesting_grown E.entered.post.then.ext.grown y y_state, nesting_grown v.stage.ext.grown i A.has),
+            record { store = asked1 K.spp; limit = A.limit; has = state_grown E.entered.post.then.ext.grown y_state },
           )
 
-          module _ {z : Working.Worked} {t2 st2 mem2 tr2 s2 : List ℕ} (P : PostDelta N l y τ1 d1 z (store_of t2 st2 mem2 tr2) s1 s2) where
-            called : {w : Working.Worked} → z ≡ w → Post (store_layer N l) 0 1088 (λ τ es. Stored τ y es) (delta N L y τ1) τ1 d1 (listed_at y w (store_of t2 st2 mem2 tr2)) (store_of t2 st2 mem2 tr2) s1 s2
-            called e = subst (λ (w : Working.Worked). PostDelta N l y τ1 d1 w (store_of t2 st2 mem2 tr2) s1 s2) e P
+          module _ {z2 : Lent} where
+            pub stopped : {q : Refusal} {r : Result (Unit {0}) Refusal} {u : Lent} → r ≡ Err q → Deltas {V = Unit {0}} k y z1 (Err q) z2 → Deltas k i x r u
+            stopped c P = refused_goes c (g1.is ∙ ap (λ (o : Outcome Store (List Edge)). after o (λ es. delta N L i)) P.post.is)
 
-            pub stopped : {e : ℕ} → z ≡ worked.Refused e → {at : Counts → Store} {s' : List ℕ} → PostDelta N l x σ c (worked.Refused e) at s₀ s'
-            stopped e = stuck (store_layer N l) 0 1088 (called e).is (λ es. delta N L x) g1
-
-            module _ {d2 : Counts} (e : z ≡ worked.Done d2) where
-              pub again : length s2 ≡ length s → Turn N l x c t₀ st₀ mem₀ tr₀ s₀ t2 st2 mem2 tr2 s2 d2 i
-              again len = record {
-                len = len ∙ v.len;
-                stage = next (store_layer N l) 0 1088 (called e) (all_of 0 1088) (λ es. delta N L x) g1;
-                rest = λ w xs u. enters_rest W has E.way entered (called e).is u ∙ ap (λ (j : ℕ). enters N (drop j xs) (store_of t2 st2 mem2 tr2 d2)) E.place;
+            module _ (P : Deltas k y z1 (Ok (tt {0})) z2) where
+              pub again : KeepsStore x z2 → Turn k i x z2 n
+              again K = record {
+                keeps = K;
+                stage = next W 0 1088 P.post (all_of 0 1088) (λ es. delta N L i) g1;
+                rest = λ w ys u. enters_rest V has E.way entered P.post.is u ∙ ap (λ (j : ℕ). enters N (drop j ys) (store_in z2)) E.place;
               }
 
-              pub fewer : opens (count_of st2) c.states < opens (count_of st) c.states
+              pub fewer : opens (count_of z2.states.words.now) x.states.count < opens (count_of z.states.words.now) x.states.count
               fewer =
-                  has_more W has E.way (ap (λ (o : Outcome Store Unit). after o (λ u. delta N L y)) entered ∙ (called e).is) c.states
-                  (way_old a.prepared.worked v.stage.ext a.has E.way)
+                  has_more V has E.way (ap (λ (o : Outcome Store Unit). after o (λ u. delta N L y)) entered ∙ P.post.is) x.states.count
+                  (way_old A.store.prepared.worked v.stage.ext A.has E.way)

@@ -8,12 +8,15 @@ use native.Mathlib.Omega.{arith}
 use lib.Dec.{eqb, ltb}
 use lib.ListN.{length, drop}
 use borrow.Author.Tests.{eqb-true, eqb-false, ltb-true, ltb-false}
-use Rattle.common.specs.Outcome.{Outcome, refused, given, after}
+use Rattle.std.specs.Prelude.{Result, Ok, Err}
+use Rattle.common.specs.Outcome.{Outcome, given, after}
+use Rattle.refusal.specs.declared.Refusal.{Refusal}
 use Rattle.spp_steps.proofs.Laws.{by_test}
 use Rattle.aut_steps.specs.Tables.{nest, Limits}
 use Rattle.aut_steps.specs.Ascending.{All}
 use Rattle.aut_steps.proofs.ListLaws.{all_map}
 use Rattle.aut_steps.specs.Wf.{states, nesting}
+use Rattle.aut_steps.proofs.Wf.{state_grown}
 use Rattle.aut_delta_steps.specs.Delta.{count_of, Store}
 use Rattle.aut_delta_steps.proofs.Operands.{Below}
 use Rattle.aut_delta_steps.specs.Wf.{WfStore}
@@ -25,18 +28,19 @@ use Rattle.aut_delta_steps.specs.DeltaReads.{list_operands, enter}
 use Rattle.aut_delta_steps.proofs.DeltaReads.{list_operands_below}
 use Rattle.aut_delta_steps.specs.DeltaDown.{Has, HasNot, ListWay, bottom, down, enters}
 use Rattle.aut_delta_steps.proofs.DeltaDown.{enter_gives, enter_count, same_list_operands}
-use Rattle.aut_states.specs.declared.Counts.{Counts}
-use Rattle.aut_states.specs.declared.Limits.{Limits as Bounds}
+use Rattle.aut_states.specs.Clauses.{limits_of}
+use Rattle.aut_states.specs.declared.Config.{Config}
+use Rattle.aut_relations.specs.declared.Aut.{Aut as Lent}
+use Rattle.aut_relations.specs.Lent.{Keeps}
 use Rattle.aut_relations.proofs.Order.{in_table}
-use Rattle.aut_stage.specs.Stage.{gave, Post, Came}
-use Rattle.aut_stage.specs.OnNodes.{with_nodes}
-use Rattle.aut_delta_stage.specs.OnStore.{store_of, Prepared, store_layer}
+use Rattle.aut_stage.specs.Rule.{Laws, Came}
+use Rattle.aut_st_insert.proofs.Kept.{keeps_refl, keeps_trans}
+use Rattle.aut_delta_stage.specs.OnTables.{store_in, StoreAsked, tables_layer}
+use Rattle.aut_delta_stage.proofs.OnTables.{tables_laws}
 use Rattle.aut_operands.specs.declared.Part.TheVariants as part
-use Rattle.aut_operands.specs.Clauses.{operands_of, Worked as WorkedOut, NotYet, Looks, Next, none, some}
+use Rattle.aut_operands.specs.Clauses.{Looks, Next, none, some}
 use Rattle.aut_operands.proofs.Down.{inside_of}
-use Rattle.aut_delta.specs.declared.Entered.{Entered}
-use Rattle.aut_delta.specs.declared.Entered.TheVariants as entered
-use Rattle.aut_delta.specs.Readings.{PreEnter, nodes_of, unless, PostNew, PreDescend, Ends, EndsFull}
+use Rattle.aut_delta.specs.Readings.{EnterAsked, Enters, unless, unless_entered, DescendAsked, EndsBy}
 
 -- ---- a way down from each state that has no list
 
@@ -73,10 +77,6 @@ module _ {N : ℕ} {L : Limits} {σ : Store} (W : WfStore N L σ) where
 
 -- ---- what is looked at
 
--- y is the first that has no list
-abbrev FirstOpen : List ℕ → ℕ → List ℕ → Type 0
-FirstOpen st = First (WorkedOut part.Delta st) (NotYet part.Delta st)
-
 pub looks : {N : ℕ} {L : Limits} {σ : Store} → WfStore N L σ → {x : ℕ} → x < states σ.aut → Looks part.Delta σ.aut.states.words σ.aut.members.words x
 looks {σ = σ} W {x} l = record { inside = inside_of W.good l; operands = all_map (list_operands σ x) (λ y b. in_table W.good b.state) (list_operands_below W l) }
 
@@ -105,168 +105,143 @@ new_counts : {N : ℕ} {L : Limits} {σ τ : Store} {z : ℕ} → WfStore N L σ
 new_counts W l true e j = ap (λ (υ : Store). count_of υ.aut.states.words j) (sym (given_store e))
 new_counts W l false e j = enter_count (enter_gives W l e) j
 
--- ---- the loop: z is on the way from x, with i states above it, of which those from number k on are entered
+-- ---- the loop: y is on the way from i, with n states above it, of which those from number e on are entered
 
--- a way from z to y is the end of one from x
-pub record Back (N x k : ℕ) (σ τ : Store) (i y : ℕ) (ys : List ℕ) : Type 0 where
+-- a way from y to w is the end of one from i
+pub record Back (N i e : ℕ) (σ τ : Store) (n w : ℕ) (ys : List ℕ) : Type 0 where
   pub above : List ℕ
-  pub way : ListWay σ y above x
-  pub place : length above ≡ i + length ys
-  pub is : enters N (drop k above) σ ≡ enters N (drop (k - i) ys) τ
+  pub way : ListWay σ w above i
+  pub place : length above ≡ n + length ys
+  pub is : enters N (drop e above) σ ≡ enters N (drop (e - n) ys) τ
 
-module _ (N : ℕ) (l : Bounds) (x k : ℕ) (c : Counts) (mem t₀ st₀ s₀ tr : List ℕ) where
-  abbrev σ₀ : Store
-  σ₀ = store_of t₀ st₀ mem tr c
+abbrev SameCounts : Store → Store → Unit {0} → Type 0
+SameCounts σ τ u = (j : ℕ) → count_of τ.aut.states.words j ≡ count_of σ.aut.states.words j
 
-  abbrev SameCounts : Store → Unit {0} → Type 0
-  SameCounts τ u = (j : ℕ) → count_of τ.aut.states.words j ≡ count_of st₀ j
+pub record Walk (k : Config) (i e : ℕ) (x z : Lent) (y n : ℕ) : Type 0 where
+  pub keeps : Keeps x z
+  pub members : z.members ≡ x.members
+  pub states : z.states.count ≡ x.states.count
+  pub came : Came (tables_layer k.fields k.limits) 0 0 (SameCounts (store_in x)) (store_in x) (store_in z) tt x.scratch.now z.scratch.now
+  pub has : y < x.states.count
+  pub not_yet : HasNot (store_in x) y
+  pub deep : n + y ≤ i
+  pub back : (w : ℕ) (ys : List ℕ) → ListWay (store_in x) w ys y → Back k.fields i e (store_in x) (store_in z) n w ys
 
-  pub record Walk (t st s : List ℕ) (n z i : ℕ) : Type 0 where
-    pub came : Came (store_layer N l) 0 0 SameCounts σ₀ (store_of t st mem tr (with_nodes c n)) c (with_nodes c n) tt s₀ s
-    pub has : z < c.states
-    pub not_yet : count_of st₀ z ≡ 0
-    pub back : (y : ℕ) (ys : List ℕ) → ListWay σ₀ y ys z → Back N x k σ₀ (store_of t st mem tr (with_nodes c n)) i y ys
+module _ {k : Config} {i : ℕ} {x : Lent} (p : DescendAsked k x i) where
+  abbrev N : ℕ
+  N = k.fields
 
--- whatever the transitions are
-pub record Walks (N : ℕ) (l : Bounds) (x k : ℕ) (c : Counts) (mem t₀ st₀ s₀ t st s : List ℕ) (n z i : ℕ) : Type 0 where
-  pub len_t : length t ≡ length t₀
-  pub len_st : length st ≡ length st₀
-  pub len_s : length s ≡ length s₀
-  pub deep : i + nest st₀ z ≤ nest st₀ x
-  pub walk : (tr : List ℕ) → Prepared N l (store_of t₀ st₀ mem tr c) s₀ → Walk N l x k c mem t₀ st₀ s₀ tr t st s n z i
+  abbrev σ : Store
+  σ = store_in x
 
-module _ {N : ℕ} {l : Bounds} {x k : ℕ} {c : Counts} {mem t₀ st₀ s₀ : List ℕ} where
-  pub begun : PreDescend N l t₀ st₀ mem s₀ c x → Walks N l x k c mem t₀ st₀ s₀ t₀ st₀ s₀ c.spp x 0
-  begun p =
-      let 𝓛 = store_layer N l in
-      record {
-        len_t = refl;
-        len_st = refl;
-        len_s = refl;
-        deep = omega arith;
-        walk = λ tr R.
-            let σ = store_of t₀ st₀ mem tr c in
-            record {
-              came = record { ext = 𝓛.ext_refl σ; beside = refl; frame = 𝓛.frame_refl 0 0 σ s₀; ready = R; holds = λ j. refl };
-              has = p.has;
-              not_yet = p.not_yet;
-              back = λ y ys v. record { above = ys; way = v; place = omega arith; is = ap (λ (j : ℕ). enters N (drop j ys) σ) {x = k} {y = k - 0} (omega arith) };
-            };
-      }
+  W : Laws (tables_layer N k.limits)
+  W = tables_laws N k.limits
 
-  module _ {t st s : List ℕ} {n z i : ℕ} (v : Walks N l x k c mem t₀ st₀ s₀ t st s n z i) where
-    -- for the transitions that there are
-    module _ (p : PreDescend N l t₀ st₀ mem s₀ c x) where
-      at : Walk N l x k c mem t₀ st₀ s₀ p.transitions t st s n z i
-      at = v.walk p.transitions p.prepared
+  V : WfStore N (limits_of k.limits) σ
+  V = p.store.prepared.worked
 
-      pub open_ready : Looks part.Delta st mem z
-      open_ready = looks at.came.ready.worked at.has
+  pub begun : {e : ℕ} → Walk k i e x x i 0
+  begun {e} = record {
+    keeps = keeps_refl x;
+    members = refl;
+    states = refl;
+    came = record { ext = W.ext_refl σ; frame = W.frame_refl 0 0 σ x.scratch.now; ready = p.store.prepared; holds = λ j. refl };
+    has = p.has;
+    not_yet = p.not_yet;
+    deep = omega arith;
+    back = λ w ys v. record { above = ys; way = v; place = omega arith; is = ap (λ (j : ℕ). enters N (drop j ys) σ) {x = e} {y = e - 0} (omega arith) };
+  }
 
-      pub new_ready : PreEnter N l (store_of t st mem p.transitions (with_nodes c n)).aut s z
-      new_ready = record { ready = at.came.ready.ready; epsilons = at.came.ready.worked.epsilons; has = at.has }
+  module _ {e : ℕ} {z : Lent} {y n : ℕ} (v : Walk k i e x z y n) where
+    abbrev τ : Store
+    τ = store_in z
 
-    module _ {tr : List ℕ} (R : Prepared N l (store_of t₀ st₀ mem tr c) s₀) where
-      abbrev σ : Store
-      σ = store_of t₀ st₀ mem tr c
+    asked : StoreAsked k z
+    asked = record { fields = v.keeps.spp.fields ∙ p.store.fields; prepared = v.came.ready }
 
-      abbrev τ : Store
-      τ = store_of t st mem tr (with_nodes c n)
+    has : y < states τ.aut
+    has = state_grown v.came.ext.grown v.has
 
-      w : Walk N l x k c mem t₀ st₀ s₀ tr t st s n z i
-      w = v.walk tr R
+    pub open_ready : Looks part.Delta z.states.words.now z.members.words.now y
+    open_ready = looks v.came.ready.worked has
 
-      same : list_operands τ z ≡ list_operands σ z
-      same = same_list_operands R.worked w.came.ext w.has
+    pub new_ready : EnterAsked k z y
+    new_ready = record { store = asked; has = has }
 
-      all_has : All (WorkedOut part.Delta st) (operands_of part.Delta st mem z) → All (Has σ) (list_operands σ z)
-      all_has a = subst (All (Has σ)) same (all_map (operands_of part.Delta st mem z) (λ y h. omega (arith, w.came.holds y)) a)
+    same : list_operands τ y ≡ list_operands σ y
+    same = same_list_operands V v.came.ext v.has
 
-      first_has : {y : ℕ} → FirstOpen st y (operands_of part.Delta st mem z) → First (Has σ) (HasNot σ) y (list_operands σ z)
-      first_has {y} f = subst (First (Has σ) (HasNot σ) y) same (first_map (λ j h. omega (arith, w.came.holds j)) (λ j e. sym (w.came.holds j) ∙ e) f)
+    all_has : All (Has τ) (list_operands τ y) → All (Has σ) (list_operands σ y)
+    all_has a = subst (All (Has σ)) same (all_map (list_operands τ y) (λ j h. omega (arith, v.came.holds j)) a)
 
-      below : {y : ℕ} → FirstOpen st y (operands_of part.Delta st mem z) → Below σ.aut z y
-      below f = first_of (Below σ.aut z) (first_has f) (list_operands_below R.worked w.has)
+    first_has : {w : ℕ} → First (Has τ) (HasNot τ) w (list_operands τ y) → First (Has σ) (HasNot σ) w (list_operands σ y)
+    first_has {w} f = subst (First (Has σ) (HasNot σ) w) same (first_map (λ j h. omega (arith, v.came.holds j)) (λ j q. sym (v.came.holds j) ∙ q) f)
 
-      ends_here : {y : ℕ} → Next part.Delta st mem z y → y ≡ z → Ends N l x k z i n σ c (store_of t st mem tr) s₀ s
-      ends_here (none e a) q =
-          let b = w.back z [] (bottom w.not_yet (all_has a)) in
-          record {
-            above = b.above;
-            way = b.way;
-            place = omega (arith, b.place);
-            post = record {
-              is = b.is ∙ none_left N (k - i) τ;
-              then = record { ext = w.came.ext; beside = refl; frame = w.came.frame; ready = w.came.ready; holds = tt };
-            };
-          }
-      ends_here (some f) q = absurd (omega (arith, (below f).lower, ap (nesting σ.aut) q))
+    below : {w : ℕ} → First (Has τ) (HasNot τ) w (list_operands τ y) → Below σ.aut y w
+    below f = first_of (Below σ.aut y) (first_has f) (list_operands_below V v.has)
 
-      lower : {y : ℕ} → Next part.Delta st mem z y → (y ≡ z → ⊥) → nest st₀ y < nest st₀ z
-      lower (none e a) m = absurd (m e)
-      lower (some f) m = (below f).lower
+    -- y is the end
+    pub arrived : {w : ℕ} → Next part.Delta z.states.words.now z.members.words.now y w → w ≡ y → EndsBy k i e x (Ok (y, n)) z
+    arrived (none q a) m =
+        let b = v.back y [] (bottom v.not_yet (all_has a)) in
+        record {
+          above = b.above;
+          way = b.way;
+          place = omega (arith, b.place);
+          entered = record { post = record { is = b.is ∙ none_left N (e - n) τ; then = record { ext = v.came.ext; frame = v.came.frame; ready = v.came.ready; holds = tt } } };
+        }
+    arrived (some f) m = absurd (omega (arith, (below f).lower, ap (nesting σ.aut) m))
 
-      -- z is entered
-      module _ {y : ℕ} (f : FirstOpen st y (operands_of part.Delta st mem z)) where
-        longer : (e : ℕ) (ys : List ℕ) → ListWay σ e ys y → Back N x k σ τ i e (z ∷ ys)
-        longer e ys u = w.back e (z ∷ ys) (down w.not_yet (first_has f) u)
-
-        step : (ys : List ℕ) → enters N (drop (k - i) (z ∷ ys)) τ ≡ after (unless (ltb i k) (enter N z) τ) (λ u. enters N (drop (k - (i + 1)) ys))
-        step ys = enters_next N k i (ltb i k) (λ q. ltb-true i k q) (λ q. ltb-false i k q) z ys τ
-
-        module _ (r : Entered) {t1 st1 s1 : List ℕ} (P : PostNew N l z i k r (with_nodes c n) t st mem s t1 st1 s1) where
-          full : r ≡ entered.Full → EndsFull N x k σ
-          full q =
-              let w' = way_from R.worked (below f).state (first_open (first_has f)) in
-              let b = longer w'.end w'.above w'.way in
-              let e : unless (ltb i k) (enter N z) τ ≡ refused 21 = (subst (λ (r : Entered). Post (store_layer N l) 0 0 (λ τ u. Unit) (unless (ltb i k) (enter N z) τ) τ (with_nodes c n) (nodes_of (with_nodes c n) r) (store_of t1 st1 mem tr) s s1) q (P tr w.came.ready)).is in
-              record {
-                end = w'.end;
-                above = b.above;
-                way = b.way;
-                is = b.is ∙ step w'.above ∙ ap (λ (o : Outcome Store Unit). after o (λ u. enters N (drop (k - (i + 1)) w'.above))) e;
-              }
-
-          entered_one : {m : ℕ} → r ≡ entered.Nodes m → Walk N l x k c mem t₀ st₀ s₀ tr t1 st1 s1 m y (i + 1)
-          entered_one {m} q =
-              let 𝓛 = store_layer N l in
-              let p : Post (store_layer N l) 0 0 (λ τ u. Unit) (unless (ltb i k) (enter N z) τ) τ (with_nodes c n) (gave (with_nodes c m) tt) (store_of t1 st1 mem tr) s s1
-              = subst (λ (r : Entered). Post (store_layer N l) 0 0 (λ τ u. Unit) (unless (ltb i k) (enter N z) τ) τ (with_nodes c n) (nodes_of (with_nodes c n) r) (store_of t1 st1 mem tr) s s1) q (P tr w.came.ready) in
-              let υ : Store = store_of t1 st1 mem tr (with_nodes c m) in
-              record {
-                came = record {
-                  ext = 𝓛.ext_trans σ τ υ w.came.ext p.then.ext;
-                  beside = refl;
-                  frame = 𝓛.frame_trans 0 0 τ υ s₀ s s1 p.then.ext w.came.frame p.then.frame;
-                  ready = p.then.ready;
-                  holds = λ j. new_counts w.came.ready.worked w.has (ltb i k) p.is j ∙ w.came.holds j;
-                };
-                has = (below f).state;
-                not_yet = first_open (first_has f);
-                back = λ e ys u.
-                    let b = longer e ys u in
-                    record { above = b.above; way = b.way; place = omega (arith, b.place); is = b.is ∙ step ys ∙ ap (λ (o : Outcome Store Unit). after o (λ u. enters N (drop (k - (i + 1)) ys))) p.is };
-              }
-
-    -- ---- for all of them
-
-    pub arrived : {y : ℕ} → Next part.Delta st mem z y → y ≡ z → (tr : List ℕ) → Prepared N l (store_of t₀ st₀ mem tr c) s₀ → Ends N l x k z i n (store_of t₀ st₀ mem tr c) c (store_of t st mem tr) s₀ s
-    arrived g q tr R = ends_here R g q
-
-    pub falls : PreDescend N l t₀ st₀ mem s₀ c x → {y : ℕ} → Next part.Delta st mem z y → (y ≡ z → ⊥) → nest st₀ y < nest st₀ z
-    falls p g m = lower p.prepared g m
-
-    module _ {y : ℕ} (g : Next part.Delta st mem z y) (m : y ≡ z → ⊥) where
-      f : FirstOpen st y (operands_of part.Delta st mem z)
+    -- w is the first of its operands that has no list
+    module _ {w : ℕ} (g : Next part.Delta z.states.words.now z.members.words.now y w) (m : w ≡ y → ⊥) where
+      f : First (Has τ) (HasNot τ) w (list_operands τ y)
       f = open_one g
         where
-          open_one : Next part.Delta st mem z y → FirstOpen st y (operands_of part.Delta st mem z)
-          open_one (none e a) = absurd (m e)
+          open_one : Next part.Delta z.states.words.now z.members.words.now y w → First (Has τ) (HasNot τ) w (list_operands τ y)
+          open_one (none q a) = absurd (m q)
           open_one (some f) = f
 
-      module _ (r : Entered) {t1 st1 s1 : List ℕ} (P : PostNew N l z i k r (with_nodes c n) t st mem s t1 st1 s1) where
-        pub stopped : r ≡ entered.Full → (tr : List ℕ) → Prepared N l (store_of t₀ st₀ mem tr c) s₀ → EndsFull N x k (store_of t₀ st₀ mem tr c)
-        stopped q tr R = full R f r P q
+      pub falls : nest x.states.words.now w < nest x.states.words.now y
+      falls = (below f).lower
 
-        pub further : PreDescend N l t₀ st₀ mem s₀ c x → {n1 : ℕ} → r ≡ entered.Nodes n1 → length t1 ≡ length t → length st1 ≡ length st → length s1 ≡ length s → Walks N l x k c mem t₀ st₀ s₀ t1 st1 s1 n1 y (i + 1)
-        further p q a b d = record { len_t = a ∙ v.len_t; len_st = b ∙ v.len_st; len_s = d ∙ v.len_s; deep = omega (arith, v.deep, falls p g m); walk = λ tr R. entered_one R f r P q }
+      pub place : n < i
+      place = omega (arith, v.deep, (below f).earlier)
+
+      longer : (u : ℕ) (ys : List ℕ) → ListWay σ u ys w → Back N i e σ τ n u (y ∷ ys)
+      longer u ys o = v.back u (y ∷ ys) (down v.not_yet (first_has f) o)
+
+      step : (ys : List ℕ) → enters N (drop (e - n) (y ∷ ys)) τ ≡ after (unless_entered N y n e τ) (λ u. enters N (drop (e - (n + 1)) ys))
+      step ys = enters_next N e n (ltb n e) (λ q. ltb-true n e q) (λ q. ltb-false n e q) y ys τ
+
+      module _ {z1 : Lent} where
+        pub full : {q : Refusal} {r : Result (ℕ × ℕ) Refusal} → r ≡ Err q → Enters {V = Unit {0}} k (unless_entered N y n e) z (Err q) z1 → EndsBy k i e x r z1
+        full {q} {r} d P =
+            let u = way_from V (below f).state (first_open (first_has f)) in
+            let b = longer u.end u.above u.way in
+            subst (λ (r : Result (ℕ × ℕ) Refusal). EndsBy k i e x r z1) (sym d) (record {
+              end = u.end;
+              above = b.above;
+              way = b.way;
+              entered = record { post = record { is = b.is ∙ step u.above ∙ ap (λ (o : Outcome Store Unit). after o (λ u'. enters N (drop (e - (n + 1)) u.above))) P.post.is; then = tt } };
+            })
+
+        pub further : Enters k (unless_entered N y n e) z (Ok (tt {0})) z1 → Keeps z z1 → z1.members ≡ z.members → z1.states.count ≡ z.states.count → Walk k i e x z1 w (n + 1)
+        further P K members states =
+            let c = P.post.then in
+            record {
+              keeps = keeps_trans v.keeps K;
+              members = members ∙ v.members;
+              states = states ∙ v.states;
+              came = record {
+                ext = W.ext_trans σ τ (store_in z1) v.came.ext c.ext;
+                frame = W.frame_trans 0 0 τ (store_in z1) x.scratch.now z.scratch.now z1.scratch.now c.ext v.came.frame c.frame;
+                ready = c.ready;
+                holds = λ j. new_counts v.came.ready.worked has (ltb n e) P.post.is j ∙ v.came.holds j;
+              };
+              has = (below f).state;
+              not_yet = first_open (first_has f);
+              deep = omega (arith, v.deep, (below f).earlier);
+              back = λ u ys o.
+                  let b = longer u ys o in
+                  record { above = b.above; way = b.way; place = omega (arith, b.place); is = b.is ∙ step ys ∙ ap (λ (o : Outcome Store Unit). after o (λ u. enters N (drop (e - (n + 1)) ys))) P.post.is };
+            }

@@ -1,6 +1,6 @@
 -- A list's words copied behind the transitions in use, then words 5 and 6 of its state: that is keep_list. Without room it is 25.
-use Rattle.std.specs.Prelude.{if◌then◌else◌}
-use mathlib.Core.Path.{◌≡◌, refl, ◌∙◌, ap, ap₂}
+use Rattle.std.specs.Prelude.{if◌then◌else◌, Result, Ok, Err}
+use mathlib.Core.Path.{◌≡◌, refl, sym, ◌∙◌, ap, ap₂, subst}
 use mathlib.Core.Bool.{Bool, true, false, ◌&&◌}
 use mathlib.Core.List.{List, ◌∷◌}
 use Prim.Native.Nat.{ℕ, zero, suc, ◌+◌, ◌*◌, ◌/◌, ◌≤◌, ◌<◌}
@@ -10,16 +10,17 @@ use lib.ListN.{length, get_or, set}
 use lib.Seq.{sets}
 use borrow.Author.Tests.{le-leb, lt-leb}
 use Rattle.common.specs.Outcome.{refused, given}
-use Rattle.common.specs.Runs.{table}
+use Rattle.common.specs.Runs.{Table, table}
 use Rattle.netkat_steps.specs.ListSteps.{Edge}
+use Rattle.refusal.specs.declared.Refusal.{Refusal}
+use Rattle.refusal.specs.Numbers.{number_of, outcome}
 use Rattle.aut_steps.specs.Tables.{words, aut}
 use Rattle.aut_st_steps.specs.Edges.{edges, flat}
 use Rattle.aut_st_steps.proofs.Places.{edges_length}
 use Rattle.aut_delta_steps.specs.Epsilon.{set_word}
-use Rattle.aut_delta_steps.specs.Delta.{store, transition_cap, room_t, append, keep_list}
-use Rattle.aut_delta_stage.specs.OnStore.{store_of}
-use Rattle.aut_states.specs.declared.Counts.{Counts}
+use Rattle.aut_delta_steps.specs.Delta.{Store, store, transition_cap, room_t, append, keep_list}
 use Rattle.aut_st_insert.specs.Clauses.{RESULT}
+use Rattle.aut_delta_keep.specs.Clauses.{Appended, Appends}
 
 -- a list's words are those it is read from
 flat_edges : (s : List ℕ) (a k : ℕ) → flat (edges s a k) ≡ words s (2 * a) (2 * k)
@@ -33,44 +34,51 @@ and_false : (b : Bool) → (b && false) ≡ false
 and_false true = refl
 and_false false = refl
 
--- the counts with a list of m more
-abbrev pub with_list : Counts → ℕ → Counts
-with_list c m = record { sp = c.sp; spp = c.spp; states = c.states; members = c.members; transitions = c.transitions + m }
+-- ---- the list behind the transitions in use
 
-module _ (st tr s : List ℕ) (c : Counts) (x m : ℕ) where
-  abbrev n : ℕ
-  n = c.transitions
-
+module _ (tr s : List ℕ) (n m : ℕ) where
   abbrev es : List Edge
   es = edges s RESULT m
-
-  -- the states, with words 5 and 6 of x
-  abbrev kept : List ℕ
-  kept = set (set st (12 * x + 5) n) (12 * x + 6) (m + 1)
 
   len : length es ≡ m
   len = edges_length s RESULT m
 
-  by_room : (t mem : List ℕ) (b : Bool) → room_t (table tr n) m ≡ b
-      → keep_list x es (store_of t st mem tr c) ≡ (if b then given (store_of t kept mem (sets tr (2 * n) (flat es)) (with_list c m)) es else refused 25)
-  unfolding keep_list append set_word
-  by_room t mem b q =
-      ap (λ (k : ℕ). if room_t (table tr n) k
-      then given (store (aut (table t c.spp) (table (set (set st (12 * x + 5) n) (12 * x + 6) (k + 1)) c.states) (table mem c.members)) (table (sets tr (2 * n) (flat es)) (n + k))) es
-      else refused 25) len
-      ∙ ap (λ (b : Bool). if b then given (store_of t kept mem (sets tr (2 * n) (flat es)) (with_list c m)) es else refused 25) q
+  room_is : {b : Bool} → room_t (table tr n) m ≡ b → room_t (table tr n) (length es) ≡ b
+  room_is e = ap (room_t (table tr n)) len ∙ e
 
-  pub no_room : length tr / 2 < n + m → (t mem : List ℕ) → keep_list x es (store_of t st mem tr c) ≡ refused 25
+  pub no_room : length tr / 2 < n + m → room_t (table tr n) (length es) ≡ false
   unfolding room_t
-  no_room h t mem = by_room t mem false (ap (λ (b : Bool). b && leb (n + m) transition_cap) (lt-leb (n + m) (length tr / 2) h))
+  no_room h = room_is (ap (λ (b : Bool). b && leb (n + m) transition_cap) (lt-leb (n + m) (length tr / 2) h))
 
-  pub no_cap : transition_cap < n + m → (t mem : List ℕ) → keep_list x es (store_of t st mem tr c) ≡ refused 25
+  pub no_cap : transition_cap < n + m → room_t (table tr n) (length es) ≡ false
   unfolding room_t
-  no_cap h t mem = by_room t mem false (ap (λ (b : Bool). leb (n + m) (length tr / 2) && b) (lt-leb (n + m) transition_cap h) ∙ and_false (leb (n + m) (length tr / 2)))
+  no_cap h = room_is (ap (λ (b : Bool). leb (n + m) (length tr / 2) && b) (lt-leb (n + m) transition_cap h) ∙ and_false (leb (n + m) (length tr / 2)))
 
-  pub stored : n + m ≤ length tr / 2 → n + m ≤ transition_cap → {tr' : List ℕ} → sets tr (2 * n) (words s (2 * RESULT) (2 * m)) ≡ tr'
-      → (t mem : List ℕ) → keep_list x es (store_of t st mem tr c) ≡ given (store_of t kept mem tr' (with_list c m)) es
-  unfolding room_t
-  stored a b e t mem =
-      by_room t mem true (ap₂ ◌&&◌ (le-leb (n + m) (length tr / 2) a) (le-leb (n + m) transition_cap b))
-      ∙ ap (λ (u : List ℕ). given (store_of t kept mem u (with_list c m)) es) (ap (sets tr (2 * n)) (flat_edges s RESULT m) ∙ e)
+  pub appended : n + m ≤ length tr / 2 → n + m ≤ transition_cap → {tr' : List ℕ} → sets tr (2 * n) (words s (2 * RESULT) (2 * m)) ≡ tr' → Appended es (table tr n) (table tr' (n + m))
+  unfolding room_t append
+  appended a b e = record {
+    room = room_is (ap₂ ◌&&◌ (le-leb (n + m) (length tr / 2) a) (le-leb (n + m) transition_cap b));
+    cap = subst (λ (k : ℕ). n + k ≤ transition_cap) (sym len) b;
+    is = ap₂ (λ (u : List ℕ) (k : ℕ). table u (n + k)) (ap (sets tr (2 * n)) (flat_edges s RESULT m) ∙ e) len;
+  }
+
+-- ---- the step, with the nodes t, the states st and the members mem
+
+module _ (x : ℕ) (t mem tr : Table) (st : List ℕ) (c : ℕ) (s : List ℕ) (m : ℕ) where
+  abbrev list : List Edge
+  list = edges s RESULT m
+
+  no_place : (e : Refusal) → (room_t tr (length list) ≡ false) × (number_of e ≡ 25) → keep_list x list (store (aut t (table st c) mem) tr) ≡ refused (number_of e)
+  unfolding keep_list set_word append
+  no_place e p =
+      ap (λ (b : Bool). if b then given (store (aut t (table (set (set st (12 * x + 5) tr.count) (12 * x + 6) (length list + 1)) c) mem) (append list tr)) list else refused 25) p.0
+      ∙ ap (λ (k : ℕ). refused k) (sym p.1)
+
+  pub stuck : {V : Type 0} (see : V → List Edge) (υ : Store) {r : Result V Refusal} {e : Refusal} → r ≡ Err e → (room_t tr (length list) ≡ false) × (number_of e ≡ 25) → keep_list x list (store (aut t (table st c) mem) tr) ≡ outcome see r υ
+  stuck see υ {e = e} q p = no_place e p ∙ sym (ap (λ (r : Result _ Refusal). outcome see r υ) q)
+
+  pub stored : {tr' : Table} → Appended list tr tr' → keep_list x list (store (aut t (table st c) mem) tr) ≡ given (store (aut t (table (set (set st (12 * x + 5) tr.count) (12 * x + 6) (m + 1)) c) mem) tr') list
+  unfolding keep_list set_word append
+  stored a =
+      ap (λ (b : Bool). if b then given (store (aut t (table (set (set st (12 * x + 5) tr.count) (12 * x + 6) (length list + 1)) c) mem) (append list tr)) list else refused 25) a.room
+      ∙ ap₂ (λ (k : ℕ) (u : Table). given (store (aut t (table (set (set st (12 * x + 5) tr.count) (12 * x + 6) (k + 1)) c) mem) u) list) (edges_length s RESULT m) a.is

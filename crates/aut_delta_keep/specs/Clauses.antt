@@ -1,30 +1,40 @@
--- 01, "Lent tables" (words 5 and 6, transitions): a finished list is stored after those already there; 25 where the whole list has no room. What storing one asks and promises.
-use Rattle.std.specs.Prelude.{◌≡◌, List, ℕ, ◌+◌, ◌*◌, ◌≤◌, ◌<◌, length}
-use Rattle.common.specs.Outcome.{Outcome, refused, given}
+-- 01, "Lent tables" (words 5 and 6, transitions): a finished list is stored after those already there; 25 where the whole list has no room. What storing one asks, what is kept, and what its parts say.
+use Rattle.std.specs.Prelude.{◌≡◌, true, false, List, ℕ, ◌+◌, ◌*◌, ◌≤◌, ◌<◌, length, Result, Ok, Err}
+use Rattle.common.specs.Runs.{Table, table}
 use Rattle.netkat_steps.specs.ListSteps.{Edge}
-use Rattle.aut_st_steps.specs.Edges.{edges}
-use Rattle.aut_delta_steps.specs.Delta.{Store, keep_list}
-use Rattle.aut_delta_stage.specs.OnStore.{store_of}
-use Rattle.aut_states.specs.declared.Counts.{Counts}
+use Rattle.refusal.specs.declared.Refusal.{Refusal}
+use Rattle.refusal.specs.Numbers.{number_of}
+use Rattle.aut_delta_steps.specs.Delta.{transition_cap, room_t, append}
+use Rattle.aut_relations.specs.declared.Aut.{Aut as Lent}
+use Rattle.aut_relations.specs.declared.Transitions.{Transitions}
 use Rattle.aut_st_insert.specs.Clauses.{RESULT}
-use Rattle.aut_delta_keep.specs.declared.Kept.{Kept}
-use Rattle.aut_delta_keep.specs.declared.Kept.TheVariants as kept
 
-pub record PreKeep (tr st s : List ℕ) (c : Counts) (x m : ℕ) : Type 0 where
-  pub state : 12 * x + 11 < length st
-  pub fit : 2 * c.transitions ≤ length tr
-  pub inside : 2 * (RESULT + m) ≤ length s
+abbrev pub table_of : Transitions → Table
+table_of t = table t.words.now t.count
 
-abbrev pub seen_kept : Kept → List Edge → List ℕ → List ℕ → List ℕ → List ℕ → Outcome Store (List Edge)
-seen_kept (kept.Done d) es t st mem tr = given (store_of t st mem tr d) es
-seen_kept (kept.Refused e) es t st mem tr = refused e
+-- the m transitions at RESULT are the list of state i
+pub record KeepAsked (x : Lent) (i m : ℕ) : Type 0 where
+  pub state : 12 * i + 11 < length x.states.words.now
+  pub fit : 2 * x.transitions.count ≤ length x.transitions.words.now
+  pub inside : 2 * (RESULT + m) ≤ length x.scratch.now
 
--- no packet set is new
-abbrev pub SameSets : Counts → Kept → Type 0
-SameSets c (kept.Done d) = d.sp ≡ c.sp
-SameSets c (kept.Refused e) = Unit
+-- only states and transitions were written
+pub record KeepsOthers (x y : Lent) : Type 0 where
+  pub sp : y.sp ≡ x.sp
+  pub spp : y.spp ≡ x.spp
+  pub states : y.states.words.ghost_name ≡ x.states.words.ghost_name
+  pub members : y.members ≡ x.members
+  pub transitions : y.transitions.words.ghost_name ≡ x.transitions.words.ghost_name
+  pub pending : y.pending ≡ x.pending
+  pub scratch : y.scratch ≡ x.scratch
 
--- whatever the nodes and the members are
-pub record PostKeep (x m : ℕ) (c : Counts) (r : Kept) (st tr s st' tr' : List ℕ) : Type 0 where
-  pub is : (t mem : List ℕ) → keep_list x (edges s RESULT m) (store_of t st mem tr c) ≡ seen_kept r (edges s RESULT m) t st' mem tr'
-  pub sets : SameSets c r
+-- es stands behind the transitions t
+pub record Appended (es : List Edge) (t u : Table) : Type 0 where
+  pub room : room_t t (length es) ≡ true
+  pub cap : t.count + length es ≤ transition_cap
+  pub is : append es t ≡ u
+
+-- .. or there is no room
+abbrev pub Appends : {V : Type 0} → List Edge → Table → Result V Refusal → Table → Type 0
+Appends es t (Ok v) u = Appended es t u
+Appends es t (Err e) u = (room_t t (length es) ≡ false) × (number_of e ≡ 25)

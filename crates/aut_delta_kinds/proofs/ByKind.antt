@@ -1,19 +1,20 @@
 -- Each kind's list is what `together` gives for it, by the rule for a run of calls (aut_stage).
-use mathlib.Core.Path.{◌≡◌, sym, ◌∙◌, ap, ap₂, subst}
+use mathlib.Core.Path.{◌≡◌, refl, sym, ◌∙◌, ap, ap₂, subst}
 use mathlib.Core.List.{List, []}
-use Prim.Native.Nat.{ℕ, ◌+◌, ◌*◌, ◌<◌}
+use Prim.Native.Nat.{ℕ, ◌+◌, ◌*◌, ◌≤◌, ◌<◌}
 use native.Mathlib.Omega.{arith}
-use lib.ListN.{length, get_or}
+use lib.ListN.{length}
+use Rattle.std.specs.Prelude.{Result, Ok, Err}
 use Rattle.common.specs.Outcome.{given, Step, after}
-use Rattle.common.specs.Runs.{table}
 use Rattle.netkat_steps.specs.ListSteps as St
 use Rattle.netkat_steps.specs.ListSteps.{Edge}
+use Rattle.refusal.specs.declared.Refusal.{Refusal}
 use Rattle.spp.specs.declared.SPP.{SPP as Handle}
-use Rattle.spp.specs.declared.Made.{Made}
-use Rattle.spp.specs.declared.Made.TheVariants.{Node, Full}
 use Rattle.aut_steps.specs.Relations as Rel
 use Rattle.aut_steps.proofs.RelationLaws.{star_made}
 use Rattle.aut_steps.specs.Tables.{SPP, UNION, INTERSECT, XOR, DIFFERENCE, COMPLEMENT, SEQUENCE, STAR, DUP, NEXT, UNTIL, TOP, kind_of, op1, op2, words, Aut, on_nodes}
+use Rattle.aut_steps.specs.Ascending.{All}
+use Rattle.aut_steps.proofs.ListLaws.{all_map}
 use Rattle.aut_steps.proofs.Wf.{state_grown}
 use Rattle.aut_steps.proofs.StepSpec.{goes_map}
 use Rattle.aut_steps.proofs.StateLaws.{nodes_goes}
@@ -23,35 +24,33 @@ use Rattle.aut_st_steps.proofs.Edges.{edges_grown}
 use Rattle.aut_st_steps.specs.ListSpec.{ListAt, Label}
 use Rattle.aut_st_steps.proofs.ListSpec.{list_empty}
 use Rattle.aut_delta_steps.specs.Epsilon.{value_of}
-use Rattle.aut_delta_steps.specs.Delta.{list_at, union_all, intersect_first, sequence_list, star_list, until_list, dup_list, top_list}
+use Rattle.aut_delta_steps.specs.Delta.{count_of, list_at, union_all, intersect_first, sequence_list, star_list, until_list, dup_list, top_list}
 use Rattle.aut_delta_steps.specs.DeltaReads.{together_with}
 use Rattle.aut_delta_steps.specs.EpsilonDown.{Known}
 use Rattle.aut_states.specs.Clauses.{limits_of}
-use Rattle.aut_states.specs.declared.Counts.{Counts}
-use Rattle.aut_states.specs.declared.Limits.{Limits}
-use Rattle.aut_relations.specs.Clauses.{aut_of, Relates, RelateReady}
+use Rattle.aut_states.specs.declared.Config.{Config}
+use Rattle.aut_relations.specs.declared.Aut.{Aut as Lent}
+use Rattle.aut_relations.specs.declared.Transitions.{Transitions}
+use Rattle.aut_relations.specs.Lent.{nodes_in, aut_in, KeepsExprs, Does, Asked, Handles}
 use Rattle.aut_relations.proofs.Order.{backed_of}
-use Rattle.aut_stage.specs.Stage.{gave, Post, Stage}
-use Rattle.aut_stage.proofs.Stage.{Inside, begin, next, stuck, finish, done, all_of}
-use Rattle.aut_stage.proofs.OnAut.{aut_layer}
-use Rattle.aut_stage.specs.OnNodes.{with_nodes}
-use Rattle.aut_stage.proofs.OnNodes.{relation_given, relation_refused}
-use Rattle.aut_st_insert.specs.declared.Listed.{Listed}
-use Rattle.aut_st_insert.specs.declared.Listed.TheVariants as listed
-use Rattle.aut_st_insert.specs.Clauses.{DoesList}
-use Rattle.aut_st_source.specs.Clauses.{stored}
-use Rattle.aut_st_ops.specs.Clauses.{OneReady, TwoReady}
-use Rattle.aut_st_ops.proofs.Join.{none_at}
-use Rattle.aut_st_xor.specs.Clauses.{StoredReady}
-use Rattle.aut_st_complement.specs.Clauses as Not
-use Rattle.aut_st_stage.specs.Readings.{list_of, GivesList}
-use Rattle.aut_st_stage.proofs.Readings.{of_list}
-use Rattle.aut_delta_stage.specs.OnStore.{store_of}
+use Rattle.aut_sequence.specs.Clauses.{task_of}
+use Rattle.aut_sequence.specs.declared.Task.TheVariants as task
+use Rattle.aut_stage.specs.Rule.{Laws, Stage}
+use Rattle.aut_stage.proofs.Rule.{Inside, begin, next, stuck, finish, done, all_of}
+use Rattle.aut_stage.specs.OnLent.{lent_layer, Goes}
+use Rattle.aut_stage.proofs.OnLent.{lent_laws, related, asked_after}
+use Rattle.aut_st_insert.specs.Clauses.{RESULT}
+use Rattle.aut_st_source.specs.Clauses.{stored, Walked}
+use Rattle.aut_st_ops.specs.Asked.{TwoAsked}
+use Rattle.aut_st_complement.specs.Asked as Not
+use Rattle.aut_delta_stage.specs.OnTables.{store_in}
 use Rattle.aut_delta_many.specs.Clauses.{lists_at}
-use Rattle.aut_delta_lists.specs.Clauses.{SequenceReady, StarReady, UntilReady, AloneReady, Anything, StateAt, GivesAlone}
-use Rattle.aut_delta_kinds.specs.declared.Span.{Span}
-use Rattle.aut_delta_kinds.specs.Clauses.{PreTogether, together_of, Spans}
+use Rattle.aut_delta_many.specs.Asked.{ManyAsked}
+use Rattle.aut_delta_lists.specs.Asked.{SequenceAsked, StarAsked, UntilAsked, AloneAsked}
+use Rattle.aut_delta_many.specs.declared.Span.{Span}
+use Rattle.aut_delta_kinds.specs.Clauses.{TogetherAsked, together_of, Two}
 use Rattle.aut_delta_kinds.proofs.Operands as operands
+use Rattle.aut_delta_kinds.proofs.Operands.{Spans}
 
 part : Inside 0 1088 0 832
 part = record { from = omega arith; to = omega arith }
@@ -59,175 +58,229 @@ part = record { from = omega arith; to = omega arith }
 no_list : Inside 0 1088 0 0
 no_list = record { from = omega arith; to = omega arith }
 
-module _ {N : ℕ} {l : Limits} {t st mem tr : List ℕ} (c : Counts) {s : List ℕ} {x : ℕ} (W : PreTogether N l (store_of t st mem tr c) s x) where
+none_at : (s : List ℕ) → edges s RESULT 0 ≡ []
+unfolding edges
+none_at s = refl
+
+module _ {k : Config} {x : Lent} {i : ℕ} (R : TogetherAsked k x i) where
+  abbrev N : ℕ
+  N = k.fields
+
+  W : Laws (lent_layer N k.limits)
+  W = lent_laws N k.limits
+
   abbrev σ : Aut
-  σ = aut_of t st mem c
+  σ = aut_in x
+
+  abbrev st : List ℕ
+  st = x.states.words.now
+
+  abbrev tr : List ℕ
+  tr = x.transitions.words.now
 
   abbrev v : ℕ → List Edge
-  v = list_at (store_of t st mem tr c)
-
-  abbrev K : ℕ
-  K = get_or st (12 * x + 0) 0
-
-  abbrev A : ℕ
-  A = get_or st (12 * x + 1) 0
-
-  abbrev B : ℕ
-  B = get_or st (12 * x + 2) 0
+  v = list_at (store_in x)
 
   abbrev whole : Step Aut (List Edge)
-  whole = together_of N l (store_of t st mem tr c) x
+  whole = together_of N k.limits (store_in x) i
 
-  at_kind : (k : ℕ) → K ≡ k → whole σ ≡ together_with N (limits_of l) v (value_of st A) k x (words mem A B) A B σ
-  unfolding op1 op2
-  at_kind k e = ap (λ (k : ℕ). together_with N (limits_of l) v (value_of st A) k x (words mem A B) A B σ) (operands.kind_as st x e)
+  abbrev Gives : ℕ → Step Aut (List Edge) → Result ℕ Refusal → Lent → Type 0
+  Gives n o r y = Goes k 0 n (ListAt N (limits_of k.limits)) (λ m. edges y.scratch.now RESULT m) o x r y
+
+  pub asked : Asked k x
+  asked = record { fields = R.fields; ready = R.ready.prepared.ready }
 
   -- the whole is one call
-  gives : {a n : ℕ} (o : Step Aut (List Edge)) → Inside 0 1088 a n → whole σ ≡ o σ → (z : Listed) {t1 st1 mem1 s1 : List ℕ} → GivesList N l a n o σ c z (aut_of t1 st1 mem1) s s1 → GivesList N l 0 1088 whole σ c z (aut_of t1 st1 mem1) s s1
-  gives o i e z {s1 = s1} P = finish (aut_layer N l) 0 1088 (begin (aut_layer N l) 0 1088 W.prepared.ready e) (list_of z s1) P i
+  gives : {n : ℕ} (o : Step Aut (List Edge)) → Inside 0 1088 0 n → whole σ ≡ o σ → {r : Result ℕ Refusal} {y : Lent} → Gives n o r y → Gives 1088 whole r y
+  gives o j e {r} g = record { post = finish W 0 1088 (begin W 0 1088 asked.ready e) r g.post j }
 
-  -- ---- no list
+  -- with its words in variables
+  module _ {a b : ℕ} (pa : a ≡ op1 st i) (pb : b ≡ op2 st i) where
+    abbrev ys : List ℕ
+    ys = words x.members.words.now a b
 
-  pub of_spp : K ≡ SPP → GivesList N l 0 1088 whole σ c (listed.List c 0) (aut_of t st mem) s s
-  unfolding together_with
-  of_spp e =
-      done (aut_layer N l) 0 1088 (aut_of t st mem) (begin (aut_layer N l) 0 1088 W.prepared.ready (at_kind SPP e ∙ ap (given σ) (sym (none_at s))))
-      (subst (ListAt N (limits_of l) σ) (sym (none_at s)) (list_empty σ))
+    at_kind : (q : ℕ) → kind_of st i ≡ q → whole σ ≡ together_with N (limits_of k.limits) v (value_of st a) q i ys a b σ
+    at_kind q e =
+        ap (λ (q : ℕ). together_with N (limits_of k.limits) v (value_of st (op1 st i)) q i (words x.members.words.now (op1 st i) (op2 st i)) (op1 st i) (op2 st i) σ) e
+        ∙ ap₂ (λ (a b : ℕ). together_with N (limits_of k.limits) v (value_of st a) q i (words x.members.words.now a b) a b σ) (sym pa) (sym pb)
 
-  pub alone_ready : AloneReady N l st s c
-  alone_ready = record { nodes = t; members = mem; ready = W.prepared.ready; some = W.prepared.worked.lists.some }
+    -- ---- no list
 
-  pub of_dup : K ≡ DUP → (z : Listed) {st1 s1 : List ℕ} → GivesAlone N l Anything (dup_list N (limits_of l)) c z st s st1 s1 → GivesList N l 0 1088 whole σ c z (aut_of t st1 mem) s s1
-  unfolding together_with
-  of_dup e z E = gives (dup_list N (limits_of l)) part (at_kind DUP e) z (E t mem W.prepared.ready tt)
-
-  pub of_top : K ≡ TOP → (z : Listed) {st1 s1 : List ℕ} → GivesAlone N l Anything (top_list N (limits_of l)) c z st s st1 s1 → GivesList N l 0 1088 whole σ c z (aut_of t st1 mem) s s1
-  unfolding together_with
-  of_top e z E = gives (top_list N (limits_of l)) part (at_kind TOP e) z (E t mem W.prepared.ready tt)
-
-  pub of_next : K ≡ NEXT → (z : Listed) {st1 s1 : List ℕ} → GivesAlone N l (StateAt A) (St.st_singleton (ops N (limits_of l)) (Rel.top_at N) A) c z st s st1 s1 → GivesList N l 0 1088 whole σ c z (aut_of t st1 mem) s s1
-  unfolding together_with
-  of_next e z E = gives (St.st_singleton (ops N (limits_of l)) (Rel.top_at N) A) part (at_kind NEXT e) z (E t mem W.prepared.ready (operands.next_operand c W e))
-
-  -- ---- the members' lists
-
-  pub of_union : K ≡ UNION → (z : Listed) {t1 st1 mem1 s1 : List ℕ} → GivesList N l 0 1088 (union_all N (limits_of l) (lists_at (store_of t st mem tr c) A B) []) σ c z (aut_of t1 st1 mem1) s s1 → GivesList N l 0 1088 whole σ c z (aut_of t1 st1 mem1) s s1
-  unfolding together_with
-  of_union e z P = gives (union_all N (limits_of l) (lists_at (store_of t st mem tr c) A B) []) (all_of 0 1088) (at_kind UNION e) z P
-
-  pub of_intersect : K ≡ INTERSECT → (z : Listed) {t1 st1 mem1 s1 : List ℕ} → GivesList N l 0 1088 (intersect_first N (limits_of l) (lists_at (store_of t st mem tr c) A B)) σ c z (aut_of t1 st1 mem1) s s1 → GivesList N l 0 1088 whole σ c z (aut_of t1 st1 mem1) s s1
-  unfolding together_with
-  of_intersect e z P = gives (intersect_first N (limits_of l) (lists_at (store_of t st mem tr c) A B)) (all_of 0 1088) (at_kind INTERSECT e) z P
-
-  -- ---- one list
-
-  pub complement_ready : {r : Span} → K ≡ COMPLEMENT → Spans st A r → Not.OneReady N l σ tr s (stored r.start r.count)
-  complement_ready e q = record { ready = W.prepared.ready; limit = W.limit; walked = operands.spanned c W (operands.complement_operand c W e) q }
-
-  pub of_complement : {r : Span} → K ≡ COMPLEMENT → Spans st A r → (z : Listed) {t1 st1 mem1 s1 : List ℕ} → GivesList N l 0 832 (St.st_complement (ops N (limits_of l)) (edges tr r.start r.count)) σ c z (aut_of t1 st1 mem1) s s1
-      → GivesList N l 0 1088 whole σ c z (aut_of t1 st1 mem1) s s1
-  unfolding together_with
-  of_complement {r} e q z P =
-      gives (St.st_complement (ops N (limits_of l)) (edges tr r.start r.count)) part (at_kind COMPLEMENT e ∙ ap (λ (es : List Edge). St.st_complement (ops N (limits_of l)) es σ) (operands.list_is c W q)) z P
-
-  -- ---- two lists
-
-  module _ {r1 r2 : Span} (q1 : Spans st A r1) (q2 : Spans st B r2) where
-    abbrev ts : List Edge
-    ts = edges tr r1.start r1.count
-
-    abbrev us : List Edge
-    us = edges tr r2.start r2.count
-
-    -- y has a stored list
-    abbrev Operand : ℕ → Type 0
-    Operand = operands.Operand c W
-
-    two_ready : Operand A × Operand B → StoredReady N l σ tr s r1.start r1.count r2.start r2.count
-    two_ready p = record { first = record { ready = W.prepared.ready; limit = W.limit; walked = operands.spanned c W p.0 q1 }; second = operands.spanned c W p.1 q2 }
-
-    lists_are : (o : List Edge → List Edge → Step Aut (List Edge)) → o (v A) (v B) σ ≡ o ts us σ
-    lists_are o = ap₂ (λ (xs ys : List Edge). o xs ys σ) (operands.list_is c W q1) (operands.list_is c W q2)
-
-    pub xor_ready : K ≡ XOR → StoredReady N l σ tr s r1.start r1.count r2.start r2.count
-    xor_ready e = two_ready (operands.xor_operands c W e)
-
-    pub of_xor : K ≡ XOR → (z : Listed) {t1 st1 mem1 s1 : List ℕ} → GivesList N l 0 1088 (St.st_xor (ops N (limits_of l)) ts us) σ c z (aut_of t1 st1 mem1) s s1 → GivesList N l 0 1088 whole σ c z (aut_of t1 st1 mem1) s s1
+    pub of_spp : kind_of st i ≡ SPP → Gives 1088 whole (Ok 0) x
     unfolding together_with
-    of_xor e z P = gives (St.st_xor (ops N (limits_of l)) ts us) (all_of 0 1088) (at_kind XOR e ∙ lists_are (St.st_xor (ops N (limits_of l)))) z P
+    of_spp e = record {
+      post = done W 0 1088 {see = λ (m : ℕ). edges x.scratch.now RESULT m} {v = 0} (begin W 0 1088 asked.ready (at_kind SPP e ∙ ap (given σ) (sym (none_at x.scratch.now))))
+          (subst (ListAt N (limits_of k.limits) σ) (sym (none_at x.scratch.now)) (list_empty σ));
+    }
 
-    pub difference_ready : K ≡ DIFFERENCE → TwoReady N l σ tr s (stored r1.start r1.count) (stored r2.start r2.count)
-    difference_ready e = two_ready (operands.difference_operands c W e)
+    pub alone_ready : AloneAsked k x
+    alone_ready = record { asked = asked; some = R.ready.prepared.worked.lists.some }
 
-    pub of_difference : K ≡ DIFFERENCE → (z : Listed) {t1 st1 mem1 s1 : List ℕ} → DoesList N l 0 832 (St.st_difference (ops N (limits_of l)) ts us) σ z c t1 st1 mem1 s s1 → GivesList N l 0 1088 whole σ c z (aut_of t1 st1 mem1) s s1
-    unfolding together_with
-    of_difference e z D = gives (St.st_difference (ops N (limits_of l)) ts us) part (at_kind DIFFERENCE e ∙ lists_are (St.st_difference (ops N (limits_of l)))) z (of_list {o = St.st_difference (ops N (limits_of l)) ts us} z D)
-
-    pub until_ready : K ≡ UNTIL → UntilReady N l σ tr s A B r1.start r1.count r2.start r2.count
-    until_ready e = let p = operands.until_operands c W e in record { stored = two_ready p; first = p.0.0; second = p.1.0 }
-
-    pub of_until : K ≡ UNTIL → (z : Listed) {t1 st1 mem1 s1 : List ℕ} → GivesList N l 0 1088 (until_list N (limits_of l) A B ts us) σ c z (aut_of t1 st1 mem1) s s1 → GivesList N l 0 1088 whole σ c z (aut_of t1 st1 mem1) s s1
-    unfolding together_with
-    of_until e z P = gives (until_list N (limits_of l) A B ts us) (all_of 0 1088) (at_kind UNTIL e ∙ lists_are (until_list N (limits_of l) A B)) z P
-
-    module _ {h : ℕ} (k : value_of st A ≡ h) where
-      pub sequence_ready : K ≡ SEQUENCE → SequenceReady N l σ tr s B h r1.start r1.count r2.start r2.count
-      sequence_ready e = let p = operands.sequence_operands c W e in record { stored = two_ready p; state = p.1.0; label = operands.epsilon_label c W (omega arith, omega arith) p.0 k }
-
-      pub of_sequence : K ≡ SEQUENCE → (z : Listed) {t1 st1 mem1 s1 : List ℕ} → GivesList N l 0 1088 (sequence_list N (limits_of l) B h ts us) σ c z (aut_of t1 st1 mem1) s s1 → GivesList N l 0 1088 whole σ c z (aut_of t1 st1 mem1) s s1
+    module _ {r : Result ℕ Refusal} {y : Lent} where
+      pub of_dup : kind_of st i ≡ DUP → Gives 832 (dup_list N (limits_of k.limits)) r y → Gives 1088 whole r y
       unfolding together_with
-      of_sequence e z P =
-          gives (sequence_list N (limits_of l) B h ts us) (all_of 0 1088) (at_kind SEQUENCE e ∙ lists_are (sequence_list N (limits_of l) B (value_of st A)) ∙ ap (λ (h : ℕ). sequence_list N (limits_of l) B h ts us σ) k) z P
+      of_dup e g = gives (dup_list N (limits_of k.limits)) part (at_kind DUP e) g
+
+      pub of_top : kind_of st i ≡ TOP → Gives 832 (top_list N (limits_of k.limits)) r y → Gives 1088 whole r y
+      unfolding together_with
+      of_top e g = gives (top_list N (limits_of k.limits)) part (at_kind TOP e) g
+
+      pub of_next : kind_of st i ≡ NEXT → Gives 832 (St.st_singleton (ops N (limits_of k.limits)) (Rel.top_at N) a) r y → Gives 1088 whole r y
+      unfolding together_with
+      of_next e g = gives (St.st_singleton (ops N (limits_of k.limits)) (Rel.top_at N) a) part (at_kind NEXT e) g
+
+      -- ---- the members' lists
+
+      pub of_union : kind_of st i ≡ UNION → Gives 1088 (union_all N (limits_of k.limits) (lists_at (store_in x) a b) []) r y → Gives 1088 whole r y
+      unfolding together_with
+      of_union e g = gives (union_all N (limits_of k.limits) (lists_at (store_in x) a b) []) (all_of 0 1088) (at_kind UNION e) g
+
+      pub of_intersect : kind_of st i ≡ INTERSECT → Gives 1088 (intersect_first N (limits_of k.limits) (lists_at (store_in x) a b)) r y → Gives 1088 whole r y
+      unfolding together_with
+      of_intersect e g = gives (intersect_first N (limits_of k.limits) (lists_at (store_in x) a b)) (all_of 0 1088) (at_kind INTERSECT e) g
+
+    many_ready : All (operands.Operand R.ready) ys → (1 ≤ b) × (a + b ≤ x.members.count) → ManyAsked k x a b
+    many_ready p q = record {
+      fields = R.fields;
+      prepared = R.ready.prepared;
+      limit = R.ready.limit;
+      some = q.0;
+      inside = q.1;
+      states = all_map ys (λ y h. h.0) p;
+      lists = all_map ys (λ y h. h.1) p;
+    }
+
+    pub union_ready : kind_of st i ≡ UNION → ManyAsked k x a b
+    union_ready e = many_ready (operands.union_members R.ready pa pb e) (operands.union_some R.ready pa pb e)
+
+    pub intersect_ready : kind_of st i ≡ INTERSECT → ManyAsked k x a b
+    intersect_ready e = many_ready (operands.intersect_members R.ready pa pb e) (operands.intersect_some R.ready pa pb e)
+
+    pub next_ready : kind_of st i ≡ NEXT → AloneAsked k x × (a < x.states.count)
+    next_ready e = (alone_ready, operands.next_operand R.ready pa pb e)
+
+    -- ---- one list
+
+    module _ {d : Span} (q : Spans st a d) (e : kind_of st i ≡ COMPLEMENT) where
+      pub complement_ready : Not.OneAsked k x (stored d.start d.count)
+      complement_ready = record { asked = asked; limit = R.ready.limit; walked = operands.spanned R.ready (operands.complement_operand R.ready pa pb e) q }
+
+      pub of_complement : {r : Result ℕ Refusal} {y : Lent} → Gives 832 (St.st_complement (ops N (limits_of k.limits)) (edges tr d.start d.count)) r y → Gives 1088 whole r y
+      unfolding together_with
+      of_complement g =
+          gives (St.st_complement (ops N (limits_of k.limits)) (edges tr d.start d.count)) part (at_kind COMPLEMENT e ∙ ap (λ (es : List Edge). St.st_complement (ops N (limits_of k.limits)) es σ) (operands.list_is R.ready q)) g
+
+    -- ---- two lists
+
+    module _ {d1 d2 : Span} (q1 : Spans st a d1) (q2 : Spans st b d2) where
+      abbrev ts : List Edge
+      ts = edges tr d1.start d1.count
+
+      abbrev us : List Edge
+      us = edges tr d2.start d2.count
+
+      lists_are : (o : List Edge → List Edge → Step Aut (List Edge)) → o (v a) (v b) σ ≡ o ts us σ
+      lists_are o = ap₂ (λ (xs ys : List Edge). o xs ys σ) (operands.list_is R.ready q1) (operands.list_is R.ready q2)
+
+      module _ {r : Result ℕ Refusal} {y : Lent} where
+        pub of_xor : kind_of st i ≡ XOR → Gives 1088 (St.st_xor (ops N (limits_of k.limits)) ts us) r y → Gives 1088 whole r y
+        unfolding together_with
+        of_xor e g = gives (St.st_xor (ops N (limits_of k.limits)) ts us) (all_of 0 1088) (at_kind XOR e ∙ lists_are (St.st_xor (ops N (limits_of k.limits)))) g
+
+        pub of_difference : kind_of st i ≡ DIFFERENCE → Gives 832 (St.st_difference (ops N (limits_of k.limits)) ts us) r y → Gives 1088 whole r y
+        unfolding together_with
+        of_difference e g = gives (St.st_difference (ops N (limits_of k.limits)) ts us) part (at_kind DIFFERENCE e ∙ lists_are (St.st_difference (ops N (limits_of k.limits)))) g
+
+        pub of_until : kind_of st i ≡ UNTIL → Gives 1088 (until_list N (limits_of k.limits) a b ts us) r y → Gives 1088 whole r y
+        unfolding together_with
+        of_until e g = gives (until_list N (limits_of k.limits) a b ts us) (all_of 0 1088) (at_kind UNTIL e ∙ lists_are (until_list N (limits_of k.limits) a b)) g
+
+        pub of_sequence : {h : ℕ} → value_of st a ≡ h → kind_of st i ≡ SEQUENCE → Gives 1088 (sequence_list N (limits_of k.limits) b h ts us) r y → Gives 1088 whole r y
+        unfolding together_with
+        of_sequence {h} w e g =
+            gives (sequence_list N (limits_of k.limits) b h ts us) (all_of 0 1088)
+            (at_kind SEQUENCE e ∙ lists_are (sequence_list N (limits_of k.limits) b (value_of st a)) ∙ ap (λ (h : ℕ). sequence_list N (limits_of k.limits) b h ts us σ) w) g
+
+      module _ (t : Two (kind_of st i)) where
+        p : operands.Operand R.ready a × operands.Operand R.ready b
+        p = operands.two_operands R.ready pa pb t
+
+        pub two_ready : TwoAsked k x (stored d1.start d1.count) (stored d2.start d2.count)
+        two_ready = record { first = record { asked = asked; limit = R.ready.limit; walked = operands.spanned R.ready p.0 q1 }; second = operands.spanned R.ready p.1 q2 }
+
+        pub until_ready : UntilAsked k x a b d1.start d1.count d2.start d2.count
+        until_ready = record { asked = asked; limit = R.ready.limit; first = operands.spanned R.ready p.0 q1; second = operands.spanned R.ready p.1 q2; left = p.0.0; right = p.1.0 }
+
+        module _ (e : kind_of st i ≡ SEQUENCE) where
+          pub sequence_value : (12 * a + 11 < length st) × Known st a
+          sequence_value = operands.value_ask R.ready pa pb (omega (arith, e)) (omega (arith, e)) p.0
+
+          pub sequence_ready : {h : ℕ} → value_of st a ≡ h → SequenceAsked k x b h d1.start d1.count d2.start d2.count
+          sequence_ready w = record {
+            asked = asked;
+            limit = R.ready.limit;
+            first = operands.spanned R.ready p.0 q1;
+            second = operands.spanned R.ready p.1 q2;
+            state = p.1.0;
+            label = operands.epsilon_label R.ready pa pb (omega (arith, e)) (omega (arith, e)) p.0 w;
+          }
 
   -- ---- a Star
 
-  module _ (kind_is : kind_of st x ≡ STAR) where
-    is_star : K ≡ STAR
-    is_star = operands.kind_read st x ∙ kind_is
+  module _ (e : kind_of st i ≡ STAR) {a : ℕ} (pa : a ≡ op1 st i) where
+    star_has : operands.Operand R.ready a
+    star_has = operands.star_operand R.ready pa refl e
 
-    pub star_operand : operands.Operand c W A
-    star_operand = operands.star_operand c W is_star
+    pub star_ask : (12 * a + 11 < length st) × (0 < count_of st a)
+    star_ask = operands.stored_ask R.ready star_has
 
-    pub star_value_ask : (12 * A + 11 < length st) × Known st A
-    star_value_ask = operands.value_ask c W (omega (arith, is_star), omega (arith, is_star)) star_operand
+    pub star_value : (12 * a + 11 < length st) × Known st a
+    star_value = operands.value_ask R.ready pa refl (omega (arith, e)) (omega (arith, e)) star_has
 
-    module _ {r : Span} (q : Spans st A r) {e : ℕ} (k : value_of st A ≡ e) where
-      at_e : Label N σ e
-      at_e = operands.epsilon_label c W (omega (arith, is_star), omega (arith, is_star)) star_operand k
+    module _ {d : Span} (q : Spans st a d) {c : ℕ} (w : value_of st a ≡ c) where
+      at_c : Label N σ c
+      at_c = operands.epsilon_label R.ready pa refl (omega (arith, e)) (omega (arith, e)) star_has w
 
-      pub relate_ready : RelateReady N (table t c.spp) s e e
-      relate_ready = record { backed = backed_of W.prepared.ready; at_a = at_e.at; at_b = at_e.at }
+      pub relate_ready : Handles N x c c
+      relate_ready = record { fields = R.fields; backed = backed_of asked.ready; at_a = at_c.at; at_b = at_c.at }
 
       abbrev then_list : ℕ → Step Aut (List Edge)
-      then_list h = star_list N (limits_of l) x h (edges tr r.start r.count)
+      then_list h = star_list N (limits_of k.limits) i h (edges tr d.start d.count)
 
-      star_0 : Stage (aut_layer N l) 0 1088 (whole σ) (after (on_nodes (Rel.star N e) σ) then_list) σ σ c c s s
+      star_0 : Stage (lent_layer N k.limits) 0 1088 (whole σ) (after (on_nodes (Rel.star N c) σ) then_list) σ σ x.scratch.now x.scratch.now
       unfolding together_with
-      star_0 = begin (aut_layer N l) 0 1088 W.prepared.ready
-          (at_kind STAR is_star ∙ ap₂ (λ (e : ℕ) (es : List Edge). after (on_nodes (Rel.star N e) σ) (λ h. star_list N (limits_of l) x h es)) k (operands.list_is c W q))
+      star_0 = begin W 0 1088 asked.ready
+          (at_kind pa refl STAR e ∙ ap₂ (λ (c : ℕ) (es : List Edge). after (on_nodes (Rel.star N c) σ) (λ h. star_list N (limits_of k.limits) i h es)) w (operands.list_is R.ready q))
 
-      module _ {m : Made} {t1 s1 : List ℕ} (R : Relates N (Rel.star N e) (table t c.spp) m t1 s s1) (len : length s1 ≡ length s) where
-        pub star_stuck : m ≡ Full → GivesList N l 0 1088 whole σ c (listed.Refused 21) (aut_of t1 st mem) s s1
-        star_stuck f = stuck (aut_layer N l) 0 1088 (relation_refused st mem c R f) then_list star_0
+      module _ {y : Lent} (K : KeepsExprs x y) where
+        -- what `relate` answers
+        abbrev Relates : Result Handle Refusal → Type 0
+        Relates r = Does N 0 0 nodes_in (λ h. h.0) (task_of N task.Star c c) x r y
 
-        module _ {h : Handle} {n : ℕ} (f : m ≡ Node h n) where
-          abbrev d : Counts
-          d = with_nodes c n
+        starred : {r : Result Handle Refusal} → Relates r → Goes k 0 0 (Label N) (λ (h : Handle). h.0) (on_nodes (Rel.star N c)) x r y
+        starred D = related asked K (goes_map (nodes_goes asked.ready.good (star_made N (nodes_in x) asked.ready.good.nodes c at_c.at)) (λ τ h w v j. record { at = j.at })) D
 
-          starred : Post (aut_layer N l) 0 0 (Label N) (on_nodes (Rel.star N e) σ) σ c (gave d h.0) (aut_of t1 st mem) s s1
-          starred = relation_given st mem c R f W.prepared.ready (goes_map (nodes_goes W.prepared.ready.good (star_made N (table t c.spp) W.prepared.ready.good.nodes e at_e.at)) (λ τ h w v i. record { at = i.at })) len
+        pub star_stuck : {f : Refusal} {r : Result ℕ Refusal} → r ≡ Err f → Relates (Err f) → Gives 1088 whole r y
+        star_stuck {f} {r} z D = subst (λ (r : Result ℕ Refusal). Gives 1088 whole r y) (sym z) (record { post = stuck W 0 1088 (starred D).post then_list star_0 })
 
-          star_1 : Stage (aut_layer N l) 0 1088 (whole σ) (then_list h.0 (aut_of t1 st mem d)) σ (aut_of t1 st mem d) c d s s1
-          star_1 = next (aut_layer N l) 0 1088 starred no_list then_list star_0
+        module _ {h : Handle} (D : Relates (Ok h)) where
+          star_1 : Stage (lent_layer N k.limits) 0 1088 (whole σ) (then_list h.0 (aut_in y)) σ (aut_in y) x.scratch.now y.scratch.now
+          star_1 = next W 0 1088 (starred D).post no_list then_list star_0
 
-          pub star_ready : StarReady N l (aut_of t1 st mem d) tr s1 x h.0 r.start r.count
+          pub star_ready : StarAsked k y i h.0 d.start d.count
           star_ready =
-              let w = operands.spanned c W star_operand q in
+              let g = (starred D).post.then in
+              let u = operands.spanned R.ready star_has q in
               record {
-                stored = record { ready = star_1.ready; limit = W.limit; walked = record { within = w.within; edges = edges_grown star_1.ext.grown w.edges } };
-                state = state_grown star_1.ext.grown W.has;
-                label = starred.then.holds;
+                asked = asked_after asked K.spp (starred D);
+                limit = R.ready.limit;
+                list = subst (λ (t : Transitions). Walked N (aut_in y) t.words.now y.scratch.now (stored d.start d.count)) (sym K.transitions) (record { within = u.within; edges = edges_grown g.ext.grown u.edges });
+                state = state_grown g.ext.grown R.ready.has;
+                label = g.holds;
               }
 
-          pub of_star : (z : Listed) {t2 st2 mem2 s2 : List ℕ} → GivesList N l 0 1088 (then_list h.0) (aut_of t1 st mem d) d z (aut_of t2 st2 mem2) s1 s2 → GivesList N l 0 1088 whole σ c z (aut_of t2 st2 mem2) s s2
-          of_star z {s2 = s2} P = finish (aut_layer N l) 0 1088 star_1 (list_of z s2) P (all_of 0 1088)
+          pub of_star : {r : Result ℕ Refusal} {z : Lent} → Goes k 0 1088 (ListAt N (limits_of k.limits)) (λ m. edges z.scratch.now RESULT m) (star_list N (limits_of k.limits) i h.0 (edges y.transitions.words.now d.start d.count)) y r z → Gives 1088 whole r z
+          of_star {r} {z} g =
+              let g' : Goes k 0 1088 (ListAt N (limits_of k.limits)) (λ m. edges z.scratch.now RESULT m) (then_list h.0) y r z
+              = subst (λ (t : Transitions). Goes k 0 1088 (ListAt N (limits_of k.limits)) (λ m. edges z.scratch.now RESULT m) (star_list N (limits_of k.limits) i h.0 (edges t.words.now d.start d.count)) y r z) K.transitions g in
+              record { post = finish W 0 1088 star_1 r g'.post (all_of 0 1088) }

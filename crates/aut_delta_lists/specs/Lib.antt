@@ -1,2 +1,2 @@
 -- The lists of delta, by kind: what is asked.
-pub mod Clauses
+pub mod Asked

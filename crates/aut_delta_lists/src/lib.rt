@@ -1,174 +1,123 @@
 // The lists of delta (aut.rs) by kind, from stored lists of its operands, and the list operations that only they call. The result stands at RESULT.
 #![tactic(auto)]
 
+ghost use Rattle.std.specs.Prelude.{◌≡◌};
 ghost use Rattle.netkat_steps.specs.ListSteps as St;
+ghost use Rattle.netkat_steps.specs.ListSteps.{edge};
 ghost use Rattle.aut_steps.specs.Relations.{top_at};
 ghost use Rattle.aut_st_steps.specs.Operations.{ops};
-ghost use Rattle.aut_st_steps.specs.Edges.{edges};
-ghost use Rattle.aut_delta_steps.specs.Delta.{sequence_list, star_list, until_list, dup_list, top_list};
+ghost use Rattle.aut_st_steps.specs.Edges.{edges, EdgeAt};
+ghost use Rattle.aut_st_steps.specs.ListSpec.{ListAt, State, Label};
+ghost use Rattle.aut_delta_steps.specs.Delta as Delta;
 ghost use Rattle.aut_states.specs.Clauses.{limits_of};
-ghost use Rattle.aut_relations.specs.Clauses.{aut_of};
+ghost use Rattle.aut_relations.specs.Lent.{aut_in, Keeps};
+ghost use Rattle.aut_stage.specs.OnLent.{Goes};
+ghost use Rattle.aut_st_insert.specs.Clauses as Seen;
 ghost use Rattle.aut_st_source.specs.Clauses.{source_of};
-ghost use Rattle.aut_st_stage.specs.Readings.{GivesList};
-ghost use Rattle.aut_delta_lists.specs.Clauses.{ToReady, BehindReady, SequenceReady, StarReady, UntilReady, AloneReady, Anything, StateAt, EdgeAlone, GivesAlone};
+ghost use Rattle.aut_st_ops.specs.Asked.{OneAsked};
+ghost use Rattle.aut_delta_lists.specs.Asked.{SequenceAsked, StarAsked, UntilAsked, AloneAsked};
 
+use aut_relations::Aut;
 use aut_st_each::Each;
-use aut_st_insert::Listed;
+use aut_st_insert::{FIRST, RESULT, SECOND};
 use aut_st_source::{Place, Source};
-use aut_states::{Config, Counts, State};
+use aut_states::Config;
+use refusal::Refusal;
 use spp::SPP;
 
 // ---- list operations
 
 // each target followed by the state e
+#[tactic(auto, unfolding(netkat_steps::specs::ListSteps::st_postcompose, aut_st_steps::specs::Edges::edges))]
 pub fn st_postcompose(
-    nodes: &mut [u32],
-    states: &mut [u32],
-    members: &mut [u32],
-    transitions: &[u32],
-    scratch: &mut [u32],
-    c: Counts,
+    aut: &mut Aut,
     config: Config,
     source: Source,
     e: u32,
-) -> Listed
-    requires { ToReady config.fields config.limits (aut_of nodes.old states.old members.old c)
-        transitions.now scratch.old source e }
-    ensures { GivesList config.fields config.limits 0 832
+) -> Result<usize, Refusal>
+    requires { OneAsked config aut.old source × State (aut_in aut.old) e }
+    ensures keeps { Keeps aut.old aut.new }
+    ensures gives { Goes config 0 832 (ListAt config.fields (limits_of config.limits))
+        (λ n. edges aut.new.scratch.now Seen.RESULT n)
         (St.st_postcompose (ops config.fields (limits_of config.limits))
-        (source_of source transitions.now scratch.old) e)
-        (aut_of nodes.old states.old members.old c) c result
-        (aut_of nodes.new states.new members.new) scratch.old
-        scratch.new }
+        (source_of source aut.old.transitions.words.now aut.old.scratch.now) e)
+        aut.old result aut.new }
 {
-    aut_st_each::insert_each(
-        nodes,
-        states,
-        members,
-        transitions,
-        scratch,
-        c,
-        config,
-        Each::Sequence(e),
-        source,
-        0,
-    )
+    aut_st_each::insert_each(aut, config, Each::Sequence(e), source, 0)
 }
 
 // each label behind the relation l
+#[tactic(auto, unfolding(netkat_steps::specs::ListSteps::st_precompose, aut_st_steps::specs::Edges::edges))]
 pub fn st_precompose(
-    nodes: &mut [u32],
-    states: &mut [u32],
-    members: &mut [u32],
-    transitions: &[u32],
-    scratch: &mut [u32],
-    c: Counts,
+    aut: &mut Aut,
     config: Config,
     l: SPP,
     source: Source,
-) -> Listed
-    requires { BehindReady config.fields config.limits (aut_of nodes.old states.old members.old c)
-        transitions.now scratch.old l.0 source }
-    ensures { GivesList config.fields config.limits 0 832
+) -> Result<usize, Refusal>
+    requires { OneAsked config aut.old source × Label config.fields (aut_in aut.old) l.0 }
+    ensures keeps { Keeps aut.old aut.new }
+    ensures gives { Goes config 0 832 (ListAt config.fields (limits_of config.limits))
+        (λ n. edges aut.new.scratch.now Seen.RESULT n)
         (St.st_precompose (ops config.fields (limits_of config.limits)) l.0
-        (source_of source transitions.now scratch.old))
-        (aut_of nodes.old states.old members.old c) c result
-        (aut_of nodes.new states.new members.new) scratch.old
-        scratch.new }
+        (source_of source aut.old.transitions.words.now aut.old.scratch.now))
+        aut.old result aut.new }
 {
-    aut_st_each::insert_each(
-        nodes,
-        states,
-        members,
-        transitions,
-        scratch,
-        c,
-        config,
-        Each::After(l),
-        source,
-        0,
-    )
+    aut_st_each::insert_each(aut, config, Each::After(l), source, 0)
 }
 
 // each target met with the state e
+#[tactic(auto, unfolding(netkat_steps::specs::ListSteps::st_intersect_expr, aut_st_steps::specs::Edges::edges))]
 pub fn st_intersect_expr(
-    nodes: &mut [u32],
-    states: &mut [u32],
-    members: &mut [u32],
-    transitions: &[u32],
-    scratch: &mut [u32],
-    c: Counts,
+    aut: &mut Aut,
     config: Config,
     source: Source,
     e: u32,
-) -> Listed
-    requires { ToReady config.fields config.limits (aut_of nodes.old states.old members.old c)
-        transitions.now scratch.old source e }
-    ensures { GivesList config.fields config.limits 0 832
+) -> Result<usize, Refusal>
+    requires { OneAsked config aut.old source × State (aut_in aut.old) e }
+    ensures keeps { Keeps aut.old aut.new }
+    ensures gives { Goes config 0 832 (ListAt config.fields (limits_of config.limits))
+        (λ n. edges aut.new.scratch.now Seen.RESULT n)
         (St.st_intersect_expr (ops config.fields (limits_of config.limits))
-        (source_of source transitions.now scratch.old) e)
-        (aut_of nodes.old states.old members.old c) c result
-        (aut_of nodes.new states.new members.new) scratch.old
-        scratch.new }
+        (source_of source aut.old.transitions.words.now aut.old.scratch.now) e)
+        aut.old result aut.new }
 {
-    aut_st_each::insert_each(
-        nodes,
-        states,
-        members,
-        transitions,
-        scratch,
-        c,
-        config,
-        Each::Intersect(e),
-        source,
-        0,
-    )
+    aut_st_each::insert_each(aut, config, Each::Intersect(e), source, 0)
 }
 
-// one transition, to `target` with the label `label`; none where the label is zero, or the target the zero state, which is interned for that. Relation nodes and members are not taken
+// one transition, to `target` with the label `label`; none where the label is zero, or the target the zero state, which is interned for that
 pub fn st_singleton(
-    states: &mut [u32],
-    scratch: &mut [u32],
-    c: Counts,
+    aut: &mut Aut,
     config: Config,
     label: SPP,
     target: u32,
-) -> Listed
-    requires { AloneReady config.fields config.limits states.old scratch.old c }
-    ensures { GivesAlone config.fields config.limits (EdgeAlone config.fields target label.0)
-        (St.st_singleton (ops config.fields (limits_of config.limits)) label.0 target) c result
-        states.old scratch.old states.new scratch.new }
+) -> Result<usize, Refusal>
+    requires { AloneAsked config aut.old }
+    ensures keeps { Keeps aut.old aut.new }
+    ensures spp { aut.new.spp ≡ aut.old.spp }
+    ensures members { aut.new.members ≡ aut.old.members }
+    ensures gives { EdgeAt config.fields (aut_in aut.old) (edge target label.0) → Goes config 0 832 (ListAt config.fields (limits_of config.limits))
+        (λ n. edges aut.new.scratch.now Seen.RESULT n)
+        (St.st_singleton (ops config.fields (limits_of config.limits)) label.0 target)
+        aut.old result aut.new }
 {
     let zero = spp::zero_at_depth(config.fields);
     if label.0 == zero.0 {
-        return Listed::List(c, 0);
+        return Ok(0);
     }
-    let put = aut_states::mk_spp(states, c.states, zero);
-    let state = aut_relations::placed(put, c);
-    match state {
-        State::Refused(e) => Listed::Refused(e),
-        State::Is(z, d) => {
-            if target == z {
-                return Listed::List(d, 0);
-            }
-            let j = 2 * aut_st_insert::RESULT;
-            scratch[j] = target;
-            scratch[j + 1] = label.0;
-            Listed::List(d, 1)
-        }
+    let z = aut.states.mk_spp(zero)?;
+    if target == z {
+        return Ok(0);
     }
+    aut.scratch[2 * RESULT] = target;
+    aut.scratch[2 * RESULT + 1] = label.0;
+    Ok(1)
 }
 
 // ---- lists by kind
 
 // of a Sequence, whose second operand is y and whose first has the epsilon eps
 pub fn sequence_list(
-    nodes: &mut [u32],
-    states: &mut [u32],
-    members: &mut [u32],
-    transitions: &[u32],
-    scratch: &mut [u32],
-    c: Counts,
+    aut: &mut Aut,
     config: Config,
     y: u32,
     eps: SPP,
@@ -176,141 +125,89 @@ pub fn sequence_list(
     k: usize,
     second: usize,
     j: usize,
-) -> Listed
-    requires { SequenceReady config.fields config.limits (aut_of nodes.old states.old members.old c)
-        transitions.now scratch.old y eps.0 first k second j }
-    ensures { GivesList config.fields config.limits 0 1088
-        (sequence_list config.fields (limits_of config.limits) y eps.0
-        (edges transitions.now first k) (edges transitions.now second j))
-        (aut_of nodes.old states.old members.old c) c result
-        (aut_of nodes.new states.new members.new) scratch.old
-        scratch.new }
+) -> Result<usize, Refusal>
+    requires { SequenceAsked config aut.old y eps.0 first k second j }
+    ensures keeps { Keeps aut.old aut.new }
+    ensures gives { Goes config 0 1088 (ListAt config.fields (limits_of config.limits))
+        (λ n. edges aut.new.scratch.now Seen.RESULT n)
+        (Delta.sequence_list config.fields (limits_of config.limits) y eps.0
+        (edges aut.old.transitions.words.now first k)
+        (edges aut.old.transitions.words.now second j)) aut.old result aut.new }
 {
-    let late = st_postcompose(
-        nodes,
-        states,
-        members,
-        transitions,
-        scratch,
-        c,
+    let n = st_postcompose(
+        aut,
         config,
         Source {
             place: Place::Stored(first),
             length: k,
         },
         y,
-    );
-    match late {
-        Listed::Refused(e) => Listed::Refused(e),
-        Listed::List(d, n) => {
-            aut_st_edges::copy(scratch, aut_st_insert::RESULT, n, aut_st_insert::FIRST);
-            let early = st_precompose(
-                nodes,
-                states,
-                members,
-                transitions,
-                scratch,
-                d,
-                config,
-                eps,
-                Source {
-                    place: Place::Stored(second),
-                    length: j,
-                },
-            );
-            match early {
-                Listed::Refused(e) => Listed::Refused(e),
-                Listed::List(f, m) => {
-                    aut_st_edges::copy(scratch, aut_st_insert::RESULT, m, aut_st_insert::SECOND);
-                    aut_st_ops::st_union(
-                        nodes,
-                        states,
-                        members,
-                        transitions,
-                        scratch,
-                        f,
-                        config,
-                        Source {
-                            place: Place::Scratch(aut_st_insert::FIRST),
-                            length: n,
-                        },
-                        Source {
-                            place: Place::Scratch(aut_st_insert::SECOND),
-                            length: m,
-                        },
-                    )
-                }
-            }
-        }
-    }
+    )?;
+    aut_st_edges::copy(aut.scratch, RESULT, n, FIRST);
+    let m = st_precompose(
+        aut,
+        config,
+        eps,
+        Source {
+            place: Place::Stored(second),
+            length: j,
+        },
+    )?;
+    aut_st_edges::copy(aut.scratch, RESULT, m, SECOND);
+    aut_st_ops::st_union(
+        aut,
+        config,
+        Source {
+            place: Place::Scratch(FIRST),
+            length: n,
+        },
+        Source {
+            place: Place::Scratch(SECOND),
+            length: m,
+        },
+    )
 }
 
 // of the Star x; eps is the star of its operand's epsilon
 pub fn star_list(
-    nodes: &mut [u32],
-    states: &mut [u32],
-    members: &mut [u32],
-    transitions: &[u32],
-    scratch: &mut [u32],
-    c: Counts,
+    aut: &mut Aut,
     config: Config,
     x: u32,
     eps: SPP,
     first: usize,
     k: usize,
-) -> Listed
-    requires { StarReady config.fields config.limits (aut_of nodes.old states.old members.old c)
-        transitions.now scratch.old x eps.0 first k }
-    ensures { GivesList config.fields config.limits 0 1088
-        (star_list config.fields (limits_of config.limits) x eps.0 (edges transitions.now first k))
-        (aut_of nodes.old states.old members.old c) c result
-        (aut_of nodes.new states.new members.new) scratch.old
-        scratch.new }
+) -> Result<usize, Refusal>
+    requires { StarAsked config aut.old x eps.0 first k }
+    ensures keeps { Keeps aut.old aut.new }
+    ensures gives { Goes config 0 1088 (ListAt config.fields (limits_of config.limits))
+        (λ n. edges aut.new.scratch.now Seen.RESULT n)
+        (Delta.star_list config.fields (limits_of config.limits) x eps.0
+        (edges aut.old.transitions.words.now first k)) aut.old result aut.new }
 {
-    let late = st_postcompose(
-        nodes,
-        states,
-        members,
-        transitions,
-        scratch,
-        c,
+    let n = st_postcompose(
+        aut,
         config,
         Source {
             place: Place::Stored(first),
             length: k,
         },
         x,
-    );
-    match late {
-        Listed::Refused(e) => Listed::Refused(e),
-        Listed::List(d, n) => {
-            aut_st_edges::copy(scratch, aut_st_insert::RESULT, n, aut_st_insert::FIRST);
-            st_precompose(
-                nodes,
-                states,
-                members,
-                transitions,
-                scratch,
-                d,
-                config,
-                eps,
-                Source {
-                    place: Place::Scratch(aut_st_insert::FIRST),
-                    length: n,
-                },
-            )
-        }
-    }
+    )?;
+    aut_st_edges::copy(aut.scratch, RESULT, n, FIRST);
+    st_precompose(
+        aut,
+        config,
+        eps,
+        Source {
+            place: Place::Scratch(FIRST),
+            length: n,
+        },
+    )
 }
 
 // of the LtlUntil of a and b
 pub fn until_list(
-    nodes: &mut [u32],
-    states: &mut [u32],
-    members: &mut [u32],
-    transitions: &[u32],
-    scratch: &mut [u32],
-    c: Counts,
+    aut: &mut Aut,
     config: Config,
     a: u32,
     b: u32,
@@ -318,107 +215,79 @@ pub fn until_list(
     k: usize,
     second: usize,
     j: usize,
-) -> Listed
-    requires { UntilReady config.fields config.limits (aut_of nodes.old states.old members.old c)
-        transitions.now scratch.old a b first k second j }
-    ensures { GivesList config.fields config.limits 0 1088
-        (until_list config.fields (limits_of config.limits) a b (edges transitions.now first k)
-        (edges transitions.now second j))
-        (aut_of nodes.old states.old members.old c) c result
-        (aut_of nodes.new states.new members.new) scratch.old
-        scratch.new }
+) -> Result<usize, Refusal>
+    requires { UntilAsked config aut.old a b first k second j }
+    ensures keeps { Keeps aut.old aut.new }
+    ensures gives { Goes config 0 1088 (ListAt config.fields (limits_of config.limits))
+        (λ n. edges aut.new.scratch.now Seen.RESULT n)
+        (Delta.until_list config.fields (limits_of config.limits) a b
+        (edges aut.old.transitions.words.now first k)
+        (edges aut.old.transitions.words.now second j)) aut.old result aut.new }
 {
-    let put = aut_states::mk_until(states, c.states, config.limits, a, b);
-    let state = aut_relations::placed(put, c);
-    match state {
-        State::Refused(e) => Listed::Refused(e),
-        State::Is(u, d) => {
-            let met = st_intersect_expr(
-                nodes,
-                states,
-                members,
-                transitions,
-                scratch,
-                d,
-                config,
-                Source {
-                    place: Place::Stored(first),
-                    length: k,
-                },
-                u,
-            );
-            match met {
-                Listed::Refused(e) => Listed::Refused(e),
-                Listed::List(f, n) => {
-                    aut_st_edges::copy(scratch, aut_st_insert::RESULT, n, aut_st_insert::FIRST);
-                    aut_st_ops::st_union(
-                        nodes,
-                        states,
-                        members,
-                        transitions,
-                        scratch,
-                        f,
-                        config,
-                        Source {
-                            place: Place::Stored(second),
-                            length: j,
-                        },
-                        Source {
-                            place: Place::Scratch(aut_st_insert::FIRST),
-                            length: n,
-                        },
-                    )
-                }
-            }
-        }
-    }
+    let u = aut.states.mk_until(config.limits, a, b)?;
+    let n = st_intersect_expr(
+        aut,
+        config,
+        Source {
+            place: Place::Stored(first),
+            length: k,
+        },
+        u,
+    )?;
+    aut_st_edges::copy(aut.scratch, RESULT, n, FIRST);
+    aut_st_ops::st_union(
+        aut,
+        config,
+        Source {
+            place: Place::Stored(second),
+            length: j,
+        },
+        Source {
+            place: Place::Scratch(FIRST),
+            length: n,
+        },
+    )
 }
 
-pub fn dup_list(states: &mut [u32], scratch: &mut [u32], c: Counts, config: Config) -> Listed
-    requires { AloneReady config.fields config.limits states.old scratch.old c }
-    ensures { GivesAlone config.fields config.limits Anything
-        (dup_list config.fields (limits_of config.limits)) c result states.old scratch.old
-        states.new scratch.new }
+pub fn dup_list(aut: &mut Aut, config: Config) -> Result<usize, Refusal>
+    requires { AloneAsked config aut.old }
+    ensures keeps { Keeps aut.old aut.new }
+    ensures spp { aut.new.spp ≡ aut.old.spp }
+    ensures members { aut.new.members ≡ aut.old.members }
+    ensures gives { Goes config 0 832 (ListAt config.fields (limits_of config.limits))
+        (λ n. edges aut.new.scratch.now Seen.RESULT n)
+        (Delta.dup_list config.fields (limits_of config.limits)) aut.old result aut.new }
 {
     let one = spp::one_at_depth(config.fields, config.fields);
-    let put = aut_states::mk_spp(states, c.states, one);
-    let state = aut_relations::placed(put, c);
-    match state {
-        State::Refused(e) => Listed::Refused(e),
-        State::Is(x, d) => st_singleton(states, scratch, d, config, one, x),
-    }
+    let x = aut.states.mk_spp(one)?;
+    st_singleton(aut, config, one, x)
 }
 
 // of the LtlNext of a
-pub fn next_list(
-    states: &mut [u32],
-    scratch: &mut [u32],
-    c: Counts,
-    config: Config,
-    a: u32,
-) -> Listed
-    requires { AloneReady config.fields config.limits states.old scratch.old c }
-    ensures { GivesAlone config.fields config.limits (StateAt a)
-        (St.st_singleton (ops config.fields (limits_of config.limits)) (top_at config.fields) a) c result
-        states.old scratch.old states.new scratch.new }
+pub fn next_list(aut: &mut Aut, config: Config, a: u32) -> Result<usize, Refusal>
+    requires { AloneAsked config aut.old }
+    ensures keeps { Keeps aut.old aut.new }
+    ensures spp { aut.new.spp ≡ aut.old.spp }
+    ensures members { aut.new.members ≡ aut.old.members }
+    ensures gives { State (aut_in aut.old) a → Goes config 0 832 (ListAt config.fields (limits_of config.limits))
+        (λ n. edges aut.new.scratch.now Seen.RESULT n)
+        (St.st_singleton (ops config.fields (limits_of config.limits)) (top_at config.fields) a)
+        aut.old result aut.new }
 {
     let top = spp::top_at_depth(config.fields, config.fields);
-    st_singleton(states, scratch, c, config, top, a)
+    st_singleton(aut, config, top, a)
 }
 
-pub fn top_list(states: &mut [u32], scratch: &mut [u32], c: Counts, config: Config) -> Listed
-    requires { AloneReady config.fields config.limits states.old scratch.old c }
-    ensures { GivesAlone config.fields config.limits Anything
-        (top_list config.fields (limits_of config.limits)) c result states.old scratch.old
-        states.new scratch.new }
+pub fn top_list(aut: &mut Aut, config: Config) -> Result<usize, Refusal>
+    requires { AloneAsked config aut.old }
+    ensures keeps { Keeps aut.old aut.new }
+    ensures spp { aut.new.spp ≡ aut.old.spp }
+    ensures members { aut.new.members ≡ aut.old.members }
+    ensures gives { Goes config 0 832 (ListAt config.fields (limits_of config.limits))
+        (λ n. edges aut.new.scratch.now Seen.RESULT n)
+        (Delta.top_list config.fields (limits_of config.limits)) aut.old result aut.new }
 {
-    let put = aut_states::mk_top(states, c.states);
-    let state = aut_relations::placed(put, c);
-    match state {
-        State::Refused(e) => Listed::Refused(e),
-        State::Is(x, d) => {
-            let top = spp::top_at_depth(config.fields, config.fields);
-            st_singleton(states, scratch, d, config, top, x)
-        }
-    }
+    let x = aut.states.mk_top()?;
+    let top = spp::top_at_depth(config.fields, config.fields);
+    st_singleton(aut, config, top, x)
 }

@@ -1,21 +1,11 @@
--- 01, port order, step 3 (delta): lists joined one after the other, by union or by intersection. The list so far stands at RESULT, the next one is the stored list of a state. What the functions
--- of the loop ask.
-use Rattle.std.specs.Prelude.{◌≡◌, List, ℕ, ◌+◌, ◌*◌, ◌≤◌, ◌<◌, length}
+-- 01, port order, step 3 (delta): lists joined one after the other, by union or by intersection. The list so far stands at RESULT, the next one is the stored list of a state.
+use Rattle.std.specs.Prelude.{◌≡◌, List, ℕ, ◌+◌, ◌*◌, ◌<◌, length}
 use Rattle.common.specs.Outcome.{Step}
 use Rattle.netkat_steps.specs.ListSteps.{Edge, st_union, st_intersect}
 use Rattle.aut_steps.specs.Tables as T
-use Rattle.aut_steps.specs.Tables.{Aut, words}
-use Rattle.aut_steps.specs.Ascending.{All}
-use Rattle.aut_steps.specs.Wf.{states}
+use Rattle.aut_steps.specs.Tables.{Aut}
 use Rattle.aut_st_steps.specs.Operations.{ops}
-use Rattle.aut_st_steps.specs.Edges.{edges}
-use Rattle.aut_st_steps.specs.ListSpec.{ListAt}
-use Rattle.aut_delta_steps.specs.Delta.{start_of, count_of, Store, union_all, intersect_all}
-use Rattle.aut_delta_steps.specs.DeltaDown.{Has}
-use Rattle.aut_delta_stage.specs.OnStore.{Prepared}
-use Rattle.aut_states.specs.Clauses.{limits_of}
-use Rattle.aut_states.specs.declared.Limits.{Limits}
-use Rattle.aut_st_insert.specs.Clauses.{RESULT}
+use Rattle.aut_delta_steps.specs.Delta.{start_of, count_of, union_all, intersect_all}
 use Rattle.aut_delta_many.specs.declared.Join.{Join}
 use Rattle.aut_delta_many.specs.declared.Join.TheVariants as join
 use Rattle.aut_delta_many.specs.declared.Span.{Span}
@@ -41,22 +31,3 @@ pub record PreFind (st : List ℕ) (y : ℕ) : Type 0 where
 pub record PostFind (st : List ℕ) (y : ℕ) (p : Span) : Type 0 where
   pub start : start_of st y ≡ p.start
   pub count : count_of st y ≡ p.count + 1
-
--- ---- what is asked
-
--- the n transitions at RESULT are a list, and y is a state whose list is stored
-pub record PreNext (N : ℕ) (l : Limits) (σ : Store) (s : List ℕ) (n y : ℕ) : Type 0 where
-  pub prepared : Prepared N l σ s
-  pub limit : l.transitions ≤ 64
-  pub list : ListAt N (limits_of l) σ.aut (edges s RESULT n)
-  pub state : y < states σ.aut
-  pub has : Has σ y
-
--- .. and so are the k members at `from`
-pub record PreAll (N : ℕ) (l : Limits) (σ : Store) (s : List ℕ) (n from k : ℕ) : Type 0 where
-  pub prepared : Prepared N l σ s
-  pub limit : l.transitions ≤ 64
-  pub list : ListAt N (limits_of l) σ.aut (edges s RESULT n)
-  pub inside : from + k ≤ σ.aut.members.count
-  pub states : All (λ y. y < states σ.aut) (words σ.aut.members.words from k)
-  pub lists : All (Has σ) (words σ.aut.members.words from k)

@@ -1,3 +1,4 @@
 -- The lists of a Union and of an Intersect in code. Read in this order.
-pub mod Joins  -- lists joined one after the other: what the loop asks
-pub mod Clauses  -- what the lists of the two kinds ask
+pub mod Clauses  -- the lists of the members
+pub mod Joins  -- lists joined one after the other
+pub mod Asked  -- what is asked

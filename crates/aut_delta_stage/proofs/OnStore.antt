@@ -20,7 +20,8 @@ use Rattle.aut_states.specs.Clauses.{limits_of}
 use Rattle.aut_states.specs.declared.Counts.{Counts}
 use Rattle.aut_states.specs.declared.Limits.{Limits}
 use Rattle.aut_relations.specs.Clauses.{aut_of, MadeLeft}
-use Rattle.aut_epsilon.specs.Clauses.{seen_epsilon, After, AfterBy, Works}
+use Rattle.aut_epsilon.specs.Clauses.{After}
+use Rattle.aut_epsilon.specs.Parts.{seen_epsilon, AfterBy, Works}
 use Rattle.aut_stage.specs.Stage.{gave, Post}
 use Rattle.aut_stage.proofs.OnAut.{aut_layer}
 use Rattle.aut_stage.specs.OnNodes.{with_nodes}

@@ -32,7 +32,7 @@ use Rattle.aut_states.specs.Clauses.{limits_of}
 use Rattle.aut_states.specs.declared.Counts.{Counts}
 use Rattle.aut_states.specs.declared.Limits.{Limits}
 use Rattle.aut_relations.specs.Clauses.{aut_of}
-use Rattle.aut_epsilon.specs.Clauses.{Asks, Works}
+use Rattle.aut_epsilon.specs.Parts.{Asks, Works}
 use Rattle.aut_stage.specs.Stage.{seen, Stage}
 use Rattle.aut_stage.proofs.Stage.{begin, next, stuck, instead, done, all_of}
 use Rattle.aut_stage.specs.OnNodes.{with_nodes}
@@ -101,7 +101,7 @@ module _ {N : ℕ} {l : Limits} {sp t st mem tr p s : List ℕ} {c : Counts} {n 
         stage1 : Stage (query_layer N l) 0 1088 (Handles.expand M x fresh (entries_of p n) (seen_in N st) (clear_of sp t st mem tr c)) (ending h.0 (clear_of sp1 t st mem tr (with_sets c k1))) (clear_of sp t st mem tr c) (clear_of sp1 t st mem tr (with_sets c k1)) c (with_sets c k1) s s1
         stage1 = next (query_layer N l) 0 1088 united.post (none_of 1088) ending stage0
 
-        pub epsilon_asks : Asks N (aut_of t st mem (with_sets c k1)) s1 x
+        pub epsilon_asks : Asks N l (aut_of t st mem (with_sets c k1)) s1 x
         epsilon_asks = asks_epsilon united.working R.has
 
         module _ {r2 : relations.Made} {t2 st2 s2 : List ℕ} (E : Works N x r2 (with_sets c k1) t st mem s1 t2 st2 s2) where

@@ -43,8 +43,8 @@ pub fn expand(
         return Turned::Refused(aut_states::refusal::SP);
     };
     let c1 = Counts { sp: k, ..c };
-    let spp::Made::Node(ends, k1) = aut_epsilon::epsilon(
-        nodes, states, members, scratch, c1, fields, x,
+    let spp::Made::Node(ends, k1) = aut_epsilon::epsilon_on(
+        nodes, states, members, scratch, c1, config, x,
     ) else {
         return Turned::Refused(aut_states::refusal::SPP);
     };

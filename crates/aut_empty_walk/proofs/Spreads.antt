@@ -18,7 +18,7 @@ use Rattle.aut_query_stage.proofs.Layer.{query_layer}
 use Rattle.aut_states.specs.Clauses.{limits_of}
 use Rattle.aut_states.specs.declared.Counts.{Counts}
 use Rattle.aut_states.specs.declared.Limits.{Limits}
-use Rattle.aut_delta.specs.Clauses.{PreDelta, PostDelta}
+use Rattle.aut_delta.specs.Parts.{PreDelta, PostDelta}
 use Rattle.aut_delta.specs.declared.Worked.{Worked}
 use Rattle.aut_delta.specs.declared.Worked.TheVariants as worked
 use Rattle.aut_stage.specs.Stage.{Stage}

@@ -112,7 +112,7 @@ pub fn spread(
         pending.old scratch.old sp.new nodes.new states.new
         members.new transitions.new pending.new scratch.new }
 {
-    let worked = aut_delta::delta(nodes, states, members, transitions, scratch, c, config, x);
+    let worked = aut_delta::delta_on(nodes, states, members, transitions, scratch, c, config, x);
     match worked {
         aut_delta::Worked::Refused(e) => Walked::Refused(e),
         aut_delta::Worked::Done(d) => walk(

@@ -1,5 +1,5 @@
--- What is kept of a state; a loop over members; what the values come to when they are put together; the loop over states below.
-pub mod Contracts
+-- What is kept of a state; what the values come to when they are put together; the loop over states below; tables and counts apart.
 pub mod Shapes
 pub mod Together
 pub mod Turns
+pub mod Parts

@@ -2,274 +2,252 @@
 // lower; their values are read from the tables when they are put together, so nothing waits in scratch over a call, and nothing on the stack.
 #![tactic(auto)]
 
-ghost use Rattle.std.specs.Prelude.{◌≡◌, [], ◌∷◌, ◌+◌, ◌*◌, ◌≤◌, ◌<◌, length};
-ghost use Rattle.common.specs.Runs.{table};
+ghost use Rattle.std.specs.Prelude.{◌≡◌, [], ◌∷◌, ◌+◌, ◌*◌, ◌<◌, length};
 ghost use Rattle.spp_steps.specs.Model as M;
 ghost use Rattle.spp.specs.Clauses.{op_of};
 ghost use Rattle.aut_steps.specs.Tables.{words};
 ghost use Rattle.aut_steps.specs.Constructors.{each};
+ghost use Rattle.aut_sequence.specs.Clauses.{task_of};
+ghost use Rattle.aut_delta_steps.specs.Epsilon as E;
 ghost use Rattle.aut_delta_steps.specs.Epsilon.{value_of};
 ghost use Rattle.aut_delta_steps.specs.EpsilonReads.{combine_on};
 ghost use Rattle.aut_delta_steps.specs.EpsilonDown.{Known};
-ghost use Rattle.aut_relations.specs.Clauses.{aut_of, Relates};
-ghost use Rattle.aut_epsilon.specs.Clauses.{Keeps, many_by, both_by, first_by, alone_by, EachReady, ManyReady, ValuesReady, CombineReady, Finishes, Asks, Works};
+ghost use Rattle.aut_relations.specs.Clauses.{aut_of};
+ghost use Rattle.aut_relations.specs.Lent.{nodes_in, aut_in, Keeps, KeepsExprs, Does};
+ghost use Rattle.aut_relations.specs.Parts.{aut_apart, SameParts};
+ghost use Rattle.aut_epsilon.specs.Clauses.{ValuesReady, EachReady, CombineReady};
+ghost use Rattle.aut_epsilon.specs.Asked.{EpsilonAsked, FinishAsked, Later};
+ghost use Rattle.aut_epsilon.specs.Parts.{made_of, Asks, Works};
 
-use aut_operands::{Part, Shape};
+use aut_operands::Part;
+use aut_relations::{Apart, Aut, Transitions};
 use aut_sequence::Task;
-use aut_states::Counts;
-use spp::{Made, Op, SPP};
+use aut_states::{Config, Counts, Members, STATE, States, kind, word};
+use refusal::Refusal;
+use sp::SPstore;
+use spp::{Made, Op, SPP, SPPstore};
 
-// ---- words of a state
-
-// what a state has: an SPP its handle, another what is kept
-fn look(states: &[u32], x: u32) -> Option<SPP>
-    requires { 12 * x + 11 < length states.now }
-    ensures { Keeps states.now x result }
+// what is worked out of a state: an SPP's handle, of another what is kept
+#[tactic(auto, unfolding(aut_delta_steps::specs::Epsilon::value_of, aut_delta_steps::specs::Epsilon::epsilon_of))]
+pub fn value(states: &States, y: u32) -> SPP
+    requires { (12 * y + 11 < length states.now.words.now) × Known states.now.words.now y }
+    ensures { value_of states.now.words.now y ≡ result.0 }
 {
-    let i = x as usize;
-    if states[12 * i] == aut_states::kind::SPP {
-        return Some(SPP(states[12 * i + 1]));
+    if states.kind(y) == kind::SPP {
+        return SPP(states.first(y));
     }
-    let e = states[12 * i + 4];
-    if e == 0 {
-        return None;
-    }
-    Some(SPP(e - 1))
-}
-
-fn value(states: &[u32], y: u32) -> SPP
-    requires { (12 * y + 11 < length states.now) × Known states.now y }
-    ensures { value_of states.now y ≡ result.0 }
-{
-    let i = y as usize;
-    if states[12 * i] == aut_states::kind::SPP {
-        return SPP(states[12 * i + 1]);
-    }
-    SPP(states[12 * i + 4] - 1)
+    SPP(states.words[STATE * y as usize + word::EPSILON] - 1)
 }
 
 // ---- values put together
 
+fn apply(aut: &mut Aut, config: Config, op: Op, x: u32, y: u32) -> Result<SPP, Refusal>
+    requires { ValuesReady config.fields aut.old (x ∷ y ∷ []) }
+    ensures keeps { KeepsExprs aut.old aut.new }
+    ensures gives { Does config.fields 0 0 nodes_in (λ h. h.0)
+        (M.apply config.fields (op_of op) config.fields (value_of aut.old.states.words.now x)
+        (value_of aut.old.states.words.now y)) aut.old result aut.new }
+{
+    let a = value(&aut.states, x);
+    let b = value(&aut.states, y);
+    aut.apply(config, op, a, b)
+}
+
+fn relate(aut: &mut Aut, config: Config, task: Task, x: u32, y: u32) -> Result<SPP, Refusal>
+    requires { ValuesReady config.fields aut.old (x ∷ y ∷ []) }
+    ensures keeps { KeepsExprs aut.old aut.new }
+    ensures gives { Does config.fields 0 0 nodes_in (λ h. h.0)
+        (task_of config.fields task (value_of aut.old.states.words.now x)
+        (value_of aut.old.states.words.now y)) aut.old result aut.new }
+{
+    let a = value(&aut.states, x);
+    let b = value(&aut.states, y);
+    aut_sequence::relate(aut, config, task, a, b)
+}
+
 // from h on, with the values of the k members at from
 fn combine_each(
-    nodes: &mut [u32],
-    states: &[u32],
-    members: &[u32],
-    scratch: &mut [u32],
-    count: usize,
-    fields: u32,
+    aut: &mut Aut,
+    config: Config,
     op: Op,
     h: SPP,
     from: usize,
     k: usize,
-) -> Made
-    requires { EachReady fields (table nodes.old count) states.now members.now scratch.old h.0 from k }
-    ensures { Relates fields
-        (each (λ y g. M.apply fields (op_of op) fields g (value_of states.now y))
-        (words members.now from k) h.0) (table nodes.old count) result nodes.new
-        scratch.old scratch.new }
+) -> Result<SPP, Refusal>
+    requires { EachReady config.fields aut.old h.0 from k }
+    ensures keeps { KeepsExprs aut.old aut.new }
+    ensures gives { Does config.fields 0 0 nodes_in (λ h. h.0)
+        (each (λ y g. M.apply config.fields (op_of op) config.fields g
+        (value_of aut.old.states.words.now y)) (words aut.old.members.words.now from k) h.0)
+        aut.old result aut.new }
 {
     let mut g = h;
-    let mut n = count;
     for i in 0..k {
-        let y = members[from + i];
-        let b = value(states, y);
-        let Made::Node(g1, n1) = aut_relations::apply(nodes, scratch, n, fields, op, g, b) else {
-            return Made::Full;
-        };
-        g = g1;
-        n = n1;
+        let y = aut.members.words[from + i];
+        let b = value(&aut.states, y);
+        g = aut.apply(config, op, g, b)?;
     }
-    Made::Node(g, n)
+    Ok(g)
 }
 
-// a Union from zero, an Intersect from its first member
-fn combine_many(
-    nodes: &mut [u32],
-    states: &[u32],
-    members: &[u32],
-    scratch: &mut [u32],
-    count: usize,
-    fields: u32,
-    kind: u32,
-    from: usize,
-    k: usize,
-) -> Made
-    requires { ManyReady fields (table nodes.old count) states.now members.now scratch.old from k }
-    ensures { Relates fields
-        (many_by fields kind (value_of states.now) (words members.now from k))
-        (table nodes.old count) result nodes.new scratch.old scratch.new }
+fn combine(aut: &mut Aut, config: Config, x: u32) -> Result<SPP, Refusal>
+    requires { CombineReady config.fields aut.old x }
+    ensures keeps { KeepsExprs aut.old aut.new }
+    ensures gives { Does config.fields 0 0 nodes_in (λ h. h.0)
+        (combine_on config.fields aut.old.states.words.now aut.old.members.words.now x) aut.old
+        result aut.new }
 {
-    if kind == aut_states::kind::UNION {
-        let zero = spp::zero_at_depth(fields);
-        return combine_each(
-            nodes,
-            states,
-            members,
-            scratch,
-            count,
-            fields,
-            Op::Union,
-            zero,
-            from,
-            k,
-        );
-    }
-    let y = members[from];
-    let first = value(states, y);
-    combine_each(
-        nodes,
-        states,
-        members,
-        scratch,
-        count,
-        fields,
-        Op::Intersect,
-        first,
-        from + 1,
-        k - 1,
-    )
-}
-
-fn combine_both(
-    nodes: &mut [u32],
-    states: &[u32],
-    scratch: &mut [u32],
-    count: usize,
-    fields: u32,
-    kind: u32,
-    x: u32,
-    y: u32,
-) -> Made
-    requires { ValuesReady fields (table nodes.old count) states.now scratch.old (x ∷ y ∷ []) }
-    ensures { Relates fields
-        (both_by fields kind (value_of states.now x) (value_of states.now y))
-        (table nodes.old count) result nodes.new scratch.old scratch.new }
-{
-    let a = value(states, x);
-    let b = value(states, y);
-    if kind == aut_states::kind::XOR {
-        return aut_relations::apply(nodes, scratch, count, fields, Op::Xor, a, b);
-    }
-    if kind == aut_states::kind::DIFFERENCE {
-        return aut_relations::apply(nodes, scratch, count, fields, Op::Difference, a, b);
-    }
-    aut_sequence::relate(nodes, scratch, count, fields, Task::Sequence, a, b)
-}
-
-fn combine_first(
-    nodes: &mut [u32],
-    states: &[u32],
-    scratch: &mut [u32],
-    count: usize,
-    fields: u32,
-    kind: u32,
-    x: u32,
-) -> Made
-    requires { ValuesReady fields (table nodes.old count) states.now scratch.old (x ∷ []) }
-    ensures { Relates fields (first_by fields kind (value_of states.now x))
-        (table nodes.old count) result nodes.new scratch.old scratch.new }
-{
-    let a = value(states, x);
-    if kind == aut_states::kind::COMPLEMENT {
-        return aut_relations::apply(nodes, scratch, count, fields, Op::Not, a, a);
-    }
-    aut_sequence::relate(nodes, scratch, count, fields, Task::Star, a, a)
-}
-
-// a state without operands
-fn constant(fields: u32, kind: u32) -> SPP
-    requires { fields ≤ 31 }
-    ensures { alone_by fields kind ≡ result.0 }
-{
-    if kind == aut_states::kind::TOP {
-        return spp::top_at_depth(fields, fields);
-    }
-    spp::zero_at_depth(fields)
-}
-
-fn combine(
-    nodes: &mut [u32],
-    states: &[u32],
-    members: &[u32],
-    scratch: &mut [u32],
-    count: usize,
-    fields: u32,
-    x: u32,
-) -> Made
-    requires { CombineReady fields (table nodes.old count) states.now members.now scratch.old x }
-    ensures { Relates fields (combine_on fields states.now members.now x)
-        (table nodes.old count) result nodes.new scratch.old scratch.new }
-{
-    let i = x as usize;
-    let kind = states[12 * i];
-    let a = states[12 * i + 1];
-    let b = states[12 * i + 2];
-    let shape = aut_operands::shape_of(Part::Epsilon, kind);
-    match shape {
-        Shape::Many => combine_many(
-            nodes, states, members, scratch, count, fields, kind, a as usize, b as usize,
-        ),
-        Shape::Both => combine_both(nodes, states, scratch, count, fields, kind, a, b),
-        Shape::First => combine_first(nodes, states, scratch, count, fields, kind, a),
-        Shape::Second => Made::Node(value(states, b), count),
-        Shape::Alone => Made::Node(constant(fields, kind), count),
+    let a = aut.states.first(x);
+    let b = aut.states.second(x);
+    match aut.states.kind(x) {
+        kind::UNION => {
+            let zero = spp::zero_at_depth(config.fields);
+            combine_each(aut, config, Op::Union, zero, a as usize, b as usize)
+        }
+        kind::INTERSECT => {
+            let y = aut.members.words[a as usize];
+            let first = value(&aut.states, y);
+            combine_each(
+                aut,
+                config,
+                Op::Intersect,
+                first,
+                a as usize + 1,
+                b as usize - 1,
+            )
+        }
+        kind::XOR => apply(aut, config, Op::Xor, a, b),
+        kind::DIFFERENCE => apply(aut, config, Op::Difference, a, b),
+        kind::COMPLEMENT => apply(aut, config, Op::Not, a, a),
+        kind::SEQUENCE => relate(aut, config, Task::Sequence, a, b),
+        kind::STAR => relate(aut, config, Task::Star, a, a),
+        kind::UNTIL => Ok(value(&aut.states, b)),
+        kind::TOP => Ok(spp::top_at_depth(config.fields, config.fields)),
+        _ => Ok(spp::zero_at_depth(config.fields)),
     }
 }
 
-// the operands' values put together, and kept
-fn finish(
-    nodes: &mut [u32],
-    states: &mut [u32],
-    members: &[u32],
-    scratch: &mut [u32],
-    count: usize,
-    fields: u32,
-    x: u32,
-) -> Made
-    requires { CombineReady fields (table nodes.old count) states.old members.now scratch.old x }
-    ensures { Finishes fields x (table nodes.old count) states.old members.now
-        result nodes.new states.new scratch.old scratch.new }
+// epsilon of a state whose operands are all worked out
+fn finish(aut: &mut Aut, config: Config, x: u32) -> Result<SPP, Refusal>
+    requires { FinishAsked config aut.old x }
+    ensures keeps { Keeps aut.old aut.new }
+    ensures members { aut.new.members ≡ aut.old.members }
+    ensures states { aut.new.states.count ≡ aut.old.states.count }
+    ensures gives { Does config.fields 0 0 aut_in (λ h. h.0) (E.epsilon config.fields x) aut.old
+        result aut.new }
 {
-    let Made::Node(h, n) = combine(nodes, states, members, scratch, count, fields, x) else {
-        return Made::Full;
-    };
-    let i = x as usize;
-    states[12 * i + 4] = h.0 + 1;
-    Made::Node(h, n)
+    let h = combine(aut, config, x)?;
+    aut.states.words[STATE * x as usize + word::EPSILON] = h.0 + 1;
+    Ok(h)
 }
 
 // ---- epsilon
 
-// a handle and the number of relation nodes. The tables say how far a run has come: it goes down by reading, and calls itself on a state whose operands are all worked out, so it is
+// The tables say how far a run has come: it goes down by reading, and calls itself on a state whose operands are all worked out, so it is
 // at most two deep, however x is nested
-pub fn epsilon(
+pub fn epsilon(aut: &mut Aut, config: Config, x: u32) -> Result<SPP, Refusal>
+    requires { EpsilonAsked config aut.old x }
+    ensures keeps { Keeps aut.old aut.new }
+    ensures members { aut.new.members ≡ aut.old.members }
+    ensures states { aut.new.states.count ≡ aut.old.states.count }
+    ensures gives { Does config.fields 0 0 aut_in (λ h. h.0) (E.epsilon config.fields x) aut.old
+        result aut.new }
+    ensures after { Later config x aut.old result aut.new }
+{
+    if !aut_operands::is_open(&aut.states, Part::Epsilon, x) {
+        return Ok(value(&aut.states, x));
+    }
+    loop {
+        let y = aut_operands::lowest(&aut.states, &aut.members, x);
+        if y == x {
+            return finish(aut, config, x);
+        }
+        epsilon(aut, config, y)?;
+    }
+}
+
+// ---- for the layers that hold a table and its count apart
+
+// it is refused only where a relation node is lacking
+fn made_of(answer: Result<SPP, Refusal>, count: usize) -> Made
+    ensures { result ≡ made_of answer count }
+{
+    match answer {
+        Ok(h) => Made::Node(h, count),
+        Err(_) => Made::Full,
+    }
+}
+
+fn epsilon_apart(apart: &mut Apart, config: Config, x: u32) -> Made
+    requires { Asks config.fields config.limits (aut_apart apart.old) apart.old.scratch.now x }
+    ensures same { SameParts apart.old apart.new }
+    ensures members { apart.new.members.now ≡ apart.old.members.now }
+    ensures works { Works config.fields x result apart.old.counts apart.old.nodes.now
+        apart.old.states.now apart.old.members.now apart.old.scratch.now apart.new.nodes.now
+        apart.new.states.now apart.new.scratch.now }
+{
+    let mut aut = Aut {
+        sp: SPstore {
+            nodes: Default::default(),
+            count: 0,
+        },
+        spp: SPPstore {
+            nodes: std::mem::take(&mut apart.nodes),
+            count: apart.counts.spp,
+            fields: config.fields,
+        },
+        states: States {
+            words: std::mem::take(&mut apart.states),
+            count: apart.counts.states,
+        },
+        members: Members {
+            words: std::mem::take(&mut apart.members),
+            count: apart.counts.members,
+        },
+        transitions: Transitions {
+            words: Default::default(),
+            count: 0,
+        },
+        pending: Default::default(),
+        scratch: std::mem::take(&mut apart.scratch),
+    };
+    let answer = epsilon(&mut aut, config, x);
+    let made = made_of(answer, aut.spp.count);
+    let lent = &mut aut;
+    let nodes = std::mem::take(&mut lent.spp.nodes);
+    let states = std::mem::take(&mut lent.states.words);
+    let members = std::mem::take(&mut lent.members.words);
+    let scratch = std::mem::take(&mut lent.scratch);
+    apart.nodes = nodes;
+    apart.states = states;
+    apart.members = members;
+    apart.scratch = scratch;
+    made
+}
+
+// a handle and the number of relation nodes
+pub fn epsilon_on(
     nodes: &mut [u32],
     states: &mut [u32],
-    members: &[u32],
+    members: &mut [u32],
     scratch: &mut [u32],
     c: Counts,
-    fields: u32,
+    config: Config,
     x: u32,
 ) -> Made
-    requires { Asks fields (aut_of nodes.old states.old members.now c) scratch.old x }
-    ensures { Works fields x result c nodes.old states.old members.now
+    requires { Asks config.fields config.limits
+        (aut_of nodes.old states.old members.old c) scratch.old x }
+    ensures members { members.new ≡ members.old }
+    ensures works { Works config.fields x result c nodes.old states.old members.old
         scratch.old nodes.new states.new scratch.new }
 {
-    let kept = look(states, x);
-    if let Some(h) = kept {
-        return Made::Node(h, c.spp);
-    }
-    let mut n = c.spp;
-    loop {
-        let y = aut_operands::lowest(states, members, x);
-        if y == x {
-            return finish(nodes, states, members, scratch, n, fields, x);
-        }
-        let d = Counts { spp: n, ..c };
-        let Made::Node(_, n1) = epsilon(nodes, states, members, scratch, d, fields, y) else {
-            return Made::Full;
-        };
-        n = n1;
-    }
+    let mut apart = Apart {
+        nodes,
+        states,
+        members,
+        transitions: Default::default(),
+        scratch,
+        counts: c,
+    };
+    epsilon_apart(&mut apart, config, x)
 }

@@ -33,12 +33,12 @@ use Rattle.aut_states.specs.Clauses.{limits_of}
 use Rattle.aut_states.specs.declared.Counts.{Counts}
 use Rattle.aut_states.specs.declared.Limits.{Limits}
 use Rattle.aut_relations.specs.Clauses.{aut_of}
-use Rattle.aut_epsilon.specs.Clauses.{Asks, Works}
+use Rattle.aut_epsilon.specs.Parts.{Asks, Works}
 use Rattle.aut_stage.specs.Stage.{Stage}
 use Rattle.aut_stage.proofs.Stage.{begin, next, instead, done, all_of}
 use Rattle.aut_stage.specs.OnNodes.{with_nodes}
 use Rattle.aut_sets.specs.Clauses.{PreImage, PostImage}
-use Rattle.aut_delta.specs.Clauses.{PreDelta, PostDelta}
+use Rattle.aut_delta.specs.Parts.{PreDelta, PostDelta}
 use Rattle.aut_delta.specs.declared.Worked.{Worked}
 use Rattle.aut_delta.specs.declared.Worked.TheVariants as worked
 use Rattle.aut_free.specs.Clear.{clear, clear_tables}
@@ -110,7 +110,7 @@ module _ {N : ℕ} {l : Limits} {sp t st mem tr : List ℕ} {c : Counts} {s p : 
   known : x < c.states
   known = held_state P.held x reached
 
-  pub visit_epsilon : Asks N (aut_of t st mem c) s x
+  pub visit_epsilon : Asks N l (aut_of t st mem c) s x
   visit_epsilon = asks_epsilon P.held.working known
 
   pub visit_word : x < 4294967296

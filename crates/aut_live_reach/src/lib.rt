@@ -34,15 +34,8 @@ fn visit(
         pending.new }
 {
     let x = pending[2 * head + 1];
-    let Made::Node(e, n1) = aut_epsilon::epsilon(
-        nodes,
-        states,
-        members,
-        scratch,
-        c,
-        config.fields,
-        x,
-    ) else {
+    let Made::Node(e, n1) = aut_epsilon::epsilon_on(nodes, states, members, scratch, c, config, x)
+    else {
         return Walked::Refused(aut_states::refusal::SPP);
     };
     let c1 = Counts { spp: n1, ..c };
@@ -52,7 +45,7 @@ fn visit(
     let i = aut_states::STATE * (x as usize) + aut_states::word::WORK;
     states[i] = h.0 + 1;
     let c2 = Counts { sp: n2, ..c1 };
-    let worked = aut_delta::delta(nodes, states, members, transitions, scratch, c2, config, x);
+    let worked = aut_delta::delta_on(nodes, states, members, transitions, scratch, c2, config, x);
     match worked {
         Worked::Refused(e) => Walked::Refused(e),
         Worked::Done(d) => {

@@ -1,6 +1,5 @@
 -- open_operand and lowest: operands looked at one after another, and states one below another.
-use mathlib.Core.Path.{◌≡◌, refl, sym, ◌∙◌, ap, ap₂, subst}
-use mathlib.Core.Bool.{Bool, true, false}
+use mathlib.Core.Path.{◌≡◌, refl, sym, ◌∙◌, ap, subst}
 use mathlib.Core.List.{List, [], ◌∷◌}
 use Prim.Native.Nat.{ℕ, zero, suc, ◌+◌, ◌*◌, ◌≤◌, ◌<◌}
 use native.Mathlib.Numerals.{add-one}
@@ -20,56 +19,42 @@ use Rattle.aut_delta_steps.specs.EpsilonDown.{First, this, later, Way, bottom, d
 use Rattle.aut_delta_steps.proofs.EpsilonDown.{first_of, first_open}
 use Rattle.aut_operands.specs.declared.Part.{Part}
 use Rattle.aut_operands.specs.declared.Part.TheVariants as part
-use Rattle.aut_operands.specs.Clauses.{operands_of, Inside, Worked, NotYet, Told, Looks, Next, none, some, Descends}
+use Rattle.aut_operands.specs.Clauses.{operands_of, Inside, Worked, NotYet, Looks, Next, none, some, Descends}
 
 pub all_get_d : (P : ℕ → Type 0) (ys : List ℕ) (j : ℕ) → j < length ys → All P ys → P (get_or ys j 0)
 all_get_d P [] j l a = absurd (omega arith)
 all_get_d P (y ∷ ys) zero l a = a.0
 all_get_d P (y ∷ ys) (suc j) l a = all_get_d P ys j (omega arith) a.1
 
--- ---- the first j of k operands are worked out
+rest_of : (ys : List ℕ) (j : ℕ) → j < length ys → drop j ys ≡ get_or ys j 0 ∷ drop (j + 1) ys
+rest_of ys j l = drop-cons ys j 0 l ∙ ap (λ (i : ℕ). get_or ys j 0 ∷ drop i ys) (sym (add-one j))
 
-pub record Passed (p : Part) (st mem : List ℕ) (x k j : ℕ) : Type 0 where
-  pub many : length (operands_of p st mem x) ≡ k
-  pub first : (z : ℕ) → First (Worked p st) (NotYet p st) z (drop j (operands_of p st mem x)) → First (Worked p st) (NotYet p st) z (operands_of p st mem x)
-  pub all : All (Worked p st) (drop j (operands_of p st mem x)) → All (Worked p st) (operands_of p st mem x)
+-- ---- the first j operands ys are worked out
 
-pub none_passed : (p : Part) (st mem : List ℕ) (x : ℕ) {k : ℕ} → ((mem : List ℕ) → length (operands_of p st mem x) ≡ k) → Passed p st mem x k 0
-none_passed p st mem x e = record { many = e mem; first = λ z f. f; all = λ a. a }
+pub record Passed (p : Part) (st ys : List ℕ) (j : ℕ) : Type 0 where
+  pub first : (z : ℕ) → First (Worked p st) (NotYet p st) z (drop j ys) → First (Worked p st) (NotYet p st) z ys
+  pub all : All (Worked p st) (drop j ys) → All (Worked p st) ys
 
-module _ {p : Part} {st mem : List ℕ} {x k j : ℕ} (v : Passed p st mem x k j) where
-  abbrev ys : List ℕ
-  ys = operands_of p st mem x
+pub none_passed : (p : Part) (st ys : List ℕ) → Passed p st ys 0
+none_passed p st ys = record { first = λ z f. f; all = λ a. a }
 
-  module _ (l : j < k) where
-    here : j < length ys
-    here = omega (arith, v.many)
+module _ {p : Part} {st mem : List ℕ} {x j : ℕ} {ys : List ℕ} (same : operands_of p st mem x ≡ ys) where
+  pub look_at : Looks p st mem x → j < length ys → 12 * get_or ys j 0 + 11 < length st
+  look_at a l = all_get_d (λ y. 12 * y + 11 < length st) ys j l (subst (All (λ y. 12 * y + 11 < length st)) same a.operands)
 
-    pub operand_at : Looks p st mem x → Inside st mem x × (j < length ys)
-    operand_at a = (a.inside, here)
+  module _ (v : Passed p st ys j) where
+    pub found : j < length ys → NotYet p st (get_or ys j 0) → Next p st mem x (get_or ys j 0)
+    found l f =
+        some (subst (First (Worked p st) (NotYet p st) (get_or ys j 0)) (sym same) (v.first (get_or ys j 0) (subst (First (Worked p st) (NotYet p st) (get_or ys j 0)) (sym (rest_of ys j l)) (this f))))
 
-    module _ {y : ℕ} (e : get_or ys j 0 ≡ y) where
-      pub look_at : Looks p st mem x → 12 * y + 11 < length st
-      look_at a = subst (λ (y : ℕ). 12 * y + 11 < length st) e (all_get_d (λ y. 12 * y + 11 < length st) ys j here a.operands)
+    pub all_passed : length ys ≤ j → Next p st mem x x
+    all_passed l = none refl (subst (All (Worked p st)) (sym same) (v.all (subst (All (Worked p st)) (sym (drop_of_length-le ys {i = j} l)) tt)))
 
-      rest : drop j ys ≡ y ∷ drop (j + 1) ys
-      rest = drop-cons ys j 0 here ∙ ap₂ (λ (y i : ℕ). y ∷ drop i ys) e (sym (add-one j))
-
-      module _ {b : Bool} (f : Told p st y b) where
-        pub found : b ≡ true → Next p st mem x y
-        found q = some (v.first y (subst (First (Worked p st) (NotYet p st) y) (sym rest) (this (subst (Told p st y) q f))))
-
-        pub pass : b ≡ false → Passed p st mem x k (j + 1)
-        pass q =
-            let g : Worked p st y = subst (Told p st y) q f in
-            record {
-              many = v.many;
-              first = λ z d. v.first z (subst (First (Worked p st) (NotYet p st) z) (sym rest) (later g d));
-              all = λ d. v.all (subst (All (Worked p st)) (sym rest) (g, d));
-            }
-
-  pub all_passed : k ≤ j → Next p st mem x x
-  all_passed l = none refl (v.all (subst (All (Worked p st)) (sym (drop_of_length-le ys {i = j} (omega (arith, v.many)))) tt))
+pub pass : {p : Part} {st ys : List ℕ} {j : ℕ} → Passed p st ys j → j < length ys → Worked p st (get_or ys j 0) → Passed p st ys (j + 1)
+pass {p} {st} {ys} {j} v l f = record {
+  first = λ z d. v.first z (subst (First (Worked p st) (NotYet p st) z) (sym (rest_of ys j l)) (later f d));
+  all = λ d. v.all (subst (All (Worked p st)) (sym (rest_of ys j l)) (f, d));
+}
 
 -- ---- y is reached from x
 

@@ -1,7 +1,7 @@
 -- 01, "Lent tables": words 1 and 2 of a state are its operands, or the start and the number of its members; word 4 is 0 while its epsilon is not worked out, word 6 while its list is not stored.
 -- What the readers of operands say in the words of the steps, and what is asked.
-use Rattle.std.specs.Prelude.{◌≡◌, Bool, true, false, List, ℕ, ◌+◌, ◌*◌, ◌≤◌, ◌<◌, eqb, length, if◌then◌else◌}
-use Rattle.aut_steps.specs.Tables.{UNION, INTERSECT, XOR, DIFFERENCE, COMPLEMENT, SEQUENCE, STAR, UNTIL, kind_of, op1, op2, nest, words}
+use Rattle.std.specs.Prelude.{◌≡◌, Bool, true, false, List, ℕ, ◌+◌, ◌*◌, ◌≤◌, ◌<◌, length}
+use Rattle.aut_steps.specs.Tables.{UNION, INTERSECT, kind_of, op1, op2, nest, words}
 use Rattle.aut_steps.specs.Ascending.{All}
 use Rattle.aut_delta_steps.specs.Delta.{count_of}
 use Rattle.aut_delta_steps.specs.EpsilonReads.{operands_with}
@@ -9,26 +9,8 @@ use Rattle.aut_delta_steps.specs.EpsilonDown.{Known, Open, First}
 use Rattle.aut_delta_steps.specs.DeltaReads.{list_operands_with}
 use Rattle.aut_operands.specs.declared.Part.{Part}
 use Rattle.aut_operands.specs.declared.Part.TheVariants as part
-use Rattle.aut_operands.specs.declared.Shape.{Shape}
-use Rattle.aut_operands.specs.declared.Shape.TheVariants as shape
 
--- ---- the operands of a kind
-
-abbrev pub until_shape : Part → Shape
-until_shape part.Epsilon = shape.Second
-until_shape part.Delta = shape.Both
-
-unfoldable pub shape_of : Part → ℕ → Shape
-shape_of p k =
-    if eqb k UNION then shape.Many
-    else if eqb k INTERSECT then shape.Many
-    else if eqb k XOR then shape.Both
-    else if eqb k DIFFERENCE then shape.Both
-    else if eqb k COMPLEMENT then shape.First
-    else if eqb k SEQUENCE then shape.Both
-    else if eqb k STAR then shape.First
-    else if eqb k UNTIL then until_shape p
-    else shape.Alone
+-- ---- operands
 
 -- those whose epsilon is read, and those whose list is
 abbrev pub operands_by : Part → ℕ → List ℕ → ℕ → ℕ → List ℕ

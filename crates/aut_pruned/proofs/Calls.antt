@@ -41,7 +41,7 @@ use Rattle.aut_relations.specs.Clauses.{MadeLeft, Relates, RelateReady}
 use Rattle.aut_stage.specs.Stage.{gave, Post}
 use Rattle.aut_stage.specs.OnNodes.{with_nodes}
 use Rattle.aut_sets.specs.Clauses.{PreLift, LiftNotes, PostLift, lifted}
-use Rattle.aut_delta.specs.Clauses.{PreDelta, PostDelta}
+use Rattle.aut_delta.specs.Parts.{PreDelta, PostDelta}
 use Rattle.aut_delta.specs.declared.Worked.{Worked}
 use Rattle.aut_delta.specs.declared.Worked.TheVariants as worked
 

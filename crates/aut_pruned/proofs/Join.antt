@@ -24,7 +24,7 @@ use Rattle.aut_states.specs.declared.Counts.{Counts}
 use Rattle.aut_states.specs.declared.Limits.{Limits}
 use Rattle.aut_stage.specs.Stage.{gave, Post, Stage}
 use Rattle.aut_stage.proofs.Stage.{begin, next, stuck, finish, all_of}
-use Rattle.aut_delta.specs.Clauses.{PreDelta, PostDelta}
+use Rattle.aut_delta.specs.Parts.{PreDelta, PostDelta}
 use Rattle.aut_delta.specs.declared.Worked.{Worked}
 use Rattle.aut_delta.specs.declared.Worked.TheVariants as worked
 use Rattle.aut_live.specs.Clauses.{PostLive}

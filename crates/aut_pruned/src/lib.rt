@@ -134,7 +134,7 @@ pub fn delta_pruned(
     match lived {
         Lived::Refused(e) => Pruned::Refused(e),
         Lived::Live(_, d) => {
-            let worked = aut_delta::delta(
+            let worked = aut_delta::delta_on(
                 nodes,
                 states,
                 members,

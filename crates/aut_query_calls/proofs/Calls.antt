@@ -52,7 +52,7 @@ use Rattle.aut_states.specs.declared.Counts.{Counts}
 use Rattle.aut_states.specs.declared.Limits.{Limits}
 use Rattle.aut_relations.specs.Behind.{Modifies}
 use Rattle.aut_relations.specs.Clauses.{MadeLeft, RelateReady, Relates}
-use Rattle.aut_epsilon.specs.Clauses.{seen_epsilon, Works}
+use Rattle.aut_epsilon.specs.Parts.{seen_epsilon, Works}
 use Rattle.aut_stage.specs.Stage.{gave, refusal, Post}
 use Rattle.aut_stage.specs.OnNodes.{with_nodes}
 use Rattle.aut_sets.specs.Clauses.{NotesBehind, PreSet, PreSets, SetNotes, PostSets, PostSize, PreImage, PreLead, ImageNotes, PostImage, PostHas, PreLift, LiftNotes, PostLift, PreCount, PostCount}

@@ -18,7 +18,7 @@ use Rattle.aut_query_stage.specs.Layer.{tables_of, QueryReady}
 use Rattle.aut_states.specs.Clauses.{limits_of}
 use Rattle.aut_states.specs.declared.Counts.{Counts}
 use Rattle.aut_states.specs.declared.Limits.{Limits}
-use Rattle.aut_epsilon.specs.Clauses.{Asks}
+use Rattle.aut_epsilon.specs.Parts.{Asks}
 use Rattle.aut_free.proofs.Clear.{clear_aut, clear_store, AtRest}
 use Rattle.aut_free.proofs.Clearing.{clear_length, clear_kept, clear_set}
 use Rattle.aut_free.proofs.Free.{clear_tables_rest}
@@ -74,8 +74,8 @@ module _ {N : ℕ} {l : Limits} where
       worked = worked_aut W₀ grown good epsilons (λ x w a b. sym (clear_kept st x w (omega arith)));
     }
 
-    pub asks_epsilon : {x : ℕ} → x < states σ.base.aut → Asks N σ.base.aut s x
-    asks_epsilon m = record { limits = l; ready = prepared.ready; epsilons = prepared.worked.epsilons; has = m }
+    pub asks_epsilon : {x : ℕ} → x < states σ.base.aut → Asks N l σ.base.aut s x
+    asks_epsilon m = record { ready = prepared.ready; epsilons = prepared.worked.epsilons; has = m }
 
 -- ---- a word from 8 to 11 is written
 

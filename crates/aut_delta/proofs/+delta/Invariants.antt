@@ -5,11 +5,10 @@ use Rattle.aut_delta.proofs.Turns.{Turn}
 use Rattle.aut_delta.proofs.+delta.Given as goal
 
 abbrev pub decreases-delta : goal.decreases-delta
-decreases-delta l = nest l.states.now l.x
+decreases-delta l = nest l.aut.now.states.words.now l.x
 
-abbrev pub invariant-loop-states : goal.invariant-loop-states
-invariant-loop-states l =
-    Turn l.config.fields l.config.limits l.x l.initial.d l.initial.nodes l.initial.states l.initial.members l.initial.transitions l.initial.scratch l.nodes l.states l.members l.transitions l.scratch l.d l.entered
+abbrev pub invariant-loop-aut : goal.invariant-loop-aut
+invariant-loop-aut l = Turn l.config l.x l.initial.aut l.aut l.entered
 
-abbrev pub decreases-loop-states : goal.decreases-loop-states
-decreases-loop-states l = opens (count_of l.states) l.initial.d.states
+abbrev pub decreases-loop-aut : goal.decreases-loop-aut
+decreases-loop-aut l = opens (count_of l.aut.states.words.now) l.initial.aut.states.count

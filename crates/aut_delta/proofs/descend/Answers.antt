@@ -1,7 +1,7 @@
-use Prim.Native.Nat.{◌+◌, ◌*◌}
 use mathlib.Core.Path.{◌∙◌}
-use Rattle.aut_steps.specs.Tables.{nest}
 use native.Mathlib.Omega.{arith}
+use Rattle.refusal.proofs.Passed.{passed}
+use Rattle.aut_st_insert.proofs.Kept.{keeps_trans}
 use Rattle.aut_delta.proofs.Ways as ways
 use Rattle.aut_delta.proofs.descend.Goals as goal
 
@@ -9,44 +9,43 @@ pub loop-y-init : goal.loop-y-init
 loop-y-init c = ways.begun c.requires
 
 pub open_operand-z-requires : goal.open_operand-z-requires
-open_operand-z-requires c = ways.open_ready c.loop-y.invariant c.requires
+open_operand-z-requires c = ways.open_ready c.requires c.loop-y.invariant
 
-pub shape_of-nodes-then-z-y : goal.shape_of-nodes-then-z-y
-shape_of-nodes-then-z-y c = c.loop-y.invariant.len_t
+pub returns-then-z-y-clause-keeps : goal.returns-then-z-y-clause-keeps
+returns-then-z-y-clause-keeps c = c.loop-y.invariant.keeps
 
-pub shape_of-states-then-z-y : goal.shape_of-states-then-z-y
-shape_of-states-then-z-y c = c.loop-y.invariant.len_st
+pub returns-then-z-y-clause-members : goal.returns-then-z-y-clause-members
+returns-then-z-y-clause-members c = c.loop-y.invariant.members
 
-pub shape_of-scratch-then-z-y : goal.shape_of-scratch-then-z-y
-shape_of-scratch-then-z-y c = c.loop-y.invariant.len_s
+pub returns-then-z-y-clause-states : goal.returns-then-z-y-clause-states
+returns-then-z-y-clause-states c = c.loop-y.invariant.states
 
-pub returns-then-z-y : goal.returns-then-z-y
-returns-then-z-y c = ways.arrived c.loop-y.invariant c.open_operand-z.ensures c.if-z-y.true
+pub returns-then-z-y-clause-gives : goal.returns-then-z-y-clause-gives
+returns-then-z-y-clause-gives c = ways.arrived c.requires c.loop-y.invariant c.open_operand-z.ensures c.if-z-y.true
 
 pub enter_new-requires : goal.enter_new-requires
-enter_new-requires c = ways.new_ready c.loop-y.invariant c.requires
+enter_new-requires c = ways.new_ready c.requires c.loop-y.invariant
 
-pub shape_of-nodes-in_default : goal.shape_of-nodes-in_default
-shape_of-nodes-in_default c = c.enter_new.auto.nodes ∙ c.loop-y.invariant.len_t
+pub returns-in_err-enter_new-clause-keeps : goal.returns-in_err-enter_new-clause-keeps
+returns-in_err-enter_new-clause-keeps c = keeps_trans c.loop-y.invariant.keeps c.in_err-enter_new.ensures.keeps
 
-pub shape_of-states-in_default : goal.shape_of-states-in_default
-shape_of-states-in_default c = c.enter_new.auto.states ∙ c.loop-y.invariant.len_st
+pub returns-in_err-enter_new-clause-members : goal.returns-in_err-enter_new-clause-members
+returns-in_err-enter_new-clause-members c = c.in_err-enter_new.ensures.members ∙ c.loop-y.invariant.members
 
-pub shape_of-scratch-in_default : goal.shape_of-scratch-in_default
-shape_of-scratch-in_default c = c.enter_new.auto.scratch ∙ c.loop-y.invariant.len_s
+pub returns-in_err-enter_new-clause-states : goal.returns-in_err-enter_new-clause-states
+returns-in_err-enter_new-clause-states c = c.in_err-enter_new.ensures.states ∙ c.loop-y.invariant.states
 
-pub returns-in_default : goal.returns-in_default
-returns-in_default c =
-    ways.stopped c.loop-y.invariant c.open_operand-z.ensures c.if-z-y.false c.enter_new.result c.enter_new.ensures c.in_default.is
+pub returns-in_err-enter_new-clause-gives : goal.returns-in_err-enter_new-clause-gives
+returns-in_err-enter_new-clause-gives c =
+    ways.full c.requires c.loop-y.invariant c.open_operand-z.ensures c.if-z-y.false (passed c.from_residual.ensures) c.in_err-enter_new.ensures.gives
 
 pub overflow_add-i : goal.overflow_add-i
-unfolding nest
-overflow_add-i c =
-    omega (arith, c.loop-y.invariant.deep, ways.falls c.loop-y.invariant c.requires c.open_operand-z.ensures c.if-z-y.false, c.slice_known-2-1.given (12 * c.args.x + 3))
+overflow_add-i c = omega (arith, ways.place c.requires c.loop-y.invariant c.open_operand-z.ensures c.if-z-y.false, c.ranges.x)
 
 pub loop-y-smaller : goal.loop-y-smaller
-loop-y-smaller c = ways.falls c.loop-y.invariant c.requires c.open_operand-z.ensures c.if-z-y.false
+loop-y-smaller c = ways.falls c.requires c.loop-y.invariant c.open_operand-z.ensures c.if-z-y.false
 
 pub loop-y-preserved : goal.loop-y-preserved
 loop-y-preserved c =
-    ways.further c.loop-y.invariant c.open_operand-z.ensures c.if-z-y.false c.enter_new.result c.enter_new.ensures c.requires c.in-Nodes.is c.enter_new.auto.nodes c.enter_new.auto.states c.enter_new.auto.scratch
+    let e = c.in_ok-enter_new.ensures in
+    ways.further c.requires c.loop-y.invariant c.open_operand-z.ensures c.if-z-y.false e.gives e.keeps e.members e.states

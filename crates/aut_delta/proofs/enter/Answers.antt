@@ -1,22 +1,25 @@
+use mathlib.Core.Path.{◌∙◌, sym}
+use native.Mathlib.Omega.{arith}
+use Rattle.refusal.proofs.Passed.{passed}
 use Rattle.aut_delta.proofs.Entering as entering
 use Rattle.aut_delta.proofs.enter.Goals as goal
 
-pub enter_epsilon-requires : goal.enter_epsilon-requires
-enter_epsilon-requires c =
-    entering.sequence_ready c.args.config.fields c.args.config.limits c.args.x c.args.c c.args.nodes.now c.args.states.now c.args.members.now c.args.scratch.now c.requires c.if-kind-eq-SEQUENCE.true
+pub epsilon-requires : goal.epsilon-requires
+epsilon-requires c = entering.first_ready c.requires c.first-a.ensures (sym c.kind.ensures ∙ c.in-7.is)
 
-pub returns-then-kind-eq-SEQUENCE : goal.returns-then-kind-eq-SEQUENCE
-returns-then-kind-eq-SEQUENCE c =
-    entering.in_sequence c.args.config.fields c.args.config.limits c.args.x c.args.c c.args.nodes.now c.args.states.now c.args.members.now c.args.scratch.now c.if-kind-eq-SEQUENCE.true c.enter_epsilon.result c.enter_epsilon.ensures
+pub returns-in_err-epsilon-in-7-clause-gives : goal.returns-in_err-epsilon-in-7-clause-gives
+returns-in_err-epsilon-in-7-clause-gives c = entering.first_stuck c.requires c.first-a.ensures (sym c.kind.ensures ∙ c.in-7.is) c.in_err-epsilon-in-7.ensures.keeps (passed c.from_residual.ensures) c.in_err-epsilon-in-7.ensures.gives
 
 pub enter_star-requires : goal.enter_star-requires
-enter_star-requires c =
-    entering.star_ready c.args.config.fields c.args.config.limits c.args.x c.args.c c.args.nodes.now c.args.states.now c.args.members.now c.args.scratch.now c.requires c.if-kind-eq-STAR.true
+enter_star-requires c = entering.star_first c.requires c.first-a.ensures (sym c.kind.ensures ∙ c.in-8.is)
 
-pub returns-then-kind-eq-STAR : goal.returns-then-kind-eq-STAR
-returns-then-kind-eq-STAR c =
-    entering.in_star c.args.config.fields c.args.config.limits c.args.x c.args.c c.args.nodes.now c.args.states.now c.args.members.now c.args.scratch.now c.if-kind-eq-STAR.true c.enter_star.result c.enter_star.ensures
+pub returns-in_ok-epsilon-in-7-clause-gives : goal.returns-in_ok-epsilon-in-7-clause-gives
+returns-in_ok-epsilon-in-7-clause-gives c =
+    let e = c.in_ok-epsilon-in-7.ensures in
+    entering.first_made c.requires c.first-a.ensures (sym c.kind.ensures ∙ c.in-7.is) e.keeps e.gives e.after
 
-pub returns : goal.returns
-returns c =
-    entering.in_other c.args.config.fields c.args.config.limits c.args.x c.args.c c.args.nodes.now c.args.states.now c.args.members.now c.args.scratch.now c.if-kind-eq-SEQUENCE.false c.if-kind-eq-STAR.false
+pub returns-in-8-clause-gives : goal.returns-in-8-clause-gives
+returns-in-8-clause-gives c = entering.first_starred c.requires c.first-a.ensures (sym c.kind.ensures ∙ c.in-8.is) c.enter_star.ensures.gives
+
+pub returns-in_default-clause-gives : goal.returns-in_default-clause-gives
+returns-in_default-clause-gives c = entering.in_other c.requires (λ e. omega (arith, c.kind.ensures, c.in_default)) (λ e. omega (arith, c.kind.ensures, c.in_default))

@@ -1,41 +1,25 @@
-use mathlib.Core.Path.{◌∙◌}
+use Rattle.refusal.proofs.Passed.{passed}
 use Rattle.aut_delta.proofs.Storing as storing
 use Rattle.aut_delta.proofs.finish.Goals as goal
 
-pub returns-in_default : goal.returns-in_default
-returns-in_default c = storing.no_node c.args.c c.requires c.enter.ensures c.in_default.is
+pub enter-requires : goal.enter-requires
+enter-requires c = storing.enter_ready c.requires
 
-pub together-listed-requires : goal.together-listed-requires
-together-listed-requires c = storing.together_ready c.args.c c.requires c.enter.ensures c.in-Nodes.is
+pub returns-in_err-enter-clause-gives : goal.returns-in_err-enter-clause-gives
+returns-in_err-enter-clause-gives c = storing.no_node c.requires (passed c.from_residual.ensures) c.in_err-enter.ensures.gives
 
-pub keep_list-kept-requires : goal.keep_list-kept-requires
-keep_list-kept-requires c = storing.keep_ready c.args.c c.requires c.enter.ensures c.in-Nodes.is c.together-listed.ensures c.in-List.is
+pub together-requires : goal.together-requires
+together-requires c = let e = c.in_ok-enter.ensures in storing.together_ready c.requires e.gives e.keeps
 
-pub returns-in-Refused : goal.returns-in-Refused
-returns-in-Refused c = storing.no_list c.args.c c.requires c.enter.ensures c.in-Nodes.is c.together-listed.ensures c.in-Refused.is
+pub returns-in_err-m-clause-gives : goal.returns-in_err-m-clause-gives
+returns-in_err-m-clause-gives c = let e = c.in_ok-enter.ensures in storing.no_list c.requires e.gives e.keeps c.in_err-m.ensures.keeps (passed c.from_residual-in_err-m.ensures) c.in_err-m.ensures.gives
 
-pub shape_of-nodes-in-Refused-kept : goal.shape_of-nodes-in-Refused-kept
-shape_of-nodes-in-Refused-kept c = c.together-listed.auto.nodes ∙ c.enter.auto.nodes
+pub keep_list-requires : goal.keep_list-requires
+keep_list-requires c =
+    let e = c.in_ok-enter.ensures in
+    storing.keep_ready c.requires e.gives e.keeps c.in_ok-m.ensures.keeps c.in_ok-m.ensures.gives
 
-pub shape_of-states-in-Refused-kept : goal.shape_of-states-in-Refused-kept
-shape_of-states-in-Refused-kept c = c.keep_list-kept.auto.states ∙ c.together-listed.auto.states ∙ c.enter.auto.states
-
-pub shape_of-scratch-in-Refused-kept : goal.shape_of-scratch-in-Refused-kept
-shape_of-scratch-in-Refused-kept c = c.together-listed.auto.scratch ∙ c.enter.auto.scratch
-
-pub returns-in-Refused-kept : goal.returns-in-Refused-kept
-returns-in-Refused-kept c =
-    storing.no_room c.args.c c.requires c.enter.ensures c.in-Nodes.is c.together-listed.ensures c.in-List.is c.keep_list-kept.new.states c.keep_list-kept.new.transitions c.keep_list-kept.ensures c.in-Refused-kept.is
-
-pub shape_of-nodes-in-Done : goal.shape_of-nodes-in-Done
-shape_of-nodes-in-Done c = c.together-listed.auto.nodes ∙ c.enter.auto.nodes
-
-pub shape_of-states-in-Done : goal.shape_of-states-in-Done
-shape_of-states-in-Done c = c.keep_list-kept.auto.states ∙ c.together-listed.auto.states ∙ c.enter.auto.states
-
-pub shape_of-scratch-in-Done : goal.shape_of-scratch-in-Done
-shape_of-scratch-in-Done c = c.together-listed.auto.scratch ∙ c.enter.auto.scratch
-
-pub returns-in-Done : goal.returns-in-Done
-returns-in-Done c =
-    storing.stored c.args.c c.requires c.enter.ensures c.in-Nodes.is c.together-listed.ensures c.in-List.is c.keep_list-kept.new.states c.keep_list-kept.new.transitions c.keep_list-kept.ensures c.in-Done.is (c.together-listed.auto.scratch ∙ c.enter.auto.scratch)
+pub returns-clause-gives : goal.returns-clause-gives
+returns-clause-gives c =
+    let e = c.in_ok-enter.ensures in
+    storing.stored c.requires e.gives e.keeps c.in_ok-m.ensures.keeps c.in_ok-m.ensures.gives c.keep_list.ensures.keeps c.keep_list.result c.keep_list.ensures.gives

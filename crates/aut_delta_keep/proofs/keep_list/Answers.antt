@@ -1,20 +1,19 @@
-use mathlib.Core.Path.{refl}
 use native.Mathlib.Omega.{arith}
-use lib.ListN.{length-set}
+use mathlib.Core.Path.{◌∙◌}
+use Rattle.refusal.proofs.Passed.{passed}
+use Rattle.aut_relations.specs.Lent.{nodes_in, members_in, transitions_in}
+use Rattle.aut_st_steps.proofs.Places.{edges_length}
+use Rattle.aut_st_insert.specs.Clauses.{RESULT}
 use Rattle.aut_delta_keep.proofs.Keeping as keeping
 use Rattle.aut_delta_keep.proofs.keep_list.Goals as goal
 
-pub returns-then-end-transitions : goal.returns-then-end-transitions
-returns-then-end-transitions c =
-    record { is = keeping.no_room c.args.states.now c.args.transitions.now c.args.scratch.now c.args.c c.args.x c.args.m c.if-end-transitions.true; sets = tt }
+pub returns-in_err-append-clause-gives : goal.returns-in_err-append-clause-gives
+returns-in_err-append-clause-gives c =
+    keeping.stuck c.args.x (nodes_in c.args.aut.now) (members_in c.args.aut.now) (transitions_in c.args.aut.now) c.args.aut.now.states.words.now c.args.aut.now.states.count c.args.aut.now.scratch.now c.args.m _ _ (passed c.from_residual.ensures) c.in_err-append.ensures.gives
 
-pub returns-then-end-gt-MOST : goal.returns-then-end-gt-MOST
-returns-then-end-gt-MOST c =
-    record { is = keeping.no_cap c.args.states.now c.args.transitions.now c.args.scratch.now c.args.c c.args.x c.args.m c.if-end-gt-MOST.true; sets = tt }
+pub overflow_cast-aut-2 : goal.overflow_cast-aut-2
+overflow_cast-aut-2 c = omega (arith, c.in_ok-append.ensures.gives.cap, edges_length c.args.aut.now.scratch.now RESULT c.args.m)
 
-pub bounds-states-i-2 : goal.bounds-states-i-2
-bounds-states-i-2 c = simp length-set (omega (arith, c.requires.state))
-
-pub returns : goal.returns
-returns c =
-    record { is = keeping.stored c.args.states.now c.args.transitions.now c.args.scratch.now c.args.c c.args.x c.args.m c.if-end-transitions.false c.if-end-gt-MOST.false c.copy.ensures; sets = refl }
+pub returns-clause-gives : goal.returns-clause-gives
+returns-clause-gives c =
+    keeping.stored c.args.x (nodes_in c.args.aut.now) (members_in c.args.aut.now) (transitions_in c.args.aut.now) c.args.aut.now.states.words.now c.args.aut.now.states.count c.args.aut.now.scratch.now c.args.m c.in_ok-append.ensures.gives

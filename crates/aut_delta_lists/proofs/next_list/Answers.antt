@@ -1,5 +1,5 @@
 use Rattle.aut_delta_lists.proofs.Alone as alone
 use Rattle.aut_delta_lists.proofs.next_list.Goals as goal
 
-pub returns : goal.returns
-returns c = alone.next_done c.top_at_depth-top.ensures c.st_singleton.result c.st_singleton.ensures
+pub returns-clause-gives : goal.returns-clause-gives
+returns-clause-gives c = rw c.top_at_depth-top.ensures (λ s. c.st_singleton.ensures.gives (alone.next_edge c.requires c.top_at_depth-top.ensures s))

@@ -1,48 +1,28 @@
-use mathlib.Core.Path.{◌∙◌}
-use Rattle.aut_st_xor.proofs.Join as join
-use Rattle.aut_delta_lists.proofs.Sequence as sequence
+use Rattle.aut_st_xor.proofs.Joins as join
+use Rattle.aut_delta_lists.proofs.Stored as lists
 use Rattle.aut_delta_lists.proofs.sequence_list.Goals as goal
 
+pub returns-in_err-n-clause-gives : goal.returns-in_err-n-clause-gives
+returns-in_err-n-clause-gives c = join.stuck_1 (lists.seq_joins c.requires) c.from_residual.ensures c.in_err-n.ensures.gives
+
 pub copy-requires : goal.copy-requires
-copy-requires c =
-    join.copy_1 (sequence.sequence_joins c.requires) (sequence.late_is c.requires c.st_postcompose-late.result c.st_postcompose-late.ensures) c.in-List.is
+copy-requires c = join.copy_1 (lists.seq_joins c.requires) c.in_ok-n.ensures.keeps c.in_ok-n.ensures.gives
 
-pub st_precompose-early-requires : goal.st_precompose-early-requires
-st_precompose-early-requires c =
-    let v = join.stage_2 (sequence.sequence_joins c.requires) (sequence.late_is c.requires c.st_postcompose-late.result c.st_postcompose-late.ensures) c.in-List.is c.copy.ensures c.copy.auto.words in sequence.early_ready c.requires v.ready v.ext.grown
+pub st_precompose-requires : goal.st_precompose-requires
+st_precompose-requires c = lists.seq_ready c.requires c.in_ok-n.ensures.keeps c.in_ok-n.ensures.gives c.copy.ensures c.copy.auto.words
 
-pub copy-requires-in-List-early : goal.copy-requires-in-List-early
-copy-requires-in-List-early c =
-    join.copy_2 (sequence.sequence_joins c.requires) (sequence.late_is c.requires c.st_postcompose-late.result c.st_postcompose-late.ensures) c.in-List.is c.copy.ensures c.copy.auto.words (sequence.early_is c.requires c.st_precompose-early.result c.st_precompose-early.ensures) c.in-List-early.is
+pub returns-in_err-m-clause-gives : goal.returns-in_err-m-clause-gives
+returns-in_err-m-clause-gives c =
+    join.stuck_2 (lists.seq_joins c.requires) c.in_ok-n.ensures.keeps c.in_ok-n.ensures.gives c.copy.ensures c.copy.auto.words c.from_residual-in_err-m.ensures (lists.seq_early c.requires c.in_ok-n.ensures.keeps c.in_ok-n.ensures.gives c.copy.ensures c.in_err-m.ensures.gives)
+
+pub copy-requires-2 : goal.copy-requires-2
+copy-requires-2 c =
+    join.copy_2 (lists.seq_joins c.requires) c.in_ok-n.ensures.keeps c.in_ok-n.ensures.gives c.copy.ensures c.copy.auto.words c.in_ok-m.ensures.keeps (lists.seq_early c.requires c.in_ok-n.ensures.keeps c.in_ok-n.ensures.gives c.copy.ensures c.in_ok-m.ensures.gives)
 
 pub st_union-requires : goal.st_union-requires
 st_union-requires c =
-    join.join_ready (sequence.sequence_joins c.requires) (sequence.late_is c.requires c.st_postcompose-late.result c.st_postcompose-late.ensures) c.in-List.is c.copy.ensures c.copy.auto.words (sequence.early_is c.requires c.st_precompose-early.result c.st_precompose-early.ensures) c.in-List-early.is c.copy-in-List-early.ensures c.copy-in-List-early.auto.words
+    join.join_asked (lists.seq_joins c.requires) c.in_ok-n.ensures.keeps c.in_ok-n.ensures.gives c.copy.ensures c.copy.auto.words c.in_ok-m.ensures.keeps (lists.seq_early c.requires c.in_ok-n.ensures.keeps c.in_ok-n.ensures.gives c.copy.ensures c.in_ok-m.ensures.gives) c.copy-2.ensures c.copy-2.auto.words
 
-pub returns-in-Refused : goal.returns-in-Refused
-returns-in-Refused c =
-    join.stuck_1 (sequence.sequence_joins c.requires) (sequence.late_is c.requires c.st_postcompose-late.result c.st_postcompose-late.ensures) c.in-Refused.is
-
-pub shape_of-nodes-in-Refused-early : goal.shape_of-nodes-in-Refused-early
-shape_of-nodes-in-Refused-early c = c.st_precompose-early.auto.nodes ∙ c.st_postcompose-late.auto.nodes
-
-pub returns-in-Refused-early : goal.returns-in-Refused-early
-returns-in-Refused-early c =
-    join.stuck_2 (sequence.sequence_joins c.requires) (sequence.late_is c.requires c.st_postcompose-late.result c.st_postcompose-late.ensures) c.in-List.is c.copy.ensures c.copy.auto.words (sequence.early_is c.requires c.st_precompose-early.result c.st_precompose-early.ensures) c.in-Refused-early.is
-
-pub shape_of-nodes-in-List-early : goal.shape_of-nodes-in-List-early
-shape_of-nodes-in-List-early c = c.st_union.auto.nodes ∙ c.st_precompose-early.auto.nodes ∙ c.st_postcompose-late.auto.nodes
-
-pub shape_of-states-in-List-early : goal.shape_of-states-in-List-early
-shape_of-states-in-List-early c = c.st_union.auto.states ∙ c.st_precompose-early.auto.states ∙ c.st_postcompose-late.auto.states
-
-pub shape_of-members-in-List-early : goal.shape_of-members-in-List-early
-shape_of-members-in-List-early c = c.st_union.auto.members ∙ c.st_precompose-early.auto.members ∙ c.st_postcompose-late.auto.members
-
-pub shape_of-scratch-in-List-early : goal.shape_of-scratch-in-List-early
-shape_of-scratch-in-List-early c =
-    c.st_union.auto.scratch ∙ c.copy-in-List-early.auto.words ∙ c.st_precompose-early.auto.scratch ∙ c.copy.auto.words ∙ c.st_postcompose-late.auto.scratch
-
-pub returns-in-List-early : goal.returns-in-List-early
-returns-in-List-early c =
-    join.joined (sequence.sequence_joins c.requires) (sequence.late_is c.requires c.st_postcompose-late.result c.st_postcompose-late.ensures) c.in-List.is c.copy.ensures c.copy.auto.words (sequence.early_is c.requires c.st_precompose-early.result c.st_precompose-early.ensures) c.in-List-early.is c.copy-in-List-early.ensures c.copy-in-List-early.auto.words c.st_union.ensures
+pub returns-clause-gives : goal.returns-clause-gives
+returns-clause-gives c =
+    join.joined (lists.seq_joins c.requires) c.in_ok-n.ensures.keeps c.in_ok-n.ensures.gives c.copy.ensures c.copy.auto.words c.in_ok-m.ensures.keeps (lists.seq_early c.requires c.in_ok-n.ensures.keeps c.in_ok-n.ensures.gives c.copy.ensures c.in_ok-m.ensures.gives) c.copy-2.ensures c.copy-2.auto.words c.st_union.ensures.gives

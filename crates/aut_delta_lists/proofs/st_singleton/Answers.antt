@@ -1,23 +1,14 @@
 use Rattle.aut_delta_lists.proofs.Alone as alone
-use native.Mathlib.Omega.{arith}
-use lib.ListN.{length-set}
 use Rattle.aut_delta_lists.proofs.st_singleton.Goals as goal
 
-pub returns-then-label-zero : goal.returns-then-label-zero
-returns-then-label-zero c =
-    alone.label_zero c.requires c.args.target c.args.label.0 (c.zero_at_depth-zero.ensures c.args.config.fields) c.if-label-zero.true
+pub returns-then-label-zero-clause-gives : goal.returns-then-label-zero-clause-gives
+returns-then-label-zero-clause-gives c = λ e. alone.label_zero c.requires e (c.zero_at_depth-zero.ensures c.args.config.fields) c.if-label-zero.true
 
-pub returns-then-target-z : goal.returns-then-target-z
-returns-then-target-z c =
-    alone.target_zero c.requires c.args.target c.args.label.0 (c.zero_at_depth-zero.ensures c.args.config.fields) c.if-label-zero.false c.mk_spp-put.result c.mk_spp-put.new.states c.mk_spp-put.ensures c.placed-state.ensures c.in-Is.is c.if-target-z.true
+pub returns-in_err-z-clause-gives : goal.returns-in_err-z-clause-gives
+returns-in_err-z-clause-gives c = λ e. alone.single_stuck c.requires e (c.zero_at_depth-zero.ensures c.args.config.fields) c.if-label-zero.false _ c.from_residual.ensures c.in_err-z.ensures.gives
 
-pub bounds-scratch-j-in-Is : goal.bounds-scratch-j-in-Is
-bounds-scratch-j-in-Is c = simp length-set (omega (arith, c.requires.ready.room))
+pub returns-then-target-z-clause-gives : goal.returns-then-target-z-clause-gives
+returns-then-target-z-clause-gives c = λ e. alone.target_zero c.requires e (c.zero_at_depth-zero.ensures c.args.config.fields) c.if-label-zero.false c.in_ok-z.ensures.same_table c.in_ok-z.ensures.gives c.if-target-z.true
 
-pub returns-in-Refused : goal.returns-in-Refused
-returns-in-Refused c =
-    alone.single_stuck c.requires c.args.target c.args.label.0 (c.zero_at_depth-zero.ensures c.args.config.fields) c.if-label-zero.false c.mk_spp-put.result c.mk_spp-put.new.states c.mk_spp-put.ensures c.placed-state.ensures c.in-Refused.is
-
-pub returns-else-target-z : goal.returns-else-target-z
-returns-else-target-z c =
-    alone.one_edge c.requires c.args.target c.args.label.0 (c.zero_at_depth-zero.ensures c.args.config.fields) c.if-label-zero.false c.mk_spp-put.result c.mk_spp-put.new.states c.mk_spp-put.ensures c.placed-state.ensures c.in-Is.is c.if-target-z.false
+pub returns-clause-gives : goal.returns-clause-gives
+returns-clause-gives c = λ e. alone.one_edge c.requires e (c.zero_at_depth-zero.ensures c.args.config.fields) c.if-label-zero.false c.in_ok-z.ensures.same_table c.in_ok-z.ensures.gives c.if-target-z.false

@@ -1,15 +1,15 @@
-use Rattle.aut_delta_lists.proofs.Star as star
+use Rattle.aut_delta_lists.proofs.Stored as lists
 use Rattle.aut_delta_lists.proofs.star_list.Goals as goal
 
+pub returns-in_err-n-clause-gives : goal.returns-in_err-n-clause-gives
+returns-in_err-n-clause-gives c = lists.star_stuck c.requires c.from_residual.ensures c.in_err-n.ensures.gives
+
 pub copy-requires : goal.copy-requires
-copy-requires c = star.star_copy c.requires c.st_postcompose-late.ensures c.in-List.is
+copy-requires c = lists.star_copy c.requires c.in_ok-n.ensures.keeps c.in_ok-n.ensures.gives
 
 pub st_precompose-requires : goal.st_precompose-requires
-st_precompose-requires c = star.star_ready c.requires c.st_postcompose-late.ensures c.in-List.is c.copy.ensures c.copy.auto.words
+st_precompose-requires c = lists.star_ready c.requires c.in_ok-n.ensures.keeps c.in_ok-n.ensures.gives c.copy.ensures c.copy.auto.words
 
-pub returns-in-Refused : goal.returns-in-Refused
-returns-in-Refused c = star.star_stuck c.requires c.st_postcompose-late.ensures c.in-Refused.is
-
-pub returns-in-List : goal.returns-in-List
-returns-in-List c =
-    star.star_done c.requires c.st_postcompose-late.ensures c.in-List.is c.copy.ensures c.copy.auto.words c.st_precompose.result c.st_precompose.ensures
+pub returns-clause-gives : goal.returns-clause-gives
+returns-clause-gives c =
+    lists.star_done c.requires c.in_ok-n.ensures.keeps c.in_ok-n.ensures.gives c.copy.ensures c.copy.auto.words c.st_precompose.ensures.gives

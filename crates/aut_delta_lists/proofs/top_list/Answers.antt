@@ -1,14 +1,13 @@
+use mathlib.Core.Path.{refl}
 use Rattle.aut_delta_lists.proofs.Alone as alone
 use Rattle.aut_delta_lists.proofs.top_list.Goals as goal
 
+pub returns-in_err-x-clause-gives : goal.returns-in_err-x-clause-gives
+returns-in_err-x-clause-gives c = alone.made_stuck c.requires (alone.top c.requires refl) _ c.from_residual.ensures c.in_err-x.ensures.gives
+
 pub st_singleton-requires : goal.st_singleton-requires
-st_singleton-requires c =
-    alone.top_ready c.requires c.mk_top-put.result c.mk_top-put.new.states c.mk_top-put.ensures c.placed-state.ensures c.in-Is.is
+st_singleton-requires c = (alone.made_ready c.requires (alone.top c.requires c.top_at_depth-top.ensures) c.in_ok-x.ensures.same_table c.in_ok-x.ensures.gives).0
 
-pub returns-in-Refused : goal.returns-in-Refused
-returns-in-Refused c =
-    alone.top_stuck c.requires c.mk_top-put.result c.mk_top-put.new.states c.mk_top-put.ensures c.placed-state.ensures c.in-Refused.is
-
-pub returns-in-Is : goal.returns-in-Is
-returns-in-Is c =
-    alone.top_done c.requires c.mk_top-put.result c.mk_top-put.new.states c.mk_top-put.ensures c.placed-state.ensures c.in-Is.is c.top_at_depth-top.ensures c.st_singleton.result c.st_singleton.ensures
+pub returns-clause-gives : goal.returns-clause-gives
+returns-clause-gives c =
+    alone.made_done c.requires (alone.top c.requires c.top_at_depth-top.ensures) c.in_ok-x.ensures.same_table c.in_ok-x.ensures.gives (c.st_singleton.ensures.gives (alone.made_ready c.requires (alone.top c.requires c.top_at_depth-top.ensures) {st = c.mk_top.new.self} c.in_ok-x.ensures.same_table c.in_ok-x.ensures.gives).1)

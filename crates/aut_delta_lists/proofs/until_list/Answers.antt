@@ -1,33 +1,26 @@
-use mathlib.Core.Path.{◌∙◌}
-use Rattle.aut_delta_lists.proofs.Until as until
+use Rattle.aut_delta_lists.proofs.Stored as lists
 use Rattle.aut_delta_lists.proofs.until_list.Goals as goal
 
-pub mk_until-put-requires : goal.mk_until-put-requires
-mk_until-put-requires c = until.make_ready _ _ _ c.args.c c.requires
+pub mk_until-requires : goal.mk_until-requires
+mk_until-requires c = lists.until_make c.requires
 
-pub st_intersect_expr-met-requires : goal.st_intersect_expr-met-requires
-st_intersect_expr-met-requires c =
-    until.meet_ready _ _ _ c.args.c c.requires c.mk_until-put.result c.mk_until-put.new.states c.mk_until-put.ensures c.placed-state.ensures c.in-Is.is
+pub returns-in_err-u-clause-gives : goal.returns-in_err-u-clause-gives
+returns-in_err-u-clause-gives c = lists.until_stuck_1 c.requires _ c.from_residual.ensures c.in_err-u.ensures.gives
+
+pub st_intersect_expr-requires : goal.st_intersect_expr-requires
+st_intersect_expr-requires c = lists.until_meet c.requires c.in_ok-u.ensures.same_table c.in_ok-u.ensures.gives
+
+pub returns-in_err-n-clause-gives : goal.returns-in_err-n-clause-gives
+returns-in_err-n-clause-gives c =
+    lists.until_stuck_2 c.requires c.in_ok-u.ensures.same_table c.in_ok-u.ensures.gives c.from_residual-in_err-n.ensures c.in_err-n.ensures.gives
 
 pub copy-requires : goal.copy-requires
-copy-requires c =
-    until.until_copy _ _ _ c.args.c c.requires c.mk_until-put.result c.mk_until-put.new.states c.mk_until-put.ensures c.placed-state.ensures c.in-Is.is c.st_intersect_expr-met.ensures c.in-List.is
+copy-requires c = lists.until_copy c.requires c.in_ok-u.ensures.same_table c.in_ok-u.ensures.gives c.in_ok-n.ensures.keeps c.in_ok-n.ensures.gives
 
 pub st_union-requires : goal.st_union-requires
 st_union-requires c =
-    until.join_ready _ _ _ c.args.c c.requires c.mk_until-put.result c.mk_until-put.new.states c.mk_until-put.ensures c.placed-state.ensures c.in-Is.is c.st_intersect_expr-met.ensures c.in-List.is c.copy.ensures c.copy.auto.words
+    lists.until_join c.requires c.in_ok-u.ensures.same_table c.in_ok-u.ensures.gives c.in_ok-n.ensures.keeps c.in_ok-n.ensures.gives c.copy.ensures c.copy.auto.words
 
-pub returns-in-Refused : goal.returns-in-Refused
-returns-in-Refused c =
-    until.until_stuck_1 _ _ _ c.args.c c.requires c.mk_until-put.result c.mk_until-put.new.states c.mk_until-put.ensures c.placed-state.ensures c.in-Refused.is
-
-pub returns-in-Refused-met : goal.returns-in-Refused-met
-returns-in-Refused-met c =
-    until.until_stuck_2 _ _ _ c.args.c c.requires c.mk_until-put.result c.mk_until-put.new.states c.mk_until-put.ensures c.placed-state.ensures c.in-Is.is c.st_intersect_expr-met.ensures c.in-Refused-met.is
-
-pub shape_of-states-in-List : goal.shape_of-states-in-List
-shape_of-states-in-List c = c.st_union.auto.states ∙ c.st_intersect_expr-met.auto.states ∙ c.mk_until-put.auto.states
-
-pub returns-in-List : goal.returns-in-List
-returns-in-List c =
-    until.until_done _ _ _ c.args.c c.requires c.mk_until-put.result c.mk_until-put.new.states c.mk_until-put.ensures c.placed-state.ensures c.in-Is.is c.st_intersect_expr-met.ensures c.in-List.is c.copy.ensures c.copy.auto.words c.st_union.result c.st_union.ensures
+pub returns-clause-gives : goal.returns-clause-gives
+returns-clause-gives c =
+    lists.until_done c.requires c.in_ok-u.ensures.same_table c.in_ok-u.ensures.gives c.in_ok-n.ensures.keeps c.in_ok-n.ensures.gives c.copy.ensures c.copy.auto.words c.st_union.ensures.gives

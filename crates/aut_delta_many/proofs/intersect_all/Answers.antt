@@ -1,22 +1,14 @@
-use native.Mathlib.Omega.{arith}
 use Rattle.aut_delta_many.proofs.Joins as joins
 use Rattle.aut_delta_many.proofs.intersect_all.Goals as goal
 
-pub find_list-place-requires : goal.find_list-place-requires
-find_list-place-requires c = joins.first_find c.requires
+pub stored_list-list-requires : goal.stored_list-list-requires
+stored_list-list-requires c = joins.first_find c.requires
 
-pub overflow_mul-place : goal.overflow_mul-place
-overflow_mul-place c = omega (arith, (joins.first_copy c.requires c.find_list-place.ensures).1)
-
-pub overflow_mul-n : goal.overflow_mul-n
-overflow_mul-n c = omega (arith, (joins.first_copy c.requires c.find_list-place.ensures).0)
-
-pub copy-requires : goal.copy-requires
-copy-requires c = joins.first_copy c.requires c.find_list-place.ensures
+pub take-requires : goal.take-requires
+take-requires c = joins.first_take c.requires c.stored_list-list.ensures
 
 pub join_all-requires : goal.join_all-requires
-join_all-requires c = joins.rest_all c.requires c.find_list-place.ensures c.copy.ensures c.copy.auto.out c.args.c
+join_all-requires c = joins.rest_asked c.requires c.stored_list-list.ensures c.take.ensures c.take.auto.scratch
 
-pub returns : goal.returns
-returns c =
-    joins.intersect_done c.requires c.find_list-place.ensures c.copy.ensures c.copy.auto.out c.args.c c.join_all.result c.join_all.ensures
+pub returns-clause-gives : goal.returns-clause-gives
+returns-clause-gives c = joins.intersect_done c.requires c.stored_list-list.ensures c.take.ensures c.take.auto.scratch c.join_all.ensures.gives

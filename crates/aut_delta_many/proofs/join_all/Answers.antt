@@ -1,22 +1,27 @@
+use Rattle.aut_st_insert.proofs.Kept.{keeps_trans}
 use Rattle.aut_delta_many.proofs.Joins as joins
 use Rattle.aut_delta_many.proofs.join_all.Goals as goal
 
 pub loop-i-init : goal.loop-i-init
-loop-i-init c =
-    joins.all_begin c.args.join c.args.nodes.now c.args.states.now c.args.members.now c.args.transitions.now c.args.c c.requires
+loop-i-init c = joins.all_begin c.requires
 
-pub join_next-listed-requires : goal.join_next-listed-requires
-join_next-listed-requires c =
-    joins.all_next c.args.join c.args.nodes.now c.args.states.now c.args.members.now c.args.transitions.now c.args.c c.requires c.loop-i.nodes c.loop-i.states c.loop-i.members c.loop-i.d c.loop-i.m c.loop-i.invariant c.loop-i-test.true
+pub bounds-aut-from : goal.bounds-aut-from
+bounds-aut-from c = joins.all_read c.loop-i.invariant c.loop-i-test.true
 
-pub returns-in-Refused : goal.returns-in-Refused
-returns-in-Refused c =
-    joins.all_stuck c.args.join c.args.nodes.now c.args.states.now c.args.members.now c.args.transitions.now c.args.c c.requires c.loop-i.nodes c.loop-i.states c.loop-i.members c.loop-i.d c.loop-i.m c.loop-i.invariant c.loop-i-test.true c.join_next-listed.ensures c.in-Refused.is
+pub join_next-requires : goal.join_next-requires
+join_next-requires c = joins.all_next c.loop-i.invariant c.loop-i-test.true
+
+pub returns-in_err-m-clause-keeps : goal.returns-in_err-m-clause-keeps
+returns-in_err-m-clause-keeps c = keeps_trans c.loop-i.invariant.keeps c.in_err-m.ensures.keeps
+
+pub returns-in_err-m-clause-gives : goal.returns-in_err-m-clause-gives
+returns-in_err-m-clause-gives c = joins.all_stuck c.loop-i.invariant c.loop-i-test.true c.from_residual.ensures c.in_err-m.ensures.gives
 
 pub loop-i-preserved : goal.loop-i-preserved
-loop-i-preserved c =
-    joins.all_again c.args.join c.args.nodes.now c.args.states.now c.args.members.now c.args.transitions.now c.args.c c.requires c.loop-i.nodes c.loop-i.states c.loop-i.members c.loop-i.d c.loop-i.m c.loop-i.invariant c.loop-i-test.true c.join_next-listed.ensures c.in-List.is
+loop-i-preserved c = joins.all_again c.loop-i.invariant c.loop-i-test.true c.in_ok-m.ensures.keeps c.in_ok-m.ensures.gives
 
-pub returns : goal.returns
-returns c =
-    joins.all_end c.args.join c.args.nodes.now c.args.states.now c.args.members.now c.args.transitions.now c.args.c c.requires c.loop-i.nodes c.loop-i.states c.loop-i.members c.loop-i.d c.loop-i.m c.loop-i.invariant c.loop-i-test.false
+pub returns-clause-keeps : goal.returns-clause-keeps
+returns-clause-keeps c = c.loop-i.invariant.keeps
+
+pub returns-clause-gives : goal.returns-clause-gives
+returns-clause-gives c = joins.all_end c.loop-i.invariant c.loop-i-test.false

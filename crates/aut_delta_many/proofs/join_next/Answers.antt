@@ -1,15 +1,23 @@
+use Rattle.aut_delta_many.specs.declared.Join.TheVariants as join
 use Rattle.aut_delta_many.proofs.Joins as joins
 use Rattle.aut_delta_many.proofs.join_next.Goals as goal
 
-pub find_list-place-requires : goal.find_list-place-requires
-find_list-place-requires c = joins.next_find c.requires
+pub stored_list-list-requires : goal.stored_list-list-requires
+stored_list-list-requires c = joins.next_find c.requires
 
 pub copy-requires : goal.copy-requires
 copy-requires c = joins.next_copy c.requires
 
-pub join_two-requires : goal.join_two-requires
-join_two-requires c = joins.next_ready c.requires c.find_list-place.ensures c.copy.ensures c.copy.auto.words c.args.join c.args.c
+pub st_union-requires : goal.st_union-requires
+st_union-requires c = joins.next_ready c.requires c.stored_list-list.ensures c.copy.ensures c.copy.auto.words c.args.join
 
-pub returns : goal.returns
-returns c =
-    joins.next_done c.requires c.find_list-place.ensures c.copy.ensures c.copy.auto.words c.args.join c.args.c c.join_two.ensures
+pub st_intersect-requires : goal.st_intersect-requires
+st_intersect-requires c = joins.next_ready c.requires c.stored_list-list.ensures c.copy.ensures c.copy.auto.words c.args.join
+
+pub returns-in-Union-clause-gives : goal.returns-in-Union-clause-gives
+returns-in-Union-clause-gives c =
+    joins.next_done c.requires c.stored_list-list.ensures c.copy.ensures c.copy.auto.words c.args.join join.Union c.in-Union.is c.st_union.ensures.gives
+
+pub returns-in-Intersect-clause-gives : goal.returns-in-Intersect-clause-gives
+returns-in-Intersect-clause-gives c =
+    joins.next_done c.requires c.stored_list-list.ensures c.copy.ensures c.copy.auto.words c.args.join join.Intersect c.in-Intersect.is c.st_intersect.ensures.gives

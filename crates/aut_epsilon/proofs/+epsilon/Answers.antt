@@ -1,37 +1,34 @@
-use Rattle.aut_relations.proofs.Order.{in_table}
+use mathlib.Core.Path.{refl, ◌∙◌}
+use Rattle.refusal.proofs.Passed.{passed}
 use Rattle.aut_epsilon.proofs.Turns as turns
 use Rattle.aut_epsilon.proofs.+epsilon.Goals as goal
 
-pub look-kept-requires : goal.look-kept-requires
-look-kept-requires t c = in_table c.requires.ready.good c.requires.has
+pub returns-then-not-is_open-clause-gives : goal.returns-then-not-is_open-clause-gives
+returns-then-not-is_open-clause-gives t c = turns.kept c.requires c.if-not-is_open.ensures c.value.ensures
 
-pub returns-in-Some : goal.returns-in-Some
-returns-in-Some t c = turns.kept_works c.requires c.look-kept.ensures c.in-Some.is
-
-pub loop-c-init : goal.loop-c-init
-loop-c-init t c = turns.begin c.args.c c.requires c.look-kept.ensures c.in_default.is
+pub returns-then-not-is_open-clause-after : goal.returns-then-not-is_open-clause-after
+returns-then-not-is_open-clause-after t c = turns.later c.requires refl (returns-then-not-is_open-clause-gives t c)
 
 pub lowest-y-requires : goal.lowest-y-requires
-lowest-y-requires t c = turns.lowest_ready c.args.c c.requires c.loop-c.invariant
+lowest-y-requires t c = turns.lowest_ready c.loop-aut.invariant
 
 pub finish-requires : goal.finish-requires
-finish-requires t c = turns.combine_ready c.args.c c.requires c.loop-c.invariant c.lowest-y.ensures c.if-y-x.true
+finish-requires t c = turns.finish_ready c.loop-aut.invariant c.lowest-y.ensures c.if-y-x.true
 
-pub returns-then-y-x : goal.returns-then-y-x
-returns-then-y-x t c =
-    turns.done c.args.c c.requires c.loop-c.invariant c.lowest-y.ensures c.if-y-x.true c.finish.result c.finish.ensures c.finish.auto.scratch
+pub returns-then-y-x-clause-gives : goal.returns-then-y-x-clause-gives
+returns-then-y-x-clause-gives t c = turns.done c.loop-aut.invariant c.finish.ensures.keeps.length c.finish.ensures.gives
+
+pub returns-then-y-x-clause-after : goal.returns-then-y-x-clause-after
+returns-then-y-x-clause-after t c = turns.later c.requires (c.finish.ensures.keeps.length ∙ c.loop-aut.invariant.keeps.length) (returns-then-y-x-clause-gives t c)
 
 pub epsilon-requires : goal.epsilon-requires
-epsilon-requires t c = turns.call_ready c.args.c c.requires c.loop-c.invariant c.lowest-y.ensures c.if-y-x.false c.decreases
+epsilon-requires t c = turns.call_ready c.loop-aut.invariant c.lowest-y.ensures c.if-y-x.false c.decreases c.requires.has
 
-pub returns-in_default-epsilon : goal.returns-in_default-epsilon
-returns-in_default-epsilon t c =
-    turns.stuck c.args.c c.requires c.loop-c.invariant c.lowest-y.ensures c.if-y-x.false c.epsilon.ensures c.in_default-epsilon.is c.epsilon.auto.scratch
+pub loop-aut-smaller : goal.loop-aut-smaller
+loop-aut-smaller t c = turns.fewer c.loop-aut.invariant c.lowest-y.ensures c.epsilon.new.aut c.in_ok-epsilon.ensures.after c.in_ok-epsilon.ensures.states
 
-pub loop-c-smaller : goal.loop-c-smaller
-loop-c-smaller t c =
-    turns.fewer c.args.c c.requires c.loop-c.invariant c.lowest-y.ensures c.if-y-x.false c.epsilon.ensures c.in-Node.is
+pub loop-aut-preserved : goal.loop-aut-preserved
+loop-aut-preserved t c = turns.again c.loop-aut.invariant c.lowest-y.ensures c.if-y-x.false c.in_ok-epsilon.ensures.keeps c.in_ok-epsilon.ensures.members c.in_ok-epsilon.ensures.states c.in_ok-epsilon.ensures.gives c.in_ok-epsilon.ensures.after
 
-pub loop-c-preserved : goal.loop-c-preserved
-loop-c-preserved t c =
-    turns.again c.args.c c.requires c.loop-c.invariant c.lowest-y.ensures c.if-y-x.false c.epsilon.ensures c.in-Node.is c.epsilon.auto.scratch
+pub returns-in_err-epsilon-clause-gives : goal.returns-in_err-epsilon-clause-gives
+returns-in_err-epsilon-clause-gives t c = turns.stuck c.loop-aut.invariant c.lowest-y.ensures c.in_err-epsilon.ensures.gives (passed c.from_residual.ensures)

@@ -5,11 +5,10 @@ use Rattle.aut_epsilon.proofs.Turns.{Turn}
 use Rattle.aut_epsilon.proofs.+epsilon.Given as goal
 
 abbrev pub decreases-epsilon : goal.decreases-epsilon
-decreases-epsilon l = nest l.states.now l.x
+decreases-epsilon l = nest l.aut.now.states.words.now l.x
 
-abbrev pub invariant-loop-c : goal.invariant-loop-c
-invariant-loop-c l =
-    Turn l.fields l.c l.members l.x l.initial.nodes l.initial.states l.initial.scratch l.nodes l.states l.scratch l.n
+abbrev pub invariant-loop-aut : goal.invariant-loop-aut
+invariant-loop-aut l = Turn l.config l.x l.initial.aut l.aut
 
-abbrev pub decreases-loop-c : goal.decreases-loop-c
-decreases-loop-c l = opens (epsilon_of l.states) l.c.states
+abbrev pub decreases-loop-aut : goal.decreases-loop-aut
+decreases-loop-aut l = opens (epsilon_of l.aut.states.words.now) l.aut.states.count

@@ -1,27 +1,16 @@
-use mathlib.Core.Path.{refl, ◌∙◌, ap, subst}
 use native.Mathlib.Omega.{arith}
-use Rattle.spp.specs.Clauses.{seen_made as seen}
-use Rattle.spp.specs.declared.Made.{Made}
-use Rattle.aut_relations.specs.Clauses.{MadeLeft}
-use Rattle.aut_epsilon.proofs.Together as together
+use Rattle.refusal.proofs.Passed.{passed}
+use Rattle.aut_epsilon.proofs.Turns as turns
 use Rattle.aut_epsilon.proofs.finish.Goals as goal
 
-pub returns-in_default : goal.returns-in_default
-returns-in_default c =
-    record {
-      gives = c.combine.ensures.gives ∙ ap (λ (r : Made). seen r c.combine.new.nodes) c.in_default.is;
-      left = tt;
-      marked = tt;
-    }
+pub combine-requires : goal.combine-requires
+combine-requires c = turns.combine_ready c.requires
 
-pub overflow_add-states : goal.overflow_add-states
-overflow_add-states c =
-    omega (arith, together.handle_small c.args.fields c.args.states.now c.args.members.now c.args.x c.requires (c.combine.ensures.gives ∙ ap (λ (r : Made). seen r c.combine.new.nodes) c.in-Node.is))
+pub returns-in_err-h-clause-gives : goal.returns-in_err-h-clause-gives
+returns-in_err-h-clause-gives c = turns.unfinished c.requires c.in_err-h.ensures.gives (passed c.from_residual.ensures)
 
-pub returns : goal.returns
-returns c =
-    record {
-      gives = c.combine.ensures.gives ∙ ap (λ (r : Made). seen r c.combine.new.nodes) c.in-Node.is;
-      left = subst (λ (r : Made). MadeLeft c.args.fields r c.combine.new.nodes c.args.scratch.now c.combine.new.scratch) c.in-Node.is c.combine.ensures.left;
-      marked = refl;
-    }
+pub overflow_add-aut : goal.overflow_add-aut
+overflow_add-aut c = omega (arith, turns.handle_small c.requires c.in_ok-h.ensures.keeps c.in_ok-h.ensures.gives)
+
+pub returns-clause-gives : goal.returns-clause-gives
+returns-clause-gives c = record { is = turns.marked c.requires c.in_ok-h.ensures.keeps c.in_ok-h.ensures.gives; left = c.in_ok-h.ensures.gives.left }

@@ -1,11 +1,9 @@
-use Rattle.aut_operands.proofs.Shapes as shapes
+use mathlib.Core.Path.{◌∙◌}
+use Rattle.aut_operands.proofs.ByKind as by_kind
 use Rattle.aut_operands.proofs.is_open.Goals as goal
 
-pub returns-then-states-i-eq-SPP : goal.returns-then-states-i-eq-SPP
-returns-then-states-i-eq-SPP c = shapes.spp_told c.args.states.now c.args.y c.in-Epsilon.is c.if-states-i-eq-SPP.true
-
-pub returns-else-states-i-eq-SPP : goal.returns-else-states-i-eq-SPP
-returns-else-states-i-eq-SPP c = shapes.epsilon_told c.args.states.now c.args.y c.in-Epsilon.is c.if-states-i-eq-SPP.false
+pub returns-then-kind-ne-SPP : goal.returns-then-kind-ne-SPP
+returns-then-kind-ne-SPP c = by_kind.epsilon_told c.args.states.now.words.now c.args.y c.in-Epsilon.is (λ e. c.if-kind-ne-SPP.true (c.kind.ensures ∙ e))
 
 pub returns-in-Delta : goal.returns-in-Delta
-returns-in-Delta c = shapes.count_told c.args.states.now c.args.y c.in-Delta.is
+returns-in-Delta c = by_kind.count_told c.args.states.now.words.now c.args.y c.in-Delta.is
