@@ -1,5 +1,5 @@
 -- live_sets and live_packets: the walk and then the work list, by the rule for a run of calls (aut_stage); words 7 are written, words 9 and the entries cleared.
-use Rattle.std.specs.Prelude.{Option, Some, None, if◌then◌else◌}
+use Rattle.std.specs.Prelude.{Some, None, Result, Ok, Err, if◌then◌else◌}
 use mathlib.Core.Path.{◌≡◌, refl, sym, ◌∙◌, ap, ap₂, subst, fun_ext}
 use mathlib.Core.Logic.{◌≢◌, ◌⊎◌, inl, inr}
 use mathlib.Core.Bool.{Bool}
@@ -11,13 +11,18 @@ use lib.Dec.{eqb, ltb}
 use lib.ListN.{length, get_or, set, length-set}
 use lib.Seq.{get_or-set_same, get_or-set_other, set_out}
 use borrow.Author.Tests.{eqb-true, eqb-false, ltb-true, ltb-false, lt-ltb, le-ltb}
+use Rattle.std.specs.Result.{IsErr, IsErrAnd}
 use Rattle.common.specs.Outcome.{Outcome, refused, given, Step, return, after}
 use Rattle.common.proofs.Follow.{given_of}
 use Rattle.common.specs.Runs.{Table, table}
+use Rattle.refusal.specs.declared.Refusal.{Refusal}
+use Rattle.refusal.specs.declared.Refusal.TheVariants.{Pending}
+use Rattle.refusal.proofs.Passed.{passed}
 use Rattle.sp_steps.specs.Model as Sp
 use Rattle.sp_steps.specs.Wf as SpLaws
+use Rattle.sp.specs.declared.SP.{SP}
 use Rattle.spp_steps.proofs.Laws.{by_test}
-use Rattle.aut_steps.specs.Wf.{states}
+use Rattle.aut_steps.specs.Tables as Aut
 use Rattle.aut_steps.specs.Tables.{put_states}
 use Rattle.aut_delta_steps.specs.Epsilon.{set_word}
 use Rattle.aut_delta_steps.specs.Delta.{store}
@@ -26,36 +31,36 @@ use Rattle.aut_query_steps.specs.Search.{capacity}
 use Rattle.aut_query_steps.proofs.Steps.{ends_gives}
 use Rattle.aut_query_steps.specs.Live as M
 use Rattle.aut_query_steps.specs.Live.{Found, found, work, takes, keep_in, keep_lives, live_sets, live_anew, live_packets}
-use Rattle.aut_query_steps.proofs.ExploreLaws as Explores
+use Rattle.aut_query_steps.proofs.ExploreLaws as ExploreLaws
 use Rattle.aut_query_steps.proofs.ExploreLaws.{explore_ends}
-use Rattle.aut_query_steps.proofs.SettleLaws as Settles
+use Rattle.aut_query_steps.proofs.SettleLaws as SettleLaws
 use Rattle.aut_query_steps.proofs.LiveLaws as LiveLaws
 use Rattle.aut_query_steps.proofs.LiveLaws.{live_goes}
-use Rattle.aut_query_stage.specs.Layer.{Zeroed, tables_of, PreQuery}
-use Rattle.aut_query_stage.proofs.Layer.{Leaves, query_ready, query_layer}
+use Rattle.aut_query_stage.specs.Layer.{Zeroed, PreQuery}
+use Rattle.aut_query_stage.specs.Lent.{tables_in, QueryAsked, Leaves, query_layer, GoesQuery}
+use Rattle.aut_query_stage.proofs.Lent.{query_ready, query_laws}
 use Rattle.aut_states.specs.Clauses.{limits_of}
-use Rattle.aut_states.specs.declared.Counts.{Counts}
-use Rattle.aut_states.specs.declared.Limits.{Limits}
-use Rattle.aut_stage.specs.Stage.{Stage}
-use Rattle.aut_stage.proofs.Stage.{begin, next, instead, done, all_of}
+use Rattle.aut_states.specs.declared.Config.{Config}
+use Rattle.aut_relations.specs.declared.Aut.{Aut as Lent}
+use Rattle.aut_stage.specs.Rule.{Stage}
+use Rattle.aut_stage.proofs.Rule.{begin, next, stuck, instead, done, all_of}
+use Rattle.aut_sets.specs.Lent.{OnlyMarks, SameLent}
 use Rattle.aut_free.specs.Clear.{clear, clear_tables}
 use Rattle.aut_free.proofs.Clear.{AtRest}
 use Rattle.aut_free.proofs.Clearing.{clear_rest, is_clear}
 use Rattle.aut_free.proofs.Free.{clear_keep_lives}
-use Rattle.aut_query_calls.specs.Working.{clear_of}
+use Rattle.aut_query_calls.specs.Working.{clear_in}
+use Rattle.aut_query_calls.specs.Working.{SetIn}
 use Rattle.aut_query_calls.proofs.Works.{working_begin}
-use Rattle.sp.specs.declared.SP.{SP}
-use Rattle.aut_live.specs.declared.Lived.TheVariants as lived
-use Rattle.aut_live_words.specs.declared.Walked.{Walked}
-use Rattle.aut_live_words.specs.declared.Walked.TheVariants as walked
+use Rattle.aut_sets.proofs.Kept.{marks_trans}
 use Rattle.aut_live_words.specs.Work.{work_of, live_by, seconds, stack, Held, Doubled, Reaches, there, new, full, keep_words, clear_words}
-use Rattle.aut_live.specs.Clauses.{PostLive, SetsAt, PostSets}
 use Rattle.aut_live_words.specs.Clauses.{PreReach, PreKeep, PostClear}
-use Rattle.aut_live_reach.specs.Clauses.{PreExplore, exploring, Explored, PostExplore}
-use Rattle.aut_live_pull.specs.Clauses.{PreSettle, PostSettle, settling, Settled}
-use Rattle.aut_live_pull.specs.Clauses as Contracts
 use Rattle.aut_live_words.proofs.Words.{seconds_same, seconds_split, seconds_one}
-use Rattle.aut_live_words.proofs.Held.{live_reached, live_fresh, held_fits, held_reached, held_listed, held_second, held_there, reverse_behind, seconds_new, Moved, reach_moved}
+use Rattle.aut_live_words.proofs.Held.{live_reached, live_fresh, held_fits, held_reached, held_listed, held_second, held_there, reverse_behind, seconds_new, tables_marked, Moved, reach_moved}
+use Rattle.aut_query_calls.specs.Working.{with_words}
+use Rattle.aut_live_reach.specs.Clauses.{ExploreAsked, exploring, Explores}
+use Rattle.aut_live_pull.specs.Clauses.{work_in, SettleAsked, settling, Settles}
+use Rattle.aut_live.specs.Clauses.{SetsAt}
 
 -- ---- entries
 
@@ -76,21 +81,36 @@ work_seven st y v z = get_or-set_other st (12 * y + 7) (12 * z + 9) v 0 (λ q. o
 
 -- ---- where it begins
 
-module _ {N : ℕ} {l : Limits} {sp t st mem tr : List ℕ} {c : Counts} {s p : List ℕ} {x : ℕ} (P : PreQuery N l (tables_of sp t st mem tr c) s p x) where
+module _ {k : Config} {x : Lent} {i : ℕ} (Q : QueryAsked k x i) where
+  abbrev N : ℕ
+  N = k.fields
+
+  abbrev L : Aut.Limits
+  L = limits_of k.limits
+
+  abbrev P : PreQuery k.fields k.limits (tables_in x) x.scratch.now x.pending.now i
+  P = Q.query
+
   abbrev σ : Tables
-  σ = tables_of sp t st mem tr c
+  σ = tables_in x
+
+  abbrev st₀ : List ℕ
+  st₀ = x.states.words.now
+
+  abbrev p₀ : List ℕ
+  p₀ = x.pending.now
 
   abbrev lent : ℕ
-  lent = length p / 2
+  lent = length x.pending.now / 2
 
-  resting : (y : ℕ) → work_of st y ≡ 0
+  resting : (y : ℕ) → work_of st₀ y ≡ 0
   unfolding work_of
   resting y = P.ready.resting y 9 (omega arith) (omega arith)
 
-  H₀ : Held N l σ s p 0 0
+  H₀ : Held k.fields k.limits σ x.scratch.now p₀ 0 0
   unfolding seconds
   H₀ = record {
-    working = working_begin P.ready;
+    working = (working_begin Q).working;
     marked = λ y. ap (ltb 0) (sym (resting y));
     sets = λ y a. absurd (omega (arith, resting y));
     rest = λ y w a b n. P.ready.resting y w a b;
@@ -100,117 +120,115 @@ module _ {N : ℕ} {l : Limits} {sp t st mem tr : List ℕ} {c : Counts} {s p : 
     high = omega arith;
   }
 
-  pub sets_reach : PreReach N st p 0 x
-  sets_reach = record { few = P.ready.ready.few; state = held_fits H₀ x P.has; fits = omega arith }
+  pub sets_reach : PreReach N st₀ p₀ 0 i
+  sets_reach = record { few = P.ready.ready.few; state = held_fits H₀ i P.has; fits = omega arith }
 
   -- the first entry is taken
-  pub record First (st1 p1 : List ℕ) : Type 0 where
+  record First (st1 p1 : List ℕ) : Type 0 where
     pub room : 0 < capacity lent
-    pub moved : Moved N l sp t st mem tr c s p 0 st1 p1 1
-    pub entry : seconds p1 0 1 ≡ x ∷ []
+    pub moved : Moved k.fields k.limits σ x.scratch.now p₀ 0 st1 p1 1
+    pub entry : seconds p1 0 1 ≡ i ∷ []
 
-  first : {k : ℕ} {st1 p1 : List ℕ} → Reaches N (capacity lent) 0 x st p (Some k) st1 p1 → First st1 p1
-  first (there a) = absurd (omega (arith, resting x))
-  first (new w r) = record { room = r; moved = reach_moved H₀ P.has (new w r); entry = seconds_new p 0 x (omega (arith, r)) ∙ ap (λ (a : List ℕ). a ++ x ∷ []) (no_seconds p) }
+  first : {n : ℕ} {st1 p1 : List ℕ} → Reaches N (capacity lent) 0 i st₀ p₀ (Some n) st1 p1 → First st1 p1
+  first (there a) = absurd (omega (arith, resting i))
+  first (new w r) = record { room = r; moved = reach_moved H₀ P.has (new w r); entry = seconds_new p₀ 0 i (omega (arith, r)) ∙ ap (λ (a : List ℕ). a ++ i ∷ []) (no_seconds p₀) }
 
-  none : {st1 p1 : List ℕ} → Reaches N (capacity lent) 0 x st p None st1 p1 → capacity lent ≤ 0
+  none : {st1 p1 : List ℕ} → Reaches N (capacity lent) 0 i st₀ p₀ None st1 p1 → capacity lent ≤ 0
   none (full w r) = r
 
   abbrev k1 : Found → Step Tables Found
-  k1 f τ = after (M.settle N (limits_of l) lent (takes N (limits_of l) lent f.states) f.states (work (reverse f.states) f.live) τ) (λ live. return (found f.states live))
+  k1 f τ = after (M.settle N L lent (takes N L lent f.states) f.states (work (reverse f.states) f.live) τ) (λ live. return (found f.states live))
 
   abbrev m1 : Step Tables Found
-  m1 τ = after (M.explore N (limits_of l) lent (capacity lent) [] (x ∷ []) (λ t. Sp.zero_at N) τ) k1
+  m1 τ = after (M.explore N L lent (capacity lent) [] (i ∷ []) (λ t. Sp.zero_at N) τ) k1
 
   abbrev none_left : Step Tables Found
   none_left τ = refused 24
 
-  module _ {r0 : Option ℕ} {st1 p1 : List ℕ} (A : Reaches N (capacity lent) 0 x st p r0 st1 p1) where
-    pub sets_full : r0 ≡ None → live_sets N (limits_of l) lent x σ ≡ refused 24
+  abbrev whole : Outcome Tables Found
+  whole = live_sets N L lent i σ
+
+  -- no entry is left
+  pub sets_full : {y : Lent} {r : Result ℕ Refusal} → r ≡ Err Pending → Reaches N (capacity lent) 0 i st₀ p₀ None y.states.words.now y.pending.now → SetsAt k i x r y
+  unfolding live_sets
+  sets_full {y} q A = subst (λ (r : Result ℕ Refusal). SetsAt k i x r y) (sym q)
+      (record { post = record { is = ap (λ (b : Bool). (if b then m1 else none_left) σ) (le-ltb 0 (capacity lent) (none A)); then = tt }; held = tt })
+
+  module _ {y : Lent} (K : OnlyMarks x y) {n : ℕ} (A : Reaches N (capacity lent) 0 i st₀ p₀ (Some n) y.states.words.now y.pending.now) where
+    F : First y.states.words.now y.pending.now
+    F = first A
+
+    pub sets_explore : ExploreAsked k y
+    sets_explore = record {
+      fields = rw K.spp Q.fields;
+      held = subst (λ (τ : Tables). Held k.fields k.limits τ y.scratch.now y.pending.now 1 1) (sym (tables_marked K)) (rw K.scratch F.moved.held);
+      doubled = F.moved.doubled (λ i a. absurd (omega arith));
+    }
+
+    cleared : clear_in y ≡ σ
+    cleared = ap clear_tables (tables_marked K) ∙ ap (λ (u : List ℕ). with_words u σ) (F.moved.clear ∙ clear_rest st₀ P.ready.resting)
+
+    -- the walk begins as the step's
+    walk_is : M.explore N L lent (capacity lent) [] (i ∷ []) (λ t. Sp.zero_at N) σ ≡ exploring k y (clear_in y)
+    walk_is =
+        ap₂ (λ (a : List ℕ) (τ : Tables). M.explore N L lent (capacity lent) [] a (λ t. Sp.zero_at N) τ) (sym F.entry) (sym cleared)
+        ∙ ap₂ (λ (m : ℕ) (live : ℕ → ℕ). M.explore N L (m / 2) (capacity (m / 2)) [] (seconds y.pending.now 0 1) live (clear_in y)) (sym F.moved.len) (sym (fun_ext (λ u. F.moved.live u ∙ live_fresh N st₀ u (resting u))))
+        ∙ ap (λ (a : List ℕ). M.explore N L (length y.pending.now / 2) (capacity (length y.pending.now / 2)) a (seconds y.pending.now 0 1) (live_by N y.states.words.now) (clear_in y)) (sym (no_seconds y.pending.now))
+
+    whole_0 : Stage (query_layer k.fields k.limits) 0 1088 whole (after (exploring k y (clear_in y)) k1) σ (clear_in y) x.scratch.now y.scratch.now
     unfolding live_sets
-    sets_full q = ap (λ (b : Bool). (if b then m1 else none_left) σ) (le-ltb 0 (capacity lent) (none (subst (λ (r : Option ℕ). Reaches N (capacity lent) 0 x st p r st1 p1) q A)))
+    whole_0 = subst (λ (τ : Tables). Stage (query_layer k.fields k.limits) 0 1088 whole (after (exploring k y (clear_in y)) k1) σ τ x.scratch.now y.scratch.now) (sym cleared)
+        (rw K.scratch (begin (query_laws k.fields k.limits) 0 1088 P.ready
+        (ap (λ (b : Bool). (if b then m1 else none_left) σ) (lt-ltb 0 (capacity lent) F.room)
+        ∙ ap (λ (o : Outcome Tables Found). after o k1) walk_is)))
 
-    module _ {k : ℕ} (q0 : r0 ≡ Some k) where
-      F : First st1 p1
-      F = first (subst (λ (r : Option ℕ). Reaches N (capacity lent) 0 x st p r st1 p1) q0 A)
+    module _ {z : Lent} where
+      pub sets_stuck : {e : Refusal} {r : Result ℕ Refusal} → IsErr r × IsErrAnd r (λ a. a ≡ e) → Explores k y (Err e) z → SetsAt k i x r z
+      sets_stuck q X = subst (λ (r : Result ℕ Refusal). SetsAt k i x r z) (sym (passed q)) (record { post = stuck (query_laws k.fields k.limits) 0 1088 X.post.post k1 whole_0; held = tt })
 
-      abbrev σ₁ : Tables
-      σ₁ = tables_of sp t st1 mem tr c
+      module _ (S : SameLent y z) {m : ℕ} (X : Explores k y (Ok m) z) where
+        abbrev ss : List ℕ
+        ss = seconds z.pending.now 0 m
 
-      pub sets_explore : PreExplore N l σ₁ s p1
-      sets_explore = record { held = F.moved.held; doubled = F.moved.doubled (λ i a. absurd (omega arith)) }
+        whole_1 : Stage (query_layer k.fields k.limits) 0 1088 whole (k1 (found ss (live_by N z.states.words.now)) (clear_in z)) σ (clear_in z) x.scratch.now z.scratch.now
+        whole_1 = next (query_laws k.fields k.limits) 0 1088 X.post.post (all_of 0 1088) k1 whole_0
 
-      cleared : clear_tables σ₁ ≡ σ
-      cleared = ap (λ (u : List ℕ). tables_of sp t u mem tr c) (F.moved.clear ∙ clear_rest st P.ready.resting)
+        law : ExploreLaws.Explored N L (capacity lent) ([] ++ i ∷ []) σ (clear_in z) (found ss (live_by N z.states.words.now))
+        law = given_of (ends_gives (explore_ends lent (capacity lent) [] (i ∷ []) (λ t. Sp.zero_at N) (LiveLaws.begins lent P.ready.ordered P.has F.room) (omega arith))) (walk_is ∙ X.post.post.is)
 
-      -- the walk begins as the step's
-      walk_is : M.explore N (limits_of l) lent (capacity lent) [] (x ∷ []) (λ t. Sp.zero_at N) σ ≡ exploring N l σ₁ p1
-      walk_is =
-          ap₂ (λ (a : List ℕ) (τ : Tables). M.explore N (limits_of l) lent (capacity lent) [] a (λ t. Sp.zero_at N) τ) (sym F.entry) (sym cleared)
-          ∙ ap₂ (λ (m : ℕ) (live : ℕ → ℕ). M.explore N (limits_of l) (m / 2) (capacity (m / 2)) [] (seconds p1 0 1) live (clear_tables σ₁)) (sym F.moved.len) (sym (fun_ext (λ y. F.moved.live y ∙ live_fresh N st y (resting y))))
-          ∙ ap (λ (a : List ℕ). M.explore N (limits_of l) (length p1 / 2) (capacity (length p1 / 2)) a (seconds p1 0 1) (live_by N st1) (clear_tables σ₁)) (sym (no_seconds p1))
+        stack_is : stack z.pending.now m ≡ reverse ss
+        stack_is = doubled_stack z.pending.now m X.doubled
 
-      whole_0 : Stage (query_layer N l) 0 1088 (live_sets N (limits_of l) lent x σ) (after (exploring N l σ₁ p1) k1) σ (clear_tables σ₁) c c s s
-      unfolding live_sets
-      whole_0 = subst (λ (τ : Tables). Stage (query_layer N l) 0 1088 (live_sets N (limits_of l) lent x σ) (after (exploring N l σ₁ p1) k1) σ τ c c s s) (sym cleared)
-          (begin (query_layer N l) 0 1088 P.ready
-          (ap (λ (b : Bool). (if b then m1 else none_left) σ) (lt-ltb 0 (capacity lent) F.room)
-          ∙ ap (λ (o : Outcome Tables Found). after o k1) walk_is))
+        lent_is : length z.pending.now ≡ length p₀
+        lent_is = S.entries ∙ K.entries
 
-      module _ (r1 : Walked) (sp2 t2 st2 mem2 tr2 s2 p2 : List ℕ) (B : PostExplore N l σ₁ c r1 (tables_of sp2 t2 st2 mem2 tr2) s s2 p1 p2) where
-        B' : (z : Walked) → r1 ≡ z → PostExplore N l σ₁ c z (tables_of sp2 t2 st2 mem2 tr2) s s2 p1 p2
-        B' z q = subst (λ (r : Walked). PostExplore N l σ₁ c r (tables_of sp2 t2 st2 mem2 tr2) s s2 p1 p2) q B
+        pub sets_settle : SettleAsked k z m
+        sets_settle = record {
+          held = X.held;
+          links = law.links;
+          pulls = subst (λ (j : ℕ). SettleLaws.Pulls (clear_in z).base X.held.working.ready.ordered.worked ss law.links (takes N L (j / 2) ss) [] (clear_in z) (work_in k z m)) (sym lent_is)
+              (subst (λ (todo : List ℕ). SettleLaws.Pulls (clear_in z).base X.held.working.ready.ordered.worked ss law.links (takes N L lent ss) [] (clear_in z) (work todo (live_by N z.states.words.now))) (sym stack_is)
+              (SettleLaws.begins (clear_in z).base X.held.working.ready.ordered.worked ss law.links lent (clear_in z) (live_by N z.states.words.now) refl X.held.working.ready.ordered law.some law.sets));
+        }
 
-        pub sets_stuck : {e : ℕ} → r1 ≡ walked.Refused e → PostSets N l x σ c (walked.Refused e) (tables_of sp2 t2 st2 mem2 tr2) s s2 p p2
-        sets_stuck {e} q = whole_0.is ∙ ap (λ (o : Outcome Tables Found). after o k1) (B' (walked.Refused e) q)
+        settle_is : k1 (found ss (live_by N z.states.words.now)) (clear_in z) ≡ after (settling k z m (clear_in z)) (λ live. return (found ss live))
+        settle_is = ap₂ (λ (j : ℕ) (todo : List ℕ). after (M.settle N L (j / 2) (takes N L (j / 2) ss) ss (work todo (live_by N z.states.words.now)) (clear_in z)) (λ live. return (found ss live))) (sym lent_is) (sym stack_is)
 
-        module _ {d : Counts} {n : ℕ} (q1 : r1 ≡ walked.To d n) (len2 : length p2 ≡ length p1) where
-          X : Explored N l σ₁ c d n (tables_of sp2 t2 st2 mem2 tr2) s s2 p1 p2
-          X = B' (walked.To d n) q1
+        whole_2 : Stage (query_layer k.fields k.limits) 0 1088 whole (after (settling k z m (clear_in z)) (λ live. return (found ss live))) σ (clear_in z) x.scratch.now z.scratch.now
+        whole_2 = instead (query_laws k.fields k.limits) 0 1088 whole_1 settle_is
 
-          abbrev ss : List ℕ
-          ss = seconds p2 0 n
+        module _ {u : Lent} where
+          pub sets_unsettled : {e : Refusal} {r : Result ℕ Refusal} → IsErr r × IsErrAnd r (λ a. a ≡ e) → Settles k m z (Err e) u → SetsAt k i x r u
+          sets_unsettled q Z = subst (λ (r : Result ℕ Refusal). SetsAt k i x r u) (sym (passed q)) (record { post = stuck (query_laws k.fields k.limits) 0 1088 Z.post.post (λ live. return (found ss live)) whole_2; held = tt })
 
-          abbrev C₂ : Tables
-          C₂ = clear_of sp2 t2 st2 mem2 tr2 d
-
-          whole_1 : Stage (query_layer N l) 0 1088 (live_sets N (limits_of l) lent x σ) (k1 (found ss (live_by N st2)) C₂) σ C₂ c d s s2
-          whole_1 = next (query_layer N l) 0 1088 X.post (all_of 0 1088) k1 whole_0
-
-          law : Explores.Explored N (limits_of l) (capacity lent) ([] ++ x ∷ []) σ C₂ (found ss (live_by N st2))
-          law = given_of (ends_gives (explore_ends lent (capacity lent) [] (x ∷ []) (λ t. Sp.zero_at N) (LiveLaws.begins lent P.ready.ordered P.has F.room) (omega arith))) (walk_is ∙ X.post.is)
-
-          stack_is : stack p2 n ≡ reverse ss
-          stack_is = doubled_stack p2 n X.doubled
-
-          settles : Contracts.Settles N l (tables_of sp2 t2 st2 mem2 tr2 d) s2 p2 n
-          settles = record {
-            held = X.held;
-            links = law.links;
-            pulls = subst (λ (todo : List ℕ). Settles.Pulls C₂.base X.held.working.ready.ordered.worked ss law.links (takes N (limits_of l) lent ss) [] C₂ (work todo (live_by N st2))) (sym stack_is)
-                (Settles.begins C₂.base X.held.working.ready.ordered.worked ss law.links lent C₂ (live_by N st2) refl X.held.working.ready.ordered law.some law.sets);
+          pub sets_done : Settles k m z (Ok tt) u → SetsAt k i x (Ok m) u
+          sets_done Z = record {
+            post = done (query_laws k.fields k.limits) 0 1088
+                (instead (query_laws k.fields k.limits) 0 1088 (next (query_laws k.fields k.limits) 0 1088 Z.post.post (record { from = omega arith; to = omega arith }) (λ live. return (found ss live)) whole_2)
+                (ap (λ (xs : List ℕ). given (clear_in u) (found xs (live_by N u.states.words.now))) (sym (seconds_same z.pending.now u.pending.now 0 m (λ i a b. Z.second i)))))
+                tt;
+            held = Z.held;
           }
-
-          pub sets_settle : PreSettle N l sp2 t2 st2 tr2 s2 p2 d n
-          sets_settle = record { members = mem2; settles = settles }
-
-          lent_is : length p2 ≡ length p
-          lent_is = len2 ∙ F.moved.len
-
-          settle_is : k1 (found ss (live_by N st2)) C₂ ≡ after (settling N l n (tables_of sp2 t2 st2 mem2 tr2 d) p2) (λ live. return (found ss live))
-          settle_is = ap₂ (λ (m : ℕ) (todo : List ℕ). after (M.settle N (limits_of l) (m / 2) (takes N (limits_of l) (m / 2) ss) ss (work todo (live_by N st2)) C₂) (λ live. return (found ss live))) (sym lent_is) (sym stack_is)
-
-          pub sets_done : (r2 : Walked) (sp3 st3 s3 p3 : List ℕ) → PostSettle N l sp2 t2 st2 tr2 s2 p2 d n r2 sp3 st3 s3 p3 → PostSets N l x σ c r2 (tables_of sp3 t2 st3 mem2 tr2) s s3 p p3
-          sets_done (walked.Refused e) sp3 st3 s3 p3 S = whole_1.is ∙ settle_is ∙ ap (λ (o : Outcome Tables (ℕ → ℕ)). after o (λ live. return (found ss live))) (S mem2 settles)
-          sets_done (walked.To f k) sp3 st3 s3 p3 S =
-              let Z : Settled N l n (tables_of sp2 t2 st2 mem2 tr2 d) d f k (tables_of sp3 t2 st3 mem2 tr2) s2 s3 p2 p3 = S mem2 settles in
-              subst (λ (m : ℕ). SetsAt N l x σ c f m (tables_of sp3 t2 st3 mem2 tr2) s s3 p p3) (sym Z.same) (record {
-                post = done (query_layer N l) 0 1088 (λ e. clear_of sp3 t2 st3 mem2 tr2 e)
-                    (instead (query_layer N l) 0 1088 (next (query_layer N l) 0 1088 Z.post (record { from = omega arith; to = omega arith }) (λ live. return (found ss live)) (instead (query_layer N l) 0 1088 whole_1 settle_is))
-                    (ap (λ (xs : List ℕ). given (clear_of sp3 t2 st3 mem2 tr2 f) (found xs (live_by N st3))) (sym (seconds_same p2 p3 0 n (λ i a b. Z.second i)))))
-                    tt;
-                held = Z.held;
-              })
 
 -- ---- words 7 are written
 
@@ -265,121 +283,138 @@ clear_members [] st z m l = elim m [ ]
 
 -- ---- live_packets
 
-module _ {N : ℕ} {l : Limits} {sp t st mem tr : List ℕ} {c : Counts} {s p : List ℕ} {x : ℕ} (P : PreQuery N l (tables_of sp t st mem tr c) s p x) where
-  abbrev σ₀ : Tables
-  σ₀ = tables_of sp t st mem tr c
+-- what a query for the live set of i promises
+abbrev pub Lives : Config → (i : ℕ) → Lent → Result SP Refusal → Lent → Type 0
+Lives k i x r y = GoesQuery k 0 1088 tables_in (SetIn k.fields) (λ h. h.0) (live_packets k.fields (limits_of k.limits) (length x.pending.now / 2) i) x r y
+
+module _ {k : Config} {x : Lent} {i : ℕ} (Q : QueryAsked k x i) where
+  abbrev word : ℕ
+  word = get_or x.states.words.now (12 * i + 7) 0
+
+  abbrev anew_by : Outcome Tables ℕ
+  anew_by = live_anew k.fields (limits_of k.limits) (length x.pending.now / 2) i (tables_in x)
+
+  pub live_word : 12 * i + 11 < length x.states.words.now
+  live_word = (sets_reach Q).state
 
   -- a set that is stored
-  pub live_stored : 0 < get_or st (12 * x + 7) 0 → (h : SP) → h.0 ≡ get_or st (12 * x + 7) 0 - 1 → PostLive N l x σ₀ c (lived.Live h c) (tables_of sp t st mem tr) s s p p
+  pub live_stored : 0 < word → Lives k i x (Ok (record { 0 = word - 1 })) x
   unfolding live_packets live_of
-  live_stored a h q = record {
-    post = done (query_layer N l) 0 1088 (tables_of sp t st mem tr)
-        (begin (query_layer N l) 0 1088 P.ready
-        (ap (λ (b : Bool). if b then given σ₀ (get_or st (12 * x + 7) 0 - 1) else live_anew N (limits_of l) (length p / 2) x σ₀) (lt-ltb 0 (get_or st (12 * x + 7) 0) a) ∙ ap (λ (v : ℕ). given σ₀ v) (sym q)))
-        (P.ready.ordered.lives.kept x P.has h.0 (omega (arith, a, q))).den.at;
-    pending = P.pending;
+  live_stored a = record {
+    post = done (query_laws k.fields k.limits) 0 1088
+        (begin (query_laws k.fields k.limits) 0 1088 Q.query.ready
+        (ap (λ (b : Bool). if b then given (tables_in x) (word - 1) else anew_by) (lt-ltb 0 word a)))
+        (Q.query.ready.ordered.lives.kept i Q.query.has (word - 1) (omega (arith, a))).den.at;
   }
 
-  anew : get_or st (12 * x + 7) 0 ≤ 0 → live_packets N (limits_of l) (length p / 2) x σ₀ ≡ after (live_sets N (limits_of l) (length p / 2) x σ₀) (λ f τ. given (keep_lives f.states f.live τ) (f.live x))
+  abbrev then_kept : Found → Step Tables ℕ
+  then_kept f τ = given (keep_lives f.states f.live τ) (f.live i)
+
+  anew : word ≤ 0 → live_packets k.fields (limits_of k.limits) (length x.pending.now / 2) i (tables_in x) ≡ after (live_sets k.fields (limits_of k.limits) (length x.pending.now / 2) i (tables_in x)) then_kept
   unfolding live_packets live_anew live_of
-  anew a = ap (λ (b : Bool). if b then given σ₀ (get_or st (12 * x + 7) 0 - 1) else live_anew N (limits_of l) (length p / 2) x σ₀) (le-ltb 0 (get_or st (12 * x + 7) 0) a)
+  anew a = ap (λ (b : Bool). if b then given (tables_in x) (word - 1) else anew_by) (le-ltb 0 word a)
 
-  module _ (free : get_or st (12 * x + 7) 0 ≤ 0) (r1 : Walked) (sp1 t1 st1 mem1 tr1 s1 p1 : List ℕ) (A : PostSets N l x σ₀ c r1 (tables_of sp1 t1 st1 mem1 tr1) s s1 p p1) where
-    A₁ : (z : Walked) → r1 ≡ z → PostSets N l x σ₀ c z (tables_of sp1 t1 st1 mem1 tr1) s s1 p p1
-    A₁ z q = subst (λ (r : Walked). PostSets N l x σ₀ c r (tables_of sp1 t1 st1 mem1 tr1) s s1 p p1) q A
+  module _ (free : word ≤ 0) {y : Lent} where
+    pub live_refused : {e : Refusal} {r : Result SP Refusal} → IsErr r × IsErrAnd r (λ a. a ≡ e) → SetsAt k i x (Err e) y → Lives k i x r y
+    live_refused q S = subst (λ (r : Result SP Refusal). Lives k i x r y) (sym (passed q))
+        (record { post = record { is = anew free ∙ ap (λ (o : Outcome Tables Found). after o then_kept) S.post.is; then = tt } })
 
-    pub live_refused : {e : ℕ} → r1 ≡ walked.Refused e → PostLive N l x σ₀ c (lived.Refused e) (tables_of sp1 t1 st1 mem1 tr1) s s1 p p1
-    live_refused {e} q = record {
-      post = record { is = anew free ∙ ap (λ (o : Outcome Tables Found). after o (λ f τ. given (keep_lives f.states f.live τ) (f.live x))) (A₁ (walked.Refused e) q); then = tt };
-      pending = tt;
-    }
-
-    module _ {d : Counts} {n : ℕ} (q1 : r1 ≡ walked.To d n) where
-      S : SetsAt N l x σ₀ c d n (tables_of sp1 t1 st1 mem1 tr1) s s1 p p1
-      S = A₁ (walked.To d n) q1
-
+    module _ {n : ℕ} (S : SetsAt k i x (Ok n) y) where
       abbrev xs : List ℕ
-      xs = seconds p1 0 n
+      xs = seconds y.pending.now 0 n
 
-      reach : LiveLaws.Reached N (limits_of l) (capacity (length p / 2)) x σ₀ (clear_of sp1 t1 st1 mem1 tr1 d) (found xs (live_by N st1))
-      reach = given_of (ends_gives (LiveLaws.sets_ends (length p / 2) P.ready.ordered P.has)) S.post.is
+      abbrev st1 : List ℕ
+      st1 = y.states.words.now
 
-      here : 0 < work_of st1 x
-      here = held_reached S.held x reach.has
+      reach : LiveLaws.Reached k.fields (limits_of k.limits) (capacity (length x.pending.now / 2)) i (tables_in x) (clear_in y) (found xs (live_by k.fields st1))
+      reach = given_of (ends_gives (LiveLaws.sets_ends (length x.pending.now / 2) Q.query.ready.ordered Q.query.has)) S.post.is
 
-      pub live_there : 12 * x + 11 < length st1
-      live_there = held_there S.held x here
+      here : 0 < work_of st1 i
+      here = held_reached S.held i reach.has
 
-      pub live_marked : 1 ≤ get_or st1 (12 * x + 9) 0
+      pub live_there : 12 * i + 11 < length st1
+      live_there = held_there S.held i here
+
+      pub live_marked : 1 ≤ get_or st1 (12 * i + 9) 0
       unfolding work_of
       live_marked = here
 
-      pub live_keeps : PreKeep st1 p1 n
-      live_keeps = record { fits = omega (arith, S.held.room); states = λ i a. held_there S.held (get_or p1 (2 * i + 1) 0) (held_second S.held i a) }
+      pub live_keeps : PreKeep st1 y.pending.now n
+      live_keeps = record { fits = omega (arith, S.held.room); states = λ j a. held_there S.held (get_or y.pending.now (2 * j + 1) 0) (held_second S.held j a) }
 
-      module _ {st2 : List ℕ} (K : st2 ≡ keep_words xs st1) where
-        len2 : length st2 ≡ length st1
-        len2 = ap length K ∙ keep_length xs st1
+      module _ {z : Lent} (K : OnlyMarks y z) (same : z.pending ≡ y.pending) (G : z.states.words.now ≡ keep_words xs st1) where
+        abbrev st2 : List ℕ
+        st2 = z.states.words.now
 
-        pub live_clears : PreKeep st2 p1 n
-        live_clears = record { fits = live_keeps.fits; states = λ i a. omega (arith, live_keeps.states i a, len2) }
+        pub live_clears : PreKeep z.states.words.now z.pending.now n
+        live_clears = rw same (record { fits = live_keeps.fits; states = λ j a. omega (arith, live_keeps.states j a, K.words) })
 
-        module _ {st3 p3 : List ℕ} (E : PostClear n st2 p1 st3 p3) where
-          word_same : (z w : ℕ) → 8 ≤ w → w < 12 → get_or st2 (12 * z + w) 0 ≡ get_or st1 (12 * z + w) 0
-          word_same z w a b = ap (λ (u : List ℕ). get_or u (12 * z + w) 0) K ∙ keep_other xs st1 z w a b
+        module _ {u : Lent} (K' : OnlyMarks z u) (E' : PostClear n z.states.words.now z.pending.now u.states.words.now u.pending.now) where
+          abbrev st3 : List ℕ
+          st3 = u.states.words.now
+
+          E : PostClear n st2 y.pending.now st3 u.pending.now
+          E = rw same at E'
+
+          -- from the live sets on
+          marks : OnlyMarks y u
+          marks = marks_trans K K'
+
+          word_same : (v w : ℕ) → 8 ≤ w → w < 12 → get_or st2 (12 * v + w) 0 ≡ get_or st1 (12 * v + w) 0
+          word_same v w a b = ap (λ (u : List ℕ). get_or u (12 * v + w) 0) G ∙ keep_other xs st1 v w a b
 
           at_rest : AtRest st3
           unfolding work_of
-          at_rest z w a b = ap (λ (u : List ℕ). get_or u (12 * z + w) 0) E.is ∙ by_test (eqb w 9)
+          at_rest v w a b = ap (λ (u : List ℕ). get_or u (12 * v + w) 0) E.is ∙ by_test (eqb w 9)
               (λ b9. let q : w ≡ 9 = eqb-true w 9 b9 in
-              subst (λ (w : ℕ). get_or (clear_words xs st2) (12 * z + w) 0 ≡ 0) (sym q)
-              (by_test (ltb 0 (get_or st1 (12 * z + 9) 0))
-              (λ t. let m = ltb-true 0 (get_or st1 (12 * z + 9) 0) t in clear_members xs st2 z (held_listed S.held z m) (omega (arith, held_there S.held z m, len2)))
-              (λ t. clear_stays xs st2 z (word_same z 9 (omega arith) (omega arith) ∙ omega (arith, ltb-false 0 (get_or st1 (12 * z + 9) 0) t)))))
-              (λ b9. let q : (w ≡ 9 → ⊥) = eqb-false w 9 b9 in clear_other xs st2 z w b (λ e. q e) ∙ word_same z w a b ∙ S.held.rest z w a b (λ e. q e))
+              subst (λ (w : ℕ). get_or (clear_words xs st2) (12 * v + w) 0 ≡ 0) (sym q)
+              (by_test (ltb 0 (get_or st1 (12 * v + 9) 0))
+              (λ t. let m = ltb-true 0 (get_or st1 (12 * v + 9) 0) t in clear_members xs st2 v (held_listed S.held v m) (omega (arith, held_there S.held v m, K.words)))
+              (λ t. clear_stays xs st2 v (word_same v 9 (omega arith) (omega arith) ∙ omega (arith, ltb-false 0 (get_or st1 (12 * v + 9) 0) t)))))
+              (λ b9. let q : (w ≡ 9 → ⊥) = eqb-false w 9 b9 in clear_other xs st2 v w b (λ e. q e) ∙ word_same v w a b ∙ S.held.rest v w a b (λ e. q e))
 
           cleared_is : st3 ≡ clear st2
           cleared_is = is_clear st3 st2 (ap length E.is ∙ clear_length' xs st2)
-              (λ z w a. ap (λ (u : List ℕ). get_or u (12 * z + w) 0) E.is ∙ clear_other xs st2 z w (omega arith) (λ q. omega arith)) at_rest
+              (λ v w a. ap (λ (u : List ℕ). get_or u (12 * v + w) 0) E.is ∙ clear_other xs st2 v w (omega arith) (λ q. omega arith)) at_rest
 
-          tables_are : tables_of sp1 t1 st3 mem1 tr1 d ≡ keep_lives xs (live_by N st1) (clear_of sp1 t1 st1 mem1 tr1 d)
+          tables_are : tables_in u ≡ keep_lives xs (live_by k.fields st1) (clear_in y)
           tables_are =
-              ap (λ (u : List ℕ). tables_of sp1 t1 u mem1 tr1 d) (cleared_is ∙ ap clear K)
-              ∙ ap (λ (u : Table). clear_tables (put_base (store (put_states u (tables_of sp1 t1 st1 mem1 tr1 d).base.aut) (tables_of sp1 t1 st1 mem1 tr1 d).base.transitions) (tables_of sp1 t1 st1 mem1 tr1 d)))
-              (kept_is xs (live_by N st1) st1 d.states (λ y m. let a = held_reached S.held y m in omega (arith, live_reached N st1 y a, a)))
-              ∙ clear_keep_lives xs (live_by N st1) (tables_of sp1 t1 st1 mem1 tr1 d)
+              tables_marked marks ∙ ap (λ (a : List ℕ). with_words a (tables_in y)) (cleared_is ∙ ap clear G)
+              ∙ ap (λ (t : Table). clear_tables (put_base (store (put_states t (tables_in y).base.aut) (tables_in y).base.transitions) (tables_in y)))
+              (kept_is xs (live_by k.fields st1) st1 y.states.count (λ v m. let a = held_reached S.held v m in omega (arith, live_reached k.fields st1 v a, a)))
+              ∙ clear_keep_lives xs (live_by k.fields st1) (tables_in y)
 
-          whole_is : live_packets N (limits_of l) (length p / 2) x σ₀ ≡ given (tables_of sp1 t1 st3 mem1 tr1 d) (live_by N st1 x)
-          whole_is = anew free ∙ ap (λ (o : Outcome Tables Found). after o (λ f τ. given (keep_lives f.states f.live τ) (f.live x))) S.post.is ∙ ap (λ (τ : Tables). given τ (live_by N st1 x)) (sym tables_are)
+          whole_is : live_packets k.fields (limits_of k.limits) (length x.pending.now / 2) i (tables_in x) ≡ given (tables_in u) (live_by k.fields st1 i)
+          whole_is = anew free ∙ ap (λ (o : Outcome Tables Found). after o then_kept) S.post.is ∙ ap (λ (τ : Tables). given τ (live_by k.fields st1 i)) (sym tables_are)
 
-          law_live : LiveLaws.Lived N (limits_of l) x σ₀ (tables_of sp1 t1 st3 mem1 tr1 d) (live_by N st1 x)
-          law_live = given_of (live_goes (length p / 2) P.ready.ordered P.has) whole_is
+          law_live : LiveLaws.Lived k.fields (limits_of k.limits) i (tables_in x) (tables_in u) (live_by k.fields st1 i)
+          law_live = given_of (live_goes (length x.pending.now / 2) Q.query.ready.ordered Q.query.has) whole_is
 
-          zeroed : Zeroed p3
-          zeroed j = by_test (eqb (j % 2) 0)
-              (λ b. subst (λ (j : ℕ). get_or p3 j 0 ≡ 0) {x = 2 * (j / 2)} {y = j} (omega (arith, eqb-true (j % 2) 0 b)) (E.pending.first (j / 2) ∙ S.held.todo (j / 2) (omega arith)))
+          pub live_zeroed : Zeroed u.pending.now
+          live_zeroed j = by_test (eqb (j % 2) 0)
+              (λ b. subst (λ (j : ℕ). get_or u.pending.now j 0 ≡ 0) {x = 2 * (j / 2)} {y = j} (omega (arith, eqb-true (j % 2) 0 b)) (E.pending.first (j / 2) ∙ S.held.todo (j / 2) (omega arith)))
               (λ b. let q : (j % 2 ≡ 0 → ⊥) = eqb-false (j % 2) 0 b in
-              subst (λ (j : ℕ). get_or p3 j 0 ≡ 0) {x = 2 * (j / 2) + 1} {y = j} (omega (arith, q)) (odd (j / 2)))
+              subst (λ (j : ℕ). get_or u.pending.now j 0 ≡ 0) {x = 2 * (j / 2) + 1} {y = j} (omega (arith, q)) (odd (j / 2)))
             where
-              odd : (i : ℕ) → get_or p3 (2 * i + 1) 0 ≡ 0
-              odd i = by_test (ltb i n) (λ t. E.pending.within i (ltb-true i n t)) (λ t. E.pending.beyond i (ltb-false i n t) ∙ S.held.after i (ltb-false i n t))
+              odd : (j : ℕ) → get_or u.pending.now (2 * j + 1) 0 ≡ 0
+              odd j = by_test (ltb j n) (λ t. E.pending.within j (ltb-true j n t)) (λ t. E.pending.beyond j (ltb-false j n t) ∙ S.held.after j (ltb-false j n t))
 
-          pub live_done : (h : SP) → h.0 ≡ get_or st1 (12 * x + 9) 0 - 1 → length s1 ≡ length s → PostLive N l x σ₀ c (lived.Live h d) (tables_of sp1 t1 st3 mem1 tr1) s s1 p p3
+          frame : Leaves k.fields 0 1088 (tables_in u) x.scratch.now u.scratch.now
+          frame = let f = S.post.then.frame in
+              subst (λ (τ : Tables). Leaves k.fields 0 1088 τ x.scratch.now u.scratch.now) (sym (tables_marked marks)) (rw marks.scratch (record { below = f.below; above = f.above; notes = f.notes }))
+
+          pub live_done : SameLent x y → Lives k i x (Ok (record { 0 = get_or st1 (12 * i + 9) 0 - 1 })) u
           unfolding work_of
-          live_done h q len =
-              let v : live_by N st1 x ≡ h.0 = live_reached N st1 x here ∙ sym q in
-              let f = S.post.then.frame in
-              let g : Leaves N 0 1088 (tables_of sp1 t1 st3 mem1 tr1 d) s s1 = record { below = f.below; above = f.above; notes = f.notes } in
+          live_done C =
+              let v : live_by k.fields st1 i ≡ get_or st1 (12 * i + 9) 0 - 1 = live_reached k.fields st1 i here in
               record {
                 post = record {
-                  is = whole_is ∙ ap (λ (w : ℕ). given (tables_of sp1 t1 st3 mem1 tr1 d) w) v;
+                  is = whole_is ∙ ap (λ (w : ℕ). given (tables_in u) w) v;
                   then = record {
                     ext = law_live.later;
-                    beside = tt;
-                    frame = g;
-                    ready = query_ready P.ready law_live.later law_live.ordered g len;
-                    holds = subst (λ (w : ℕ). SpLaws.ValidAt (table sp1 d.sp) N w) v law_live.set.den.at;
+                    frame = frame;
+                    ready = query_ready Q.query.ready law_live.later law_live.ordered frame (rw marks.scratch C.length);
+                    holds = subst (λ (w : ℕ). SpLaws.ValidAt (tables_in u).sets k.fields w) v law_live.set.den.at;
                   };
                 };
-                pending = zeroed;
               }

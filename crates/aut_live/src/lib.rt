@@ -1,117 +1,48 @@
 // live_packets of aut.rs: the start packets of a state's strings.
 #![tactic(auto)]
 
-ghost use Rattle.aut_query_stage.specs.Layer.{tables_of, PreQuery};
-ghost use Rattle.aut_live.specs.Clauses.{PostLive, PostSets};
+ghost use Rattle.std.specs.Prelude.{◌/◌, length, OnOk};
+ghost use Rattle.aut_query_steps.specs.Live as M;
+ghost use Rattle.aut_query_stage.specs.Layer.{Zeroed};
+ghost use Rattle.aut_query_stage.specs.Lent.{tables_in, QueryAsked, GoesQuery};
+ghost use Rattle.aut_states.specs.Clauses.{limits_of};
+ghost use Rattle.aut_sets.specs.Lent.{SameLent};
+ghost use Rattle.aut_query_calls.specs.Working.{SetIn};
+ghost use Rattle.aut_live.specs.Clauses.{SetsAt};
 
-use aut_live_words::Walked;
-use aut_states::{Config, Counts};
+use aut_relations::Aut;
+use aut_states::Config;
+use refusal::Refusal;
 use sp::SP;
 
-// the set; or 01's number
-#[derive(Clone, Copy)]
-pub enum Lived {
-    Live(SP, Counts),
-    Refused(u32),
-}
-
-// worked out as with none stored: of the n states reached, in the pending table, the sets stand in words WORK
-pub fn live_sets(
-    sp: &mut [u32],
-    nodes: &mut [u32],
-    states: &mut [u32],
-    members: &mut [u32],
-    transitions: &mut [u32],
-    pending: &mut [u32],
-    scratch: &mut [u32],
-    c: Counts,
-    config: Config,
-    x: u32,
-) -> Walked
-    requires { PreQuery config.fields config.limits
-        (tables_of sp.old nodes.old states.old members.old transitions.old c) scratch.old pending.old x }
-    ensures { PostSets config.fields config.limits x
-        (tables_of sp.old nodes.old states.old members.old
-        transitions.old c) c result
-        (tables_of sp.new nodes.new states.new members.new
-        transitions.new) scratch.old scratch.new pending.old
-        pending.new }
+// worked out as with none stored: how many states are reached; they stand in the pending table, their sets in words WORK
+pub fn live_sets(aut: &mut Aut, config: Config, x: u32) -> Result<usize, Refusal>
+    requires { QueryAsked config aut.old x }
+    ensures keeps { SameLent aut.old aut.new }
+    ensures gives { SetsAt config x aut.old result aut.new }
 {
-    let Some(_) = aut_live_words::reach(states, pending, config.fields, 0, x) else {
-        return Walked::Refused(aut_states::refusal::PENDING);
-    };
-    let walked = aut_live_reach::explore(
-        sp,
-        nodes,
-        states,
-        members,
-        transitions,
-        pending,
-        scratch,
-        c,
-        config,
-    );
-    match walked {
-        Walked::Refused(e) => Walked::Refused(e),
-        Walked::To(d, n) => aut_live_pull::settle(
-            sp,
-            nodes,
-            states,
-            transitions,
-            pending,
-            scratch,
-            d,
-            config,
-            n,
-        ),
-    }
+    aut_live_words::reach(aut, config, 0, x).ok_or(Refusal::Pending)?;
+    let n = aut_live_reach::explore(aut, config)?;
+    aut_live_pull::settle(aut, config, n)?;
+    Ok(n)
 }
 
-pub fn live_packets(
-    sp: &mut [u32],
-    nodes: &mut [u32],
-    states: &mut [u32],
-    members: &mut [u32],
-    transitions: &mut [u32],
-    pending: &mut [u32],
-    scratch: &mut [u32],
-    c: Counts,
-    config: Config,
-    x: u32,
-) -> Lived
-    requires { PreQuery config.fields config.limits
-        (tables_of sp.old nodes.old states.old members.old transitions.old c) scratch.old pending.old x }
-    ensures { PostLive config.fields config.limits x
-        (tables_of sp.old nodes.old states.old members.old
-        transitions.old c) c result
-        (tables_of sp.new nodes.new states.new members.new
-        transitions.new) scratch.old scratch.new pending.old
-        pending.new }
+pub fn live_packets(aut: &mut Aut, config: Config, x: u32) -> Result<SP, Refusal>
+    requires { QueryAsked config aut.old x }
+    ensures keeps { SameLent aut.old aut.new }
+    ensures pending { OnOk result (Zeroed aut.new.pending.now) }
+    ensures gives { GoesQuery config 0 1088 tables_in (SetIn config.fields) (λ h. h.0)
+        (M.live_packets config.fields (limits_of config.limits)
+        (length aut.old.pending.now / 2) x) aut.old result aut.new }
 {
     let at = aut_states::STATE * (x as usize);
-    let kept = states[at + aut_states::word::LIVE];
+    let kept = aut.states.words[at + aut_states::word::LIVE];
     if kept > 0 {
-        return Lived::Live(SP(kept - 1), c);
+        return Ok(SP(kept - 1));
     }
-    let walked = live_sets(
-        sp,
-        nodes,
-        states,
-        members,
-        transitions,
-        pending,
-        scratch,
-        c,
-        config,
-        x,
-    );
-    match walked {
-        Walked::Refused(e) => Lived::Refused(e),
-        Walked::To(d, n) => {
-            let live = SP(states[at + aut_states::word::WORK] - 1);
-            aut_live_words::keep(states, pending, n);
-            aut_live_words::clear(states, pending, n);
-            Lived::Live(live, d)
-        }
-    }
+    let n = live_sets(aut, config, x)?;
+    let live = SP(aut.states.words[at + aut_states::word::WORK] - 1);
+    aut_live_words::keep(aut, n);
+    aut_live_words::clear(aut, n);
+    Ok(live)
 }

@@ -1,5 +1,5 @@
 -- The work list of live_packets: labels, entries and sets as words; and one source pulled from, by the rule for a run of calls (aut_stage).
-use Rattle.std.specs.Prelude.{Option, Some, None, if◌then◌else◌}
+use Rattle.std.specs.Prelude.{Option, Result, Ok, Err, ok_or, if◌then◌else◌}
 use mathlib.Core.Path.{◌≡◌, refl, sym, ◌∙◌, ap, ap₂, subst, fun_ext}
 use mathlib.Core.Bool.{Bool, true, false}
 use mathlib.Core.List.{List, ◌∷◌}
@@ -9,47 +9,56 @@ use lib.Dec.{eqb, ltb}
 use lib.ListN.{length, get_or, set, length-set}
 use lib.Seq.{get_or-set_same, get_or-set_other}
 use borrow.Author.Tests.{eq-eqb, ne_eqb, eqb-true, eqb-false, lt-ltb, le-ltb}
+use Rattle.std.specs.Result.{IsErr, IsErrAnd}
 use Rattle.common.specs.Packets.{any}
 use Rattle.common.specs.Outcome.{Outcome, refused, given, Step, return, after, ◌>>=◌}
-use Rattle.common.specs.Runs.{Table, table}
+use Rattle.common.specs.Runs.{Table}
+use Rattle.refusal.specs.declared.Refusal.{Refusal}
+use Rattle.refusal.specs.declared.Refusal.TheVariants.{Pending}
+use Rattle.refusal.proofs.Passed.{passed}
 use Rattle.netkat.specs.Lists.{State, Transition}
 use Rattle.netkat_steps.specs.ListSteps.{Edge, Are}
 use Rattle.sp_steps.specs.Model as Sp
 use Rattle.sp_steps.specs.Wf as SpLaws
-use Rattle.sp_steps.proofs.Laws as SpLawsProofs
+use Rattle.sp_steps.specs.Reuse.{SpNoted}
 use Rattle.sp.specs.declared.SP.{SP}
-use Rattle.sp.specs.declared.Made as sets
 use Rattle.spp_steps.specs.Wf.{ValidAt}
 use Rattle.spp_steps.proofs.Laws.{by_test}
 use Rattle.spp_steps.specs.ImageModel as Images
+use Rattle.spp_image.specs.Reuse.{Written}
 use Rattle.aut_steps.specs.Tables as Aut
 use Rattle.aut_st_steps.specs.Edges.{edges}
 use Rattle.aut_delta_steps.specs.Delta.{start_of, count_of, list_at}
 use Rattle.aut_delta_steps.specs.Fits.{tables as readings}
-use Rattle.aut_query_steps.specs.Tables.{Tables, diagrams, on_sets, making_sets}
+use Rattle.aut_query_steps.specs.Tables.{Tables, on_sets, making_sets}
 use Rattle.aut_query_steps.specs.Search.{capacity}
 use Rattle.aut_query_steps.specs.Live as M
 use Rattle.aut_query_steps.specs.Live.{live_at, work, label_to}
-use Rattle.aut_query_stage.specs.Layer.{tables_of}
-use Rattle.aut_query_stage.proofs.Layer.{query_layer}
+use Rattle.aut_query_stage.specs.Lent.{tables_in, query_layer}
+use Rattle.aut_query_stage.proofs.Lent.{query_laws}
 use Rattle.aut_states.specs.Clauses.{limits_of}
-use Rattle.aut_states.specs.declared.Counts.{Counts}
+use Rattle.aut_states.specs.declared.Config.{Config}
 use Rattle.aut_states.specs.declared.Limits.{Limits}
-use Rattle.aut_stage.specs.Stage.{Stage}
-use Rattle.aut_stage.proofs.Stage.{begin, next, instead, done, all_of}
-use Rattle.aut_sets.specs.Clauses.{PreSets, PostSets, PreLead, PostImage}
+use Rattle.aut_relations.specs.declared.Aut.{Aut as Lent}
+use Rattle.aut_relations.specs.Lent.{nodes_in}
+use Rattle.aut_stage.specs.Rule.{Post, Stage}
+use Rattle.aut_stage.proofs.Rule.{begin, next, stuck, instead, finish, done, all_of}
+use Rattle.aut_sets.specs.Lent.{OnlySets, OnlyMarks, sets_in, diagrams_in}
+use Rattle.aut_sets.specs.Clauses.{Gives, PreSets, PreLead}
 use Rattle.aut_free.specs.Clear.{clear, clear_tables}
 use Rattle.aut_free.proofs.Clearing.{clear_kept}
-use Rattle.aut_query_calls.specs.Working.{clear_of, Working}
-use Rattle.aut_query_calls.proofs.Working.{Ran, with_sets, SetIn}
-use Rattle.aut_query_calls.proofs.Calls.{asks_lead, asks_sets, pull_given, images_refused, union_given, sets_refused}
-use Rattle.aut_query_calls.proofs.Works.{clear_written, working_written}
+use Rattle.aut_query_calls.specs.Working.{clear_in}
+use Rattle.aut_query_calls.specs.Working.{SetIn}
+use Rattle.aut_query_calls.proofs.Ran.{Ran}
+use Rattle.aut_sets.proofs.Kept.{sets_trans, set_small}
 use Rattle.aut_live_words.specs.Work.{work_of, live_by, seconds, stack, Held, Enlarges}
 use Rattle.aut_live_words.specs.Clauses.{Listed, PreEnlarge}
-use Rattle.aut_live_pull.specs.Clauses.{Source, Pulled}
+use Rattle.aut_live_pull.specs.Clauses.{HeldIn, work_in, Source, Pulled, pulling}
+use Rattle.aut_query_calls.proofs.Calls.{asks_lead, asks_sets, pull_ran, union_ran}
 use Rattle.aut_live_words.proofs.Words.{seconds_same}
 use Rattle.aut_live_words.proofs.Held as held
-use Rattle.aut_live_words.proofs.Held.{work_here, work_there, live_reached, live_set}
+use Rattle.aut_live_words.proofs.Held.{work_here, work_there, live_reached, live_set, held_ran, tables_marked, clear_set_in, working_set}
+use Rattle.aut_query_calls.specs.Working.{with_words}
 
 -- ---- the label of a transition
 
@@ -102,22 +111,14 @@ pub count_kept : (st : List ℕ) (x v u : ℕ) → count_of (set st (12 * x + 9)
 unfolding count_of
 count_kept st x v u = get_or-set_other st (12 * x + 9) (12 * u + 6) v 0 (λ q. omega arith)
 
--- a set's handle + 1 is a word
-pub set_small : {N : ℕ} {τ : Table} (d h : ℕ) → SpLaws.Wf N τ → SpLaws.ValidAt τ d h → h + 1 < 4294967296
-set_small zero h w a = omega arith
-set_small (suc d) h w a = omega (arith, a.1, w.small)
-
 -- ---- what is held while the list is worked off
 
-module _ (sp t st mem tr : List ℕ) (c : Counts) {N : ℕ} {l : Limits} {s p : List ℕ} {n m : ℕ} (H : Held N l (tables_of sp t st mem tr c) s p n m) where
-  abbrev C : Tables
-  C = clear_of sp t st mem tr c
+module _ {N : ℕ} {l : Limits} {σ : Tables} {s p : List ℕ} {n m : ℕ} (H : Held N l σ s p n m) where
+  abbrev st : List ℕ
+  st = σ.base.aut.states.words
 
-  pub held_known : (x : ℕ) → 0 < work_of st x → x < c.states
-  held_known x k = held.held_state H x k
-
-  pub held_state : (x : ℕ) → 0 < work_of st x → 12 * x + 11 < length st
-  held_state x k = held.held_there H x k
+  abbrev tr : List ℕ
+  tr = σ.base.transitions.words
 
   pub clear_count : (x : ℕ) → count_of (clear st) x ≡ count_of st x
   unfolding count_of
@@ -127,42 +128,24 @@ module _ (sp t st mem tr : List ℕ) (c : Counts) {N : ℕ} {l : Limits} {s p : 
   unfolding start_of
   clear_start x = clear_kept st x 5 (omega arith)
 
-  pub held_list : (x : ℕ) → 0 < work_of st x → 0 < count_of st x → Listed st tr x
+  held_list : (x : ℕ) → 0 < work_of st x → 0 < count_of st x → Listed st tr x
   held_list x k some =
       let L = H.working.ready.ordered.worked.lists in
       record {
-        state = held_state x k;
+        state = held.held_there H x k;
         some = some;
-        inside = omega (arith, L.fit, (L.held x (held_known x k)).inside (count_of st x - 1) (omega (arith, clear_count x)), clear_start x);
+        inside = omega (arith, L.fit, (L.held x (held.held_state H x k)).inside (count_of st x - 1) (omega (arith, clear_count x)), clear_start x);
       }
 
-  pub list_is : (x : ℕ) → list_at C.base x ≡ edges tr (start_of st x) (count_of st x - 1)
+  list_is : (x : ℕ) → list_at (clear_tables σ).base x ≡ edges tr (start_of st x) (count_of st x - 1)
   unfolding list_at
   list_is x = ap₂ (λ (a k : ℕ). edges tr a (k - 1)) (clear_start x) (clear_count x)
 
-  pub held_label : (y x : ℕ) {lab : ℕ} → 0 < work_of st x → 0 < count_of st x → label_to y (list_at C.base x) ≡ M.by lab → ValidAt (table t c.spp) N lab
-  held_label y x k some q = label_at y ((H.working.ready.ordered.worked.lists.held x (held_known x k)).list (omega (arith, clear_count x))).are q
-
-  -- the entry i < n is there
-  pub held_entry : (i : ℕ) → i < n → 2 * i + 1 < length p
-  held_entry i k = omega (arith, H.room, capacity_lent (length p / 2))
-
-  -- packet sets were made
-  module _ {sp' s' : List ℕ} {d : Counts} (W : Working N l (tables_of sp' t st mem tr d) s') (e : SpLaws.Ext (table sp c.sp) (table sp' d.sp)) where
-    pub held_sets : Held N l (tables_of sp' t st mem tr d) s' p n m
-    held_sets = record {
-      working = W;
-      marked = H.marked;
-      sets = λ x k. SpLawsProofs.at_ext e N (work_of st x - 1) (H.sets x k);
-      rest = H.rest;
-      todo = H.todo;
-      after = H.after;
-      room = H.room;
-      high = H.high;
-    }
+  held_label : (y x : ℕ) {lab : ℕ} → 0 < work_of st x → 0 < count_of st x → label_to y (list_at (clear_tables σ).base x) ≡ M.by lab → ValidAt σ.base.aut.nodes N lab
+  held_label y x k some q = label_at y ((H.working.ready.ordered.worked.lists.held x (held.held_state H x k)).list (omega (arith, clear_count x))).are q
 
   -- the set of x is h now, and x goes on `todo`
-  module _ (x h : ℕ) (reached : 0 < work_of st x) (at : SpLaws.ValidAt (table sp c.sp) N h) (below : m < capacity (length p / 2)) where
+  module _ (x h : ℕ) (reached : 0 < work_of st x) (at : SpLaws.ValidAt σ.sets N h) (below : m < capacity (length p / 2)) where
     abbrev st' : List ℕ
     st' = set st (12 * x + 9) (h + 1)
 
@@ -171,16 +154,16 @@ module _ (sp t st mem tr : List ℕ) (c : Counts) {N : ℕ} {l : Limits} {s p : 
 
     here : (P : ℕ → ℕ → Type 0) → P x (h + 1) → ((u : ℕ) → P u (work_of st u)) → (u : ℕ) → P u (work_of st' u)
     here P a f u = by_test (eqb x u)
-        (λ b. subst (λ (v : ℕ). P v (work_of st' v)) (eqb-true x u b) (subst (P x) (sym (work_here st x (h + 1) (omega (arith, held_state x reached)))) a))
+        (λ b. subst (λ (v : ℕ). P v (work_of st' v)) (eqb-true x u b) (subst (P x) (sym (work_here st x (h + 1) (omega (arith, held.held_there H x reached)))) a))
         (λ b. subst (P u) (sym (work_there st x (h + 1) u (λ q. eqb-false x u b (sym q)))) (f u))
 
-    pub held_more : Held N l (tables_of sp t st' mem tr c) s p' n (m + 1)
+    held_more : Held N l (with_words st' σ) s p' n (m + 1)
     held_more = record {
-      working = working_written sp t st mem tr c x 9 (h + 1) (omega arith) (omega arith) (held_known x reached) H.working;
+      working = working_set σ x 9 (h + 1) (omega arith) (omega arith) (held.held_state H x reached) H.working;
       marked = λ u. ap (any (eqb u)) (seconds_same p p' 0 n (λ i a b. odd_kept p m x i)) ∙ here (λ u v. any (eqb u) (seconds p 0 n) ≡ ltb 0 v)
           (H.marked x ∙ lt-ltb 0 (work_of st x) reached ∙ sym (lt-ltb 0 (h + 1) (omega arith))) (λ u. H.marked u) u;
-      sets = here (λ u v. 0 < v → SpLaws.ValidAt (table sp c.sp) N (v - 1))
-          (λ _. subst (SpLaws.ValidAt (table sp c.sp) N) {x = h} {y = h + 1 - 1} (omega arith) at) (λ u. H.sets u);
+      sets = here (λ u v. 0 < v → SpLaws.ValidAt σ.sets N (v - 1))
+          (λ _. subst (SpLaws.ValidAt σ.sets N) {x = h} {y = h + 1 - 1} (omega arith) at) (λ u. H.sets u);
       rest = λ u w a b q. get_or-set_other st (12 * x + 9) (12 * u + w) (h + 1) 0 (λ z. q (omega arith)) ∙ H.rest u w a b q;
       todo = λ i k. get_or-set_other p (2 * m) (2 * i) x 0 (λ q. omega arith) ∙ H.todo i (omega arith);
       after = λ i k. odd_kept p m x i ∙ H.after i k;
@@ -188,148 +171,227 @@ module _ (sp t st mem tr : List ℕ) (c : Counts) {N : ℕ} {l : Limits} {s p : 
       high = subst (λ (k : ℕ). m + 1 ≤ capacity (k / 2)) (sym (length-set p (2 * m) x)) (omega arith);
     }
 
+-- ---- packet sets were made
+
+module _ {x y : Lent} (K : OnlySets x y) where
+  -- the work list is as it was
+  same_work : (k : Config) (m : ℕ) → work_in k y m ≡ work_in k x m
+  same_work k m = rw K.states (rw K.pending refl)
+
+  source_kept : {k : Config} {n m t s : ℕ} → Source k x n m t s → HeldIn k y n m → Source k y n m t s
+  source_kept S H = record { held = H; target = rw K.states S.target; source = rw K.states S.source; listed = rw K.states S.listed }
+
+  held_made : {k : Config} {n m : ℕ} {V : Type 0} {P : Tables → ℕ → Type 0} {see : V → ℕ} {o : Step Tables ℕ} {v : V} → HeldIn k x n m → Ran k 0 0 P see o x (Ok v) y → HeldIn k y n m
+  held_made H R = rw K.pending (held_ran H R.working R.post.then.ext.sets R.unwritten)
+
+-- ---- the set of a state has grown
+
+-- what `enlarge` is for the m states of `todo`
+abbrev enlarging : Config → Lent → (m s h : ℕ) → Step Tables M.Work
+enlarging k x m s h = M.enlarge (capacity (length x.pending.now / 2)) s h (work_in k x m)
+
+module _ {k : Config} {x : Lent} {n m t s : ℕ} (S : Source k x n m t s) (h : ℕ) (at : SpLaws.ValidAt (sets_in x) k.fields h) where
+  pub enlarge_asks : PreEnlarge x.states.words.now x.pending.now m s h
+  enlarge_asks = record {
+    state = held.held_there S.held s S.source;
+    reached = S.source;
+    small = set_small k.fields h S.held.working.ready.ordered.sets at;
+    fits = omega (arith, S.held.high, capacity_lent (length x.pending.now / 2));
+  }
+
+  abbrev grown : M.Work
+  grown = work (s ∷ stack x.pending.now m) (live_at s h (live_by k.fields x.states.words.now))
+
+  enlarge_is : (a b : Bool) → eqb h (live_by k.fields x.states.words.now s) ≡ a → ltb (length (stack x.pending.now m)) (capacity (length x.pending.now / 2)) ≡ b
+      → enlarging k x m s h (clear_in x) ≡ (if a then return (work_in k x m) else (if b then return grown else (λ σ. refused 24))) (clear_in x)
+  unfolding M.enlarge
+  enlarge_is a b e f = ap₂ (λ (a b : Bool). (if a then return (work_in k x m) else (if b then return grown else (λ σ. refused 24))) (clear_in x)) e f
+
+  -- the set that s had
+  had : live_by k.fields x.states.words.now s ≡ work_of x.states.words.now s - 1
+  had = live_reached k.fields x.states.words.now s S.source
+
+  differs : (h ≡ work_of x.states.words.now s - 1 → ⊥) → eqb h (live_by k.fields x.states.words.now s) ≡ false
+  differs e = ne_eqb h (live_by k.fields x.states.words.now s) (λ z. e (z ∙ had))
+
+  module _ {y : Lent} (K : OnlyMarks x y) {st' p' : List ℕ} (a : y.states.words.now ≡ st') (b : y.pending.now ≡ p') where
+    tables_are : tables_in y ≡ with_words st' (tables_in x)
+    tables_are = tables_marked K ∙ ap (λ (u : List ℕ). with_words u (tables_in x)) a
+
+    came : {m' : ℕ} → clear_tables (with_words st' (tables_in x)) ≡ clear_in x → enlarging k x m s h (clear_in x) ≡ given (clear_in x) (work (stack p' m') (live_by k.fields st')) → Held k.fields k.limits (with_words st' (tables_in x)) x.scratch.now p' n m'
+        → ((i : ℕ) → get_or p' (2 * i + 1) 0 ≡ get_or x.pending.now (2 * i + 1) 0) → ((u : ℕ) → count_of st' u ≡ count_of x.states.words.now u) → Pulled k n (enlarging k x m s h) x (Ok m') y
+    came {m'} c e H f g = record {
+      post = record {
+        post = subst (λ (τ : Tables). Post (query_layer k.fields k.limits) 0 0 (λ τ w. Unit) (work_in k y) (enlarging k x m s h (clear_in x)) (clear_in x) (Ok m') τ x.scratch.now y.scratch.now) (sym (ap clear_tables tables_are ∙ c))
+            (rw K.scratch (done (query_laws k.fields k.limits) 0 0 (begin (query_laws k.fields k.limits) 0 0 S.held.working.ready (e ∙ ap₂ (λ (u p : List ℕ). given (clear_in x) (work (stack p m') (live_by k.fields u))) (sym a) (sym b))) tt));
+      };
+      held = subst (λ (τ : Tables). Held k.fields k.limits τ y.scratch.now y.pending.now n m') (sym tables_are) (rw K.scratch (rw b H));
+      second = λ i. ap (λ (p : List ℕ). get_or p (2 * i + 1) 0) b ∙ f i;
+      lists = λ u. ap (λ (st : List ℕ). count_of st u) a ∙ g u;
+    }
+
+  abbrev st₀ : List ℕ
+  st₀ = x.states.words.now
+
+  abbrev p₀ : List ℕ
+  p₀ = x.pending.now
+
+  abbrev Comes : Option ℕ → List ℕ → List ℕ → Type 0
+  Comes r st' p' = (y : Lent) → OnlyMarks x y → y.states.words.now ≡ st' → y.pending.now ≡ p' → Pulled k n (enlarging k x m s h) x (ok_or r Pending) y
+
+  comes : {r : Option ℕ} {st' p' : List ℕ} → Enlarges (capacity (length p₀ / 2)) m s h st₀ p₀ r st' p' → Comes r st' p'
+  comes (Enlarges.same e) y K a b = came K a b refl (enlarge_is true (ltb (length (stack p₀ m)) (capacity (length p₀ / 2))) (eq-eqb h (live_by k.fields st₀ s) (e ∙ sym had)) refl) S.held (λ i. refl) (λ u. refl)
+  comes (Enlarges.more e f) y K a b = came K a b (clear_set_in (tables_in x) s 9 (h + 1) (omega arith) (omega arith))
+      (enlarge_is false true (differs e) (lt-ltb (length (stack p₀ m)) (capacity (length p₀ / 2)) (omega (arith, f, stack_length p₀ m)))
+      ∙ ap₂ (λ (ts : List ℕ) (f : ℕ → ℕ). given (clear_in x) (work ts f)) (sym (stack_push p₀ m s (omega (arith, f, capacity_lent (length p₀ / 2)))))
+      (sym (fun_ext (live_set k.fields st₀ s h (omega (arith, held.held_there S.held s S.source))))))
+      (held_more S.held s h S.source at f) (odd_kept p₀ m s) (count_kept st₀ s (h + 1))
+  comes (Enlarges.full e f) y K a b = record {
+    post = record { post = record { is = enlarge_is false false (differs e) (le-ltb (length (stack p₀ m)) (capacity (length p₀ / 2)) (omega (arith, f, stack_length p₀ m))); then = tt } };
+    held = tt;
+    second = tt;
+    lists = tt;
+  }
+
+  pub enlarge_pulled : {y : Lent} {r : Option ℕ} → OnlyMarks x y → Enlarges (capacity (length p₀ / 2)) m s h st₀ p₀ r y.states.words.now y.pending.now → Pulled k n (enlarging k x m s h) x (ok_or r Pending) y
+  enlarge_pulled {y} K E = comes E y K refl refl
+
 -- ---- one source
 
-module _ (sp t st mem tr : List ℕ) (c : Counts) {N : ℕ} {l : Limits} {s p : List ℕ} {n m y x : ℕ} (S : Source N l (tables_of sp t st mem tr c) s p n m y x) where
-  abbrev σ : Tables
-  σ = tables_of sp t st mem tr c
+module _ {k : Config} {x : Lent} {n m t s : ℕ} (S : Source k x n m t s) where
+  abbrev N : ℕ
+  N = k.fields
+
+  abbrev l : Limits
+  l = k.limits
 
   abbrev κ : Tables
-  κ = clear_of sp t st mem tr c
-
-  abbrev W : Working N l σ s
-  W = S.held.working
+  κ = clear_in x
 
   abbrev lent : ℕ
-  lent = length p / 2
+  lent = length x.pending.now / 2
 
-  abbrev w : M.Work
-  w = work (stack p m) (live_by N st)
+  abbrev words : List ℕ
+  words = x.states.words.now
 
   abbrev whole : Outcome Tables M.Work
-  whole = M.pull_from N (limits_of l) lent y x w κ
+  whole = pulling k x t s m κ
 
   abbrev back : M.Label → Outcome Tables M.Work
-  back b = elim b [ M.by lab ↦ M.pull_back N (limits_of l) lent y x lab w κ | M.none ↦ given κ w ]
+  back b = elim b [ M.by lab ↦ M.pull_back N (limits_of l) lent t s lab (work_in k x m) κ | M.none ↦ given κ (work_in k x m) ]
 
-  whole_is : {b : M.Label} → label_to y (edges tr (start_of st x) (count_of st x - 1)) ≡ b → whole ≡ back b
+  abbrev Labels : M.Label → Type 0
+  Labels b = label_to t (edges x.transitions.words.now (start_of words s) (count_of words s - 1)) ≡ b
+
+  whole_is : (b : M.Label) → Labels b → whole ≡ back b
   unfolding M.pull_from
-  whole_is q = ap back (ap (label_to y) (list_is sp t st mem tr c S.held x) ∙ q)
+  whole_is b q = ap back (ap (label_to t) (list_is S.held s) ∙ q)
 
-  pub pull_listed : Listed st tr x
-  pull_listed = held_list sp t st mem tr c S.held x S.source S.listed
+  pub pull_target : 12 * t + 11 < length words
+  pull_target = held.held_there S.held t S.target
 
-  -- no transition leads to y
-  pub pull_none : label_to y (edges tr (start_of st x) (count_of st x - 1)) ≡ M.none → Pulled N l whole σ c c n m (tables_of sp t st mem tr) s s p p
+  pub pull_listed : Listed words x.transitions.words.now s
+  pull_listed = held_list S.held s S.source S.listed
+
+  -- no transition leads to t
+  pub pull_none : Labels M.none → Pulled k n (pulling k x t s m) x (Ok m) x
   pull_none q = record {
-    post = done (query_layer N l) 0 0 (λ e. clear_tables (tables_of sp t st mem tr e)) (begin (query_layer N l) 0 0 W.ready (whole_is q)) tt;
+    post = record { post = done (query_laws N l) 0 0 (begin (query_laws N l) 0 0 S.held.working.ready (whole_is M.none q)) tt };
     held = S.held;
     second = λ i. refl;
     lists = λ u. refl;
   }
 
-  module _ {lab : ℕ} (q : label_to y (edges tr (start_of st x) (count_of st x - 1)) ≡ M.by lab) where
-    lab_at : ValidAt (table t c.spp) N lab
-    lab_at = held_label sp t st mem tr c S.held y x S.source S.listed (ap (label_to y) (list_is sp t st mem tr c S.held x) ∙ q)
+  module _ (lab : ℕ) (q : Labels (M.by lab)) where
+    lab_at : ValidAt (nodes_in x) N lab
+    lab_at = held_label S.held t s S.source S.listed (ap (label_to t) (list_is S.held s) ∙ q)
 
-    ahead_at : SpLaws.ValidAt (table sp c.sp) N (work_of st y - 1)
-    ahead_at = S.held.sets y S.target
+    ahead_at : SpLaws.ValidAt (sets_in x) N (work_of words t - 1)
+    ahead_at = S.held.sets t S.target
 
-    pub pull_asks : PreLead N (diagrams κ) s (work_of st y - 1) lab
-    pull_asks = asks_lead t st mem tr c W lab lab_at (work_of st y - 1) ahead_at
+    pub pull_asks : PreLead N (diagrams_in x) x.scratch.now (work_of words t - 1) lab
+    pull_asks = asks_lead x S.held.working (work_of words t - 1) ahead_at lab lab_at
 
     abbrev united : ℕ → ℕ → Step Tables M.Work
-    united here accepted = on_sets (Sp.union N here accepted) >>= λ combined. M.enlarge (capacity lent) x combined w
+    united here accepted = on_sets (Sp.union N here accepted) >>= λ combined. M.enlarge (capacity lent) s combined (work_in k x m)
 
-    stage_0 : Stage (query_layer N l) 0 0 whole (after (making_sets (Images.pull N N lab (work_of st y - 1)) κ) (united (work_of st x - 1))) κ κ c c s s
+    stage_0 : Stage (query_layer N l) 0 0 whole (after (making_sets (Images.pull N N lab (work_of words t - 1)) κ) (united (work_of words s - 1))) κ κ x.scratch.now x.scratch.now
     unfolding M.pull_back
-    stage_0 = begin (query_layer N l) 0 0 W.ready
-        (whole_is q ∙ ap₂ (λ (a b : ℕ). after (making_sets (Images.pull N N lab a) κ) (united b)) (live_reached N st y S.target) (live_reached N st x S.source))
+    stage_0 = begin (query_laws N l) 0 0 S.held.working.ready
+        (whole_is (M.by lab) q ∙ ap₂ (λ (a b : ℕ). after (making_sets (Images.pull N N lab a) κ) (united b)) (live_reached N words t S.target) (live_reached N words s S.source))
 
-    module _ {r1 : sets.Made} {sp1 s1 : List ℕ} (A1 : PostImage N (Images.pull N N lab (work_of st y - 1)) (diagrams κ) r1 sp1 s s1) where
-      pub pull_stuck : r1 ≡ sets.Made.Full → whole ≡ refused 20
-      pull_stuck e = stage_0.is ∙ ap (λ (z : Outcome Tables ℕ). after z (united (work_of st x - 1))) (images_refused t st mem tr c W A1 e)
+    abbrev Pulls : Result SP Refusal → Lent → Type 0
+    Pulls r y = Gives (Written N) (λ h. h.0) (Images.pull N N lab (work_of words t - 1)) (diagrams_in x) r (diagrams_in y) x.scratch.now y.scratch.now
 
-      module _ (len1 : length s1 ≡ length s) {h1 : SP} {n1 : ℕ} (q1 : r1 ≡ sets.Made.Node h1 n1) where
-        ran_1 : Ran N l 0 0 (SetIn N) (making_sets (Images.pull N N lab (work_of st y - 1)) κ) σ c (with_sets c n1) h1.0 (tables_of sp1 t st mem tr) s s1
-        ran_1 = pull_given t st mem tr c W lab lab_at q1 len1 (work_of st y - 1) ahead_at A1
+    module _ {y : Lent} (K1 : OnlySets x y) where
+      ran_1 : {r : Result SP Refusal} → Pulls r y → Ran k 0 0 (SetIn N) (λ h. h.0) (making_sets (Images.pull N N lab (work_of words t - 1))) x r y
+      ran_1 G = pull_ran S.held.working (work_of words t - 1) ahead_at lab lab_at K1 G
 
-        stage_1 : Stage (query_layer N l) 0 0 whole (united (work_of st x - 1) h1.0 (clear_of sp1 t st mem tr (with_sets c n1))) κ (clear_of sp1 t st mem tr (with_sets c n1)) c (with_sets c n1) s s1
-        stage_1 = next (query_layer N l) 0 0 ran_1.post (all_of 0 0) (united (work_of st x - 1)) stage_0
+      pub pull_stuck : {e : Refusal} {r : Result ℕ Refusal} → IsErr r × IsErrAnd r (λ a. a ≡ e) → Pulls (Err e) y → Pulled k n (pulling k x t s m) x r y
+      pull_stuck q G = subst (λ (r : Result ℕ Refusal). Pulled k n (pulling k x t s m) x r y) (sym (passed q))
+          (record { post = record { post = stuck (query_laws N l) 0 0 (ran_1 G).post (united (work_of words s - 1)) stage_0 }; held = tt; second = tt; lists = tt })
 
-        held_1 : Held N l (tables_of sp1 t st mem tr (with_sets c n1)) s1 p n m
-        held_1 = held_sets sp t st mem tr c S.held ran_1.working ran_1.post.then.ext.sets
+      module _ {a : SP} (G1 : Pulls (Ok a) y) where
+        source_1 : Source k y n m t s
+        source_1 = source_kept K1 S (held_made K1 S.held (ran_1 G1))
 
-        pub union_asks : PreSets N (table sp1 n1) s1 (work_of st x - 1) h1.0
-        union_asks = asks_sets t st mem tr (with_sets c n1) ran_1.working (work_of st x - 1) (held_1.sets x S.source) h1.0 ran_1.post.then.holds
+        -- the set of s, as it is read
+        abbrev own : ℕ
+        own = work_of y.states.words.now s - 1
 
-        module _ {r2 : sets.Made} {sp2 s2 : List ℕ} (A2 : PostSets (Sp.union N (work_of st x - 1) h1.0) (table sp1 n1) r2 sp2 s1 s2) where
-          pub union_stuck : r2 ≡ sets.Made.Full → whole ≡ refused 20
-          union_stuck e = stage_1.is ∙ ap (λ (z : Outcome Tables ℕ). after z (λ combined. M.enlarge (capacity lent) x combined w)) (sets_refused t st mem tr (with_sets c n1) ran_1.working A2 e)
+        stage_1 : Stage (query_layer N l) 0 0 whole (united own a.0 (clear_in y)) κ (clear_in y) x.scratch.now y.scratch.now
+        stage_1 = instead (query_laws N l) 0 0 (next (query_laws N l) 0 0 (ran_1 G1).post (all_of 0 0) (united (work_of words s - 1)) stage_0)
+            (ap (λ (u : List ℕ). united (work_of u s - 1) a.0 (clear_in y)) (rw K1.states refl))
 
-          module _ (len2 : length s2 ≡ length s1) {h2 : SP} {n2 : ℕ} (q2 : r2 ≡ sets.Made.Node h2 n2) where
-            abbrev c2 : Counts
-            c2 = with_sets c n2
+        pub pull_source : 12 * s + 11 < length y.states.words.now
+        pull_source = held.held_there source_1.held s source_1.source
 
-            abbrev κ2 : Tables
-            κ2 = clear_of sp2 t st mem tr c2
+        pub pull_reached : 0 < work_of y.states.words.now s
+        pull_reached = source_1.source
 
-            ran_2 : Ran N l 0 0 (SetIn N) (on_sets (Sp.union N (work_of st x - 1) h1.0) (clear_of sp1 t st mem tr (with_sets c n1))) (tables_of sp1 t st mem tr (with_sets c n1)) (with_sets c n1) c2 h2.0 (tables_of sp2 t st mem tr) s1 s2
-            ran_2 = union_given t st mem tr (with_sets c n1) ran_1.working (work_of st x - 1) (held_1.sets x S.source) h1.0 ran_1.post.then.holds q2 len2 A2
+        here_at : SpLaws.ValidAt (sets_in y) N own
+        here_at = source_1.held.sets s source_1.source
 
-            stage_2 : Stage (query_layer N l) 0 0 whole (M.enlarge (capacity lent) x h2.0 w κ2) κ κ2 c c2 s s2
-            stage_2 = next (query_layer N l) 0 0 ran_2.post (all_of 0 0) (λ combined. M.enlarge (capacity lent) x combined w) stage_1
+        pub union_asks : PreSets N (sets_in y) y.scratch.now own a.0
+        union_asks = asks_sets y source_1.held.working own here_at a.0 (ran_1 G1).post.then.holds
 
-            held_2 : Held N l (tables_of sp2 t st mem tr c2) s2 p n m
-            held_2 = held_sets sp1 t st mem tr (with_sets c n1) held_1 ran_2.working ran_2.post.then.ext.sets
+        abbrev Unites : Result SP Refusal → Lent → Type 0
+        Unites r z = Gives SpNoted (λ h. h.0) (Sp.union N own a.0) (sets_in y) r (sets_in z) y.scratch.now z.scratch.now
 
-            pub enlarge_asks : PreEnlarge st p m x h2.0
-            enlarge_asks = record {
-              state = held_state sp t st mem tr c S.held x S.source;
-              reached = S.source;
-              small = set_small N h2.0 ran_2.working.ready.ordered.sets ran_2.post.then.holds;
-              fits = omega (arith, S.held.high, capacity_lent (length p / 2));
+        module _ {z : Lent} (K2 : OnlySets y z) where
+          ran_2 : {r : Result SP Refusal} → Unites r z → Ran k 0 0 (SetIn N) (λ h. h.0) (on_sets (Sp.union N own a.0)) y r z
+          ran_2 G = union_ran source_1.held.working own here_at a.0 (ran_1 G1).post.then.holds K2 G
+
+          pub union_stuck : {e : Refusal} {r : Result ℕ Refusal} → IsErr r × IsErrAnd r (λ a. a ≡ e) → Unites (Err e) z → Pulled k n (pulling k x t s m) x r z
+          union_stuck q G = subst (λ (r : Result ℕ Refusal). Pulled k n (pulling k x t s m) x r z) (sym (passed q))
+              (record { post = record { post = stuck (query_laws N l) 0 0 (ran_2 G).post (λ combined. M.enlarge (capacity lent) s combined (work_in k x m)) stage_1 }; held = tt; second = tt; lists = tt })
+
+          module _ {b : SP} (G2 : Unites (Ok b) z) where
+            source_2 : Source k z n m t s
+            source_2 = source_kept K2 source_1 (held_made K2 source_1.held (ran_2 G2))
+
+            kept : OnlySets x z
+            kept = sets_trans K1 K2
+
+            stage_2 : Stage (query_layer N l) 0 0 whole (enlarging k z m s b.0 (clear_in z)) κ (clear_in z) x.scratch.now z.scratch.now
+            stage_2 = instead (query_laws N l) 0 0 (next (query_laws N l) 0 0 (ran_2 G2).post (all_of 0 0) (λ combined. M.enlarge (capacity lent) s combined (work_in k x m)) stage_1)
+                (ap₂ (λ (c : ℕ) (w : M.Work). M.enlarge (capacity c) s b.0 w (clear_in z)) (rw kept.pending refl) (sym (same_work kept k m)))
+
+            pub enlarge_ready : PreEnlarge z.states.words.now z.pending.now m s b.0
+            enlarge_ready = enlarge_asks source_2 b.0 (ran_2 G2).post.then.holds
+
+            with_all : {u : Lent} (r : Result ℕ Refusal) → Pulled k n (enlarging k z m s b.0) z r u → Pulled k n (pulling k x t s m) x r u
+            with_all (Ok v) D = record {
+              post = record { post = finish (query_laws N l) 0 0 stage_2 (Ok v) D.post.post (all_of 0 0) };
+              held = D.held;
+              second = λ i. D.second i ∙ rw kept.pending refl;
+              lists = λ v. D.lists v ∙ rw kept.states refl;
             }
+            with_all (Err e) D = record { post = record { post = finish (query_laws N l) 0 0 stage_2 (Err e) D.post.post (all_of 0 0) }; held = tt; second = tt; lists = tt }
 
-            abbrev grown : M.Work
-            grown = work (x ∷ stack p m) (live_at x h2.0 (live_by N st))
+            module _ {u : Lent} (K3 : OnlyMarks z u) where
+              abbrev Grows : Option ℕ → Type 0
+              Grows r = Enlarges (capacity (length z.pending.now / 2)) m s b.0 z.states.words.now z.pending.now r u.states.words.now u.pending.now
 
-            enlarge_is : (a b : Bool) → eqb h2.0 (live_by N st x) ≡ a → ltb (length (stack p m)) (capacity lent) ≡ b
-                → M.enlarge (capacity lent) x h2.0 w κ2 ≡ (if a then return w else (if b then return grown else (λ σ. refused 24))) κ2
-            unfolding M.enlarge
-            enlarge_is a b e f = ap₂ (λ (a b : Bool). (if a then return w else (if b then return grown else (λ σ. refused 24))) κ2) e f
-
-            -- what it comes to
-            abbrev pub PullsTo : Option ℕ → List ℕ → List ℕ → Type 0
-            PullsTo (Some k) st3 p3 = Pulled N l whole σ c c2 n k (tables_of sp2 t st3 mem tr) s s2 p p3
-            PullsTo None st3 p3 = whole ≡ refused 24
-
-            pub pulls_to : {r3 : Option ℕ} {st3 p3 : List ℕ} → Enlarges (capacity lent) m x h2.0 st p r3 st3 p3 → PullsTo r3 st3 p3
-            pulls_to (Enlarges.same e) = record {
-              post = done (query_layer N l) 0 0 (λ d. clear_tables (tables_of sp2 t st mem tr d))
-                  (instead (query_layer N l) 0 0 stage_2 (enlarge_is true (ltb (length (stack p m)) (capacity lent)) (eq-eqb h2.0 (live_by N st x) (e ∙ sym (live_reached N st x S.source))) refl)) tt;
-              held = held_2;
-              second = λ i. refl;
-              lists = λ u. refl;
-            }
-            pulls_to (Enlarges.more e k) = record {
-              post = done (query_layer N l) 0 0 (λ d. clear_tables (tables_of sp2 t (set st (12 * x + 9) (h2.0 + 1)) mem tr d))
-                  (subst (λ (τ : Tables). Stage (query_layer N l) 0 0 whole (given τ (work (stack (set p (2 * m) x) (m + 1)) (live_by N (set st (12 * x + 9) (h2.0 + 1))))) κ τ c c2 s s2)
-                  (sym (clear_written sp2 t st mem tr c2 x 9 (h2.0 + 1) (omega arith) (omega arith)))
-                  (instead (query_layer N l) 0 0 stage_2
-                  (enlarge_is false true (ne_eqb h2.0 (live_by N st x) (λ z. e (z ∙ live_reached N st x S.source))) (lt-ltb (length (stack p m)) (capacity lent) (omega (arith, stack_length p m)))
-                  ∙ ap₂ (λ (ts : List ℕ) (f : ℕ → ℕ). given κ2 (work ts f)) (sym (stack_push p m x (omega (arith, capacity_lent (length p / 2)))))
-                  (sym (fun_ext (live_set N st x h2.0 (omega (arith, held_state sp t st mem tr c S.held x S.source)))))))) tt;
-              held = held_more sp2 t st mem tr c2 held_2 x h2.0 S.source ran_2.post.then.holds k;
-              second = odd_kept p m x;
-              lists = count_kept st x (h2.0 + 1);
-            }
-            pulls_to (Enlarges.full e k) = stage_2.is
-                ∙ enlarge_is false false (ne_eqb h2.0 (live_by N st x) (λ z. e (z ∙ live_reached N st x S.source))) (le-ltb (length (stack p m)) (capacity lent) (omega (arith, stack_length p m)))
-
-            module _ {r3 : Option ℕ} {st3 p3 : List ℕ} (E : Enlarges (capacity lent) m x h2.0 st p r3 st3 p3) where
-              pub enlarge_stuck : r3 ≡ None → whole ≡ refused 24
-              enlarge_stuck e = subst (λ (r : Option ℕ). PullsTo r st3 p3) e (pulls_to E)
-
-              pub enlarged : {k : ℕ} → r3 ≡ Some k → Pulled N l whole σ c c2 n k (tables_of sp2 t st3 mem tr) s s2 p p3
-              enlarged e = subst (λ (r : Option ℕ). PullsTo r st3 p3) e (pulls_to E)
+              pub enlarged : (o : Option ℕ) {r : Result ℕ Refusal} → Grows o → r ≡ ok_or o Pending → Pulled k n (pulling k x t s m) x r u
+              enlarged o E q = subst (λ (r : Result ℕ Refusal). Pulled k n (pulling k x t s m) x r u) (sym q) (with_all (ok_or o Pending) (enlarge_pulled source_2 b.0 (ran_2 G2).post.then.holds K3 E))

@@ -1,4 +1,5 @@
 -- The loops of the work list: all predecessors of a state, and until no state is left. What is left to do, of a bound that the tables give, falls with each state that is taken.
+use Rattle.std.specs.Prelude.{Result, Ok, Err}
 use mathlib.Core.Path.{◌≡◌, refl, sym, ◌∙◌, ap, ap₂, subst, fun_ext}
 use mathlib.Core.Bool.{Bool, true, false}
 use mathlib.Core.List.{List, [], ◌∷◌, Memᴰ}
@@ -8,9 +9,13 @@ use lib.Dec.{T, eqb, eqb_refl, ltb}
 use lib.ListN.{length, get_or, set, length-set}
 use lib.Seq.{get_or-set_same, get_or-set_other}
 use borrow.Author.Tests.{eqb-true, eqb-false, ltb-true, ltb-false, lt-ltb}
+use borrow.Rule.Slice.Mut.{set_vals}
+use Rattle.std.specs.Result.{IsErr, IsErrAnd}
 use Rattle.common.specs.Packets.{Set, packets, any}
 use Rattle.common.proofs.PacketLaws.{any_of}
-use Rattle.common.specs.Outcome.{Outcome, refused, given, after}
+use Rattle.common.specs.Outcome.{Outcome, given, Step, after}
+use Rattle.refusal.specs.declared.Refusal.{Refusal}
+use Rattle.refusal.proofs.Passed.{passed}
 use Rattle.netkat.proofs.Laws.Live.{amount}
 use Rattle.netkat.proofs.Laws.Tally.{tally, total}
 use Rattle.sp_steps.specs.Model as Sp
@@ -26,19 +31,19 @@ use Rattle.aut_query_steps.specs.Live.{Work, work, takes}
 use Rattle.aut_query_steps.specs.Explored.{Linked}
 use Rattle.aut_query_steps.proofs.ExploreLaws.{any_mem}
 use Rattle.aut_query_steps.proofs.SettleLaws.{reached, steps_to, Pulls, PullsFrom, all_ends, none_left, take_next, settle_more}
-use Rattle.aut_query_stage.specs.Layer.{tables_of}
-use Rattle.aut_query_stage.proofs.Layer.{query_layer}
+use Rattle.aut_query_stage.specs.Lent.{query_layer}
+use Rattle.aut_query_stage.proofs.Lent.{query_laws}
 use Rattle.aut_states.specs.Clauses.{limits_of}
-use Rattle.aut_states.specs.declared.Counts.{Counts}
+use Rattle.aut_states.specs.declared.Config.{Config}
 use Rattle.aut_states.specs.declared.Limits.{Limits}
-use Rattle.aut_stage.specs.Stage.{Stage}
-use Rattle.aut_stage.proofs.Stage.{begin, next, instead, done, all_of}
-use Rattle.aut_free.specs.Clear.{clear_tables}
-use Rattle.aut_query_calls.specs.Working.{clear_of}
-use Rattle.aut_live_words.specs.declared.Walked.{Walked}
-use Rattle.aut_live_words.specs.declared.Walked.TheVariants as walked
+use Rattle.aut_relations.specs.declared.Aut.{Aut as Lent}
+use Rattle.aut_stage.specs.Rule.{Stage}
+use Rattle.aut_stage.proofs.Rule.{begin, next, stuck, instead, done, all_of}
+use Rattle.aut_sets.specs.Lent.{OnlySearch}
+use Rattle.aut_query_calls.specs.Working.{clear_in}
+use Rattle.aut_sets.proofs.Kept.{search_refl, search_trans}
 use Rattle.aut_live_words.specs.Work.{work_of, live_by, seconds, stack, Held}
-use Rattle.aut_live_pull.specs.Clauses.{Source, Pulled, PulledBy, Target, Settles, settling, Settled}
+use Rattle.aut_live_pull.specs.Clauses.{HeldIn, work_in, Source, Pulled, pulling, Target, pulling_all, SettleAsked, settling, Settles}
 use Rattle.aut_live_pull.proofs.Settling.{capacity_lent, stack_length, stack_below, odd_kept, clear_count}
 use Rattle.aut_live_words.proofs.Words.{seconds_same, seconds_on, seconds_done}
 use Rattle.aut_live_words.proofs.Held.{held_second}
@@ -56,91 +61,83 @@ module _ {N : ℕ} {l : Limits} {σ τ : Tables} {s s' p p' : List ℕ} {n m m' 
 
 -- ---- all predecessors
 
--- i states are looked at
-pub record AllPulled (N : ℕ) (l : Limits) (whole : Outcome Tables Work) (σ τ : Tables) (c d : Counts) (y n m i : ℕ) (s s' p p' : List ℕ) : Type 0 where
-  pub stage : Stage (query_layer N l) 0 0 whole
-      (M.pull_all N (limits_of l) (length p / 2) y (seconds p i (n - i)) (work (stack p' m) (live_by N τ.base.aut.states.words)) (clear_tables τ)) (clear_tables σ) (clear_tables τ) c d s s'
-  pub held : Held N l τ s' p' n m
-  pub second : (j : ℕ) → get_or p' (2 * j + 1) 0 ≡ get_or p (2 * j + 1) 0
-  pub lists : (x : ℕ) → count_of τ.base.aut.states.words x ≡ count_of σ.base.aut.states.words x
-  pub len : length p' ≡ length p
+-- those of the sources from i on, with m states in `todo`
+abbrev rest_from : Config → Lent → (n t i : ℕ) → Work → Step Tables Work
+rest_from k x n t i w = M.pull_all k.fields (limits_of k.limits) (length x.pending.now / 2) t (seconds x.pending.now i (n - i)) w
 
-module _ (sp t st mem tr : List ℕ) (c : Counts) {N : ℕ} {l : Limits} {s p : List ℕ} {n m y : ℕ} (R : Target N l (tables_of sp t st mem tr c) s p n m y) where
-  abbrev σ : Tables
-  σ = tables_of sp t st mem tr c
+-- i states are looked at: the tables x, with m₀ states in `todo`, have become `now`, with m
+pub record AllPulled (k : Config) (x : Lent) (n t m₀ : ℕ) (now : Lent) (m i : ℕ) : Type 0 where
+  pub start : Target k x n m₀ t
+  pub keeps : OnlySearch x now
+  pub stage : Stage (query_layer k.fields k.limits) 0 0 (pulling_all k x t n m₀ (clear_in x)) (rest_from k x n t i (work_in k now m) (clear_in now)) (clear_in x) (clear_in now) x.scratch.now now.scratch.now
+  pub held : HeldIn k now n m
+  pub second : (j : ℕ) → get_or now.pending.now (2 * j + 1) 0 ≡ get_or x.pending.now (2 * j + 1) 0
+  pub lists : (u : ℕ) → count_of now.states.words.now u ≡ count_of x.states.words.now u
 
-  abbrev whole : Outcome Tables Work
-  whole = M.pull_all N (limits_of l) (length p / 2) y (seconds p 0 n) (work (stack p m) (live_by N st)) (clear_of sp t st mem tr c)
-
-  pub all_begin : AllPulled N l whole σ σ c c y n m 0 s s p p
-  all_begin = record {
-    stage = begin (query_layer N l) 0 0 R.held.working.ready
-        (ap (λ (k : ℕ). M.pull_all N (limits_of l) (length p / 2) y (seconds p 0 k) (work (stack p m) (live_by N st)) (clear_of sp t st mem tr c)) {x = n} {y = n - 0} (omega arith));
+module _ {k : Config} {x : Lent} {n t m₀ : ℕ} where
+  pub all_begin : Target k x n m₀ t → AllPulled k x n t m₀ x m₀ 0
+  all_begin R = record {
+    start = R;
+    keeps = search_refl x;
+    stage = begin (query_laws k.fields k.limits) 0 0 R.held.working.ready (ap (λ (j : ℕ). M.pull_all k.fields (limits_of k.limits) (length x.pending.now / 2) t (seconds x.pending.now 0 j) (work_in k x m₀) (clear_in x)) {x = n} {y = n - 0} (omega arith));
     held = R.held;
     second = λ j. refl;
-    lists = λ x. refl;
-    len = refl;
+    lists = λ u. refl;
   }
 
-  module _ (sp1 st1 : List ℕ) (d : Counts) {s1 p1 : List ℕ} {m1 i : ℕ} (v : AllPulled N l whole σ (tables_of sp1 t st1 mem tr d) c d y n m1 i s s1 p p1) where
-    abbrev w1 : Work
-    w1 = work (stack p1 m1) (live_by N st1)
-
-    module _ (lt : i < n) where
-      abbrev x : ℕ
-      x = get_or p1 (2 * i + 1) 0
-
-      here : 0 < work_of st1 x
-      here = held_second v.held i lt
-
-      pub all_source : Source N l (tables_of sp1 t st1 mem tr d) s1 p1 n m1 y x
-      all_source = record {
-        held = v.held;
-        target = reached_on R.held v.held v.second y R.target;
-        source = here;
-        listed = omega (arith, v.lists x, R.listed x (reached_back R.held v.held v.second x here));
-      }
-
-      abbrev rest : List ℕ
-      rest = seconds p (i + 1) (n - (i + 1))
-
-      on_next : seconds p i (n - i) ≡ x ∷ rest
-      on_next = seconds_on p n i lt ∙ ap (λ (z : ℕ). z ∷ rest) (sym (v.second i))
-
-      turned : Stage (query_layer N l) 0 0 whole (after (M.pull_from N (limits_of l) (length p1 / 2) y x w1 (clear_of sp1 t st1 mem tr d)) (M.pull_all N (limits_of l) (length p / 2) y rest))
-          (clear_tables σ) (clear_of sp1 t st1 mem tr d) c d s s1
-      unfolding M.pull_all
-      turned = instead (query_layer N l) 0 0 v.stage
-          (ap (λ (ss : List ℕ). M.pull_all N (limits_of l) (length p / 2) y ss w1 (clear_of sp1 t st1 mem tr d)) on_next
-          ∙ ap (λ (k : ℕ). after (M.pull_from N (limits_of l) (k / 2) y x w1 (clear_of sp1 t st1 mem tr d)) (M.pull_all N (limits_of l) (length p / 2) y rest)) (sym v.len))
-
-      abbrev PulledTo : (sp2 st2 s2 p2 : List ℕ) → Walked → Type 0
-      PulledTo sp2 st2 s2 p2 r = PulledBy N l (M.pull_from N (limits_of l) (length p1 / 2) y x w1 (clear_of sp1 t st1 mem tr d)) (tables_of sp1 t st1 mem tr d) d r n (tables_of sp2 t st2 mem tr) s1 s2 p1 p2
-
-      module _ (r : Walked) (sp2 st2 s2 p2 : List ℕ) (D : PulledTo sp2 st2 s2 p2 r) where
-        pub all_stuck : {e : ℕ} → r ≡ walked.Refused e → whole ≡ refused e
-        all_stuck q = turned.is ∙ ap (λ (z : Outcome Tables Work). after z (M.pull_all N (limits_of l) (length p / 2) y rest)) (subst (PulledTo sp2 st2 s2 p2) q D)
-
-        pub all_again : {e : Counts} {m2 : ℕ} → r ≡ walked.To e m2 → length p2 ≡ length p1 → AllPulled N l whole σ (tables_of sp2 t st2 mem tr e) c e y n m2 (i + 1) s s2 p p2
-        all_again {e} {m2} q k =
-            let G : PulledTo sp2 st2 s2 p2 (walked.To e m2) = subst (PulledTo sp2 st2 s2 p2) q D in
-            record {
-              stage = next (query_layer N l) 0 0 G.post (all_of 0 0) (M.pull_all N (limits_of l) (length p / 2) y rest) turned;
-              held = G.held;
-              second = λ j. G.second j ∙ v.second j;
-              lists = λ x. G.lists x ∙ v.lists x;
-              len = k ∙ v.len;
-            }
-
-    pub all_end : n ≤ i → Pulled N l whole σ c d n m1 (tables_of sp1 t st1 mem tr) s s1 p p1
+  module _ {now : Lent} {m i : ℕ} (v : AllPulled k x n t m₀ now m i) where
+    pub all_end : n ≤ i → Pulled k n (pulling_all k x t n m₀) x (Ok m) now
     unfolding M.pull_all
     all_end le = record {
-      post = done (query_layer N l) 0 0 (λ e. clear_tables (tables_of sp1 t st1 mem tr e))
-          (instead (query_layer N l) 0 0 v.stage (ap (λ (ss : List ℕ). M.pull_all N (limits_of l) (length p / 2) y ss w1 (clear_of sp1 t st1 mem tr d)) (seconds_done p i n i le))) tt;
+      post = record {
+        post = done (query_laws k.fields k.limits) 0 0 (instead (query_laws k.fields k.limits) 0 0 v.stage (ap (λ (ss : List ℕ). M.pull_all k.fields (limits_of k.limits) (length x.pending.now / 2) t ss (work_in k now m) (clear_in now)) (seconds_done x.pending.now i n i le))) tt;
+      };
       held = v.held;
       second = v.second;
       lists = v.lists;
     }
+
+    module _ (lt : i < n) where
+      abbrev s : ℕ
+      s = get_or now.pending.now (2 * i + 1) 0
+
+      here : 0 < work_of now.states.words.now s
+      here = held_second v.held i lt
+
+      pub all_entry : 2 * i + 1 < length now.pending.now
+      all_entry = omega (arith, lt, v.held.room, capacity_lent (length now.pending.now / 2))
+
+      pub all_source : Source k now n m t s
+      all_source = record {
+        held = v.held;
+        target = reached_on v.start.held v.held v.second t v.start.target;
+        source = here;
+        listed = omega (arith, v.lists s, v.start.listed s (reached_back v.start.held v.held v.second s here));
+      }
+
+      on_next : seconds x.pending.now i (n - i) ≡ s ∷ seconds x.pending.now (i + 1) (n - (i + 1))
+      on_next = seconds_on x.pending.now n i lt ∙ ap (λ (z : ℕ). z ∷ seconds x.pending.now (i + 1) (n - (i + 1))) (sym (v.second i))
+
+      turned : Stage (query_layer k.fields k.limits) 0 0 (pulling_all k x t n m₀ (clear_in x)) (after (pulling k now t s m (clear_in now)) (rest_from k x n t (i + 1))) (clear_in x) (clear_in now) x.scratch.now now.scratch.now
+      unfolding M.pull_all
+      turned = instead (query_laws k.fields k.limits) 0 0 v.stage
+          (ap (λ (ss : List ℕ). M.pull_all k.fields (limits_of k.limits) (length x.pending.now / 2) t ss (work_in k now m) (clear_in now)) on_next
+          ∙ ap (λ (j : ℕ). after (M.pull_from k.fields (limits_of k.limits) (j / 2) t s (work_in k now m) (clear_in now)) (rest_from k x n t (i + 1))) (sym v.keeps.entries))
+
+      module _ {then : Lent} where
+        pub all_stuck : {e : Refusal} {r : Result ℕ Refusal} → IsErr r × IsErrAnd r (λ a. a ≡ e) → Pulled k n (pulling k now t s m) now (Err e) then → Pulled k n (pulling_all k x t n m₀) x r then
+        all_stuck q G = subst (λ (r : Result ℕ Refusal). Pulled k n (pulling_all k x t n m₀) x r then) (sym (passed q))
+            (record { post = record { post = stuck (query_laws k.fields k.limits) 0 0 G.post.post (rest_from k x n t (i + 1)) turned }; held = tt; second = tt; lists = tt })
+
+        pub all_again : {m2 : ℕ} → OnlySearch now then → Pulled k n (pulling k now t s m) now (Ok m2) then → AllPulled k x n t m₀ then m2 (i + 1)
+        all_again K G = record {
+          start = v.start;
+          keeps = search_trans v.keeps K;
+          stage = next (query_laws k.fields k.limits) 0 0 G.post.post (all_of 0 0) (rest_from k x n t (i + 1)) turned;
+          held = G.held;
+          second = λ j. G.second j ∙ v.second j;
+          lists = λ u. G.lists u ∙ v.lists u;
+        }
 
 -- ---- until no state is left
 
@@ -201,79 +198,103 @@ held_pop {N} {l} {σ} {s} {p} {n} {m} H k = record {
     above : (i : ℕ) → m - 1 ≤ i → (i ≡ m - 1 → ⊥) → m ≤ i
     above i j z = by_test (ltb i m) (λ b. absurd (z (omega (arith, ltb-true i m b)))) (λ b. ltb-false i m b)
 
-module _ (sp t st mem tr : List ℕ) (c : Counts) {N : ℕ} {l : Limits} {s p : List ℕ} {n : ℕ} (S : Settles N l (tables_of sp t st mem tr c) s p n) where
-  abbrev σ₀ : Tables
-  σ₀ = tables_of sp t st mem tr c
+-- the entry on top is zero now
+abbrev pub popped : Lent → ℕ → Lent
+popped x m = record { sp = x.sp; spp = x.spp; states = x.states; members = x.members; transitions = x.transitions; pending = set_vals (set x.pending.now (2 * (m - 1)) 0) x.pending; scratch = x.scratch }
 
-  abbrev b : Store
-  b = (clear_of sp t st mem tr c).base
+popped_keeps : (x : Lent) (m : ℕ) → OnlySearch x (popped x m)
+popped_keeps x m = record { sp = refl; spp = refl; states = refl; count = refl; words = refl; members = refl; transitions = refl; pending = refl; entries = length-set x.pending.now (2 * (m - 1)) 0; scratch = refl; length = refl }
 
-  abbrev W : WfStore N (limits_of l) b
-  W = S.held.working.ready.ordered.worked
+-- what is left while m states are on the list
+abbrev left_in : Config → (x : Lent) (n : ℕ) → (now : Lent) (m : ℕ) → ℕ
+left_in k x n now m = left_of k.fields now.sp.nodes.now now.states.words.now (seconds x.pending.now 0 n) m
 
-  abbrev ss : List ℕ
-  ss = seconds p 0 n
+-- at most so many states are taken
+abbrev settle_by : Config → Lent → (n most : ℕ) → Work → Step Tables (ℕ → ℕ)
+settle_by k x n most w = M.settle k.fields (limits_of k.limits) (length x.pending.now / 2) most (seconds x.pending.now 0 n) w
 
-  abbrev lent : ℕ
-  lent = length p / 2
+-- between two states taken: the tables x, with n states reached, have become `now`, with m states on the list
+pub record Between (k : Config) (x : Lent) (n : ℕ) (now : Lent) (m : ℕ) : Type 0 where
+  pub start : SettleAsked k x n
+  pub keeps : OnlySearch x now
+  pub stage : Stage (query_layer k.fields k.limits) 0 0 (settling k x n (clear_in x)) (settle_by k x n (left_in k x n now m) (work_in k now m) (clear_in now)) (clear_in x) (clear_in now) x.scratch.now now.scratch.now
+  pub pulls : Pulls (clear_in x).base start.held.working.ready.ordered.worked (seconds x.pending.now 0 n) start.links (left_in k x n now m) [] (clear_in now) (work_in k now m)
+  pub held : HeldIn k now n m
+  pub second : (j : ℕ) → get_or now.pending.now (2 * j + 1) 0 ≡ get_or x.pending.now (2 * j + 1) 0
+  pub lists : (u : ℕ) → count_of now.states.words.now u ≡ count_of x.states.words.now u
 
-  abbrev all : Outcome Tables (ℕ → ℕ)
-  all = settling N l n σ₀ p
-
-  -- between two states taken
-  pub record Between (sp1 st1 : List ℕ) (d : Counts) (m : ℕ) (s1 p1 : List ℕ) : Type 0 where
-    pub stage : Stage (query_layer N l) 0 0 all (M.settle N (limits_of l) lent (left_of N sp1 st1 ss m) ss (work (stack p1 m) (live_by N st1)) (clear_of sp1 t st1 mem tr d))
-        (clear_tables σ₀) (clear_of sp1 t st1 mem tr d) c d s s1
-    pub pulls : Pulls b W ss S.links (left_of N sp1 st1 ss m) [] (clear_of sp1 t st1 mem tr d) (work (stack p1 m) (live_by N st1))
-    pub held : Held N l (tables_of sp1 t st1 mem tr d) s1 p1 n m
-    pub second : (j : ℕ) → get_or p1 (2 * j + 1) 0 ≡ get_or p (2 * j + 1) 0
-    pub lists : (x : ℕ) → count_of st1 x ≡ count_of st x
-    pub len : length p1 ≡ length p
-
-  pub settle_begin : Between sp st c n s p
-  settle_begin =
-      let Q = pulls_left b W ss S.links st (stack_length p n) S.pulls in
+module _ {k : Config} {x : Lent} {n : ℕ} where
+  pub settle_begin : SettleAsked k x n → Between k x n x n
+  settle_begin S =
+      let Q = pulls_left (clear_in x).base S.held.working.ready.ordered.worked (seconds x.pending.now 0 n) S.links x.states.words.now (stack_length x.pending.now n) S.pulls in
       record {
-        stage = begin (query_layer N l) 0 0 S.held.working.ready
-            (settle_more b W ss S.links lent (takes N (limits_of l) lent ss) (left_of N sp st ss n) (clear_of sp t st mem tr c) (work (stack p n) (live_by N st)) S.pulls Q);
+        start = S;
+        keeps = search_refl x;
+        stage = begin (query_laws k.fields k.limits) 0 0 S.held.working.ready
+            (settle_more (clear_in x).base S.held.working.ready.ordered.worked (seconds x.pending.now 0 n) S.links (length x.pending.now / 2) (takes k.fields (limits_of k.limits) (length x.pending.now / 2) (seconds x.pending.now 0 n)) (left_in k x n x n) (clear_in x) (work_in k x n) S.pulls Q);
         pulls = Q;
         held = S.held;
         second = λ j. refl;
-        lists = λ x. refl;
-        len = refl;
+        lists = λ u. refl;
       }
 
-  module _ (sp1 st1 : List ℕ) (d : Counts) {m : ℕ} {s1 p1 : List ℕ} (v : Between sp1 st1 d m s1 p1) where
-    abbrev κ1 : Tables
-    κ1 = clear_of sp1 t st1 mem tr d
+  module _ {now : Lent} {m : ℕ} (v : Between k x n now m) where
+    abbrev b : Store
+    b = (clear_in x).base
+
+    abbrev W : WfStore k.fields (limits_of k.limits) b
+    W = v.start.held.working.ready.ordered.worked
+
+    abbrev ss : List ℕ
+    ss = seconds x.pending.now 0 n
+
+    abbrev lent : ℕ
+    lent = length x.pending.now / 2
+
+    abbrev κ : Tables
+    κ = clear_in now
 
     abbrev left : ℕ
-    left = left_of N sp1 st1 ss m
+    left = left_in k x n now m
+
+    pub settle_end : m ≤ 0 → Settles k n x (Ok tt) now
+    unfolding stack
+    settle_end le = record {
+      post = record {
+        post = done (query_laws k.fields k.limits) 0 0 (instead (query_laws k.fields k.limits) 0 0 v.stage
+            (ap (λ (ts : List ℕ). settle_by k x n left (work ts (live_by k.fields now.states.words.now)) κ) (ap (stack now.pending.now) {x = m} {y = 0} (omega arith)) ∙ settle_none k.fields (limits_of k.limits) lent left ss (live_by k.fields now.states.words.now) κ)) tt;
+      };
+      held = subst (λ (j : ℕ). HeldIn k now n j) {x = m} {y = 0} (omega arith) v.held;
+      second = v.second;
+    }
 
     module _ (some : 0 < m) where
+      pub settle_entry : 2 * (m - 1) < length now.pending.now
+      settle_entry = held_top v.held some
+
       abbrev top : ℕ
-      top = get_or p1 (2 * (m - 1)) 0
+      top = get_or now.pending.now (2 * (m - 1)) 0
 
-      abbrev p2 : List ℕ
-      p2 = set p1 (2 * (m - 1)) 0
+      abbrev cut : Lent
+      cut = popped now m
 
-      len_2 : length p2 ≡ length p
-      len_2 = length-set p1 (2 * (m - 1)) 0 ∙ v.len
+      len_2 : length cut.pending.now ≡ length x.pending.now
+      len_2 = length-set now.pending.now (2 * (m - 1)) 0 ∙ v.keeps.entries
 
-      second_2 : (j : ℕ) → get_or p2 (2 * j + 1) 0 ≡ get_or p (2 * j + 1) 0
-      second_2 j = odd_kept p1 (m - 1) 0 j ∙ v.second j
+      second_2 : (j : ℕ) → get_or cut.pending.now (2 * j + 1) 0 ≡ get_or x.pending.now (2 * j + 1) 0
+      second_2 j = odd_kept now.pending.now (m - 1) 0 j ∙ v.second j
 
       top_in : Memᴰ top ss
-      top_in = v.pulls.among top (subst (λ (ts : List ℕ). Memᴰ top ts) (sym (stack_top p1 m some)) (Memᴰ.head refl))
+      top_in = v.pulls.among top (subst (λ (ts : List ℕ). Memᴰ top ts) (sym (stack_top now.pending.now m some)) (Memᴰ.head refl))
 
-      marked_1 : (x : ℕ) → any (eqb x) ss ≡ ltb 0 (work_of st1 x)
-      marked_1 x = sym (ap (any (eqb x)) (seconds_same p p1 0 n (λ i a b. v.second i))) ∙ v.held.marked x
+      marked_1 : (u : ℕ) → any (eqb u) ss ≡ ltb 0 (work_of now.states.words.now u)
+      marked_1 u = sym (ap (any (eqb u)) (seconds_same x.pending.now now.pending.now 0 n (λ i a b. v.second i))) ∙ v.held.marked u
 
-      pub settle_target : Target N l (tables_of sp1 t st1 mem tr d) s1 p2 n (m - 1) top
+      pub settle_target : Target k cut n (m - 1) top
       settle_target = record {
         held = held_pop v.held some;
-        target = ltb-true 0 (work_of st1 top) (sym (marked_1 top) ∙ is_true (any (eqb top) ss) (any_of (eqb top) top_in (eqb_refl top)));
-        listed = λ x k. omega (arith, v.lists x, clear_count sp t st mem tr c S.held x, (S.links x (any_mem x ss (marked_1 x ∙ lt-ltb 0 (work_of st1 x) k))).marked);
+        target = ltb-true 0 (work_of now.states.words.now top) (sym (marked_1 top) ∙ is_true (any (eqb top) ss) (any_of (eqb top) top_in (eqb_refl top)));
+        listed = λ u z. omega (arith, v.lists u, clear_count v.start.held u, (v.start.links u (any_mem u ss (marked_1 u ∙ lt-ltb 0 (work_of now.states.words.now u) z))).marked);
       }
 
       -- the bound is not used up
@@ -281,77 +302,56 @@ module _ (sp t st mem tr : List ℕ) (c : Counts) {N : ℕ} {l : Limits} {s p : 
       more_left = by_test (eqb left 0)
           (λ e. absurd (omega (
             arith,
-            stack_length p1 m,
-            ap length (none_left b W ss S.links lent (subst (λ (k : ℕ). Pulls b W ss S.links k [] κ1 (work (stack p1 m) (live_by N st1))) (eqb-true left 0 e) v.pulls)),
+            stack_length now.pending.now m,
+            ap length (none_left b W ss v.start.links lent (subst (λ (j : ℕ). Pulls b W ss v.start.links j [] κ (work_in k now m)) (eqb-true left 0 e) v.pulls)),
           )))
           (λ e. positive left (eqb-false left 0 e))
         where
-          positive : (k : ℕ) → (k ≡ 0 → ⊥) → 0 < k
+          positive : (j : ℕ) → (j ≡ 0 → ⊥) → 0 < j
           positive zero z = absurd (z refl)
-          positive (suc k) z = omega arith
+          positive (suc j) z = omega arith
 
       left_suc : left ≡ suc (left - 1)
       left_suc = omega (arith, more_left)
 
-      pulls_1 : Pulls b W ss S.links (left - 1) (steps_to b W ss S.links top ss) κ1 (work (stack p2 (m - 1)) (live_by N st1))
-      pulls_1 = take_next b W ss S.links lent (subst (λ (k : ℕ). Pulls b W ss S.links k [] κ1 (work (stack p1 m) (live_by N st1))) left_suc v.pulls) (stack_top p1 m some)
+      pulls_1 : Pulls b W ss v.start.links (left - 1) (steps_to b W ss v.start.links top ss) κ (work_in k cut (m - 1))
+      pulls_1 = take_next b W ss v.start.links lent (subst (λ (j : ℕ). Pulls b W ss v.start.links j [] κ (work_in k now m)) left_suc v.pulls) (stack_top now.pending.now m some)
 
-      abbrev step : Outcome Tables Work
-      step = M.pull_all N (limits_of l) (length p2 / 2) top (seconds p2 0 n) (work (stack p2 (m - 1)) (live_by N st1)) κ1
+      abbrev step : Step Tables Work
+      step = pulling_all k cut top n (m - 1)
 
-      step_is : M.pull_all N (limits_of l) lent top ss (work (stack p2 (m - 1)) (live_by N st1)) κ1 ≡ step
-      step_is = ap₂ (λ (k : ℕ) (zs : List ℕ). M.pull_all N (limits_of l) (k / 2) top zs (work (stack p2 (m - 1)) (live_by N st1)) κ1) (sym len_2) (sym (seconds_same p p2 0 n (λ i a b. second_2 i)))
+      step_is : M.pull_all k.fields (limits_of k.limits) lent top ss (work_in k cut (m - 1)) κ ≡ step κ
+      step_is = ap₂ (λ (j : ℕ) (zs : List ℕ). M.pull_all k.fields (limits_of k.limits) (j / 2) top zs (work_in k cut (m - 1)) κ) (sym len_2) (sym (seconds_same x.pending.now cut.pending.now 0 n (λ i a b. second_2 i)))
 
-      taken : Stage (query_layer N l) 0 0 all (after step (M.settle N (limits_of l) lent (left - 1) ss)) (clear_tables σ₀) κ1 c d s s1
+      taken : Stage (query_layer k.fields k.limits) 0 0 (settling k x n (clear_in x)) (after (step κ) (settle_by k x n (left - 1))) (clear_in x) κ x.scratch.now now.scratch.now
       unfolding M.settle
-      taken = instead (query_layer N l) 0 0 v.stage
-          (ap₂ (λ (k : ℕ) (ts : List ℕ). M.settle N (limits_of l) lent k ss (work ts (live_by N st1)) κ1) left_suc (stack_top p1 m some)
-          ∙ ap (λ (o : Outcome Tables Work). after o (M.settle N (limits_of l) lent (left - 1) ss)) step_is)
+      taken = instead (query_laws k.fields k.limits) 0 0 v.stage
+          (ap₂ (λ (j : ℕ) (ts : List ℕ). settle_by k x n j (work ts (live_by k.fields now.states.words.now)) κ) left_suc (stack_top now.pending.now m some)
+          ∙ ap (λ (o : Outcome Tables Work). after o (settle_by k x n (left - 1))) step_is)
 
-      abbrev StepTo : (sp2 st2 s2 p3 : List ℕ) → Walked → Type 0
-      StepTo sp2 st2 s2 p3 r = PulledBy N l step (tables_of sp1 t st1 mem tr d) d r n (tables_of sp2 t st2 mem tr) s1 s2 p2 p3
+      module _ {then : Lent} where
+        pub settle_stuck : {e : Refusal} {r : Result (Unit {0}) Refusal} → IsErr r × IsErrAnd r (λ a. a ≡ e) → Pulled k n step cut (Err e) then → Settles k n x r then
+        settle_stuck q G = subst (λ (r : Result (Unit {0}) Refusal). Settles k n x r then) (sym (passed q))
+            (record { post = record { post = stuck (query_laws k.fields k.limits) 0 0 G.post.post (settle_by k x n (left - 1)) taken }; held = tt; second = tt })
 
-      module _ (r : Walked) (sp2 st2 s2 p3 : List ℕ) (D : StepTo sp2 st2 s2 p3 r) where
-        pub settle_stuck : {e : ℕ} → r ≡ walked.Refused e → all ≡ refused e
-        settle_stuck q = taken.is ∙ ap (λ (z : Outcome Tables Work). after z (M.settle N (limits_of l) lent (left - 1) ss)) (subst (StepTo sp2 st2 s2 p3) q D)
+        module _ {m2 : ℕ} (G : Pulled k n step cut (Ok m2) then) where
+          pulls_2 : Pulls b W ss v.start.links (left - 1) [] (clear_in then) (work_in k then m2)
+          pulls_2 = (came (subst (Ends k.fields (limits_of k.limits) lent (PullsFrom b W ss v.start.links (left - 1) [] κ) κ) (step_is ∙ G.post.post.is)
+              (all_ends b W ss v.start.links lent (left - 1) top ss κ (work_in k cut (m - 1)) (λ u z. z) pulls_1))).1
 
-        module _ {e : Counts} {m2 : ℕ} (q : r ≡ walked.To e m2) where
-          abbrev κ2 : Tables
-          κ2 = clear_of sp2 t st2 mem tr e
-
-          abbrev w2 : Work
-          w2 = work (stack p3 m2) (live_by N st2)
-
-          G : StepTo sp2 st2 s2 p3 (walked.To e m2)
-          G = subst (StepTo sp2 st2 s2 p3) q D
-
-          pulls_2 : Pulls b W ss S.links (left - 1) [] κ2 w2
-          pulls_2 = (came (subst (Ends N (limits_of l) lent (PullsFrom b W ss S.links (left - 1) [] κ1) κ1) (step_is ∙ G.post.is)
-              (all_ends b W ss S.links lent (left - 1) top ss κ1 (work (stack p2 (m - 1)) (live_by N st1)) (λ x k. k) pulls_1))).1
-
-          pub settle_again : length p3 ≡ length p2 → Between sp2 st2 e m2 s2 p3
-          settle_again k =
-              let Q = pulls_left b W ss S.links st2 (stack_length p3 m2) pulls_2 in
+          pub settle_again : OnlySearch cut then → Between k x n then m2
+          settle_again K =
+              let Q = pulls_left b W ss v.start.links then.states.words.now (stack_length then.pending.now m2) pulls_2 in
               record {
-                stage = instead (query_layer N l) 0 0 (next (query_layer N l) 0 0 G.post (all_of 0 0) (M.settle N (limits_of l) lent (left - 1) ss) taken)
-                    (settle_more b W ss S.links lent (left - 1) (left_of N sp2 st2 ss m2) κ2 w2 pulls_2 Q);
+                start = v.start;
+                keeps = search_trans v.keeps (search_trans (popped_keeps now m) K);
+                stage = instead (query_laws k.fields k.limits) 0 0 (next (query_laws k.fields k.limits) 0 0 G.post.post (all_of 0 0) (settle_by k x n (left - 1)) taken)
+                    (settle_more b W ss v.start.links lent (left - 1) (left_in k x n then m2) (clear_in then) (work_in k then m2) pulls_2 Q);
                 pulls = Q;
                 held = G.held;
                 second = λ j. G.second j ∙ second_2 j;
-                lists = λ x. G.lists x ∙ v.lists x;
-                len = k ∙ len_2;
+                lists = λ u. G.lists u ∙ v.lists u;
               }
 
-          pub settle_less : left_of N sp2 st2 ss m2 < left
-          settle_less = omega (arith, more_left, left_most b W ss S.links st2 (stack_length p3 m2) pulls_2)
-
-    pub settle_end : m ≤ 0 → Settled N l n σ₀ c d n (tables_of sp1 t st1 mem tr) s s1 p p1
-    unfolding stack
-    settle_end le = record {
-      same = refl;
-      post = done (query_layer N l) 0 0 (λ e. clear_tables (tables_of sp1 t st1 mem tr e))
-          (instead (query_layer N l) 0 0 v.stage
-          (ap (λ (ts : List ℕ). M.settle N (limits_of l) lent left ss (work ts (live_by N st1)) κ1) (ap (stack p1) {x = m} {y = 0} (omega arith)) ∙ settle_none N (limits_of l) lent left ss (live_by N st1) κ1)) tt;
-      held = subst (λ (k : ℕ). Held N l (tables_of sp1 t st1 mem tr d) s1 p1 n k) {x = m} {y = 0} (omega arith) v.held;
-      second = v.second;
-    }
+          pub settle_less : left_in k x n then m2 < left
+          settle_less = omega (arith, more_left, left_most b W ss v.start.links then.states.words.now (stack_length then.pending.now m2) pulls_2)

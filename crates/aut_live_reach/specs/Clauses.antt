@@ -1,55 +1,61 @@
 -- 01, "Strings" (live): what the visits of live_packets in code ask and promise.
-use Rattle.std.specs.Prelude.{◌≡◌, List, ℕ, ◌+◌, ◌*◌, ◌-◌, ◌/◌, ◌≤◌, ◌<◌, length, get_or}
-use Rattle.common.specs.Outcome.{Outcome, refused}
+use Rattle.std.specs.Prelude.{◌≡◌, ℕ, ◌+◌, ◌*◌, ◌-◌, ◌/◌, ◌≤◌, ◌<◌, length, get_or, Result, IfOk}
+use Rattle.common.specs.Outcome.{Step}
+use Rattle.refusal.specs.declared.Refusal.{Refusal}
 use Rattle.aut_query_steps.specs.Tables.{Tables}
 use Rattle.aut_query_steps.specs.Search.{capacity}
 use Rattle.aut_query_steps.specs.Live as M
 use Rattle.aut_query_steps.specs.Live.{live_at, found}
-use Rattle.aut_query_stage.proofs.Layer.{query_layer}
+use Rattle.aut_query_stage.specs.Lent.{tables_in, GoesQuery}
 use Rattle.aut_states.specs.Clauses.{limits_of}
-use Rattle.aut_states.specs.declared.Counts.{Counts}
-use Rattle.aut_states.specs.declared.Limits.{Limits}
-use Rattle.aut_stage.specs.Stage.{gave, Post}
-use Rattle.aut_free.specs.Clear.{clear_tables}
-use Rattle.aut_live_words.specs.declared.Walked.{Walked}
-use Rattle.aut_live_words.specs.declared.Walked.TheVariants as walked
+use Rattle.aut_states.specs.declared.Config.{Config}
+use Rattle.aut_relations.specs.declared.Aut.{Aut as Lent}
+use Rattle.aut_query_calls.specs.Working.{clear_in}
 use Rattle.aut_live_words.specs.Work.{live_by, seconds, Held, Doubled}
 
-pub record PreVisit (N : ℕ) (l : Limits) (σ : Tables) (s p : List ℕ) (head n : ℕ) : Type 0 where
-  pub held : Held N l σ s p n n
+-- ---- a visit
+
+-- n states are reached; that of entry `head` is to be visited
+pub record VisitAsked (k : Config) (x : Lent) (head n : ℕ) : Type 0 where
+  pub fields : x.spp.fields ≡ k.fields
+  pub held : Held k.fields k.limits (tables_in x) x.scratch.now x.pending.now n n
   pub waits : head < n
 
--- the step that visits entry `head`, of n
-abbrev pub visiting : (N : ℕ) → Limits → (head n : ℕ) → Tables → List ℕ → Outcome Tables M.Visit
-visiting N l head n σ p = M.visit N (limits_of l) (length p / 2) (get_or p (2 * head + 1) 0) (seconds p 0 head) (seconds p (head + 1) (n - (head + 1))) (clear_tables σ)
+abbrev pub visited_state : Lent → ℕ → ℕ
+visited_state x head = get_or x.pending.now (2 * head + 1) 0
 
--- it has been done; τ are the tables now, with k entries
-pub record Visited (N : ℕ) (l : Limits) (head n : ℕ) (σ : Tables) (c d : Counts) (k : ℕ) (at : Counts → Tables) (s s' p p' : List ℕ) : Type 0 where
-  pub post : Post (query_layer N l) 0 1088 (λ τ v. Unit) (visiting N l head n σ p) (clear_tables σ) c
-      (gave d (record { ends = live_by N (at d).base.aut.states.words (get_or p (2 * head + 1) 0); waiting = seconds p' (head + 1) (k - (head + 1)) })) (λ e. clear_tables (at e)) s s'
-  pub held : Held N l (at d) s' p' k k
-  pub live : (y : ℕ) → live_by N (at d).base.aut.states.words y ≡ live_at (get_or p (2 * head + 1) 0) (live_by N (at d).base.aut.states.words (get_or p (2 * head + 1) 0)) (live_by N σ.base.aut.states.words) y
-  pub low : (j : ℕ) → j < 2 * n → get_or p' j 0 ≡ get_or p j 0
-  pub more : n ≤ k
-  pub doubled : Doubled p n → Doubled p' k
+abbrev pub visiting : Config → Lent → (head n : ℕ) → Step Tables M.Visit
+visiting k x head n = M.visit k.fields (limits_of k.limits) (length x.pending.now / 2) (visited_state x head) (seconds x.pending.now 0 head) (seconds x.pending.now (head + 1) (n - (head + 1)))
 
-abbrev pub PostVisit : (N : ℕ) → Limits → (head n : ℕ) → Tables → Counts → Walked → (Counts → Tables) → (s s' p p' : List ℕ) → Type 0
-PostVisit N l head n σ c (walked.To d k) at s s' p p' = Visited N l head n σ c d k at s s' p p'
-PostVisit N l head n σ c (walked.Refused e) at s s' p p' = visiting N l head n σ p ≡ refused e
+-- the set of s, and the states behind entry `head`, of m
+abbrev pub visit_in : Config → Lent → (head s m : ℕ) → M.Visit
+visit_in k y head s m = record { ends = live_by k.fields y.states.words.now s; waiting = seconds y.pending.now (head + 1) (m - (head + 1)) }
 
--- one state is there, its set empty
-pub record PreExplore (N : ℕ) (l : Limits) (σ : Tables) (s p : List ℕ) : Type 0 where
-  pub held : Held N l σ s p 1 1
-  pub doubled : Doubled p 1
+-- from n states reached in x it has come to m in y
+pub record Further (k : Config) (x : Lent) (head n : ℕ) (y : Lent) (m : ℕ) : Type 0 where
+  pub held : Held k.fields k.limits (tables_in y) y.scratch.now y.pending.now m m
+  pub live : (t : ℕ) → live_by k.fields y.states.words.now t ≡ live_at (visited_state x head) (live_by k.fields y.states.words.now (visited_state x head)) (live_by k.fields x.states.words.now) t
+  pub low : (j : ℕ) → j < 2 * n → get_or y.pending.now j 0 ≡ get_or x.pending.now j 0
+  pub more : n ≤ m
+  pub doubled : Doubled x.pending.now n → Doubled y.pending.now m
 
-abbrev pub exploring : (N : ℕ) → Limits → Tables → List ℕ → Outcome Tables M.Found
-exploring N l σ p = M.explore N (limits_of l) (length p / 2) (capacity (length p / 2)) (seconds p 0 0) (seconds p 0 1) (live_by N σ.base.aut.states.words) (clear_tables σ)
+pub record Visits (k : Config) (head n : ℕ) (x : Lent) (r : Result ℕ Refusal) (y : Lent) : Type 0 where
+  pub post : GoesQuery k 0 1088 clear_in (λ τ v. Unit) (visit_in k y head (visited_state x head)) (visiting k x head n) x r y
+  pub further : IfOk r (Further k x head n y)
 
-pub record Explored (N : ℕ) (l : Limits) (σ : Tables) (c d : Counts) (n : ℕ) (at : Counts → Tables) (s s' p p' : List ℕ) : Type 0 where
-  pub post : Post (query_layer N l) 0 1088 (λ τ f. Unit) (exploring N l σ p) (clear_tables σ) c (gave d (found (seconds p' 0 n) (live_by N (at d).base.aut.states.words))) (λ e. clear_tables (at e)) s s'
-  pub held : Held N l (at d) s' p' n n
-  pub doubled : Doubled p' n
+-- ---- all visits
 
-abbrev pub PostExplore : (N : ℕ) → Limits → Tables → Counts → Walked → (Counts → Tables) → (s s' p p' : List ℕ) → Type 0
-PostExplore N l σ c (walked.To d n) at s s' p p' = Explored N l σ c d n at s s' p p'
-PostExplore N l σ c (walked.Refused e) at s s' p p' = exploring N l σ p ≡ refused e
+-- one state is reached, its set empty
+pub record ExploreAsked (k : Config) (x : Lent) : Type 0 where
+  pub fields : x.spp.fields ≡ k.fields
+  pub held : Held k.fields k.limits (tables_in x) x.scratch.now x.pending.now 1 1
+  pub doubled : Doubled x.pending.now 1
+
+abbrev pub exploring : Config → Lent → Step Tables M.Found
+exploring k x = M.explore k.fields (limits_of k.limits) (length x.pending.now / 2) (capacity (length x.pending.now / 2)) (seconds x.pending.now 0 0) (seconds x.pending.now 0 1) (live_by k.fields x.states.words.now)
+
+-- n states are reached, in the order of their entries, each with its set
+pub record Explores (k : Config) (x : Lent) (r : Result ℕ Refusal) (y : Lent) : Type 0 where
+  pub post : GoesQuery k 0 1088 clear_in (λ τ f. Unit) (λ n. found (seconds y.pending.now 0 n) (live_by k.fields y.states.words.now)) (exploring k x) x r y
+  pub held : IfOk r (λ n. Held k.fields k.limits (tables_in y) y.scratch.now y.pending.now n n)
+  pub doubled : IfOk r (λ n. Doubled y.pending.now n)

@@ -13,7 +13,6 @@ use borrow.Author.Tests.{eqb-true, eqb-false, ltb-true, ltb-false, lt-ltb, le-lt
 use Rattle.common.specs.Packets.{any}
 use Rattle.common.proofs.PacketLaws.{any_of}
 use Rattle.common.specs.Outcome.{refused, given}
-use Rattle.common.specs.Runs.{table}
 use Rattle.netkat_steps.specs.ListSteps.{Edge}
 use Rattle.sp_steps.specs.Model as Sp
 use Rattle.sp_steps.specs.Wf as SpLaws
@@ -27,14 +26,15 @@ use Rattle.aut_query_steps.specs.Search.{capacity}
 use Rattle.aut_query_steps.specs.Live as M
 use Rattle.aut_query_steps.specs.Live.{live_at}
 use Rattle.aut_query_steps.proofs.ExploreLaws.{any_mem}
-use Rattle.aut_query_stage.specs.Layer.{tables_of}
-use Rattle.aut_states.specs.declared.Counts.{Counts}
+use Rattle.aut_query_stage.specs.Layer.{QueryReady}
+use Rattle.aut_query_stage.specs.Lent.{tables_in}
 use Rattle.aut_states.specs.declared.Limits.{Limits}
-use Rattle.aut_free.specs.Clear.{clear}
+use Rattle.aut_relations.specs.declared.Aut.{Aut as Lent}
+use Rattle.aut_sets.specs.Lent.{OnlyMarks}
+use Rattle.aut_free.specs.Clear.{clear_tables, clear}
 use Rattle.aut_free.proofs.Clearing.{clear_set, clear_length}
 use Rattle.aut_query_calls.specs.Working.{Working}
-use Rattle.aut_query_calls.proofs.Working.{Unwritten}
-use Rattle.aut_query_calls.proofs.Works.{working_written}
+use Rattle.aut_query_calls.specs.Working.{Unwritten, with_words}
 use Rattle.aut_live_words.specs.Work.{work_of, live_by, seconds, Held, Doubled, Reaches, there, new, full, Enqueues, none, one, over}
 use Rattle.aut_live_words.proofs.Words.{seconds_length, seconds_same, seconds_split, seconds_one, second_in}
 
@@ -140,33 +140,55 @@ module _ {N : ℕ} {l : Limits} {σ : Tables} {s p : List ℕ} {n m : ℕ} (H : 
   pub held_second : (i : ℕ) → i < n → 0 < work_of st₀ (get_or p (2 * i + 1) 0)
   held_second i a = held_reached (get_or p (2 * i + 1) 0) (second_in p 0 n i (omega arith) (omega arith))
 
+-- ---- tables with other words of states
+
+-- what a call on words of states and pending entries alone leaves
+pub tables_marked : {x y : Lent} → OnlyMarks x y → tables_in y ≡ with_words y.states.words.now (tables_in x)
+tables_marked {x} {y} k = rw k.sp (rw k.spp (rw k.count (rw k.members (rw k.transitions refl))))
+
+module _ (σ : Tables) (x w v : ℕ) (a : 8 ≤ w) (b : w < 12) where
+  pub clear_set_in : clear_tables (with_words (set σ.base.aut.states.words (12 * x + w) v) σ) ≡ clear_tables σ
+  clear_set_in = ap (λ (u : List ℕ). with_words u σ) (clear_set σ.base.aut.states.words x w v a b)
+
+  pub working_set : {N : ℕ} {l : Limits} {s : List ℕ} → x < states σ.base.aut → Working N l σ s → Working N l (with_words (set σ.base.aut.states.words (12 * x + w) v) σ) s
+  working_set {N} {l} {s} k W = record {
+    ready = subst (λ (τ : Tables). QueryReady N l τ s) (sym clear_set_in) W.ready;
+    fresh = λ j y. get_or-set_other σ.base.aut.states.words (12 * x + w) j v 0 (λ q. omega arith) ∙ W.fresh j y;
+  }
+
 -- ---- a word 9 is written
 
-module _ {N : ℕ} {l : Limits} {sp t st mem tr : List ℕ} {c : Counts} {s p : List ℕ} {n m : ℕ} (H : Held N l (tables_of sp t st mem tr c) s p n m) where
-  there_word : (x : ℕ) → x < c.states → 12 * x + 9 < length st
+module _ {N : ℕ} {l : Limits} {σ : Tables} {s p : List ℕ} {n m : ℕ} (H : Held N l σ s p n m) where
+  abbrev st : List ℕ
+  st = σ.base.aut.states.words
+
+  abbrev count : ℕ
+  count = states σ.base.aut
+
+  there_word : (x : ℕ) → x < count → 12 * x + 9 < length st
   there_word x k = omega (arith, k, fits_real)
     where
-      fits_real : 12 * c.states ≤ length st
-      fits_real = subst (λ (n : ℕ). 12 * c.states ≤ n) (clear_length st) H.working.ready.ready.good.fits
+      fits_real : 12 * count ≤ length st
+      fits_real = subst (λ (n : ℕ). 12 * count ≤ n) (clear_length st) H.working.ready.ready.good.fits
 
   pub held_there : (x : ℕ) → 0 < work_of st x → 12 * x + 11 < length st
-  held_there x a = omega (arith, held_state H x a, subst (λ (n : ℕ). 12 * c.states ≤ n) (clear_length st) H.working.ready.ready.good.fits)
+  held_there x a = omega (arith, held_state H x a, subst (λ (n : ℕ). 12 * count ≤ n) (clear_length st) H.working.ready.ready.good.fits)
 
-  pub held_fits : (x : ℕ) → x < c.states → 12 * x + 11 < length st
-  held_fits x k = omega (arith, k, subst (λ (n : ℕ). 12 * c.states ≤ n) (clear_length st) H.working.ready.ready.good.fits)
+  pub held_fits : (x : ℕ) → x < count → 12 * x + 11 < length st
+  held_fits x k = omega (arith, k, subst (λ (n : ℕ). 12 * count ≤ n) (clear_length st) H.working.ready.ready.good.fits)
 
   rest_set : (x v : ℕ) → (y w : ℕ) → 8 ≤ w → w < 12 → w ≢ 9 → get_or (set st (12 * x + 9) v) (12 * y + w) 0 ≡ 0
   rest_set x v y w a b k = get_or-set_other st (12 * x + 9) (12 * y + w) v 0 (λ q. k (omega arith)) ∙ H.rest y w a b k
 
-  sets_set : (x h : ℕ) → x < c.states → SpLaws.ValidAt (table sp c.sp) N h → (y : ℕ) → 0 < work_of (set st (12 * x + 9) (h + 1)) y → SpLaws.ValidAt (table sp c.sp) N (work_of (set st (12 * x + 9) (h + 1)) y - 1)
+  sets_set : (x h : ℕ) → x < count → SpLaws.ValidAt σ.sets N h → (y : ℕ) → 0 < work_of (set st (12 * x + 9) (h + 1)) y → SpLaws.ValidAt σ.sets N (work_of (set st (12 * x + 9) (h + 1)) y - 1)
   sets_set x h k a y r = by_test (eqb y x)
       (λ b. let q : y ≡ x = eqb-true y x b in
-      subst (λ (z : ℕ). SpLaws.ValidAt (table sp c.sp) N (work_of (set st (12 * x + 9) (h + 1)) z - 1)) (sym q)
-      (subst (λ (w : ℕ). SpLaws.ValidAt (table sp c.sp) N w) {x = h} {y = work_of (set st (12 * x + 9) (h + 1)) x - 1} (omega (arith, work_here st x (h + 1) (there_word x k))) a))
+      subst (λ (z : ℕ). SpLaws.ValidAt σ.sets N (work_of (set st (12 * x + 9) (h + 1)) z - 1)) (sym q)
+      (subst (λ (w : ℕ). SpLaws.ValidAt σ.sets N w) {x = h} {y = work_of (set st (12 * x + 9) (h + 1)) x - 1} (omega (arith, work_here st x (h + 1) (there_word x k))) a))
       (λ b. let e = work_there st x (h + 1) y (eqb-false y x b) in
-      subst (λ (w : ℕ). SpLaws.ValidAt (table sp c.sp) N (w - 1)) (sym e) (H.sets y (omega (arith, e))))
+      subst (λ (w : ℕ). SpLaws.ValidAt σ.sets N (w - 1)) (sym e) (H.sets y (omega (arith, e))))
 
-  marked_set : (x h : ℕ) → x < c.states → (y : ℕ) → (any (eqb y) (seconds p 0 n) || eqb y x) ≡ ltb 0 (work_of (set st (12 * x + 9) (h + 1)) y)
+  marked_set : (x h : ℕ) → x < count → (y : ℕ) → (any (eqb y) (seconds p 0 n) || eqb y x) ≡ ltb 0 (work_of (set st (12 * x + 9) (h + 1)) y)
   marked_set x h k y = by_test (eqb y x)
       (λ b. let q : y ≡ x = eqb-true y x b in
       ap (λ (d : Bool). any (eqb y) (seconds p 0 n) || d) b ∙ or_true (any (eqb y) (seconds p 0 n))
@@ -196,9 +218,9 @@ module _ {N : ℕ} {l : Limits} {sp t st mem tr : List ℕ} {c : Counts} {s p : 
           go true = refl
           go false = refl
 
-  pub held_write : (x h : ℕ) → 0 < work_of st x → SpLaws.ValidAt (table sp c.sp) N h → Held N l (tables_of sp t (set st (12 * x + 9) (h + 1)) mem tr c) s p n m
+  pub held_write : (x h : ℕ) → 0 < work_of st x → SpLaws.ValidAt σ.sets N h → Held N l (with_words (set st (12 * x + 9) (h + 1)) σ) s p n m
   held_write x h a z = record {
-    working = working_written sp t st mem tr c x 9 (h + 1) (omega arith) (omega arith) (held_state H x a) H.working;
+    working = working_set σ x 9 (h + 1) (omega arith) (omega arith) (held_state H x a) H.working;
     marked = marked_same x h a;
     sets = sets_set x h (held_state H x a) z;
     rest = rest_set x (h + 1);
@@ -210,18 +232,18 @@ module _ {N : ℕ} {l : Limits} {sp t st mem tr : List ℕ} {c : Counts} {s p : 
 
 -- ---- states are reached
 
--- st and p have become st' and p', with k states
-pub record Moved (N : ℕ) (l : Limits) (sp t st mem tr : List ℕ) (c : Counts) (s p : List ℕ) (n : ℕ) (st' p' : List ℕ) (k : ℕ) : Type 0 where
-  pub held : Held N l (tables_of sp t st' mem tr c) s p' k k
-  pub live : (y : ℕ) → live_by N st' y ≡ live_by N st y
-  pub clear : clear st' ≡ clear st
+-- the words of states and p have become st' and p', with k states
+pub record Moved (N : ℕ) (l : Limits) (σ : Tables) (s p : List ℕ) (n : ℕ) (st' p' : List ℕ) (k : ℕ) : Type 0 where
+  pub held : Held N l (with_words st' σ) s p' k k
+  pub live : (y : ℕ) → live_by N st' y ≡ live_by N σ.base.aut.states.words y
+  pub clear : clear st' ≡ clear σ.base.aut.states.words
   pub low : (j : ℕ) → j < 2 * n → get_or p' j 0 ≡ get_or p j 0
   pub more : n ≤ k
   pub doubled : Doubled p n → Doubled p' k
   pub len : length p' ≡ length p
 
-moved_trans : {N : ℕ} {l : Limits} {sp t st mem tr : List ℕ} {c : Counts} {s p : List ℕ} {n : ℕ} {st₁ p₁ : List ℕ} {k : ℕ} {st₂ p₂ : List ℕ} {j : ℕ}
-    → Moved N l sp t st mem tr c s p n st₁ p₁ k → Moved N l sp t st₁ mem tr c s p₁ k st₂ p₂ j → Moved N l sp t st mem tr c s p n st₂ p₂ j
+moved_trans : {N : ℕ} {l : Limits} {σ : Tables} {s p : List ℕ} {n : ℕ} {st₁ p₁ : List ℕ} {k : ℕ} {st₂ p₂ : List ℕ} {j : ℕ}
+    → Moved N l σ s p n st₁ p₁ k → Moved N l (with_words st₁ σ) s p₁ k st₂ p₂ j → Moved N l σ s p n st₂ p₂ j
 moved_trans a b = record {
   held = b.held;
   live = λ y. b.live y ∙ a.live y;
@@ -240,15 +262,15 @@ seconds_new p n y f =
     (seconds_same p (put_edge p n y y) 0 n (λ i u v. put_other p n y y (2 * i + 1) (λ q. omega arith) (λ q. omega arith)))
     (ap (λ (a : ℕ). seconds (put_edge p n y y) a 1) {x = 0 + n} {y = n} (omega arith) ∙ seconds_one (put_edge p n y y) n ∙ ap (λ (z : ℕ). z ∷ []) (get_or-set_same (set p (2 * n) y) (2 * n + 1) y 0 (simp length-set (omega (arith, f)))))
 
-module _ {N : ℕ} {l : Limits} {sp t mem tr : List ℕ} {c : Counts} {s : List ℕ} where
-  moved_refl : {st p : List ℕ} {n : ℕ} → Held N l (tables_of sp t st mem tr c) s p n n → Moved N l sp t st mem tr c s p n st p n
+module _ {N : ℕ} {l : Limits} {s : List ℕ} where
+  moved_refl : {σ : Tables} {p : List ℕ} {n : ℕ} → Held N l σ s p n n → Moved N l σ s p n σ.base.aut.states.words p n
   moved_refl H = record { held = H; live = λ y. refl; clear = refl; low = λ j u. refl; more = omega arith; doubled = λ d. d; len = refl }
 
-  moved_new : {st p : List ℕ} {n y : ℕ} → Held N l (tables_of sp t st mem tr c) s p n n → y < c.states → work_of st y ≡ 0 → n < capacity (length p / 2)
-      → Moved N l sp t st mem tr c s p n (set st (12 * y + 9) (Sp.zero_at N + 1)) (put_edge p n y y) (n + 1)
-  moved_new {st} {p} {n} {y} H k w r = record {
+  moved_new : {σ : Tables} {p : List ℕ} {n y : ℕ} → Held N l σ s p n n → y < states σ.base.aut → work_of σ.base.aut.states.words y ≡ 0 → n < capacity (length p / 2)
+      → Moved N l σ s p n (set σ.base.aut.states.words (12 * y + 9) (Sp.zero_at N + 1)) (put_edge p n y y) (n + 1)
+  moved_new {σ} {p} {n} {y} H k w r = record {
     held = record {
-      working = working_written sp t st mem tr c y 9 (Sp.zero_at N + 1) (omega arith) (omega arith) k H.working;
+      working = working_set σ y 9 (Sp.zero_at N + 1) (omega arith) (omega arith) k H.working;
       marked = λ x. ap (any (eqb x)) (seconds_new p n y f) ∙ any_behind (eqb x) (seconds p 0 n) y ∙ marked_set H y (Sp.zero_at N) k x;
       sets = sets_set H y (Sp.zero_at N) k (SpLawsProofs.zero_at_lem H.working.ready.ordered.sets N (omega arith));
       rest = rest_set H y (Sp.zero_at N + 1);
@@ -257,10 +279,10 @@ module _ {N : ℕ} {l : Limits} {sp t mem tr : List ℕ} {c : Counts} {s : List 
       room = subst (λ (k : ℕ). n + 1 ≤ capacity (k / 2)) (sym (put_length p n y y)) (omega (arith, r));
       high = subst (λ (k : ℕ). n + 1 ≤ capacity (k / 2)) (sym (put_length p n y y)) (omega (arith, r));
     };
-    live = λ x. live_set N st y (Sp.zero_at N) (there_word H y k) x ∙ by_test (eqb y x)
-        (λ b. ap (λ (d : Bool). if d then Sp.zero_at N else live_by N st x) b ∙ sym (live_fresh N st x (subst (λ (z : ℕ). work_of st z ≡ 0) (eqb-true y x b) w)))
-        (λ b. ap (λ (d : Bool). if d then Sp.zero_at N else live_by N st x) b);
-    clear = clear_set st y 9 (Sp.zero_at N + 1) (omega arith) (omega arith);
+    live = λ x. live_set N σ.base.aut.states.words y (Sp.zero_at N) (there_word H y k) x ∙ by_test (eqb y x)
+        (λ b. ap (λ (d : Bool). if d then Sp.zero_at N else live_by N σ.base.aut.states.words x) b ∙ sym (live_fresh N σ.base.aut.states.words x (subst (λ (z : ℕ). work_of σ.base.aut.states.words z ≡ 0) (eqb-true y x b) w)))
+        (λ b. ap (λ (d : Bool). if d then Sp.zero_at N else live_by N σ.base.aut.states.words x) b);
+    clear = clear_set σ.base.aut.states.words y 9 (Sp.zero_at N + 1) (omega arith) (omega arith);
     low = λ j u. put_other p n y y j (λ q. omega arith) (λ q. omega arith);
     more = omega arith;
     doubled = λ d i u. by_test (eqb i n)
@@ -274,33 +296,33 @@ module _ {N : ℕ} {l : Limits} {sp t mem tr : List ℕ} {c : Counts} {s : List 
       f : 2 * n + 1 < length p
       f = omega (arith, r)
 
-  pub reach_moved : {st p : List ℕ} {n y k : ℕ} {st' p' : List ℕ} → Held N l (tables_of sp t st mem tr c) s p n n → y < c.states → Reaches N (capacity (length p / 2)) n y st p (Some k) st' p'
-      → Moved N l sp t st mem tr c s p n st' p' k
+  pub reach_moved : {σ : Tables} {p : List ℕ} {n y k : ℕ} {st' p' : List ℕ} → Held N l σ s p n n → y < states σ.base.aut → Reaches N (capacity (length p / 2)) n y σ.base.aut.states.words p (Some k) st' p'
+      → Moved N l σ s p n st' p' k
   reach_moved H a (there b) = moved_refl H
   reach_moved H a (new w r) = moved_new H a w r
 
   -- all targets of a list
-  pub enqueue_moved : {most : ℕ} {es : List Edge} {st p : List ℕ} {n k : ℕ} {st' p' : List ℕ} → most ≡ capacity (length p / 2) → Held N l (tables_of sp t st mem tr c) s p n n → ((e : Edge) → Memᴰ e es → e.target < c.states)
-      → Enqueues N most es n st p (Some k) st' p' → Moved N l sp t st mem tr c s p n st' p' k
+  pub enqueue_moved : {most : ℕ} {es : List Edge} {σ : Tables} {p : List ℕ} {n k : ℕ} {st' p' : List ℕ} → most ≡ capacity (length p / 2) → Held N l σ s p n n → ((e : Edge) → Memᴰ e es → e.target < states σ.base.aut)
+      → Enqueues N most es n σ.base.aut.states.words p (Some k) st' p' → Moved N l σ s p n st' p' k
   enqueue_moved q H f none = moved_refl H
-  enqueue_moved {most} {st = st} {p = p} {n = n} q H f (one {e = e} {k = j} {st₁ = st₁} {p₁ = p₁} R E) =
-      let a : Moved N l sp t st mem tr c s p n st₁ p₁ j = reach_moved H (f e (Memᴰ.head refl)) (subst (λ (m : ℕ). Reaches N m n e.target st p (Some j) st₁ p₁) q R) in
+  enqueue_moved {most} {σ = σ} {p = p} {n = n} q H f (one {e = e} {k = j} {st₁ = st₁} {p₁ = p₁} R E) =
+      let a : Moved N l σ s p n st₁ p₁ j = reach_moved H (f e (Memᴰ.head refl)) (subst (λ (m : ℕ). Reaches N m n e.target σ.base.aut.states.words p (Some j) st₁ p₁) q R) in
       moved_trans a (enqueue_moved (q ∙ ap (λ (m : ℕ). capacity (m / 2)) (sym a.len)) a.held (λ d m. f d (Memᴰ.tail m)) E)
 
   -- .. as the step has it, from the states visited and those that wait
-  pub enqueue_is : {most : ℕ} {es : List Edge} {st p : List ℕ} {n k : ℕ} {st' p' : List ℕ} → most ≡ capacity (length p / 2) → Held N l (tables_of sp t st mem tr c) s p n n → ((e : Edge) → Memᴰ e es → e.target < c.states)
-      → Enqueues N most es n st p (Some k) st' p' → (visited waiting : List ℕ) → visited ++ waiting ≡ seconds p 0 n
+  pub enqueue_is : {most : ℕ} {es : List Edge} {σ : Tables} {p : List ℕ} {n k : ℕ} {st' p' : List ℕ} → most ≡ capacity (length p / 2) → Held N l σ s p n n → ((e : Edge) → Memᴰ e es → e.target < states σ.base.aut)
+      → Enqueues N most es n σ.base.aut.states.words p (Some k) st' p' → (visited waiting : List ℕ) → visited ++ waiting ≡ seconds p 0 n
       → (waiting' : List ℕ) × (visited ++ waiting' ≡ seconds p' 0 k) × ((τ : Tables) → M.enqueue most es visited waiting τ ≡ given τ waiting')
   unfolding M.enqueue
   enqueue_is q H f none visited waiting e = (waiting, e, λ τ. refl)
-  enqueue_is {most} {p = p} {n = n} q H f (one {e = g} {es = es} {st = st} {st₁ = st₁} {p₁ = p₁} (there a) E) visited waiting e =
+  enqueue_is {most} {σ = σ} {p = p} {n = n} q H f (one {e = g} {es = es} {st₁ = st₁} {p₁ = p₁} (there a) E) visited waiting e =
       let (w, x, y) = enqueue_is q H (λ d m. f d (Memᴰ.tail m)) E visited waiting e in (
         w,
         x,
         λ τ. ap (λ (b : Bool). (if b then M.enqueue most es visited waiting else if ltb (length (visited ++ waiting)) most then M.enqueue most es visited (waiting ++ g.target ∷ []) else (λ σ. refused 24)) τ)
-            (ap (any (eqb g.target)) e ∙ H.marked g.target ∙ lt-ltb 0 (work_of st g.target) a) ∙ y τ,
+            (ap (any (eqb g.target)) e ∙ H.marked g.target ∙ lt-ltb 0 (work_of σ.base.aut.states.words g.target) a) ∙ y τ,
       )
-  enqueue_is {most} {p = p} {n = n} q H f (one {e = g} {es = es} {st = st} {st₁ = st₁} {p₁ = p₁} (new a r) E) visited waiting e =
+  enqueue_is {most} {σ = σ} {p = p} {n = n} q H f (one {e = g} {es = es} {st₁ = st₁} {p₁ = p₁} (new a r) E) visited waiting e =
       let m = moved_new H (f g (Memᴰ.head refl)) a (omega (arith, q, r)) in
       let (w, x, y) = enqueue_is (q ∙ ap (λ (m : ℕ). capacity (m / 2)) (sym m.len)) m.held (λ d m. f d (Memᴰ.tail m)) E visited (waiting ++ g.target ∷ [])
       (sym (append_assoc visited waiting (g.target ∷ [])) ∙ ap (λ (l : List ℕ). l ++ g.target ∷ []) e ∙ sym (seconds_new p n g.target (omega (arith, q, r)))) in (
@@ -311,21 +333,21 @@ module _ {N : ℕ} {l : Limits} {sp t mem tr : List ℕ} {c : Counts} {s : List 
             ∙ ap (λ (b : Bool). (if b then M.enqueue most es visited (waiting ++ g.target ∷ []) else (λ σ. refused 24)) τ) (lt-ltb (length (visited ++ waiting)) most (omega (arith, ap length e, seconds_length p 0 n, r))) ∙ y τ,
       )
 
-  pub enqueue_refused : {most : ℕ} {es : List Edge} {st p : List ℕ} {n : ℕ} {st' p' : List ℕ} → most ≡ capacity (length p / 2) → Held N l (tables_of sp t st mem tr c) s p n n → ((e : Edge) → Memᴰ e es → e.target < c.states)
-      → Enqueues N most es n st p None st' p' → (visited waiting : List ℕ) → visited ++ waiting ≡ seconds p 0 n → (τ : Tables) → M.enqueue most es visited waiting τ ≡ refused 24
+  pub enqueue_refused : {most : ℕ} {es : List Edge} {σ : Tables} {p : List ℕ} {n : ℕ} {st' p' : List ℕ} → most ≡ capacity (length p / 2) → Held N l σ s p n n → ((e : Edge) → Memᴰ e es → e.target < states σ.base.aut)
+      → Enqueues N most es n σ.base.aut.states.words p None st' p' → (visited waiting : List ℕ) → visited ++ waiting ≡ seconds p 0 n → (τ : Tables) → M.enqueue most es visited waiting τ ≡ refused 24
   unfolding M.enqueue
-  enqueue_refused {most} {p = p} {n = n} q H f (one {e = g} {es = es} {st = st} {st₁ = st₁} {p₁ = p₁} (there a) E) visited waiting e τ =
+  enqueue_refused {most} {σ = σ} {p = p} {n = n} q H f (one {e = g} {es = es} {st₁ = st₁} {p₁ = p₁} (there a) E) visited waiting e τ =
       ap (λ (b : Bool). (if b then M.enqueue most es visited waiting else if ltb (length (visited ++ waiting)) most then M.enqueue most es visited (waiting ++ g.target ∷ []) else (λ σ. refused 24)) τ)
-      (ap (any (eqb g.target)) e ∙ H.marked g.target ∙ lt-ltb 0 (work_of st g.target) a)
+      (ap (any (eqb g.target)) e ∙ H.marked g.target ∙ lt-ltb 0 (work_of σ.base.aut.states.words g.target) a)
       ∙ enqueue_refused q H (λ d m. f d (Memᴰ.tail m)) E visited waiting e τ
-  enqueue_refused {most} {p = p} {n = n} q H f (one {e = g} {es = es} {st = st} {st₁ = st₁} {p₁ = p₁} (new a r) E) visited waiting e τ =
+  enqueue_refused {most} {σ = σ} {p = p} {n = n} q H f (one {e = g} {es = es} {st₁ = st₁} {p₁ = p₁} (new a r) E) visited waiting e τ =
       let m = moved_new H (f g (Memᴰ.head refl)) a (omega (arith, q, r)) in
       ap (λ (b : Bool). (if b then M.enqueue most es visited waiting else if ltb (length (visited ++ waiting)) most then M.enqueue most es visited (waiting ++ g.target ∷ []) else (λ σ. refused 24)) τ)
       (ap (any (eqb g.target)) e ∙ H.marked g.target ∙ ap (ltb 0) a)
       ∙ ap (λ (b : Bool). (if b then M.enqueue most es visited (waiting ++ g.target ∷ []) else (λ σ. refused 24)) τ) (lt-ltb (length (visited ++ waiting)) most (omega (arith, ap length e, seconds_length p 0 n, r)))
       ∙ enqueue_refused (q ∙ ap (λ (m : ℕ). capacity (m / 2)) (sym m.len)) m.held (λ d m. f d (Memᴰ.tail m)) E visited (waiting ++ g.target ∷ [])
       (sym (append_assoc visited waiting (g.target ∷ [])) ∙ ap (λ (l : List ℕ). l ++ g.target ∷ []) e ∙ sym (seconds_new p n g.target (omega (arith, q, r)))) τ
-  enqueue_refused {most} {p = p} {n = n} q H f (over {e = g} {es = es} {st = st} (full a r)) visited waiting e τ =
+  enqueue_refused {most} {σ = σ} {p = p} {n = n} q H f (over {e = g} {es = es} (full a r)) visited waiting e τ =
       ap (λ (b : Bool). (if b then M.enqueue most es visited waiting else if ltb (length (visited ++ waiting)) most then M.enqueue most es visited (waiting ++ g.target ∷ []) else (λ σ. refused 24)) τ)
       (ap (any (eqb g.target)) e ∙ H.marked g.target ∙ ap (ltb 0) a)
       ∙ ap (λ (b : Bool). (if b then M.enqueue most es visited (waiting ++ g.target ∷ []) else (λ σ. refused 24)) τ) (le-ltb (length (visited ++ waiting)) most (omega (arith, ap length e, seconds_length p 0 n, r)))

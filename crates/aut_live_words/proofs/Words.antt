@@ -122,21 +122,23 @@ module _ {N : ℕ} {st₀ tr p₀ : List ℕ} {n₀ x : ℕ} (P : PreEnqueue N s
       unfolding start_of count_of
       enqueue_asks = record { few = P.few; state = omega (arith, P.targets i lt, v.len_st); fits = subst (λ (m : ℕ). n ≤ m / 2) (sym v.len_p) v.fits }
 
-      module _ {r : Option ℕ} {st1 p1 : List ℕ} (A : Reaches N (capacity (length p / 2)) n y st p r st1 p1) where
-        A' : (z : Option ℕ) → r ≡ z → Reaches N (capacity (length p₀ / 2)) n y st p z st1 p1
-        A' z q = subst (λ (r : Option ℕ). Reaches N (capacity (length p₀ / 2)) n y st p r st1 p1) q (subst (λ (m : ℕ). Reaches N (capacity (m / 2)) n y st p r st1 p1) v.len_p A)
+      here : edges tr (get_or st₀ (12 * x + 5) 0 + i) (get_or st₀ (12 * x + 6) 0 - 1 - i) ≡ edge_at tr (get_or st₀ (12 * x + 5) 0 + i) ∷ edges tr (get_or st₀ (12 * x + 5) 0 + (i + 1)) (get_or st₀ (12 * x + 6) 0 - 1 - (i + 1))
+      here = edges_on tr (get_or st₀ (12 * x + 5) 0) (get_or st₀ (12 * x + 6) 0 - 1) i lt
 
-        here : edges tr (get_or st₀ (12 * x + 5) 0 + i) (get_or st₀ (12 * x + 6) 0 - 1 - i) ≡ edge_at tr (get_or st₀ (12 * x + 5) 0 + i) ∷ edges tr (get_or st₀ (12 * x + 5) 0 + (i + 1)) (get_or st₀ (12 * x + 6) 0 - 1 - (i + 1))
-        here = edges_on tr (get_or st₀ (12 * x + 5) 0) (get_or st₀ (12 * x + 6) 0 - 1) i lt
+      module _ {st1 p1 : List ℕ} where
+        as_first : {z : Option ℕ} → Reaches N (capacity (length p / 2)) n y st p z st1 p1 → Reaches N (capacity (length p₀ / 2)) n y st p z st1 p1
+        as_first {z} A = subst (λ (m : ℕ). Reaches N (capacity (m / 2)) n y st p z st1 p1) v.len_p A
 
-        pub enqueue_full : r ≡ None → PostEnqueue N n₀ x None st₀ tr p₀ st1 p1
+        pub enqueue_full : {r : Option ℕ} → r ≡ None → Reaches N (capacity (length p / 2)) n y st p None st1 p1 → PostEnqueue N n₀ x r st₀ tr p₀ st1 p1
         unfolding start_of count_of
-        enqueue_full q = v.comes None st1 p1 (subst (λ (es : List Edge). Enqueues N (capacity (length p₀ / 2)) es n st p None st1 p1) (sym here) (over (A' None q)))
+        enqueue_full {r} q A = subst (λ (r : Option ℕ). PostEnqueue N n₀ x r st₀ tr p₀ st1 p1) (sym q)
+            (v.comes None st1 p1 (subst (λ (es : List Edge). Enqueues N (capacity (length p₀ / 2)) es n st p None st1 p1) (sym here) (over (as_first A))))
 
-        pub enqueue_again : {m : ℕ} → r ≡ Some m → length st1 ≡ length st → length p1 ≡ length p → Enqueueing N (get_or st₀ (12 * x + 5) 0) (get_or st₀ (12 * x + 6) 0 - 1) n₀ st₀ tr p₀ st1 p1 m (i + 1)
-        enqueue_again {m} q l1 l2 = record {
-          comes = λ r' st' p' e. v.comes r' st' p' (subst (λ (es : List Edge). Enqueues N (capacity (length p₀ / 2)) es n st p r' st' p') (sym here) (one (A' (Some m) q) e));
-          fits = subst (λ (k : ℕ). m ≤ k / 2) v.len_p (reach_fits (subst (λ (k : ℕ). n ≤ k / 2) (sym v.len_p) v.fits) (subst (λ (r : Option ℕ). Reaches N (capacity (length p / 2)) n y st p r st1 p1) q A));
+        pub enqueue_again : {m : ℕ} → Reaches N (capacity (length p / 2)) n y st p (Some m) st1 p1 → length st1 ≡ length st → length p1 ≡ length p
+            → Enqueueing N (get_or st₀ (12 * x + 5) 0) (get_or st₀ (12 * x + 6) 0 - 1) n₀ st₀ tr p₀ st1 p1 m (i + 1)
+        enqueue_again {m} A l1 l2 = record {
+          comes = λ r' st' p' e. v.comes r' st' p' (subst (λ (es : List Edge). Enqueues N (capacity (length p₀ / 2)) es n st p r' st' p') (sym here) (one (as_first A) e));
+          fits = subst (λ (k : ℕ). m ≤ k / 2) v.len_p (reach_fits (subst (λ (k : ℕ). n ≤ k / 2) (sym v.len_p) v.fits) A);
           len_st = l1 ∙ v.len_st;
           len_p = l2 ∙ v.len_p;
         }

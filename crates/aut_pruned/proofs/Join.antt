@@ -1,101 +1,82 @@
 -- delta_pruned: the live sets, delta, and the labels cut, by the rule for a run of calls (aut_stage).
-use mathlib.Core.Path.{◌≡◌, refl, subst}
-use mathlib.Core.List.{List}
+use mathlib.Core.Path.{refl, ◌∙◌}
 use Prim.Native.Nat.{ℕ, ◌/◌, ◌<◌}
 use native.Mathlib.Omega.{arith}
 use lib.ListN.{length}
+use Rattle.std.specs.Prelude.{Result, Ok, Err, ⊤}
 use Rattle.common.specs.Outcome.{after}
 use Rattle.common.proofs.Follow.{given_of}
+use Rattle.refusal.specs.declared.Refusal.{Refusal}
 use Rattle.sp.specs.declared.SP.{SP}
-use Rattle.aut_steps.specs.Wf.{states}
+use Rattle.spp.specs.Clauses.{SameStore}
 use Rattle.aut_steps.proofs.Wf.{state_grown}
 use Rattle.aut_delta_steps.specs.Delta.{delta, list_at}
-use Rattle.aut_delta_steps.specs.Wf.{Stored}
-use Rattle.aut_delta_stage.specs.OnStore.{store_of}
-use Rattle.aut_query_steps.specs.Tables.{Tables, on_base}
+use Rattle.aut_delta_stage.specs.OnTables.{store_in, KeepsStore}
+use Rattle.aut_query_steps.specs.Tables.{on_base}
 use Rattle.aut_query_steps.specs.Live.{live_packets}
 use Rattle.aut_query_steps.proofs.LiveLaws as LiveLaws
 use Rattle.aut_query_steps.proofs.LiveLaws.{live_goes}
 use Rattle.aut_query_steps.specs.Pruned.{prune, delta_pruned}
-use Rattle.aut_query_stage.specs.Layer.{tables_of, PreQuery}
-use Rattle.aut_query_stage.proofs.Layer.{query_layer}
+use Rattle.aut_query_stage.specs.Lent.{tables_in, QueryAsked, query_layer, GoesQuery}
+use Rattle.aut_query_stage.proofs.Lent.{query_laws}
 use Rattle.aut_states.specs.Clauses.{limits_of}
-use Rattle.aut_states.specs.declared.Counts.{Counts}
-use Rattle.aut_states.specs.declared.Limits.{Limits}
-use Rattle.aut_stage.specs.Stage.{gave, Post, Stage}
-use Rattle.aut_stage.proofs.Stage.{begin, next, stuck, finish, all_of}
-use Rattle.aut_delta.specs.Parts.{PreDelta, PostDelta}
-use Rattle.aut_delta.specs.declared.Worked.{Worked}
-use Rattle.aut_delta.specs.declared.Worked.TheVariants as worked
-use Rattle.aut_live.specs.Clauses.{PostLive}
-use Rattle.aut_live.specs.declared.Lived.{Lived}
-use Rattle.aut_live.specs.declared.Lived.TheVariants as lived
-use Rattle.aut_pruned.specs.Clauses.{pruned_of, ZeroedBy, PostPruned, Pruning, PrePrune, PostPrune}
-use Rattle.aut_pruned.specs.declared.Pruned.{Pruned}
-use Rattle.aut_pruned.specs.declared.Pruned.TheVariants as pruned
-use Rattle.aut_pruned.proofs.Calls.{delta_ready, delta_given, delta_refused}
+use Rattle.aut_states.specs.declared.Config.{Config}
+use Rattle.aut_relations.specs.declared.Aut.{Aut as Lent}
+use Rattle.aut_stage.specs.Rule.{Stage}
+use Rattle.aut_stage.proofs.Rule.{begin, next, stuck, finish, all_of}
+use Rattle.aut_delta.specs.Clauses.{DeltaAsked, Deltas}
+use Rattle.aut_query_calls.specs.Working.{WorkingIn, ListIn}
+use Rattle.aut_query_calls.specs.Working.{SetIn}
+use Rattle.aut_query_calls.proofs.Works.{working_rest, asks_store, at_rest}
+use Rattle.aut_query_calls.proofs.Calls.{delta_ran}
+use Rattle.aut_pruned.specs.Clauses.{Prunes, PruneAsked, PrunesAll}
 
-module _ {N : ℕ} {l : Limits} {sp t st mem tr : List ℕ} {c : Counts} {s p : List ℕ} {x : ℕ} (Q : PreQuery N l (tables_of sp t st mem tr c) s p x) where
-  abbrev σ : Tables
-  σ = tables_of sp t st mem tr c
-
-  whole_0 : Stage (query_layer N l) 0 1088 (delta_pruned N (limits_of l) (length p / 2) x σ) (after (live_packets N (limits_of l) (length p / 2) x σ) (λ h τ. after (on_base (delta N (limits_of l) x) τ) (prune N))) σ σ c c s s
+module _ {k : Config} {x : Lent} {i : ℕ} (Q : QueryAsked k x i) where
+  stage_0 : Stage (query_layer k.fields k.limits) 0 1088 (delta_pruned k.fields (limits_of k.limits) (length x.pending.now / 2) i (tables_in x))
+      (after (live_packets k.fields (limits_of k.limits) (length x.pending.now / 2) i (tables_in x)) (λ h τ. after (on_base (delta k.fields (limits_of k.limits) i) τ) (prune k.fields))) (tables_in x) (tables_in x) x.scratch.now x.scratch.now
   unfolding delta_pruned
-  whole_0 = begin (query_layer N l) 0 1088 Q.ready refl
+  stage_0 = begin (query_laws k.fields k.limits) 0 1088 Q.query.ready refl
 
-  module _ {r1 : Lived} {sp1 t1 st1 mem1 tr1 s1 p1 : List ℕ} (A : PostLive N l x σ c r1 (tables_of sp1 t1 st1 mem1 tr1) s s1 p p1) where
-    pub stuck_1 : {e : ℕ} → r1 ≡ lived.Refused e → PostPruned N l x σ c (pruned.Refused e) (tables_of sp1 t1 st1 mem1 tr1) s s1 p p1
-    stuck_1 {e} q = record {
-      post = stuck (query_layer N l) 0 1088 (subst (λ (r : Lived). PostLive N l x σ c r (tables_of sp1 t1 st1 mem1 tr1) s s1 p p1) q A).post.is _ whole_0;
-      pending = tt;
-    }
+  module _ {y : Lent} where
+    pub stuck_1 : {e : Refusal} {z : Lent} → GoesQuery k 0 1088 tables_in (SetIn k.fields) (λ (h : SP). h.0) (live_packets k.fields (limits_of k.limits) (length x.pending.now / 2) i) x (Err e) y → Prunes k i x (Err e) z
+    stuck_1 G = record { post = stuck (query_laws k.fields k.limits) 0 1088 G.post _ stage_0 }
 
-    module _ {h : SP} {d : Counts} (q1 : r1 ≡ lived.Live h d) where
-      abbrev σ₁ : Tables
-      σ₁ = tables_of sp1 t1 st1 mem1 tr1 d
+    module _ {h : SP} (S : SameStore x.spp y.spp) (G : GoesQuery k 0 1088 tables_in (SetIn k.fields) (λ (h : SP). h.0) (live_packets k.fields (limits_of k.limits) (length x.pending.now / 2) i) x (Ok h) y) where
+      law : LiveLaws.Lived k.fields (limits_of k.limits) i (tables_in x) (tables_in y) h.0
+      law = given_of (live_goes (length x.pending.now / 2) Q.query.ready.ordered Q.query.has) G.post.is
 
-      A' : PostLive N l x σ c (lived.Live h d) (tables_of sp1 t1 st1 mem1 tr1) s s1 p p1
-      A' = subst (λ (r : Lived). PostLive N l x σ c r (tables_of sp1 t1 st1 mem1 tr1) s s1 p p1) q1 A
+      has : i < y.states.count
+      has = state_grown law.later.grown Q.query.has
 
-      law : LiveLaws.Lived N (limits_of l) x σ σ₁ h.0
-      law = given_of (live_goes (length p / 2) Q.ready.ordered Q.has) A'.post.is
+      V : WorkingIn k y
+      V = record { fields = S.fields ∙ Q.fields; working = working_rest y G.post.then.ready }
 
-      has : x < states σ₁.base.aut
-      has = state_grown law.later.grown Q.has
+      stage_1 : Stage (query_layer k.fields k.limits) 0 1088 (delta_pruned k.fields (limits_of k.limits) (length x.pending.now / 2) i (tables_in x)) (after (on_base (delta k.fields (limits_of k.limits) i) (tables_in y)) (prune k.fields))
+          (tables_in x) (tables_in y) x.scratch.now y.scratch.now
+      stage_1 = next (query_laws k.fields k.limits) 0 1088 G.post (all_of 0 1088) (λ h τ. after (on_base (delta k.fields (limits_of k.limits) i) τ) (prune k.fields)) stage_0
 
-      whole_1 : Stage (query_layer N l) 0 1088 (delta_pruned N (limits_of l) (length p / 2) x σ) (after (on_base (delta N (limits_of l) x) σ₁) (prune N)) σ σ₁ c d s s1
-      whole_1 = next (query_layer N l) 0 1088 A'.post (all_of 0 1088) (λ h τ. after (on_base (delta N (limits_of l) x) τ) (prune N)) whole_0
+      pub delta_asks : DeltaAsked k y i
+      delta_asks = record { store = asks_store V; limit = G.post.then.ready.limit; has = has }
 
-      pub delta_asks : PreDelta N l (store_of t1 st1 mem1 tr1 d) s1 x
-      delta_asks = delta_ready A'.post.then.ready has
+      module _ {z : Lent} (K : KeepsStore y z) where
+        listed : {r : Result ⊤ Refusal} → Deltas k i y r z → GoesQuery k 0 1088 tables_in (ListIn k.fields i) (λ (v : ⊤). list_at (store_in z) i) (on_base (delta k.fields (limits_of k.limits) i)) y r z
+        listed D = at_rest G.post.then.ready (delta_ran V has K D)
 
-      module _ {r2 : Worked} {t2 st2 mem2 tr2 s2 : List ℕ} (D : PostDelta N l x (store_of t1 st1 mem1 tr1 d) d r2 (store_of t2 st2 mem2 tr2) s1 s2) where
-        pub stuck_2 : {e : ℕ} → r2 ≡ worked.Refused e → PostPruned N l x σ c (pruned.Refused e) (tables_of sp1 t2 st2 mem2 tr2) s s2 p p1
-        stuck_2 q = record { post = stuck (query_layer N l) 0 1088 (delta_refused A'.post.then.ready has D q) _ whole_1; pending = tt }
+        pub stuck_2 : {e : Refusal} {w : Lent} → Deltas {V = ⊤} k i y (Err e) z → Prunes k i x (Err e) w
+        stuck_2 D = record { post = stuck (query_laws k.fields k.limits) 0 1088 (listed D).post _ stage_1 }
 
-        module _ {f : Counts} (q2 : r2 ≡ worked.Done f) (len2 : length s2 ≡ length s1) where
-          abbrev σ₂ : Tables
-          σ₂ = tables_of sp1 t2 st2 mem2 tr2 f
+        module _ {u : ⊤} (D : Deltas k i y (Ok u) z) where
+          pub prune_asks : PruneAsked k z i
+          prune_asks =
+              let v = (listed D).post.then in
+              record {
+                fields = K.spp.fields ∙ V.fields;
+                ready = v.ready;
+                has = state_grown v.ext.grown has;
+                marked = omega (arith, law.kept, v.ext.lives i (omega (arith, law.kept)));
+              }
 
-          D' : Post (query_layer N l) 0 1088 (λ τ es. Stored τ.base x es) (on_base (delta N (limits_of l) x) σ₁) σ₁ d (gave f (list_at σ₂.base x)) (tables_of sp1 t2 st2 mem2 tr2) s1 s2
-          D' = delta_given A'.post.then.ready has D q2 len2
-
-          pruning : Pruning N l σ₂ s2 x
-          pruning = record {
-            ready = D'.then.ready;
-            has = state_grown D'.then.ext.grown has;
-            marked = omega (arith, law.kept, D'.then.ext.lives x (omega (arith, law.kept)));
+          pub pruned_done : {w : Lent} {r : Result ℕ Refusal} → PrunesAll k i z r w → Prunes k i x r w
+          pruned_done {r = r} B = record {
+            post = finish (query_laws k.fields k.limits) 0 1088 (next (query_laws k.fields k.limits) 0 1088 (listed D).post (all_of 0 1088) (prune k.fields) stage_1) r B.post (all_of 0 1088);
           }
-
-          pub prune_asks : PrePrune N l sp1 t2 st2 tr2 s2 f x
-          prune_asks = record { members = mem2; pruning = pruning }
-
-          pub pruned_done : (r3 : Pruned) {t3 s3 : List ℕ} → PostPrune N l sp1 t2 st2 tr2 s2 f x r3 t3 s3 → PostPruned N l x σ c r3 (tables_of sp1 t3 st2 mem2 tr2) s s3 p p1
-          pruned_done r3 {t3} {s3} B = record {
-            post = finish (query_layer N l) 0 1088 (next (query_layer N l) 0 1088 D' (all_of 0 1088) (prune N) whole_1) (pruned_of r3 s3) (B mem2 pruning) (all_of 0 1088);
-            pending = zeroed r3;
-          }
-            where
-              zeroed : (r : Pruned) → ZeroedBy r p1
-              zeroed (pruned.List d m) = A'.pending
-              zeroed (pruned.Refused e) = tt

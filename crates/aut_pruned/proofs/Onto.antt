@@ -10,12 +10,25 @@ use Rattle.netkat_steps.specs.ListSteps.{Edge, edge}
 use Rattle.aut_steps.specs.Relations as Rel
 use Rattle.aut_query_steps.specs.Tables.{Tables}
 use Rattle.aut_query_steps.specs.Pruned.{viable, prune}
+use Rattle.aut_stage.proofs.Rule.{Folds}
 use Rattle.aut_pruned.specs.Onto.{behind}
 
 module _ (N : ℕ) where
   unfoldable pub prune_onto : List Edge → List Edge → Step Tables (List Edge)
   prune_onto [] kept = return kept
   prune_onto (e ∷ es) kept = viable N e >>= λ l. prune_onto es (behind N kept e.target l)
+
+  -- one label
+  abbrev pub prune_one : Edge → List Edge → Step Tables (List Edge)
+  prune_one e kept σ = after (viable N e σ) (λ l τ. given τ (behind N kept e.target l))
+
+  pub prune_folds : Folds prune_one prune_onto
+  unfolding prune_onto
+  prune_folds = record { none = λ kept σ. refl; some = λ e es kept σ. go (viable N e σ) (λ l. behind N kept e.target l) es }
+    where
+      go : (o : Outcome Tables ℕ) (f : ℕ → List Edge) (es : List Edge) → after o (λ l. prune_onto es (f l)) ≡ after (after o (λ l τ. given τ (f l))) (prune_onto es)
+      go (refused n) f es = refl
+      go (given τ l) f es = refl
 
   moved : (c : Bool) (kept rest : List Edge) (e : Edge) → kept ++ (if c then rest else (e ∷ rest)) ≡ (if c then kept else (kept ++ e ∷ [])) ++ rest
   moved true kept rest e = refl

@@ -1,153 +1,78 @@
 // delta_pruned of aut.rs: a state's transitions, each cut to packets that lead somewhere. The list stands in scratch, at record RESULT of st.
 #![tactic(auto)]
 
-ghost use Rattle.aut_query_stage.specs.Layer.{tables_of, PreQuery};
-ghost use Rattle.aut_pruned.specs.Clauses.{PostPruned, PreViable, PostViable, PreKeep, PostKeep, PrePrune, PostPrune};
+ghost use Rattle.std.specs.Prelude.{OnOk};
+ghost use Rattle.netkat_steps.specs.ListSteps.{edge};
+ghost use Rattle.aut_query_steps.specs.Pruned as M;
+ghost use Rattle.aut_query_stage.specs.Layer.{Zeroed};
+ghost use Rattle.aut_query_stage.specs.Lent.{tables_in, QueryAsked, GoesQuery};
+ghost use Rattle.aut_relations.specs.Lent.{KeepsExprs};
+ghost use Rattle.aut_sets.specs.Lent.{OnlyScratch, SameLent};
+ghost use Rattle.aut_query_calls.specs.Working.{RelIn};
+ghost use Rattle.aut_pruned.specs.Clauses.{Prunes, PrunesAll, ViableAsked, PreKeep, PostKeep, PruneAsked};
 
-use aut_delta::Worked;
-use aut_live::Lived;
-use aut_states::{Config, Counts};
+use aut_relations::Aut;
+use aut_states::Config;
+use refusal::Refusal;
 use sp::SP;
-use spp::{Made, Op, SPP};
-
-// so many transitions; or 01's number
-#[derive(Clone, Copy)]
-pub enum Pruned {
-    List(Counts, usize),
-    Refused(u32),
-}
+use spp::{Op, SPP};
 
 // the label cut, by the live set of its target
-fn viable(
-    sp: &[u32],
-    nodes: &mut [u32],
-    states: &[u32],
-    scratch: &mut [u32],
-    c: Counts,
-    fields: u32,
-    target: u32,
-    label: SPP,
-) -> Made
-    requires { PreViable fields sp.now nodes.old states.now scratch.old c target label.0 }
-    ensures { PostViable fields sp.now nodes.old states.now
-        scratch.old c target label.0 result nodes.new scratch.new }
+fn viable(aut: &mut Aut, config: Config, target: u32, label: SPP) -> Result<SPP, Refusal>
+    requires { ViableAsked config aut.old target label.0 }
+    ensures keeps { KeepsExprs aut.old aut.new }
+    ensures gives { GoesQuery config 0 0 tables_in (RelIn config.fields) (λ h. h.0)
+        (M.viable config.fields (edge target label.0)) aut.old result aut.new }
 {
     let i = target as usize;
-    let live = SP(states[aut_states::STATE * i + aut_states::word::LIVE] - 1);
-    let Made::Node(allowed, n) = aut_sets::set_ifwd(sp, nodes, scratch, c, fields, live) else {
-        return Made::Full;
-    };
-    aut_relations::apply(nodes, scratch, n, fields, Op::Intersect, label, allowed)
+    let live = SP(aut.states.words[aut_states::STATE * i + aut_states::word::LIVE] - 1);
+    let allowed = aut_sets::ifwd(aut, config, live)?;
+    aut.apply(config, Op::Intersect, label, allowed)
 }
 
 // a transition behind the m at RESULT, unless its label is empty
-fn keep(scratch: &mut [u32], fields: u32, m: usize, target: u32, label: SPP) -> usize
-    requires { PreKeep fields scratch.old m }
-    ensures { PostKeep fields m target label.0 result scratch.old scratch.new }
+fn keep(aut: &mut Aut, config: Config, m: usize, target: u32, label: SPP) -> usize
+    requires { PreKeep config.fields aut.old.scratch.now m }
+    ensures keeps { OnlyScratch aut.old aut.new }
+    ensures kept { PostKeep config.fields m target label.0 result aut.old.scratch.now
+        aut.new.scratch.now }
 {
-    let zero = spp::zero_at_depth(fields);
+    let zero = spp::zero_at_depth(config.fields);
     if label.0 == zero.0 {
         return m;
     }
     let at = 2 * (aut_st_insert::RESULT + m);
-    scratch[at] = target;
-    scratch[at + 1] = label.0;
+    aut.scratch[at] = target;
+    aut.scratch[at + 1] = label.0;
     m + 1
 }
 
 // the stored list of x, cut
-fn prune(
-    sp: &[u32],
-    nodes: &mut [u32],
-    states: &[u32],
-    transitions: &[u32],
-    scratch: &mut [u32],
-    c: Counts,
-    config: Config,
-    x: u32,
-) -> Pruned
-    requires { PrePrune config.fields config.limits sp.now nodes.old states.now transitions.now
-        scratch.old c x }
-    ensures { PostPrune config.fields config.limits sp.now nodes.old
-        states.now transitions.now scratch.old c x result nodes.new
-        scratch.new }
+fn prune(aut: &mut Aut, config: Config, x: u32) -> Result<usize, Refusal>
+    requires { PruneAsked config aut.old x }
+    ensures keeps { KeepsExprs aut.old aut.new }
+    ensures gives { PrunesAll config x aut.old result aut.new }
 {
-    let j = x as usize;
-    let start = states[aut_states::STATE * j + aut_states::word::START] as usize;
-    let k = states[aut_states::STATE * j + aut_states::word::COUNT] as usize - 1;
-    let mut n = c.spp;
+    let j = aut_states::STATE * (x as usize);
+    let start = aut.states.words[j + aut_states::word::START] as usize;
+    let k = aut.states.words[j + aut_states::word::COUNT] as usize - 1;
     let mut m = 0;
     for i in 0..k {
-        let target = transitions[2 * (start + i)];
-        let label = SPP(transitions[2 * (start + i) + 1]);
-        let Made::Node(h, n1) = viable(
-            sp,
-            nodes,
-            states,
-            scratch,
-            Counts { spp: n, ..c },
-            config.fields,
-            target,
-            label,
-        ) else {
-            return Pruned::Refused(aut_states::refusal::SPP);
-        };
-        m = keep(scratch, config.fields, m, target, h);
-        n = n1;
+        let target = aut.transitions.words[2 * (start + i)];
+        let label = SPP(aut.transitions.words[2 * (start + i) + 1]);
+        let cut = viable(aut, config, target, label)?;
+        m = keep(aut, config, m, target, cut);
     }
-    Pruned::List(Counts { spp: n, ..c }, m)
+    Ok(m)
 }
 
-pub fn delta_pruned(
-    sp: &mut [u32],
-    nodes: &mut [u32],
-    states: &mut [u32],
-    members: &mut [u32],
-    transitions: &mut [u32],
-    pending: &mut [u32],
-    scratch: &mut [u32],
-    c: Counts,
-    config: Config,
-    x: u32,
-) -> Pruned
-    requires { PreQuery config.fields config.limits
-        (tables_of sp.old nodes.old states.old members.old transitions.old c) scratch.old pending.old x }
-    ensures { PostPruned config.fields config.limits x
-        (tables_of sp.old nodes.old states.old members.old
-        transitions.old c) c result
-        (tables_of sp.new nodes.new states.new members.new
-        transitions.new) scratch.old scratch.new pending.old
-        pending.new }
+pub fn delta_pruned(aut: &mut Aut, config: Config, x: u32) -> Result<usize, Refusal>
+    requires { QueryAsked config aut.old x }
+    ensures keeps { SameLent aut.old aut.new }
+    ensures pending { OnOk result (Zeroed aut.new.pending.now) }
+    ensures gives { Prunes config x aut.old result aut.new }
 {
-    let lived = aut_live::live_packets(
-        sp,
-        nodes,
-        states,
-        members,
-        transitions,
-        pending,
-        scratch,
-        c,
-        config,
-        x,
-    );
-    match lived {
-        Lived::Refused(e) => Pruned::Refused(e),
-        Lived::Live(_, d) => {
-            let worked = aut_delta::delta_on(
-                nodes,
-                states,
-                members,
-                transitions,
-                scratch,
-                d,
-                config,
-                x,
-            );
-            match worked {
-                Worked::Refused(e) => Pruned::Refused(e),
-                Worked::Done(f) => prune(sp, nodes, states, transitions, scratch, f, config, x),
-            }
-        }
-    }
+    aut_live::live_packets(aut, config, x)?;
+    aut_delta::delta(aut, config, x)?;
+    prune(aut, config, x)
 }

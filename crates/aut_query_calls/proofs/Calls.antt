@@ -1,4 +1,4 @@
--- The calls that a query makes, each as a step of its layer: from the tables while it runs and the callee's contract, what it came to, or the refusal; and what the callee asks.
+-- The calls that a query makes, each as a step of its layer: what the callee asks of the tables while it runs; and from its contract, what it came to, or the refusal.
 use mathlib.Core.Path.{◌≡◌, refl, sym, ◌∙◌, ap, subst}
 use mathlib.Core.Bool.{Bool}
 use mathlib.Core.List.Memᴰ
@@ -7,8 +7,11 @@ use mathlib.Core.Logic.{inl, inr, ⊎_elim}
 use Prim.Native.Nat.{ℕ, ◌*◌, ◌≤◌, ◌<◌}
 use native.Mathlib.Omega.{arith}
 use lib.ListN.{length, get_or}
-use Rattle.common.specs.Outcome.{Outcome, refused, given, Step}
-use Rattle.common.specs.Runs.{Table, table, placed}
+use Rattle.std.specs.Prelude.{Result, Ok, Err}
+use Rattle.common.specs.Outcome.{Outcome, given, Step}
+use Rattle.common.specs.Runs.{Table, placed}
+use Rattle.refusal.specs.declared.Refusal.{Refusal}
+use Rattle.refusal.specs.Numbers.{outcome}
 use Rattle.cache.specs.Cache.{OnlyCodes}
 use Rattle.cache.proofs.Cache.{sound_map, notes_map}
 use Rattle.netkat.specs.Lists.{State, Transition}
@@ -19,49 +22,45 @@ use Rattle.sp_steps.proofs.Laws as SpLawsProofs
 use Rattle.sp_steps.proofs.Sets as SpSets
 use Rattle.sp_steps.proofs.Refused as SpRefused
 use Rattle.sp_steps.specs.Reuse.{SpNoted}
-use Rattle.sp.specs.Clauses as Sets
 use Rattle.sp.specs.declared.SP.{SP}
-use Rattle.sp.specs.declared.Made as sets
 use Rattle.spp_steps.specs.Wf.{ValidAt, Denotes}
 use Rattle.spp_steps.proofs.Laws.{den_mem}
 use Rattle.spp_steps.specs.ImageModel as Images
 use Rattle.spp_steps.specs.ImageModel.{Stores}
 use Rattle.spp_steps.proofs.Images.{push_exact, pull_exact, bwd_exact, ifwd_exact}
-use Rattle.spp.specs.Clauses as SppSeen
 use Rattle.spp.specs.declared.SPP.{SPP}
-use Rattle.spp.specs.declared.Made as relations
 use Rattle.spp_image.specs.Reuse.{Written, Kept, Counted}
-use Rattle.aut_sets.specs.Clauses as Behind
 use Rattle.aut_steps.specs.Relations as Rel
 use Rattle.aut_steps.proofs.RelationLaws.{intersect_made}
-use Rattle.aut_steps.specs.Tables.{Aut, on_nodes, put_nodes}
+use Rattle.aut_steps.specs.Tables.{Limits, Aut, on_nodes, put_nodes}
 use Rattle.aut_steps.specs.Wf.{states}
 use Rattle.aut_steps.proofs.StateLaws.{nodes_goes}
 use Rattle.aut_delta_steps.specs.Epsilon.{epsilon}
-use Rattle.aut_delta_steps.specs.Delta.{Store, put_aut, on_aut, delta}
+use Rattle.aut_delta_steps.specs.Delta.{Store, put_aut, on_aut, list_at, delta}
 use Rattle.aut_delta_steps.specs.Fits.{tables as readings}
-use Rattle.aut_delta_stage.specs.OnStore.{store_of, store_layer}
-use Rattle.aut_delta_stage.proofs.OnStore.{epsilon_given}
-use Rattle.aut_query_steps.specs.Tables.{Tables, tables, diagrams, put_sets, put_base, put_relations, on_sets, on_base, making_sets, making_relations, WfTables}
-use Rattle.aut_query_steps.proofs.Tables.{both_wf, later_refl}
+use Rattle.aut_delta_stage.specs.OnTables.{store_in, KeepsStore, GoesStore}
+use Rattle.aut_delta_stage.proofs.OnTables.{epsilon_goes}
+use Rattle.aut_query_steps.specs.Tables.{Tables, diagrams, put_sets, put_base, put_relations, on_sets, on_base, making_sets, making_relations, WfTables}
+use Rattle.aut_query_steps.proofs.Tables.{both_wf}
 use Rattle.aut_query_steps.proofs.Steps.{gone_refl, Ends, comes, Steps, ends_map, sets_step, images_step, relations_step, goes_ends, epsilon_ends, delta_ends}
-use Rattle.aut_query_stage.specs.Layer.{tables_of}
-use Rattle.aut_query_stage.proofs.Layer.{Leaves, query_ready, by_ends}
+use Rattle.aut_query_stage.specs.Lent.{tables_in, Leaves}
+use Rattle.aut_query_stage.proofs.Lent.{by_ends}
 use Rattle.aut_states.specs.Clauses.{limits_of}
-use Rattle.aut_states.specs.declared.Counts.{Counts}
-use Rattle.aut_states.specs.declared.Limits.{Limits}
+use Rattle.aut_states.specs.declared.Config.{Config}
+use Rattle.aut_states.specs.declared.Limits.{Limits as Given}
+use Rattle.aut_relations.specs.declared.Aut.{Aut as Lent}
 use Rattle.aut_relations.specs.Behind.{Modifies}
-use Rattle.aut_relations.specs.Clauses.{MadeLeft, RelateReady, Relates}
-use Rattle.aut_epsilon.specs.Parts.{seen_epsilon, Works}
-use Rattle.aut_stage.specs.Stage.{gave, refusal, Post}
-use Rattle.aut_stage.specs.OnNodes.{with_nodes}
-use Rattle.aut_sets.specs.Clauses.{NotesBehind, PreSet, PreSets, SetNotes, PostSets, PostSize, PreImage, PreLead, ImageNotes, PostImage, PostHas, PreLift, LiftNotes, PostLift, PreCount, PostCount}
+use Rattle.aut_relations.specs.Lent.{nodes_in, aut_in, Keeps, KeepsExprs, Does, Unless, Handles}
+use Rattle.aut_epsilon.specs.Asked.{Later}
+use Rattle.aut_sets.specs.Lent.{sets_in, diagrams_in, OnlyScratch, OnlySets}
+use Rattle.aut_sets.specs.Clauses.{NotesBehind, Gives, PreSet, PreSets, PostSize, PreImage, PreLead, PostHas, PreLift, PreCount, PostCount}
 use Rattle.aut_free.specs.Clear.{clear_tables}
 use Rattle.aut_free.proofs.Clear.{cleared}
 use Rattle.aut_free.proofs.Free.{epsilon_clear_tables, delta_clear_tables}
-use Rattle.aut_query_calls.specs.Working.{clear_of, Working, EdgeIn, ListIn}
-use Rattle.aut_query_calls.proofs.Working.{Unwritten, Ran, with_sets, SetIn, RelIn}
-use Rattle.aut_query_calls.proofs.Works.{prepared}
+use Rattle.aut_query_calls.specs.Working.{clear_in, Working, WorkingIn, EdgeIn, ListIn}
+use Rattle.aut_query_calls.specs.Working.{Unwritten, SetIn, RelIn}
+use Rattle.aut_query_calls.proofs.Ran.{Ran}
+use Rattle.aut_query_calls.proofs.Works.{asks_store}
 
 -- ---- what is left of scratch
 
@@ -81,175 +80,205 @@ module _ {N : ℕ} (σ : Tables) {s s' : List ℕ} where
   pub leaves_left : {a n : ℕ} → Modifies N a n σ.base.aut.nodes s s' → Leaves N a n σ s s'
   leaves_left p = record { below = p.below; above = p.above; notes = notes_map (λ op x y r v. inl v) p.notes }
 
--- ---- a call whose step has a law
+-- of the operations that write nothing else
+module _ (x : Lent) {N : ℕ} {s s' : List ℕ} where
+  pub has_leaves : {a e : ℕ} {b : Bool} → PostHas N (diagrams_in x) a e b s s' → Leaves N 0 0 (clear_in x) s s'
+  has_leaves A = leaves_lifts (clear_in x) A.left
 
-module _ {N : ℕ} {l : Limits} {σ : Tables} {s : List ℕ} (W : Working N l σ s) where
-  pub ran : {A : Type 0} {P : Tables → A → Type 0} {o : Outcome Tables A} → Ends N (limits_of l) 0 (Steps N (limits_of l) P (clear_tables σ)) (clear_tables σ) o → {a n : ℕ} {c d : Counts} (at : Counts → Tables) {x : A} {s' : List ℕ}
-      → o ≡ given (clear_tables (at d)) x → Leaves N a n (clear_tables (at d)) s s' → length s' ≡ length s
-      → ((j : ℕ) → 12 * states (at d).base.aut ≤ j → get_or (at d).base.aut.states.words j 0 ≡ 0) → Unwritten σ (at d) → Ran N l a n P o σ c d x at s s'
-  ran E at e p len f u = let q = by_ends W.ready E (λ e. clear_tables (at e)) e p len in record { post = q; working = record { ready = q.then.ready; fresh = f }; unwritten = u }
+  pub size_leaves : {a n : ℕ} → PostSize N (sets_in x) a n s s' → Leaves N 0 0 (clear_in x) s s'
+  size_leaves A = leaves_sets (clear_in x) A.left
 
-  -- nothing but the cache was written
-  pub kept_working : {a n : ℕ} {s' : List ℕ} → Leaves N a n (clear_tables σ) s s' → length s' ≡ length s → Working N l σ s'
-  kept_working p len = record { ready = query_ready W.ready (later_refl (clear_tables σ)) W.ready.ordered p len; fresh = W.fresh }
+  pub count_leaves : {e n : ℕ} → PostCount N (nodes_in x) e n s s' → Leaves N 0 0 (clear_in x) s s'
+  count_leaves A = leaves_counts (clear_in x) A.left
 
-module _ (t st mem tr : List ℕ) (c : Counts) {N : ℕ} {l : Limits} {sp s : List ℕ} (W : Working N l (tables_of sp t st mem tr c) s) where
-  abbrev σ : Tables
-  σ = tables_of sp t st mem tr c
+-- ---- what a callee asks
 
-  abbrev C : Tables
-  C = clear_of sp t st mem tr c
-
-  abbrev order : WfTables N (limits_of l) C
+module _ (x : Lent) {N : ℕ} {l : Given} (W : Working N l (tables_in x) x.scratch.now) where
+  abbrev order : WfTables N (limits_of l) (clear_in x)
   order = W.ready.ordered
 
-  -- ---- packet sets
+  module _ (a : ℕ) (at : SpLaws.ValidAt (sets_in x) N a) where
+    pub asks_set : PreSet N (sets_in x) x.scratch.now a
+    asks_set = record { few = W.ready.ready.few; wf = order.sets; room = W.ready.ready.room; sound = sound_map (λ op x y r v. v.images.sets) W.ready.sound; at_a = at }
 
-  module _ (a : ℕ) (x : SpLaws.ValidAt (table sp c.sp) N a) where
-    pub asks_set : PreSet N (table sp c.sp) s a
-    asks_set = record { few = W.ready.ready.few; wf = order.sets; room = W.ready.ready.room; sound = sound_map (λ op x y r v. v.images.sets) W.ready.sound; at_a = x }
+    pub asks_sets : (b : ℕ) → SpLaws.ValidAt (sets_in x) N b → PreSets N (sets_in x) x.scratch.now a b
+    asks_sets b bt = record { first = asks_set; at_b = bt }
 
-    pub asks_lift : PreLift N (diagrams C) s a
-    asks_lift = record { few = W.ready.ready.few; wf = both_wf order; room = W.ready.ready.room; sound = sound_map (λ op x y r v. v.images) W.ready.sound; at_a = x }
+    pub asks_lift : PreLift N (diagrams_in x) x.scratch.now a
+    asks_lift = record { few = W.ready.ready.few; wf = both_wf order; room = W.ready.ready.room; sound = sound_map (λ op x y r v. v.images) W.ready.sound; at_a = at }
 
-    -- the number of packets
-    module _ {k : ℕ} {s' : List ℕ} (A : PostSize N (table sp c.sp) a k s s') where
-      pub size_leaves : Leaves N 0 0 C s s'
-      size_leaves = leaves_sets C A.left
+  module _ (e : ℕ) (et : ValidAt (nodes_in x) N e) where
+    pub asks_image : PreImage N (diagrams_in x) x.scratch.now e
+    asks_image = record { few = W.ready.ready.few; wf = both_wf order; room = W.ready.ready.room; sound = sound_map (λ op x y r v. v.images) W.ready.sound; at_r = et }
 
-      pub size_working : length s' ≡ length s → Working N l σ s'
-      size_working len = kept_working W size_leaves len
+    pub asks_count : PreCount N (nodes_in x) x.scratch.now e
+    asks_count = record { few = W.ready.ready.few; wf = order.worked.good.nodes; room = W.ready.ready.room; sound = sound_map (λ op x y r v. v.numbers) W.ready.sound; at_r = et }
 
-    module _ (b : ℕ) (y : SpLaws.ValidAt (table sp c.sp) N b) where
-      pub asks_sets : PreSets N (table sp c.sp) s a b
-      asks_sets = record { first = asks_set; at_b = y }
+  pub asks_lead : (a : ℕ) → SpLaws.ValidAt (sets_in x) N a → (e : ℕ) → ValidAt (nodes_in x) N e → PreLead N (diagrams_in x) x.scratch.now a e
+  asks_lead a at e et = record { image = asks_image e et; at_a = at }
 
-      module _ {r : sets.Made} {sp' s' : List ℕ} {h : SP} {n : ℕ} (q : r ≡ sets.Made.Node h n) (len : length s' ≡ length s) where
-        by_sets : {o : Step Table ℕ} → PostSets o (table sp c.sp) r sp' s s' → Ends N (limits_of l) 0 (Steps N (limits_of l) (SetIn N) C) C (on_sets o C) → Ran N l 0 0 (SetIn N) (on_sets o C) σ c (with_sets c n) h.0 (tables_of sp' t st mem tr) s s'
-        by_sets A E = ran W E (tables_of sp' t st mem tr) (ap (placed put_sets C) (A.gives ∙ ap (λ (r : sets.Made). Sets.seen_made r sp') q))
-            (leaves_sets (clear_tables (tables_of sp' t st mem tr (with_sets c n))) (subst (λ (r : sets.Made). SetNotes r sp' s s') q A.left)) len W.fresh (λ x w i j. refl)
+  pub asks_relate : x.spp.fields ≡ N → (e : ℕ) → ValidAt (nodes_in x) N e → (f : ℕ) → ValidAt (nodes_in x) N f → Handles N x e f
+  asks_relate q e et f ft = record {
+    fields = q;
+    backed = record { few = W.ready.ready.few; wf = order.worked.good.nodes; room = W.ready.ready.room; sound = W.ready.ready.sound };
+    at_a = et;
+    at_b = ft;
+  }
 
-        pub difference_given : PostSets (Sp.difference N a b) (table sp c.sp) r sp' s s' → Ran N l 0 0 (SetIn N) (on_sets (Sp.difference N a b) C) σ c (with_sets c n) h.0 (tables_of sp' t st mem tr) s s'
-        difference_given A = by_sets A (ends_map (λ τ h v. record { gone = v.gone; ordered = v.ordered; holds = v.holds.1.at })
-            (sets_step order (SpSets.difference_runs N N (omega arith) (table sp c.sp) a b _ _ order.sets (SpLawsProofs.den_mem x) (SpLawsProofs.den_mem y))
-            (SpRefused.difference_stops N N (omega arith) (table sp c.sp) a b _ _ order.sets (SpLawsProofs.den_mem x) (SpLawsProofs.den_mem y))))
+-- ---- a call whose step has a law
 
-        pub union_given : PostSets (Sp.union N a b) (table sp c.sp) r sp' s s' → Ran N l 0 0 (SetIn N) (on_sets (Sp.union N a b) C) σ c (with_sets c n) h.0 (tables_of sp' t st mem tr) s s'
-        union_given A = by_sets A (ends_map (λ τ h v. record { gone = v.gone; ordered = v.ordered; holds = v.holds.1.at })
-            (sets_step order (SpSets.union_runs N N (omega arith) (table sp c.sp) a b _ _ order.sets (SpLawsProofs.den_mem x) (SpLawsProofs.den_mem y))
-            (SpRefused.union_stops N N (omega arith) (table sp c.sp) a b _ _ order.sets (SpLawsProofs.den_mem x) (SpLawsProofs.den_mem y))))
+abbrev Fresh : Store → Type 0
+Fresh b = (j : ℕ) → 12 * states b.aut ≤ j → get_or b.aut.states.words j 0 ≡ 0
 
-  pub sets_refused : {o : Step Table ℕ} {r : sets.Made} {sp' s' : List ℕ} → PostSets o (table sp c.sp) r sp' s s' → r ≡ sets.Made.Full → on_sets o C ≡ refused 20
-  sets_refused {sp' = sp'} A q = ap (placed put_sets C) (A.gives ∙ ap (λ (r : sets.Made). Sets.seen_made r sp') q)
+module _ {k : Config} {x y : Lent} (W : Working k.fields k.limits (tables_in x) x.scratch.now) {V A : Type 0} {P : Tables → A → Type 0} {see : V → A} {o : Step Tables A}
+    (E : Ends k.fields (limits_of k.limits) 0 (Steps k.fields (limits_of k.limits) P (clear_in x)) (clear_in x) (o (clear_in x))) (len : length y.scratch.now ≡ length x.scratch.now) {a n : ℕ} where
+  pub ran : (r : Result V Refusal) → o (clear_in x) ≡ outcome see r (clear_in y) → Unless r (Leaves k.fields a n (clear_in y) x.scratch.now y.scratch.now) → Unless r (Fresh (store_in y) × Unwritten (tables_in x) (tables_in y))
+      → Ran k a n P see o x r y
+  ran (Ok v) e p f = let q = by_ends W.ready E len (Ok v) e p in record { post = q; working = record { ready = q.then.ready; fresh = f.0 }; unwritten = f.1 }
+  ran (Err z) e p f = record { post = by_ends W.ready E len (Err z) e p; working = tt; unwritten = tt }
 
-  -- ---- images
+  -- .. and the states are as they were
+  pub ran_beside : y.states ≡ x.states → (r : Result V Refusal) → o (clear_in x) ≡ outcome see r (clear_in y) → Unless r (Leaves k.fields a n (clear_in y) x.scratch.now y.scratch.now) → Ran k a n P see o x r y
+  ran_beside q (Ok v) e p = ran (Ok v) e p (rw q W.fresh, rw q (λ x w i j. refl))
+  ran_beside q (Err z) e p = ran (Err z) e p tt
 
-  module _ (e : ℕ) (y : ValidAt (table t c.spp) N e) where
-    pub asks_image : PreImage N (diagrams C) s e
-    asks_image = record { few = W.ready.ready.few; wf = both_wf order; room = W.ready.ready.room; sound = sound_map (λ op x y r v. v.images) W.ready.sound; at_r = y }
+-- ---- packet sets
 
-    pub asks_count : PreCount N (table t c.spp) s e
-    asks_count = record { few = W.ready.ready.few; wf = order.worked.good.nodes; room = W.ready.ready.room; sound = sound_map (λ op x y r v. v.numbers) W.ready.sound; at_r = y }
+module _ {x y : Lent} (K : OnlySets x y) where
+  same_sets : put_sets (sets_in y) (clear_in x) ≡ clear_in y
+  same_sets = rw (sym K.spp) (rw (sym K.states) (rw (sym K.members) (rw (sym K.transitions) refl)))
 
-    -- the number of pairs
-    module _ {k : ℕ} {s' : List ℕ} (A : PostCount N (table t c.spp) e k s s') where
-      pub count_leaves : Leaves N 0 0 C s s'
-      count_leaves = leaves_counts C A.left
+  on_sets_is : (o : Step Table ℕ) (r : Result SP Refusal) → o (sets_in x) ≡ outcome (λ (h : SP). h.0) r (sets_in y) → on_sets o (clear_in x) ≡ outcome (λ (h : SP). h.0) r (clear_in y)
+  on_sets_is o (Ok h) e = ap (placed put_sets (clear_in x)) e ∙ ap (λ (σ : Tables). given σ h.0) same_sets
+  on_sets_is o (Err z) e = ap (placed put_sets (clear_in x)) e
 
-      pub count_working : length s' ≡ length s → Working N l σ s'
-      count_working len = kept_working W count_leaves len
+  making_sets_is : (o : Step Stores ℕ) (r : Result SP Refusal) → o (diagrams_in x) ≡ outcome (λ (h : SP). h.0) r (diagrams_in y) → making_sets o (clear_in x) ≡ outcome (λ (h : SP). h.0) r (clear_in y)
+  making_sets_is o (Ok h) e = ap (placed (λ s σ. put_sets s.sp σ) (clear_in x)) e ∙ ap (λ (σ : Tables). given σ h.0) same_sets
+  making_sets_is o (Err z) e = ap (placed (λ s σ. put_sets s.sp σ) (clear_in x)) e
 
-    module _ {r : sets.Made} {sp' s' : List ℕ} {h : SP} {n : ℕ} (q : r ≡ sets.Made.Node h n) (len : length s' ≡ length s) where
-      by_images : {o : Step Stores ℕ} → PostImage N o (diagrams C) r sp' s s' → Ends N (limits_of l) 0 (Steps N (limits_of l) (SetIn N) C) C (making_sets o C) → Ran N l 0 0 (SetIn N) (making_sets o C) σ c (with_sets c n) h.0 (tables_of sp' t st mem tr) s s'
-      by_images A E = ran W E (tables_of sp' t st mem tr) (ap (placed (λ s σ. put_sets s.sp σ) C) (A.gives ∙ ap (λ (r : sets.Made). Behind.seen_image r sp' (table t c.spp)) q))
-          (leaves_images (clear_tables (tables_of sp' t st mem tr (with_sets c n))) (subst (λ (r : sets.Made). ImageNotes N r sp' (table t c.spp) s s') q A.left)) len W.fresh (λ x w i j. refl)
+sets_left : (N : ℕ) (y : Lent) (s s' : List ℕ) (r : Result SP Refusal) → Unless r (NotesBehind (SpNoted (sets_in y)) s s') → Unless r (Leaves N 0 0 (clear_in y) s s')
+sets_left N y s s' (Ok h) p = leaves_sets (clear_in y) p
+sets_left N y s s' (Err z) p = tt
 
-      pub bwd_given : PostImage N (Images.bwd N e) (diagrams C) r sp' s s' → Ran N l 0 0 (SetIn N) (making_sets (Images.bwd N e) C) σ c (with_sets c n) h.0 (tables_of sp' t st mem tr) s s'
-      bwd_given A = by_images A (ends_map (λ τ h v. record { gone = v.gone; ordered = v.ordered; holds = v.holds.1.at })
-          (images_step order (λ u v. SpLaws.Denotes u N v _) (bwd_exact N N (omega arith) (diagrams C) e _ (both_wf order) (den_mem y))))
+images_left : (N : ℕ) (y : Lent) (s s' : List ℕ) (r : Result SP Refusal) → Unless r (NotesBehind (Written N (diagrams_in y)) s s') → Unless r (Leaves N 0 0 (clear_in y) s s')
+images_left N y s s' (Ok h) p = leaves_images (clear_in y) p
+images_left N y s s' (Err z) p = tt
 
-      module _ (a : ℕ) (x : SpLaws.ValidAt (table sp c.sp) N a) where
-        pub push_given : PostImage N (Images.push N N a e) (diagrams C) r sp' s s' → Ran N l 0 0 (SetIn N) (making_sets (Images.push N N a e) C) σ c (with_sets c n) h.0 (tables_of sp' t st mem tr) s s'
-        push_given A = by_images A (ends_map (λ τ h v. record { gone = v.gone; ordered = v.ordered; holds = v.holds.1.at })
-            (images_step order (λ u v. SpLaws.Denotes u N v _) (push_exact N N (omega arith) (diagrams C) a e _ _ (both_wf order) (SpLawsProofs.den_mem x) (den_mem y))))
+module _ {k : Config} {x y : Lent} {r : Result SP Refusal} (W : Working k.fields k.limits (tables_in x) x.scratch.now) where
+  by_sets : {o : Step Table ℕ} → Ends k.fields (limits_of k.limits) 0 (Steps k.fields (limits_of k.limits) (SetIn k.fields) (clear_in x)) (clear_in x) (on_sets o (clear_in x)) → OnlySets x y
+      → Gives SpNoted (λ (h : SP). h.0) o (sets_in x) r (sets_in y) x.scratch.now y.scratch.now → Ran k 0 0 (SetIn k.fields) (λ (h : SP). h.0) (on_sets o) x r y
+  by_sets {o} E K G = ran_beside W E K.length K.states r (on_sets_is K o r G.is) (sets_left k.fields y x.scratch.now y.scratch.now r G.left)
 
-        pub pull_given : PostImage N (Images.pull N N e a) (diagrams C) r sp' s s' → Ran N l 0 0 (SetIn N) (making_sets (Images.pull N N e a) C) σ c (with_sets c n) h.0 (tables_of sp' t st mem tr) s s'
-        pull_given A = by_images A (ends_map (λ τ h v. record { gone = v.gone; ordered = v.ordered; holds = v.holds.1.at })
-            (images_step order (λ u v. SpLaws.Denotes u N v _) (pull_exact N N (omega arith) (diagrams C) a e _ _ (both_wf order) (SpLawsProofs.den_mem x) (den_mem y))))
+  by_images : {o : Step Stores ℕ} → Ends k.fields (limits_of k.limits) 0 (Steps k.fields (limits_of k.limits) (SetIn k.fields) (clear_in x)) (clear_in x) (making_sets o (clear_in x)) → OnlySets x y
+      → Gives (Written k.fields) (λ (h : SP). h.0) o (diagrams_in x) r (diagrams_in y) x.scratch.now y.scratch.now → Ran k 0 0 (SetIn k.fields) (λ (h : SP). h.0) (making_sets o) x r y
+  by_images {o} E K G = ran_beside W E K.length K.states r (making_sets_is K o r G.is) (images_left k.fields y x.scratch.now y.scratch.now r G.left)
 
-    module _ (a : ℕ) (x : SpLaws.ValidAt (table sp c.sp) N a) where
-      pub asks_lead : PreLead N (diagrams C) s a e
-      asks_lead = record { image = asks_image; at_a = x }
+  module _ (a : ℕ) (at : SpLaws.ValidAt (sets_in x) k.fields a) where
+    module _ (b : ℕ) (bt : SpLaws.ValidAt (sets_in x) k.fields b) where
+      pub union_ran : OnlySets x y → Gives SpNoted (λ (h : SP). h.0) (Sp.union k.fields a b) (sets_in x) r (sets_in y) x.scratch.now y.scratch.now → Ran k 0 0 (SetIn k.fields) (λ (h : SP). h.0) (on_sets (Sp.union k.fields a b)) x r y
+      union_ran K G = by_sets (ends_map (λ τ h v. record { gone = v.gone; ordered = v.ordered; holds = v.holds.1.at })
+          (sets_step (order x W) (SpSets.union_runs k.fields k.fields (omega arith) (sets_in x) a b _ _ (order x W).sets (SpLawsProofs.den_mem at) (SpLawsProofs.den_mem bt))
+          (SpRefused.union_stops k.fields k.fields (omega arith) (sets_in x) a b _ _ (order x W).sets (SpLawsProofs.den_mem at) (SpLawsProofs.den_mem bt)))) K G
 
-      pub has_given : {b : Bool} {s' : List ℕ} → PostHas N (diagrams C) a e b s s' → length s' ≡ length s
-          → Ran N l 0 0 (λ τ b. Unit) (given C (Images.has_image N N a e (diagrams C))) σ c c b (tables_of sp t st mem tr) s s'
-      has_given {b} {s'} A len = ran W (comes (record { gone = gone_refl C; ordered = order; holds = tt })) (tables_of sp t st mem tr) (ap (λ (b : Bool). given C b) (sym A.is)) (leaves_lifts C A.left) len W.fresh (λ x w i j. refl)
+      pub difference_ran : OnlySets x y → Gives SpNoted (λ (h : SP). h.0) (Sp.difference k.fields a b) (sets_in x) r (sets_in y) x.scratch.now y.scratch.now
+          → Ran k 0 0 (SetIn k.fields) (λ (h : SP). h.0) (on_sets (Sp.difference k.fields a b)) x r y
+      difference_ran K G = by_sets (ends_map (λ τ h v. record { gone = v.gone; ordered = v.ordered; holds = v.holds.1.at })
+          (sets_step (order x W) (SpSets.difference_runs k.fields k.fields (omega arith) (sets_in x) a b _ _ (order x W).sets (SpLawsProofs.den_mem at) (SpLawsProofs.den_mem bt))
+          (SpRefused.difference_stops k.fields k.fields (omega arith) (sets_in x) a b _ _ (order x W).sets (SpLawsProofs.den_mem at) (SpLawsProofs.den_mem bt)))) K G
 
-    module _ (f : ℕ) (z : ValidAt (table t c.spp) N f) where
-      pub asks_relate : RelateReady N (table t c.spp) s e f
-      asks_relate = record { backed = record { few = W.ready.ready.few; wf = order.worked.good.nodes; room = W.ready.ready.room; sound = W.ready.ready.sound }; at_a = y; at_b = z }
+    module _ (e : ℕ) (et : ValidAt (nodes_in x) k.fields e) where
+      pub push_ran : OnlySets x y → Gives (Written k.fields) (λ (h : SP). h.0) (Images.push k.fields k.fields a e) (diagrams_in x) r (diagrams_in y) x.scratch.now y.scratch.now
+          → Ran k 0 0 (SetIn k.fields) (λ (h : SP). h.0) (making_sets (Images.push k.fields k.fields a e)) x r y
+      push_ran K G = by_images (ends_map (λ τ h v. record { gone = v.gone; ordered = v.ordered; holds = v.holds.1.at })
+          (images_step (order x W) (λ u v. SpLaws.Denotes u k.fields v _) (push_exact k.fields k.fields (omega arith) (diagrams_in x) a e _ _ (both_wf (order x W)) (SpLawsProofs.den_mem at) (den_mem et)))) K G
 
-      pub intersect_given : {r : relations.Made} {t' s' : List ℕ} {h : SPP} {n : ℕ} → r ≡ relations.Made.Node h n → length s' ≡ length s → Relates N (Rel.intersect N e f) (table t c.spp) r t' s s'
-          → Ran N l 0 0 (RelIn N) (on_base (on_aut (on_nodes (Rel.intersect N e f))) C) σ c (with_nodes c n) h.0 (tables_of sp t' st mem tr) s s'
-      intersect_given {r} {t'} {s'} {h} {n} q len A = ran W
-          (ends_map (λ τ h v. record { gone = v.gone; ordered = v.ordered; holds = v.holds.at }) (goes_ends order (nodes_goes order.worked.good (intersect_made N (table t c.spp) order.worked.good.nodes e f y z))))
-          (tables_of sp t' st mem tr)
-          (ap (λ (o : Outcome Table ℕ). placed put_base C (placed put_aut C.base (placed put_nodes C.base.aut o))) (A.gives ∙ ap (λ (r : relations.Made). SppSeen.seen_made r t') q))
-          (leaves_left (clear_tables (tables_of sp t' st mem tr (with_nodes c n))) (subst (λ (r : relations.Made). MadeLeft N r t' s s') q A.left)) len W.fresh (λ x w i j. refl)
+      pub pull_ran : OnlySets x y → Gives (Written k.fields) (λ (h : SP). h.0) (Images.pull k.fields k.fields e a) (diagrams_in x) r (diagrams_in y) x.scratch.now y.scratch.now
+          → Ran k 0 0 (SetIn k.fields) (λ (h : SP). h.0) (making_sets (Images.pull k.fields k.fields e a)) x r y
+      pull_ran K G = by_images (ends_map (λ τ h v. record { gone = v.gone; ordered = v.ordered; holds = v.holds.1.at })
+          (images_step (order x W) (λ u v. SpLaws.Denotes u k.fields v _) (pull_exact k.fields k.fields (omega arith) (diagrams_in x) a e _ _ (both_wf (order x W)) (SpLawsProofs.den_mem at) (den_mem et)))) K G
 
-  pub images_refused : {o : Step Stores ℕ} {r : sets.Made} {sp' s' : List ℕ} → PostImage N o (diagrams C) r sp' s s' → r ≡ sets.Made.Full → making_sets o C ≡ refused 20
-  images_refused {sp' = sp'} A q = ap (placed (λ s σ. put_sets s.sp σ) C) (A.gives ∙ ap (λ (r : sets.Made). Behind.seen_image r sp' (table t c.spp)) q)
+  pub bwd_ran : (e : ℕ) → ValidAt (nodes_in x) k.fields e → OnlySets x y → Gives (Written k.fields) (λ (h : SP). h.0) (Images.bwd k.fields e) (diagrams_in x) r (diagrams_in y) x.scratch.now y.scratch.now
+      → Ran k 0 0 (SetIn k.fields) (λ (h : SP). h.0) (making_sets (Images.bwd k.fields e)) x r y
+  bwd_ran e et K G = by_images (ends_map (λ τ h v. record { gone = v.gone; ordered = v.ordered; holds = v.holds.1.at })
+      (images_step (order x W) (λ u v. SpLaws.Denotes u k.fields v _) (bwd_exact k.fields k.fields (omega arith) (diagrams_in x) e _ (both_wf (order x W)) (den_mem et)))) K G
 
-  -- ---- relations
+-- whether some packet of a set is related to some packet: a step that always gives
+module _ {k : Config} {x y : Lent} (W : Working k.fields k.limits (tables_in x) x.scratch.now) {a e : ℕ} {b : Bool} where
+  pub has_ran : OnlyScratch x y → PostHas k.fields (diagrams_in x) a e b x.scratch.now y.scratch.now → Ran k 0 0 (λ τ b. Unit) (λ (b : Bool). b) (λ τ. given τ (Images.has_image k.fields k.fields a e (diagrams τ))) x (Ok b) y
+  has_ran K A = ran_beside W (comes (record { gone = gone_refl (clear_in x); ordered = W.ready.ordered; holds = tt })) K.length K.states (Ok b)
+      (ap (λ (b : Bool). given (clear_in x) b) (sym A.is) ∙ ap (λ (σ : Tables). given σ b) same) (subst (λ (σ : Tables). Leaves k.fields 0 0 σ x.scratch.now y.scratch.now) same (has_leaves x A))
+    where
+      same : clear_in x ≡ clear_in y
+      same = rw (sym K.sp) (rw (sym K.spp) (rw (sym K.states) (rw (sym K.members) (rw (sym K.transitions) refl))))
 
-  pub relations_refused : {o : Step Table ℕ} {r : relations.Made} {t' s' : List ℕ} → Relates N o (table t c.spp) r t' s s' → r ≡ relations.Made.Full → on_base (on_aut (on_nodes o)) C ≡ refused 21
-  relations_refused {t' = t'} A q = ap (λ (o : Outcome Table ℕ). placed put_base C (placed put_aut C.base (placed put_nodes C.base.aut o))) (A.gives ∙ ap (λ (r : relations.Made). SppSeen.seen_made r t') q)
+-- ---- relations
 
-  pub ifwd_given : (a : ℕ) → SpLaws.ValidAt (table sp c.sp) N a → {r : relations.Made} {t' s' : List ℕ} {h : SPP} {n : ℕ} → r ≡ relations.Made.Node h n → length s' ≡ length s → PostLift N (Images.ifwd N a) (diagrams C) r t' s s'
-      → Ran N l 0 0 (RelIn N) (making_relations (Images.ifwd N a) C) σ c (with_nodes c n) h.0 (tables_of sp t' st mem tr) s s'
-  ifwd_given a x {r} {t'} {s'} {h} {n} q len A = ran W
-      (ends_map (λ τ h v. record { gone = v.gone; ordered = v.ordered; holds = v.holds.at }) (relations_step order (λ u v. Denotes u N v _) (ifwd_exact N N (diagrams C) a _ (both_wf order) (SpLawsProofs.den_mem x))))
-      (tables_of sp t' st mem tr)
-      (ap (placed (λ s σ. put_relations s.spp σ) C) (A.gives ∙ ap (λ (r : relations.Made). Behind.lifted r t' (table sp c.sp)) q))
-      (leaves_lifts (clear_tables (tables_of sp t' st mem tr (with_nodes c n))) (subst (λ (r : relations.Made). LiftNotes N r t' (table sp c.sp) s s') q A.left)) len W.fresh (λ x w i j. refl)
+module _ {x y : Lent} (K : KeepsExprs x y) where
+  same_relations : put_relations (nodes_in y) (clear_in x) ≡ clear_in y
+  same_relations = rw (sym K.sp) (rw (sym K.states) (rw (sym K.members) (rw (sym K.transitions) refl)))
 
-  pub lifts_refused : {o : Step Stores ℕ} {r : relations.Made} {t' s' : List ℕ} → PostLift N o (diagrams C) r t' s s' → r ≡ relations.Made.Full → making_relations o C ≡ refused 21
-  lifts_refused {t' = t'} A q = ap (placed (λ s σ. put_relations s.spp σ) C) (A.gives ∙ ap (λ (r : relations.Made). Behind.lifted r t' (table sp c.sp)) q)
+  making_relations_is : (o : Step Stores ℕ) (r : Result SPP Refusal) → o (diagrams_in x) ≡ outcome (λ (h : SPP). h.0) r (diagrams_in y) → making_relations o (clear_in x) ≡ outcome (λ (h : SPP). h.0) r (clear_in y)
+  making_relations_is o (Ok h) e = ap (placed (λ s σ. put_relations s.spp σ) (clear_in x)) e ∙ ap (λ (σ : Tables). given σ h.0) same_relations
+  making_relations_is o (Err z) e = ap (placed (λ s σ. put_relations s.spp σ) (clear_in x)) e
 
-  -- ---- epsilon
+  on_nodes_is : (o : Step Table ℕ) (r : Result SPP Refusal) → o (nodes_in x) ≡ outcome (λ (h : SPP). h.0) r (nodes_in y) → on_base (on_aut (on_nodes o)) (clear_in x) ≡ outcome (λ (h : SPP). h.0) r (clear_in y)
+  on_nodes_is o (Ok h) e = ap (λ (v : Outcome Table ℕ). placed put_base (clear_in x) (placed put_aut (clear_in x).base (placed put_nodes (clear_in x).base.aut v))) e ∙ ap (λ (σ : Tables). given σ h.0) same_relations
+  on_nodes_is o (Err z) e = ap (λ (v : Outcome Table ℕ). placed put_base (clear_in x) (placed put_aut (clear_in x).base (placed put_nodes (clear_in x).base.aut v))) e
 
-  module _ {x : ℕ} {r : relations.Made} {t' st' s' : List ℕ} (E : Works N x r c t st mem s t' st' s') where
-    epsilon_is : {z : relations.Made} → r ≡ z → on_base (on_aut (epsilon N x)) C ≡ cleared clear_tables (placed put_base σ (placed put_aut σ.base (seen_epsilon z c t' st' mem)))
-    epsilon_is {z} q =
-        epsilon_clear_tables N x σ
-        ∙ ap (λ (o : Outcome Aut ℕ). cleared clear_tables (placed put_base σ (placed put_aut σ.base o))) (E.is ∙ ap (λ (r : relations.Made). seen_epsilon r c t' st' mem) q)
+lifts_left : (N : ℕ) (y : Lent) (s s' : List ℕ) (r : Result SPP Refusal) → Unless r (NotesBehind (OnlyCodes 10 15 (Kept N (diagrams_in y))) s s') → Unless r (Leaves N 0 0 (clear_in y) s s')
+lifts_left N y s s' (Ok h) p = leaves_lifts (clear_in y) p
+lifts_left N y s s' (Err z) p = tt
 
-    pub epsilon_ran : {h : SPP} {n : ℕ} → x < c.states → r ≡ relations.Made.Node h n → length s' ≡ length s
-        → Ran N l 0 0 (RelIn N) (on_base (on_aut (epsilon N x)) C) σ c (with_nodes c n) h.0 (tables_of sp t' st' mem tr) s s'
-    epsilon_ran {h} {n} k q len =
-        let v = (epsilon_given t st mem tr c E {l = l} (prepared W) q).then in
-        ran W (ends_map (λ τ e w. record { gone = w.gone; ordered = w.ordered; holds = w.holds.den.at }) (epsilon_ends order k)) (tables_of sp t' st' mem tr) (epsilon_is q)
-        (leaves_left (clear_of sp t' st' mem tr (with_nodes c n)) v.frame) len v.ready.ready.good.fresh (λ x w i j. v.ext.others x w (omega arith) j)
+modifies_left : (N a n : ℕ) (y : Lent) {V : Type 0} (s s' : List ℕ) (r : Result V Refusal) → Unless r (Modifies N a n (nodes_in y) s s') → Unless r (Leaves N a n (clear_in y) s s')
+modifies_left N a n y s s' (Ok h) p = leaves_left (clear_in y) p
+modifies_left N a n y s s' (Err z) p = tt
 
-    pub epsilon_stuck : r ≡ relations.Made.Full → on_base (on_aut (epsilon N x)) C ≡ refused 21
-    epsilon_stuck q = epsilon_is q
+module _ {k : Config} {x y : Lent} {r : Result SPP Refusal} (W : Working k.fields k.limits (tables_in x) x.scratch.now) where
+  pub ifwd_ran : (a : ℕ) → SpLaws.ValidAt (sets_in x) k.fields a → KeepsExprs x y
+      → Gives (λ σ. OnlyCodes 10 15 (Kept k.fields σ)) (λ (h : SPP). h.0) (Images.ifwd k.fields a) (diagrams_in x) r (diagrams_in y) x.scratch.now y.scratch.now
+      → Ran k 0 0 (RelIn k.fields) (λ (h : SPP). h.0) (making_relations (Images.ifwd k.fields a)) x r y
+  ifwd_ran a at K G = ran_beside W
+      (ends_map (λ τ h v. record { gone = v.gone; ordered = v.ordered; holds = v.holds.at })
+      (relations_step (order x W) (λ u v. Denotes u k.fields v _) (ifwd_exact k.fields k.fields (diagrams_in x) a _ (both_wf (order x W)) (SpLawsProofs.den_mem at))))
+      K.length K.states r (making_relations_is K (Images.ifwd k.fields a) r G.is) (lifts_left k.fields y x.scratch.now y.scratch.now r G.left)
 
-  -- ---- delta
+  pub intersect_ran : (e : ℕ) → ValidAt (nodes_in x) k.fields e → (f : ℕ) → ValidAt (nodes_in x) k.fields f → KeepsExprs x y → Does k.fields 0 0 nodes_in (λ (h : SPP). h.0) (Rel.intersect k.fields e f) x r y
+      → Ran k 0 0 (RelIn k.fields) (λ (h : SPP). h.0) (on_base (on_aut (on_nodes (Rel.intersect k.fields e f)))) x r y
+  intersect_ran e et f ft K D = ran_beside W
+      (ends_map (λ τ h v. record { gone = v.gone; ordered = v.ordered; holds = v.holds.at }) (goes_ends (order x W) (nodes_goes (order x W).worked.good (intersect_made k.fields (nodes_in x) (order x W).worked.good.nodes e f et ft))))
+      K.length K.states r (on_nodes_is K (Rel.intersect k.fields e f) r D.is) (modifies_left k.fields 0 0 y x.scratch.now y.scratch.now r D.left)
 
-  links_in : {τ : Tables} {es : List Edge} {list : List (Transition State N)} → Are (readings N (limits_of l)) τ.base.aut es list → (e : Edge) → Memᴰ e es → EdgeIn N τ e
-  links_in Are.none e m = absurd (Memᴰ.not-nil m)
-  links_in {τ} (Are.also k d as') e m = ⊎_elim (λ q. subst (EdgeIn N τ) (sym q) (record { known = k; at = d.at })) (λ n. links_in as' e n) (Memᴰ.cases_cons m)
+-- ---- epsilon and delta, which are worked out on the tables as they are
 
-  module _ (x : ℕ) {Q : Store → List Edge → Type 0} {t' st' mem' tr' s' : List ℕ} where
-    pub delta_ran : {d : Counts} {es : List Edge} → x < c.states
-        → Post (store_layer N l) 0 1088 Q (delta N (limits_of l) x (store_of t st mem tr c)) (store_of t st mem tr c) c (gave d es) (store_of t' st' mem' tr') s s' → length s' ≡ length s
-        → Ran N l 0 1088 (ListIn N x) (on_base (delta N (limits_of l) x) C) σ c d es (tables_of sp t' st' mem' tr') s s'
-    delta_ran {d} {es} k D len =
-        let v = D.then in
-        ran W (ends_map (λ τ e w. record { gone = w.gone; ordered = w.ordered; holds = record { stored = w.holds.0; edges = links_in w.holds.1.are } }) (delta_ends order k)) (tables_of sp t' st' mem' tr')
-        (delta_clear_tables N (limits_of l) x σ ∙ ap (λ (o : Outcome Store (List Edge)). cleared clear_tables (placed put_base σ o)) D.is
-        ∙ ap (λ (n : ℕ). given (clear_tables (tables (table sp n) (store_of t' st' mem' tr' d))) es) (sym v.beside))
-        (leaves_left (clear_of sp t' st' mem' tr' d) v.frame) len v.ready.ready.good.fresh (λ x w i j. v.ext.others x w (omega arith) j)
+-- the list that is stored; words 8 to 11, and what lies beyond the states
+links_in : {N : ℕ} {L : Limits} {τ : Tables} {es : List Edge} {list : List (Transition State N)} → Are (readings N L) τ.base.aut es list → (e : Edge) → Memᴰ e es → EdgeIn N τ e
+links_in Are.none e m = absurd (Memᴰ.not-nil m)
+links_in {N} {τ = τ} (Are.also k d as') e m = ⊎_elim (λ q. subst (EdgeIn N τ) (sym q) (record { known = k; at = d.at })) (λ n. links_in as' e n) (Memᴰ.cases_cons m)
 
-    pub delta_stuck : {e : ℕ} → Post (store_layer N l) 0 1088 Q (delta N (limits_of l) x (store_of t st mem tr c)) (store_of t st mem tr c) c (refusal e) (store_of t' st' mem' tr') s s' → on_base (delta N (limits_of l) x) C ≡ refused e
-    delta_stuck D = delta_clear_tables N (limits_of l) x σ ∙ ap (λ (o : Outcome Store (List Edge)). cleared clear_tables (placed put_base σ o)) D.is
+beyond : {k : Config} {a n : ℕ} {V A : Type 0} {P : Store → A → Type 0} {see : V → A} {o : Step Store A} {x y : Lent} (r : Result V Refusal) → GoesStore k a n P see o x r y → Unless r (Fresh (store_in y) × Unwritten (tables_in x) (tables_in y))
+beyond (Ok v) g = (g.post.then.ready.ready.good.fresh, λ i w p q. g.post.then.ext.others i w (omega arith) q)
+beyond (Err e) g = tt
+
+store_left : {k : Config} {a n : ℕ} {V A : Type 0} {P : Store → A → Type 0} {see : V → A} {o : Step Store A} {x y : Lent} (r : Result V Refusal) → GoesStore k a n P see o x r y → Unless r (Leaves k.fields a n (clear_in y) x.scratch.now y.scratch.now)
+store_left {y = y} (Ok v) g = leaves_left (clear_in y) g.post.then.frame
+store_left (Err e) g = tt
+
+module _ {x y : Lent} (N i : ℕ) where
+  epsilon_is : Keeps x y → (r : Result SPP Refusal) → epsilon N i (aut_in x) ≡ outcome (λ (h : SPP). h.0) r (aut_in y) → on_base (on_aut (epsilon N i)) (clear_in x) ≡ outcome (λ (h : SPP). h.0) r (clear_in y)
+  epsilon_is K (Ok h) e = epsilon_clear_tables N i (tables_in x) ∙ ap (λ (o : Outcome Aut ℕ). cleared clear_tables (placed put_base (tables_in x) (placed put_aut (store_in x) o))) e ∙ rw (sym K.sp) (rw (sym K.transitions) refl)
+  epsilon_is K (Err z) e = epsilon_clear_tables N i (tables_in x) ∙ ap (λ (o : Outcome Aut ℕ). cleared clear_tables (placed put_base (tables_in x) (placed put_aut (store_in x) o))) e
+
+  delta_is : (L : Limits) {V : Type 0} (see : V → List Edge) → KeepsStore x y → (r : Result V Refusal) → delta N L i (store_in x) ≡ outcome see r (store_in y) → on_base (delta N L i) (clear_in x) ≡ outcome see r (clear_in y)
+  delta_is L see K (Ok v) e = delta_clear_tables N L i (tables_in x) ∙ ap (λ (o : Outcome Store (List Edge)). cleared clear_tables (placed put_base (tables_in x) o)) e ∙ rw (sym K.sp) refl
+  delta_is L see K (Err z) e = delta_clear_tables N L i (tables_in x) ∙ ap (λ (o : Outcome Store (List Edge)). cleared clear_tables (placed put_base (tables_in x) o)) e
+
+module _ {k : Config} {x y : Lent} (V : WorkingIn k x) {i : ℕ} (has : i < x.states.count) where
+  module _ {r : Result SPP Refusal} (K : Keeps x y) (D : Does k.fields 0 0 aut_in (λ (h : SPP). h.0) (epsilon k.fields i) x r y) (L : Later k.fields i x r y) where
+    pub epsilon_ran : Ran k 0 0 (RelIn k.fields) (λ (h : SPP). h.0) (on_base (on_aut (epsilon k.fields i))) x r y
+    epsilon_ran = ran V.working (ends_map (λ τ e w. record { gone = w.gone; ordered = w.ordered; holds = w.holds.den.at }) (epsilon_ends (order x V.working) has)) K.length r
+        (epsilon_is k.fields i K r D.is) (modifies_left k.fields 0 0 y x.scratch.now y.scratch.now r D.left) (beyond r (epsilon_goes (asks_store V) K i D L))
+
+  module _ {U : Type 0} {r : Result U Refusal} {Q : Store → List Edge → Type 0} (K : KeepsStore x y) (D : GoesStore k 0 1088 Q (λ (v : U). list_at (store_in y) i) (delta k.fields (limits_of k.limits) i) x r y) where
+    pub delta_ran : Ran k 0 1088 (ListIn k.fields i) (λ (v : U). list_at (store_in y) i) (on_base (delta k.fields (limits_of k.limits) i)) x r y
+    delta_ran = ran V.working (ends_map (λ τ e w. record { gone = w.gone; ordered = w.ordered; holds = record { stored = w.holds.0; edges = links_in w.holds.1.are } }) (delta_ends (order x V.working) has)) K.length r
+        (delta_is k.fields i (limits_of k.limits) (λ (v : U). list_at (store_in y) i) K r D.post.is) (store_left r D) (beyond r D)

@@ -1,3 +1,4 @@
-pub mod Working
-pub mod Works
-pub mod Calls
+-- Calls that a query makes, as calls of its layer. Read in this order.
+pub mod Ran  -- what a call came to
+pub mod Works  -- the tables from a query's beginning to its end
+pub mod Calls  -- what each callee asks, and what it came to

@@ -1,2 +1,2 @@
 -- The laws of the layer of specs/.
-pub mod Layer
+pub mod Lent  -- of the layer over all tables that are lent

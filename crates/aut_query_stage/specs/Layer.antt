@@ -1,22 +1,15 @@
 -- All tables that a query works on as a layer of the rule for a run of calls (aut_stage): packet nodes beside the store of delta and epsilon, word 7 of the states, and a cache in which packet sets,
 -- images, relations and numbers are noted. Words 8 to 11 of the states are free while a query runs; the layer's store has them as 01 has them at rest: 0.
 use Rattle.std.specs.Prelude.{◌≡◌, List, ℕ, ◌+◌, ◌*◌, ◌≤◌, ◌<◌, get_or}
-use Rattle.common.specs.Runs.{table}
 use Rattle.cache.specs.Cache.{OnCodes, Sound}
 use Rattle.spp_image.specs.Reuse.{Held, Counted}
 use Rattle.aut_steps.specs.Wf.{states}
-use Rattle.aut_delta_stage.specs.OnStore.{store_of}
-use Rattle.aut_query_steps.specs.Tables.{Tables, tables, diagrams, WfTables}
+use Rattle.aut_query_steps.specs.Tables.{Tables, diagrams, WfTables}
 use Rattle.aut_states.specs.Clauses.{limits_of}
-use Rattle.aut_states.specs.declared.Counts.{Counts}
 use Rattle.aut_states.specs.declared.Limits.{Limits}
 use Rattle.aut_relations.specs.Behind as Behind
 use Rattle.aut_relations.specs.Behind.{cached}
 use Rattle.aut_relations.specs.Clauses.{Ready}
-
--- the tables in code, for the counts that are told
-abbrev pub tables_of : (sp t st mem tr : List ℕ) → Counts → Tables
-tables_of sp t st mem tr c = tables (table sp c.sp) (store_of t st mem tr c)
 
 -- ---- the cache
 

@@ -1,1 +1,3 @@
+-- The cache given back; what calls keep.
 pub mod Back
+pub mod Kept

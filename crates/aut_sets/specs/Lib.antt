@@ -1,2 +1,3 @@
--- Packet sets and images for the queries: what the operations ask and promise, with the cache behind the lists in scratch.
-pub mod Clauses
+-- Packet sets and images for the queries, with the cache behind the lists. Read in this order.
+pub mod Lent  -- all tables that are lent, for the queries
+pub mod Clauses  -- what the operations ask and promise

@@ -1,228 +1,179 @@
 // Packet sets and images for the queries: the cache that the operations take lies in scratch, behind the lists.
 #![tactic(auto)]
 
-ghost use Rattle.std.specs.Prelude.{◌≡◌, ℕ, ◌≤◌};
-ghost use Rattle.common.specs.Runs.{table};
+ghost use Rattle.std.specs.Prelude.{◌≡◌, IfErr};
 ghost use Rattle.sp_steps.specs.Model as Sp;
+ghost use Rattle.sp_steps.specs.Reuse.{SpNoted};
 ghost use Rattle.spp_steps.specs.ImageModel as Images;
-ghost use Rattle.spp_steps.specs.ImageModel.{stores};
-ghost use Rattle.aut_sets.specs.Clauses.{PreSets, PostSets, PreSet, PreImage, PreLead, PostImage, PostHas, PreLift, PostLift, PostSize, PreCount, PostCount};
+ghost use Rattle.cache.specs.Cache.{OnlyCodes};
+ghost use Rattle.spp_image.specs.Reuse.{Written, Kept};
+ghost use Rattle.refusal.specs.declared.Refusal.TheVariants as refusals;
+ghost use Rattle.aut_relations.specs.Lent.{nodes_in, KeepsExprs};
+ghost use Rattle.aut_sets.specs.Lent.{sets_in, diagrams_in, OnlyScratch, OnlySets};
+ghost use Rattle.aut_sets.specs.Clauses.{Gives, PreSets, PreSet, PreImage, PreLead, PostHas, PreLift, PostSize, PreCount, PostCount};
 
-use aut_states::Counts;
+use aut_relations::Aut;
+use aut_states::Config;
+use refusal::Refusal;
 use sp::{SP, SPstore, SPview};
 use spp::{SPP, SPPstore, SPPview};
 
-pub fn set_difference(
-    sp: &mut [u32],
-    scratch: &mut [u32],
-    c: Counts,
-    fields: u32,
-    a: SP,
-    b: SP,
-) -> sp::Made
-    requires { PreSets fields (table sp.old c.sp) scratch.old a.0 b.0 }
-    ensures { PostSets (Sp.difference fields a.0 b.0) (table sp.old c.sp) result
-        sp.new scratch.old scratch.new }
+// the packet nodes, to be read
+fn sets_of<'a>(sp: &'a SPstore) -> SPview<'a>
+    ensures { (result.nodes.now ≡ sp.now.nodes.now) × (result.count ≡ sp.now.count) }
 {
-    let at = aut_scratch::LISTS;
-    let mut sets = SPstore {
-        nodes: sp,
-        count: c.sp,
-    };
-    let made = sets.difference(&mut scratch[at..], fields, a, b);
-    sp::made_of(made, sets.count)
+    SPview {
+        nodes: sp.nodes,
+        count: sp.count,
+    }
 }
 
-pub fn set_union(
-    sp: &mut [u32],
-    scratch: &mut [u32],
-    c: Counts,
-    fields: u32,
-    a: SP,
-    b: SP,
-) -> sp::Made
-    requires { PreSets fields (table sp.old c.sp) scratch.old a.0 b.0 }
-    ensures { PostSets (Sp.union fields a.0 b.0) (table sp.old c.sp) result sp.new
-        scratch.old scratch.new }
+// the relation nodes, to be read, for so many fields
+fn relations_of<'a>(spp: &'a SPPstore, fields: u32) -> SPPview<'a>
+    ensures { (result.nodes.now ≡ spp.now.nodes.now) × (result.count ≡ spp.now.count) × (result.fields ≡ fields) }
+{
+    SPPview {
+        nodes: spp.nodes,
+        count: spp.count,
+        fields,
+    }
+}
+
+pub fn difference(aut: &mut Aut, config: Config, a: SP, b: SP) -> Result<SP, Refusal>
+    requires { PreSets config.fields (sets_in aut.old) aut.old.scratch.now a.0 b.0 }
+    ensures keeps { OnlySets aut.old aut.new }
+    ensures only { IfErr result (λ e. e ≡ refusals.Sp) }
+    ensures gives { Gives SpNoted (λ h. h.0) (Sp.difference config.fields a.0 b.0) (sets_in aut.old)
+        result (sets_in aut.new) aut.old.scratch.now aut.new.scratch.now }
 {
     let at = aut_scratch::LISTS;
-    let mut sets = SPstore {
-        nodes: sp,
-        count: c.sp,
-    };
-    let made = sets.union(&mut scratch[at..], fields, a, b);
-    sp::made_of(made, sets.count)
+    Ok(
+        aut.sp
+            .difference(&mut aut.scratch[at..], config.fields, a, b)?,
+    )
+}
+
+pub fn union(aut: &mut Aut, config: Config, a: SP, b: SP) -> Result<SP, Refusal>
+    requires { PreSets config.fields (sets_in aut.old) aut.old.scratch.now a.0 b.0 }
+    ensures keeps { OnlySets aut.old aut.new }
+    ensures only { IfErr result (λ e. e ≡ refusals.Sp) }
+    ensures gives { Gives SpNoted (λ h. h.0) (Sp.union config.fields a.0 b.0) (sets_in aut.old)
+        result (sets_in aut.new) aut.old.scratch.now aut.new.scratch.now }
+{
+    let at = aut_scratch::LISTS;
+    Ok(aut.sp.union(&mut aut.scratch[at..], config.fields, a, b)?)
 }
 
 // the packets that a relation leads to from a packet of the set
-pub fn set_push(
-    sp: &mut [u32],
-    nodes: &[u32],
-    scratch: &mut [u32],
-    c: Counts,
-    fields: u32,
-    s: SP,
-    r: SPP,
-) -> sp::Made
-    requires { PreLead fields (stores (table sp.old c.sp) (table nodes.now c.spp)) scratch.old s.0
-        r.0 }
-    ensures { PostImage fields (Images.push fields fields s.0 r.0)
-        (stores (table sp.old c.sp) (table nodes.now c.spp)) result sp.new
-        scratch.old scratch.new }
+pub fn push(aut: &mut Aut, config: Config, s: SP, r: SPP) -> Result<SP, Refusal>
+    requires { PreLead config.fields (diagrams_in aut.old) aut.old.scratch.now s.0 r.0 }
+    ensures keeps { OnlySets aut.old aut.new }
+    ensures only { IfErr result (λ e. e ≡ refusals.Sp) }
+    ensures gives { Gives (Written config.fields) (λ h. h.0)
+        (Images.push config.fields config.fields s.0 r.0) (diagrams_in aut.old) result
+        (diagrams_in aut.new) aut.old.scratch.now aut.new.scratch.now }
 {
     let at = aut_scratch::LISTS;
-    let mut sets = SPstore {
-        nodes: sp,
-        count: c.sp,
-    };
-    let relations = SPPview {
-        nodes,
-        count: c.spp,
-        fields,
-    };
-    let made = spp_image::push(&mut sets, relations, &mut scratch[at..], fields, s, r);
-    sp::made_of(made, sets.count)
+    let relations = relations_of(&aut.spp, config.fields);
+    Ok(spp_image::push(
+        &mut aut.sp,
+        relations,
+        &mut aut.scratch[at..],
+        config.fields,
+        s,
+        r,
+    )?)
 }
 
 // the packets that a relation leads to a packet of the set
-pub fn set_pull(
-    sp: &mut [u32],
-    nodes: &[u32],
-    scratch: &mut [u32],
-    c: Counts,
-    fields: u32,
-    r: SPP,
-    s: SP,
-) -> sp::Made
-    requires { PreLead fields (stores (table sp.old c.sp) (table nodes.now c.spp)) scratch.old s.0
-        r.0 }
-    ensures { PostImage fields (Images.pull fields fields r.0 s.0)
-        (stores (table sp.old c.sp) (table nodes.now c.spp)) result sp.new
-        scratch.old scratch.new }
+pub fn pull(aut: &mut Aut, config: Config, r: SPP, s: SP) -> Result<SP, Refusal>
+    requires { PreLead config.fields (diagrams_in aut.old) aut.old.scratch.now s.0 r.0 }
+    ensures keeps { OnlySets aut.old aut.new }
+    ensures only { IfErr result (λ e. e ≡ refusals.Sp) }
+    ensures gives { Gives (Written config.fields) (λ h. h.0)
+        (Images.pull config.fields config.fields r.0 s.0) (diagrams_in aut.old) result
+        (diagrams_in aut.new) aut.old.scratch.now aut.new.scratch.now }
 {
     let at = aut_scratch::LISTS;
-    let mut sets = SPstore {
-        nodes: sp,
-        count: c.sp,
-    };
-    let relations = SPPview {
-        nodes,
-        count: c.spp,
-        fields,
-    };
-    let made = spp_image::pull(&mut sets, relations, &mut scratch[at..], fields, r, s);
-    sp::made_of(made, sets.count)
+    let relations = relations_of(&aut.spp, config.fields);
+    Ok(spp_image::pull(
+        &mut aut.sp,
+        relations,
+        &mut aut.scratch[at..],
+        config.fields,
+        r,
+        s,
+    )?)
 }
 
 // the packets that a relation leads on
-pub fn set_bwd(
-    sp: &mut [u32],
-    nodes: &[u32],
-    scratch: &mut [u32],
-    c: Counts,
-    fields: u32,
-    r: SPP,
-) -> sp::Made
-    requires { PreImage fields (stores (table sp.old c.sp) (table nodes.now c.spp)) scratch.old r.0 }
-    ensures { PostImage fields (Images.bwd fields r.0)
-        (stores (table sp.old c.sp) (table nodes.now c.spp)) result sp.new
-        scratch.old scratch.new }
+pub fn bwd(aut: &mut Aut, config: Config, r: SPP) -> Result<SP, Refusal>
+    requires { PreImage config.fields (diagrams_in aut.old) aut.old.scratch.now r.0 }
+    ensures keeps { OnlySets aut.old aut.new }
+    ensures only { IfErr result (λ e. e ≡ refusals.Sp) }
+    ensures gives { Gives (Written config.fields) (λ h. h.0) (Images.bwd config.fields r.0)
+        (diagrams_in aut.old) result (diagrams_in aut.new) aut.old.scratch.now
+        aut.new.scratch.now }
 {
     let at = aut_scratch::LISTS;
-    let mut sets = SPstore {
-        nodes: sp,
-        count: c.sp,
-    };
-    let relations = SPPview {
-        nodes,
-        count: c.spp,
-        fields,
-    };
-    let made = spp_image::bwd(&mut sets, relations, &mut scratch[at..], fields, r);
-    sp::made_of(made, sets.count)
+    let relations = relations_of(&aut.spp, config.fields);
+    Ok(spp_image::bwd(
+        &mut aut.sp,
+        relations,
+        &mut aut.scratch[at..],
+        config.fields,
+        r,
+    )?)
 }
 
 // whether some packet of the set is related to some packet
-pub fn set_has_image(
-    sp: &[u32],
-    nodes: &[u32],
-    scratch: &mut [u32],
-    c: Counts,
-    fields: u32,
-    s: SP,
-    r: SPP,
-) -> bool
-    requires { PreLead fields (stores (table sp.now c.sp) (table nodes.now c.spp)) scratch.old s.0
-        r.0 }
-    ensures { PostHas fields (stores (table sp.now c.sp) (table nodes.now c.spp))
-        s.0 r.0 result scratch.old scratch.new }
+pub fn has_image(aut: &mut Aut, config: Config, s: SP, r: SPP) -> bool
+    requires { PreLead config.fields (diagrams_in aut.old) aut.old.scratch.now s.0 r.0 }
+    ensures keeps { OnlyScratch aut.old aut.new }
+    ensures has { PostHas config.fields (diagrams_in aut.old) s.0 r.0 result aut.old.scratch.now
+        aut.new.scratch.now }
 {
     let at = aut_scratch::LISTS;
-    let sets = SPview {
-        nodes: sp,
-        count: c.sp,
-    };
-    let relations = SPPview {
-        nodes,
-        count: c.spp,
-        fields,
-    };
-    spp_query::has_image(sets, relations, &mut scratch[at..], fields, s, r)
+    let sets = sets_of(&aut.sp);
+    let relations = relations_of(&aut.spp, config.fields);
+    spp_query::has_image(sets, relations, &mut aut.scratch[at..], config.fields, s, r)
 }
 
 // the pairs whose second packet is in the set
-pub fn set_ifwd(
-    sp: &[u32],
-    nodes: &mut [u32],
-    scratch: &mut [u32],
-    c: Counts,
-    fields: u32,
-    s: SP,
-) -> spp::Made
-    requires { PreLift fields (stores (table sp.now c.sp) (table nodes.old c.spp)) scratch.old s.0 }
-    ensures { PostLift fields (Images.ifwd fields s.0)
-        (stores (table sp.now c.sp) (table nodes.old c.spp)) result nodes.new
-        scratch.old scratch.new }
+pub fn ifwd(aut: &mut Aut, config: Config, s: SP) -> Result<SPP, Refusal>
+    requires { (aut.old.spp.fields ≡ config.fields) ×
+        PreLift config.fields (diagrams_in aut.old) aut.old.scratch.now s.0 }
+    ensures keeps { KeepsExprs aut.old aut.new }
+    ensures only { IfErr result (λ e. e ≡ refusals.Spp) }
+    ensures gives { Gives (λ σ. OnlyCodes 10 15 (Kept config.fields σ)) (λ h. h.0)
+        (Images.ifwd config.fields s.0) (diagrams_in aut.old) result (diagrams_in aut.new)
+        aut.old.scratch.now aut.new.scratch.now }
 {
     let at = aut_scratch::LISTS;
-    let sets = SPview {
-        nodes: sp,
-        count: c.sp,
-    };
-    let mut relations = SPPstore {
-        nodes,
-        count: c.spp,
-        fields,
-    };
-    let made = spp_query::ifwd(&mut relations, sets, &mut scratch[at..], fields, s);
-    spp::made_of(made, relations.count)
+    let sets = sets_of(&aut.sp);
+    Ok(spp_query::ifwd(&mut aut.spp, sets, &mut aut.scratch[at..], config.fields, s)?)
 }
 
 // the number of packets in a set
-pub fn set_size(sp: &[u32], scratch: &mut [u32], c: Counts, fields: u32, s: SP) -> u64
-    requires { PreSet fields (table sp.now c.sp) scratch.old s.0 }
-    ensures { PostSize fields (table sp.now c.sp) s.0 result scratch.old
-        scratch.new }
+pub fn size(aut: &mut Aut, config: Config, s: SP) -> u64
+    requires { PreSet config.fields (sets_in aut.old) aut.old.scratch.now s.0 }
+    ensures keeps { OnlyScratch aut.old aut.new }
+    ensures size { PostSize config.fields (sets_in aut.old) s.0 result aut.old.scratch.now
+        aut.new.scratch.now }
 {
     let at = aut_scratch::LISTS;
-    let sets = SPview {
-        nodes: sp,
-        count: c.sp,
-    };
-    sets.size(&mut scratch[at..], fields, s)
+    let sets = sets_of(&aut.sp);
+    sets.size(&mut aut.scratch[at..], config.fields, s)
 }
 
 // the number of packet pairs in a relation
-pub fn pair_count(nodes: &[u32], scratch: &mut [u32], c: Counts, fields: u32, r: SPP) -> u64
-    requires { PreCount fields (table nodes.now c.spp) scratch.old r.0 }
-    ensures { PostCount fields (table nodes.now c.spp) r.0 result scratch.old
-        scratch.new }
+pub fn pairs(aut: &mut Aut, config: Config, r: SPP) -> u64
+    requires { PreCount config.fields (nodes_in aut.old) aut.old.scratch.now r.0 }
+    ensures keeps { OnlyScratch aut.old aut.new }
+    ensures pairs { PostCount config.fields (nodes_in aut.old) r.0 result aut.old.scratch.now
+        aut.new.scratch.now }
 {
     let at = aut_scratch::LISTS;
-    let relations = SPPview {
-        nodes,
-        count: c.spp,
-        fields,
-    };
-    spp_query::size(relations, &mut scratch[at..], fields, r)
+    let relations = relations_of(&aut.spp, config.fields);
+    spp_query::size(relations, &mut aut.scratch[at..], config.fields, r)
 }

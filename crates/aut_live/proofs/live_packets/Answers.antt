@@ -1,37 +1,29 @@
-use mathlib.Core.Path.{refl}
 use native.Mathlib.Omega.{arith}
 use Rattle.aut_live.proofs.Living as living
 use Rattle.aut_live.proofs.live_packets.Goals as goal
 
-pub returns-then-kept-gt0 : goal.returns-then-kept-gt0
-returns-then-kept-gt0 c = living.live_stored c.requires c.if-kept-gt0.true _ refl
+pub returns-then-kept-gt0-clause-gives : goal.returns-then-kept-gt0-clause-gives
+returns-then-kept-gt0-clause-gives c = living.live_stored c.requires c.if-kept-gt0.true
 
-pub overflow_add-live : goal.overflow_add-live
-overflow_add-live c = omega (arith, c.ranges.x)
+pub returns-in_err-n-clause-gives : goal.returns-in_err-n-clause-gives
+returns-in_err-n-clause-gives c = living.live_refused c.requires c.if-kept-gt0.false c.from_residual.ensures c.in_err-n.ensures.gives
 
-pub offset_bounds-states-at-in-To : goal.offset_bounds-states-at-in-To
-offset_bounds-states-at-in-To c = omega (arith, c.ranges.x)
-
-pub bounds-states-at-in-To : goal.bounds-states-at-in-To
-bounds-states-at-in-To c =
-    omega (arith, living.live_there c.requires c.if-kept-gt0.false c.live_sets-walked.result c.live_sets-walked.new.sp c.live_sets-walked.new.nodes c.live_sets-walked.new.states c.live_sets-walked.new.members c.live_sets-walked.new.transitions c.live_sets-walked.new.scratch c.live_sets-walked.new.pending c.live_sets-walked.ensures c.in-To.is)
+pub bounds-aut-at-2 : goal.bounds-aut-at-2
+bounds-aut-at-2 c = omega (arith, living.live_there c.requires c.if-kept-gt0.false c.in_ok-n.ensures.gives)
 
 pub overflow_sub-live : goal.overflow_sub-live
-overflow_sub-live c =
-    living.live_marked c.requires c.if-kept-gt0.false c.live_sets-walked.result c.live_sets-walked.new.sp c.live_sets-walked.new.nodes c.live_sets-walked.new.states c.live_sets-walked.new.members c.live_sets-walked.new.transitions c.live_sets-walked.new.scratch c.live_sets-walked.new.pending c.live_sets-walked.ensures c.in-To.is
+overflow_sub-live c = living.live_marked c.requires c.if-kept-gt0.false c.in_ok-n.ensures.gives
 
 pub keep-requires : goal.keep-requires
-keep-requires c =
-    living.live_keeps c.requires c.if-kept-gt0.false c.live_sets-walked.result c.live_sets-walked.new.sp c.live_sets-walked.new.nodes c.live_sets-walked.new.states c.live_sets-walked.new.members c.live_sets-walked.new.transitions c.live_sets-walked.new.scratch c.live_sets-walked.new.pending c.live_sets-walked.ensures c.in-To.is
+keep-requires c = living.live_keeps c.requires c.if-kept-gt0.false c.in_ok-n.ensures.gives
 
 pub clear-requires : goal.clear-requires
-clear-requires c =
-    living.live_clears c.requires c.if-kept-gt0.false c.live_sets-walked.result c.live_sets-walked.new.sp c.live_sets-walked.new.nodes c.live_sets-walked.new.states c.live_sets-walked.new.members c.live_sets-walked.new.transitions c.live_sets-walked.new.scratch c.live_sets-walked.new.pending c.live_sets-walked.ensures c.in-To.is c.keep.ensures
+clear-requires c = living.live_clears c.requires c.if-kept-gt0.false c.in_ok-n.ensures.gives c.keep.ensures.keeps c.keep.ensures.pending c.keep.ensures.gives
 
-pub returns-in-Refused : goal.returns-in-Refused
-returns-in-Refused c =
-    living.live_refused c.requires c.if-kept-gt0.false c.live_sets-walked.result c.live_sets-walked.new.sp c.live_sets-walked.new.nodes c.live_sets-walked.new.states c.live_sets-walked.new.members c.live_sets-walked.new.transitions c.live_sets-walked.new.scratch c.live_sets-walked.new.pending c.live_sets-walked.ensures c.in-Refused.is
+pub returns-clause-pending : goal.returns-clause-pending
+returns-clause-pending c =
+    living.live_zeroed c.requires c.if-kept-gt0.false c.in_ok-n.ensures.gives c.keep.ensures.keeps c.keep.ensures.pending c.keep.ensures.gives c.clear.ensures.keeps c.clear.ensures.gives
 
-pub returns-in-To : goal.returns-in-To
-returns-in-To c =
-    living.live_done c.requires c.if-kept-gt0.false c.live_sets-walked.result c.live_sets-walked.new.sp c.live_sets-walked.new.nodes c.live_sets-walked.new.states c.live_sets-walked.new.members c.live_sets-walked.new.transitions c.live_sets-walked.new.scratch c.live_sets-walked.new.pending c.live_sets-walked.ensures c.in-To.is c.keep.ensures c.clear.ensures _ refl c.live_sets-walked.auto.scratch
+pub returns-clause-gives : goal.returns-clause-gives
+returns-clause-gives c =
+    living.live_done c.requires c.if-kept-gt0.false c.in_ok-n.ensures.gives c.keep.ensures.keeps c.keep.ensures.pending c.keep.ensures.gives c.clear.ensures.keeps c.clear.ensures.gives c.in_ok-n.ensures.keeps

@@ -1,27 +1,24 @@
 use mathlib.Core.Path.{◌∙◌}
+use Rattle.refusal.proofs.Passed.{passed}
 use Rattle.aut_live.proofs.Living as living
 use Rattle.aut_live.proofs.live_sets.Goals as goal
 
-pub returns-in_default : goal.returns-in_default
-returns-in_default c = living.sets_full c.requires c.reach.ensures c.in_default.is
+pub returns-in_err-ok_or-clause-gives : goal.returns-in_err-ok_or-clause-gives
+returns-in_err-ok_or-clause-gives c = let o = c.in_err-ok_or.ensures in living.sets_full c.requires (passed c.from_residual.ensures ∙ (rw o.ok_part at o.value)) (rw o.ok_part at c.reach.ensures.gives)
 
-pub explore-walked-requires : goal.explore-walked-requires
-explore-walked-requires c = living.sets_explore c.requires c.reach.ensures c.in-Some.is
+pub explore-requires : goal.explore-requires
+explore-requires c = living.sets_explore c.requires c.reach.ensures.keeps (rw c.in_ok-ok_or.ensures.ok_part at c.reach.ensures.gives)
+
+pub returns-in_err-n-clause-gives : goal.returns-in_err-n-clause-gives
+returns-in_err-n-clause-gives c = living.sets_stuck c.requires c.reach.ensures.keeps (rw c.in_ok-ok_or.ensures.ok_part at c.reach.ensures.gives) c.from_residual-in_err-n.ensures c.in_err-n.ensures.gives
 
 pub settle-requires : goal.settle-requires
-settle-requires c =
-    living.sets_settle c.requires c.reach.ensures c.in-Some.is c.explore-walked.result c.explore-walked.new.sp c.explore-walked.new.nodes c.explore-walked.new.states c.explore-walked.new.members c.explore-walked.new.transitions c.explore-walked.new.scratch c.explore-walked.new.pending c.explore-walked.ensures c.in-To.is c.explore-walked.auto.pending
+settle-requires c = living.sets_settle c.requires c.reach.ensures.keeps (rw c.in_ok-ok_or.ensures.ok_part at c.reach.ensures.gives) c.in_ok-n.ensures.keeps c.in_ok-n.ensures.gives
 
-pub returns-in-Refused : goal.returns-in-Refused
-returns-in-Refused c =
-    living.sets_stuck c.requires c.reach.ensures c.in-Some.is c.explore-walked.result c.explore-walked.new.sp c.explore-walked.new.nodes c.explore-walked.new.states c.explore-walked.new.members c.explore-walked.new.transitions c.explore-walked.new.scratch c.explore-walked.new.pending c.explore-walked.ensures c.in-Refused.is
+pub returns-in_err-settle-clause-gives : goal.returns-in_err-settle-clause-gives
+returns-in_err-settle-clause-gives c =
+    living.sets_unsettled c.requires c.reach.ensures.keeps (rw c.in_ok-ok_or.ensures.ok_part at c.reach.ensures.gives) c.in_ok-n.ensures.keeps c.in_ok-n.ensures.gives c.from_residual-in_err-settle.ensures c.in_err-settle.ensures.gives
 
-pub shape_of-states-in-To : goal.shape_of-states-in-To
-shape_of-states-in-To c = c.settle.auto.states ∙ c.explore-walked.auto.states ∙ c.reach.auto.states
-
-pub shape_of-pending-in-To : goal.shape_of-pending-in-To
-shape_of-pending-in-To c = c.settle.auto.pending ∙ c.explore-walked.auto.pending ∙ c.reach.auto.pending
-
-pub returns-in-To : goal.returns-in-To
-returns-in-To c =
-    living.sets_done c.requires c.reach.ensures c.in-Some.is c.explore-walked.result c.explore-walked.new.sp c.explore-walked.new.nodes c.explore-walked.new.states c.explore-walked.new.members c.explore-walked.new.transitions c.explore-walked.new.scratch c.explore-walked.new.pending c.explore-walked.ensures c.in-To.is c.explore-walked.auto.pending c.settle.result c.settle.new.sp c.settle.new.states c.settle.new.scratch c.settle.new.pending c.settle.ensures
+pub returns-clause-gives : goal.returns-clause-gives
+returns-clause-gives c =
+    living.sets_done c.requires c.reach.ensures.keeps (rw c.in_ok-ok_or.ensures.ok_part at c.reach.ensures.gives) c.in_ok-n.ensures.keeps c.in_ok-n.ensures.gives c.in_ok-settle.ensures.gives

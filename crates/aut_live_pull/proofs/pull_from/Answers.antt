@@ -1,65 +1,51 @@
-use mathlib.Core.Path.{◌∙◌, ap}
 use native.Mathlib.Omega.{arith}
 use Rattle.aut_live_words.specs.Work.{work_of}
-use Rattle.aut_live_words.specs.Clauses.{label_of}
 use Rattle.aut_live_pull.proofs.Settling as settling
 use Rattle.aut_live_pull.proofs.pull_from.Goals as goal
 
-pub label_to-label-requires : goal.label_to-label-requires
-label_to-label-requires c =
-    settling.pull_listed c.args.sp.now c.args.nodes.now c.args.states.now c.requires.members c.args.transitions.now c.args.c c.requires.source
+pub label_to-requires : goal.label_to-requires
+label_to-requires c = settling.pull_listed c.requires.source
 
-pub bounds-states-i : goal.bounds-states-i
-bounds-states-i c =
-    omega (arith, settling.held_state c.args.sp.now c.args.nodes.now c.args.states.now c.requires.members c.args.transitions.now c.args.c c.requires.source.held c.args.t c.requires.source.target)
+pub returns-in_default-clause-gives : goal.returns-in_default-clause-gives
+returns-in_default-clause-gives c = λ n S. settling.pull_none S c.in_default.ensures
+
+pub bounds-aut-i : goal.bounds-aut-i
+bounds-aut-i c = omega (arith, settling.pull_target c.requires.source)
 
 pub overflow_sub-ahead : goal.overflow_sub-ahead
 unfolding work_of
 overflow_sub-ahead c = c.requires.source.target
 
-pub set_pull-requires : goal.set_pull-requires
+pub pull-requires : goal.pull-requires
 unfolding work_of
-set_pull-requires c =
-    settling.pull_asks c.args.sp.now c.args.nodes.now c.args.states.now c.requires.members c.args.transitions.now c.args.c c.requires.source (c.label_to-label.ensures ∙ ap label_of c.in-Some.is)
+pull-requires c = settling.pull_asks c.requires.source _ c.in-Some.ensures
 
-pub returns-in_default : goal.returns-in_default
+pub returns-in_err-accepted-clause-gives : goal.returns-in_err-accepted-clause-gives
 unfolding work_of
-returns-in_default c =
-    λ mem n S. settling.pull_stuck c.args.sp.now c.args.nodes.now c.args.states.now mem c.args.transitions.now c.args.c S (c.label_to-label.ensures ∙ ap label_of c.in-Some.is) c.set_pull.ensures c.in_default.is
+returns-in_err-accepted-clause-gives c = λ n S. settling.pull_stuck S _ c.in-Some.ensures c.in_err-accepted.ensures.keeps c.from_residual.ensures c.in_err-accepted.ensures.gives
 
-pub bounds-states-j : goal.bounds-states-j
-bounds-states-j c =
-    omega (arith, settling.held_state c.args.sp.now c.args.nodes.now c.args.states.now c.requires.members c.args.transitions.now c.args.c c.requires.source.held c.args.s c.requires.source.source)
+pub bounds-aut-j : goal.bounds-aut-j
+unfolding work_of
+bounds-aut-j c = omega (arith, settling.pull_source c.requires.source _ c.in-Some.ensures c.in_ok-accepted.ensures.keeps c.in_ok-accepted.ensures.gives)
 
 pub overflow_sub-here : goal.overflow_sub-here
 unfolding work_of
-overflow_sub-here c = c.requires.source.source
+overflow_sub-here c = settling.pull_reached c.requires.source _ c.in-Some.ensures c.in_ok-accepted.ensures.keeps c.in_ok-accepted.ensures.gives
 
-pub set_union-requires : goal.set_union-requires
+pub union-requires : goal.union-requires
 unfolding work_of
-set_union-requires c =
-    settling.union_asks c.args.sp.now c.args.nodes.now c.args.states.now c.requires.members c.args.transitions.now c.args.c c.requires.source (c.label_to-label.ensures ∙ ap label_of c.in-Some.is) c.set_pull.ensures c.set_pull.auto.scratch c.in-Node.is
+union-requires c = settling.union_asks c.requires.source _ c.in-Some.ensures c.in_ok-accepted.ensures.keeps c.in_ok-accepted.ensures.gives
 
-pub returns-in_default-set_union : goal.returns-in_default-set_union
+pub returns-in_err-combined-clause-gives : goal.returns-in_err-combined-clause-gives
 unfolding work_of
-returns-in_default-set_union c =
-    λ mem n S. settling.union_stuck c.args.sp.now c.args.nodes.now c.args.states.now mem c.args.transitions.now c.args.c S (c.label_to-label.ensures ∙ ap label_of c.in-Some.is) c.set_pull.ensures c.set_pull.auto.scratch c.in-Node.is c.set_union.ensures c.in_default-set_union.is
+returns-in_err-combined-clause-gives c =
+    λ n S. settling.union_stuck S _ c.in-Some.ensures c.in_ok-accepted.ensures.keeps c.in_ok-accepted.ensures.gives c.in_err-combined.ensures.keeps c.from_residual-in_err-combined.ensures c.in_err-combined.ensures.gives
 
 pub enlarge-requires : goal.enlarge-requires
 unfolding work_of
-enlarge-requires c =
-    settling.enlarge_asks c.args.sp.now c.args.nodes.now c.args.states.now c.requires.members c.args.transitions.now c.args.c c.requires.source (c.label_to-label.ensures ∙ ap label_of c.in-Some.is) c.set_pull.ensures c.set_pull.auto.scratch c.in-Node.is c.set_union.ensures c.set_union.auto.scratch c.in-Node-set_union.is
+enlarge-requires c = settling.enlarge_ready c.requires.source _ c.in-Some.ensures c.in_ok-accepted.ensures.keeps c.in_ok-accepted.ensures.gives c.in_ok-combined.ensures.keeps c.in_ok-combined.ensures.gives
 
-pub returns-in_default-enlarge : goal.returns-in_default-enlarge
+pub returns-clause-gives : goal.returns-clause-gives
 unfolding work_of
-returns-in_default-enlarge c =
-    λ mem n S. settling.enlarge_stuck c.args.sp.now c.args.nodes.now c.args.states.now mem c.args.transitions.now c.args.c S (c.label_to-label.ensures ∙ ap label_of c.in-Some.is) c.set_pull.ensures c.set_pull.auto.scratch c.in-Node.is c.set_union.ensures c.set_union.auto.scratch c.in-Node-set_union.is c.enlarge.ensures c.in_default-enlarge.is
-
-pub returns-in-None : goal.returns-in-None
-returns-in-None c =
-    λ mem n S. settling.pull_none c.args.sp.now c.args.nodes.now c.args.states.now mem c.args.transitions.now c.args.c S (c.label_to-label.ensures ∙ ap label_of c.in-None.is)
-
-pub returns-in-Some-enlarge : goal.returns-in-Some-enlarge
-unfolding work_of
-returns-in-Some-enlarge c =
-    λ mem n S. settling.enlarged c.args.sp.now c.args.nodes.now c.args.states.now mem c.args.transitions.now c.args.c S (c.label_to-label.ensures ∙ ap label_of c.in-Some.is) c.set_pull.ensures c.set_pull.auto.scratch c.in-Node.is c.set_union.ensures c.set_union.auto.scratch c.in-Node-set_union.is c.enlarge.ensures c.in-Some-enlarge.is
+returns-clause-gives c =
+    λ n S. settling.enlarged S _ c.in-Some.ensures c.in_ok-accepted.ensures.keeps c.in_ok-accepted.ensures.gives c.in_ok-combined.ensures.keeps c.in_ok-combined.ensures.gives c.enlarge.ensures.keeps c.enlarge.result c.enlarge.ensures.gives c.ok_or.ensures.value

@@ -1,13 +1,11 @@
 use native.Mathlib.Omega.{arith}
+use Rattle.std.proofs.Common.{rules}
 use Rattle.aut_live_words.proofs.Words as words
 use Rattle.aut_live_words.proofs.clear.Goals as goal
 
-pub loop-i-init : goal.loop-i-init
-loop-i-init c = words.clear_begin
-
 pub loop-i-preserved : goal.loop-i-preserved
 loop-i-preserved c =
-    words.clear_again c.loop-i.invariant c.loop-i-test.true (omega (arith, c.requires.fits))
+    (search rules, words.clear_again c.loop-i.invariant.1 c.loop-i-test.true (omega (arith, c.requires.fits, c.loop-i.invariant.0.entries)))
 
-pub returns : goal.returns
-returns c = words.clear_end c.loop-i.invariant c.loop-i.auto.i-end c.loop-i-test.false
+pub returns-clause-gives : goal.returns-clause-gives
+returns-clause-gives c = words.clear_end c.loop-i.invariant.1 c.loop-i.auto.i-end c.loop-i-test.false

@@ -2,18 +2,18 @@ use Rattle.aut_live_words.specs.Work.{work_of, Enlarges}
 use native.Mathlib.Omega.{arith}
 use Rattle.aut_live_words.proofs.enlarge.Goals as goal
 
-pub overflow_sub-states : goal.overflow_sub-states
+pub overflow_sub-aut : goal.overflow_sub-aut
 unfolding work_of
-overflow_sub-states c = c.requires.reached
+overflow_sub-aut c = c.requires.reached
 
-pub returns-then-combined-states : goal.returns-then-combined-states
+pub returns-then-combined-aut-clause-gives : goal.returns-then-combined-aut-clause-gives
 unfolding work_of
-returns-then-combined-states c = Enlarges.same c.if-combined-states.true
+returns-then-combined-aut-clause-gives c = Enlarges.same c.if-combined-aut.true
 
-pub returns-then-m-capacity : goal.returns-then-m-capacity
+pub returns-then-m-capacity-clause-gives : goal.returns-then-m-capacity-clause-gives
 unfolding work_of
-returns-then-m-capacity c = Enlarges.more c.if-combined-states.false (omega (arith, c.capacity.ensures, c.if-m-capacity.true))
+returns-then-m-capacity-clause-gives c = Enlarges.more c.if-combined-aut.false (omega (arith, c.capacity.ensures, c.if-m-capacity.true))
 
-pub returns : goal.returns
+pub returns-clause-gives : goal.returns-clause-gives
 unfolding work_of
-returns c = Enlarges.full c.if-combined-states.false (omega (arith, c.capacity.ensures, c.if-m-capacity.false))
+returns-clause-gives c = Enlarges.full c.if-combined-aut.false (omega (arith, c.capacity.ensures, c.if-m-capacity.false))

@@ -1,18 +1,18 @@
-use Rattle.aut_pruned.proofs.Turns as turns
+use Rattle.refusal.proofs.Passed.{passed}
+use Rattle.aut_pruned.proofs.Labels as one
 use Rattle.aut_pruned.proofs.viable.Goals as goal
 
 pub overflow_sub-live : goal.overflow_sub-live
-overflow_sub-live c = turns.viable_marked c.requires
+overflow_sub-live c = one.viable_marked c.requires
 
-pub set_ifwd-requires : goal.set_ifwd-requires
-set_ifwd-requires c = turns.viable_lift c.requires
+pub ifwd-requires : goal.ifwd-requires
+ifwd-requires c = one.viable_lift c.requires
 
-pub returns-in_default : goal.returns-in_default
-returns-in_default c = turns.viable_stuck c.requires c.set_ifwd.ensures c.in_default.is
+pub returns-in_err-allowed-clause-gives : goal.returns-in_err-allowed-clause-gives
+returns-in_err-allowed-clause-gives c = rw (passed c.from_residual.ensures) (one.viable_stuck c.requires c.in_err-allowed.ensures.keeps c.in_err-allowed.ensures.gives)
 
 pub apply-requires : goal.apply-requires
-apply-requires c = turns.viable_relate c.requires c.set_ifwd.ensures c.in-Node.is c.set_ifwd.auto.scratch
+apply-requires c = one.viable_relate c.requires c.in_ok-allowed.ensures.keeps c.in_ok-allowed.ensures.gives
 
-pub returns : goal.returns
-returns c =
-    turns.viable_done c.requires c.set_ifwd.ensures c.in-Node.is c.set_ifwd.auto.scratch _ c.apply.ensures c.apply.auto.scratch
+pub returns-clause-gives : goal.returns-clause-gives
+returns-clause-gives c = one.viable_done c.requires c.in_ok-allowed.ensures.keeps c.in_ok-allowed.ensures.gives c.apply.ensures.keeps c.apply.ensures.gives

@@ -1,12 +1,15 @@
--- What holds of the definitions of specs/Layer.
+-- The laws of the layer of specs/Lent; and a step whose law is known, as a call of it.
 use mathlib.Core.Path.{◌≡◌, refl, sym, ◌∙◌, subst}
-use mathlib.Core.Logic.{◌⊎◌, inl, inr, ⊎_elim}
+use mathlib.Core.Logic.{inl, inr, ⊎_elim}
 use mathlib.Core.List.{List}
-use Prim.Native.Nat.{ℕ, ◌+◌, ◌≤◌, ◌<◌}
+use Prim.Native.Nat.{ℕ, ◌<◌}
 use native.Mathlib.Omega.{arith}
-use lib.ListN.{length, get_or}
-use Rattle.common.specs.Outcome.{Outcome, given}
-use Rattle.cache.specs.Cache.{Valid, OnlyCodes, Sound, WritesValid}
+use lib.ListN.{length}
+use Rattle.std.specs.Prelude.{Result, Ok, Err}
+use Rattle.common.specs.Outcome.{Outcome}
+use Rattle.refusal.specs.declared.Refusal.{Refusal}
+use Rattle.refusal.specs.Numbers.{outcome}
+use Rattle.cache.specs.Cache.{Sound, WritesValid}
 use Rattle.cache.proofs.Cache.{sound_map, sound_notes, notes_map, notes_refl, notes_trans}
 use Rattle.sp_steps.specs.Wf as SpLaws
 use Rattle.sp_steps.specs.Reuse.{SpCode}
@@ -14,24 +17,18 @@ use Rattle.sp_steps.proofs.Reuse.{valid_not, code_range}
 use Rattle.spp_steps.specs.Wf.{Ext}
 use Rattle.spp_steps.proofs.Images.{BothExt}
 use Rattle.spp.proofs.Reuse.{spp_memo}
-use Rattle.spp_image.specs.Reuse.{Written, Counted}
 use Rattle.spp_image.proofs.Reuse.{held_ext, written_ext, written_held, counted_ext}
 use Rattle.aut_query_steps.specs.Tables.{Tables, diagrams, WfTables, ExtTables}
 use Rattle.aut_query_steps.proofs.Tables.{later_refl, later_trans, gone_later}
 use Rattle.aut_query_steps.proofs.Steps.{Ends, comes, Steps}
 use Rattle.aut_states.specs.Clauses.{limits_of}
-use Rattle.aut_states.specs.declared.Counts.{Counts}
 use Rattle.aut_states.specs.declared.Limits.{Limits}
-use Rattle.aut_relations.specs.Behind as Behind
-use Rattle.aut_relations.specs.Behind.{LISTS, cached}
+use Rattle.aut_relations.specs.Behind.{cached}
 use Rattle.aut_relations.proofs.Behind.{cached_kept}
-use Rattle.aut_relations.specs.Clauses.{Ready}
-use Rattle.aut_stage.specs.Stage.{Layer, gave, Post}
+use Rattle.aut_relations.specs.Lent.{Unless}
+use Rattle.aut_stage.specs.Rule.{Laws, Post}
 use Rattle.aut_query_stage.specs.Layer.{Readable, QueryReady}
-
--- to note: one of these, and valid
-abbrev pub Notable : (N : ℕ) (σ : Tables) → Valid
-Notable N σ op x y r = Behind.Notable N σ.base.aut.nodes op x y r ⊎ (Written N (diagrams σ) op x y r ⊎ OnlyCodes 17 17 (Counted σ.base.aut.nodes) op x y r)
+use Rattle.aut_query_stage.specs.Lent.{Notable, Leaves, query_layer}
 
 module _ (N : ℕ) (σ τ : Tables) (s : SpLaws.Ext σ.sets τ.sets) (t : Ext σ.base.aut.nodes τ.base.aut.nodes) where
   both : BothExt (diagrams σ) (diagrams τ)
@@ -75,12 +72,6 @@ notable_readable {N} σ op x y r (inr (inr v)) = record {
   numbers = λ l h. v.valid;
 }
 
--- s' is s but for the n words from a, and for results noted in the cache, which are right of the tables σ
-pub record Leaves (N a n : ℕ) (σ : Tables) (s s' : List ℕ) : Type 0 where
-  pub below : (i : ℕ) → i < a → get_or s' i 0 ≡ get_or s i 0
-  pub above : (i : ℕ) → a + n ≤ i → i < LISTS → get_or s' i 0 ≡ get_or s i 0
-  pub notes : WritesValid (Notable N σ) (cached s) (cached s')
-
 -- what is noted may be read
 pub sound_leaves : {N a n : ℕ} {σ τ : Tables} {s s' : List ℕ} → ExtTables σ τ → Leaves N a n τ s s' → Sound (Readable N σ) (cached s) → Sound (Readable N τ) (cached s')
 sound_leaves {N} {σ = σ} {τ = τ} w p r =
@@ -105,18 +96,10 @@ query_ready {N} {σ = σ} {τ = τ} {s' = s'} R w o p len =
       resting = λ x i l m. w.others x i l m ∙ R.resting x i l m;
     }
 
-abbrev pub query_layer : ℕ → Limits → Layer
-query_layer N l = record {
-  Store = Tables;
-  Counts = Counts;
-  Ext = ExtTables;
-  Beside = λ c d. Unit;
-  Frame = λ a n σ s s'. Leaves N a n σ s s';
-  Ready = λ σ s. QueryReady N l σ s;
+pub query_laws : (N : ℕ) (l : Limits) → Laws (query_layer N l)
+query_laws N l = record {
   ext_refl = λ σ. later_refl σ;
   ext_trans = λ σ τ υ p q. later_trans p q;
-  beside_refl = λ c. tt;
-  beside_trans = λ c d e p q. tt;
   frame_refl = λ a n σ s. record { below = λ i x. refl; above = λ i x y. refl; notes = notes_refl };
   frame_trans = λ a n σ τ s s' s'' e p q. record {
     below = λ i x. q.below i x ∙ p.below i x;
@@ -124,7 +107,6 @@ query_layer N l = record {
     notes = notes_trans (notes_map (notable_ext N σ τ e.sets e.grown.nodes) p.notes) q.notes;
   };
   frame_wide = λ a n b m σ s s' x y p. record { below = λ i k. p.below i (omega arith); above = λ i k h. p.above i (omega arith) h; notes = p.notes };
-  lists = LISTS;
   frame_kept = λ a n σ s s' x len k. record {
     below = k.below;
     above = λ i y z. k.above i y;
@@ -134,12 +116,14 @@ query_layer N l = record {
 }
 
 -- A step whose law is known: from its equation, what it left of scratch, and the law, the whole of `Post`.
-pub by_ends : {N : ℕ} {l : Limits} {lent : ℕ} {A : Type 0} {P : Tables → A → Type 0} {σ : Tables} {s : List ℕ} {o : Outcome Tables A} → QueryReady N l σ s → Ends N (limits_of l) lent (Steps N (limits_of l) P σ) σ o
-    → {a n : ℕ} {c d : Counts} (at : Counts → Tables) {x : A} {s' : List ℕ} → o ≡ given (at d) x → Leaves N a n (at d) s s' → length s' ≡ length s → Post (query_layer N l) a n P o σ c (gave d x) at s s'
-by_ends {N} {l} {lent} {A} {P} {σ} {s} {o} R E {a} {n} {c} {d} at {x} {s'} e p len = go (subst (Ends N (limits_of l) lent (Steps N (limits_of l) P σ) σ) e E)
-  where
-    go : Ends N (limits_of l) lent (Steps N (limits_of l) P σ) σ (given (at d) x) → Post (query_layer N l) a n P o σ c (gave d x) at s s'
-    go (comes v) = record {
-      is = e;
-      then = record { ext = gone_later v.gone; beside = tt; frame = p; ready = query_ready R (gone_later v.gone) v.ordered p len; holds = v.holds };
-    }
+module _ {N : ℕ} {l : Limits} {lent : ℕ} {A : Type 0} {P : Tables → A → Type 0} {σ τ : Tables} {s s' : List ℕ} {o : Outcome Tables A} (R : QueryReady N l σ s) (E : Ends N (limits_of l) lent (Steps N (limits_of l) P σ) σ o)
+    (len : length s' ≡ length s) where
+  pub by_ends : {V : Type 0} {see : V → A} {a n : ℕ} (r : Result V Refusal) → o ≡ outcome see r τ → Unless r (Leaves N a n τ s s') → Post (query_layer N l) a n P see o σ r τ s s'
+  by_ends {V} {see} {a} {n} (Ok v) e p = go (subst (Ends N (limits_of l) lent (Steps N (limits_of l) P σ) σ) e E)
+    where
+      go : Ends N (limits_of l) lent (Steps N (limits_of l) P σ) σ (outcome see (Ok v) τ) → Post (query_layer N l) a n P see o σ (Ok v) τ s s'
+      go (comes g) = record {
+        is = e;
+        then = record { ext = gone_later g.gone; frame = p; ready = query_ready R (gone_later g.gone) g.ordered p len; holds = g.holds };
+      }
+  by_ends (Err q) e p = record { is = e; then = tt }
