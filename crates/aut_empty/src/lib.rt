@@ -1,12 +1,17 @@
 // is_empty of aut.rs: whether a state has no string, by a search with a budget of pairs.
 #![tactic(auto)]
 
-ghost use Rattle.aut_query_stage.specs.Layer.{tables_of, PreQuery};
-ghost use Rattle.aut_empty.specs.Clauses.{PostSearch};
-ghost use Rattle.aut_empty.specs.Parts.{PreSeek, PostSeek};
+ghost use Rattle.std.specs.Prelude.{OnOk};
+ghost use Rattle.aut_query_stage.specs.Layer.{Zeroed};
+ghost use Rattle.aut_query_stage.specs.Lent.{QueryAsked};
+ghost use Rattle.aut_sets.specs.Lent.{SameLent};
+ghost use Rattle.aut_empty_pair.specs.Clauses.{SeekingIn};
+ghost use Rattle.aut_empty.specs.Clauses.{Empties};
+ghost use Rattle.aut_empty.specs.Parts.{Searches};
 
-use aut_empty_pair::Turned;
-use aut_states::{Config, Counts};
+use aut_relations::Aut;
+use aut_states::Config;
+use refusal::Refusal;
 
 #[derive(Clone, Copy)]
 pub enum Verdict {
@@ -15,122 +20,49 @@ pub enum Verdict {
     Spent,
 }
 
-// the verdict and the pairs taken; or 01's number
-#[derive(Clone, Copy)]
-pub enum Searched {
-    Answer(Verdict, u64, Counts),
-    Refused(u32),
-}
-
-// the verdict, the pairs taken, and the pending entries that are left; or 01's number
-#[derive(Clone, Copy)]
-pub enum Ended {
-    At(Verdict, u64, Counts, usize),
-    Refused(u32),
-}
-
-// pairs are taken while there are any and the budget lasts
+// pairs are taken while there are any and the budget lasts: the verdict, the pairs taken, and the pending entries that are left
 fn search(
-    sp: &mut [u32],
-    nodes: &mut [u32],
-    states: &mut [u32],
-    members: &mut [u32],
-    transitions: &mut [u32],
-    pending: &mut [u32],
-    scratch: &mut [u32],
-    c: Counts,
+    aut: &mut Aut,
     config: Config,
     budget: u64,
     first: usize,
-) -> Ended
-    requires { PreSeek config.fields config.limits sp.old nodes.old states.old members.old
-        transitions.old pending.old scratch.old c first }
-    ensures { PostSeek config.fields config.limits c budget first result sp.old
-        nodes.old states.old members.old transitions.old
-        pending.old scratch.old sp.new nodes.new states.new
-        members.new transitions.new pending.new scratch.new }
+) -> Result<(Verdict, u64, usize), Refusal>
+    requires { SeekingIn config aut.old first }
+    ensures keeps { SameLent aut.old aut.new }
+    ensures gives { Searches config budget first aut.old result aut.new }
 {
-    let mut d = c;
     let mut n = first;
     let mut count = 0;
     while n > 0 {
         if count >= budget {
-            return Ended::At(Verdict::Spent, count, d, n);
+            return Ok((Verdict::Spent, count, n));
         }
-        let turned = aut_empty_turn::turn(
-            sp,
-            nodes,
-            states,
-            members,
-            transitions,
-            pending,
-            scratch,
-            d,
-            config,
-            n,
-        );
+        let turned = aut_empty_turn::turn(aut, config, n)?;
         count += 1;
-        match turned {
-            Turned::Refused(e) => {
-                return Ended::Refused(e);
-            }
-            Turned::Found(d1) => {
-                return Ended::At(Verdict::No, count, d1, n - 1);
-            }
-            Turned::Goes(d1, m) => {
-                d = d1;
-                n = m;
-            }
-        }
+        let Some(m) = turned else {
+            return Ok((Verdict::No, count, n - 1));
+        };
+        n = m;
     }
-    Ended::At(Verdict::Yes, count, d, 0)
+    Ok((Verdict::Yes, count, 0))
 }
 
+// the verdict and the pairs taken
 pub fn is_empty(
-    sp: &mut [u32],
-    nodes: &mut [u32],
-    states: &mut [u32],
-    members: &mut [u32],
-    transitions: &mut [u32],
-    pending: &mut [u32],
-    scratch: &mut [u32],
-    c: Counts,
+    aut: &mut Aut,
     config: Config,
     budget: u64,
     x: u32,
-) -> Searched
-    requires { PreQuery config.fields config.limits
-        (tables_of sp.old nodes.old states.old members.old transitions.old c) scratch.old pending.old x }
-    ensures { PostSearch config.fields config.limits budget x
-        (tables_of sp.old nodes.old states.old members.old
-        transitions.old c) c result
-        (tables_of sp.new nodes.new states.new members.new
-        transitions.new) scratch.old scratch.new pending.old
-        pending.new }
+) -> Result<(Verdict, u64), Refusal>
+    requires { QueryAsked config aut.old x }
+    ensures keeps { SameLent aut.old aut.new }
+    ensures pending { OnOk result (Zeroed aut.new.pending.now) }
+    ensures gives { Empties config budget x aut.old result aut.new }
 {
     let one = sp::one_at_depth(config.fields);
-    if !aut_empty_words::put(pending, 0, x, one) {
-        return Searched::Refused(aut_states::refusal::PENDING);
-    }
-    let ended = search(
-        sp,
-        nodes,
-        states,
-        members,
-        transitions,
-        pending,
-        scratch,
-        c,
-        config,
-        budget,
-        1,
-    );
-    match ended {
-        Ended::Refused(e) => Searched::Refused(e),
-        Ended::At(verdict, count, d, n) => {
-            aut_empty_words::clear_seen(states, d.states);
-            aut_empty_words::clear_pending(pending, n);
-            Searched::Answer(verdict, count, d)
-        }
-    }
+    let first = aut_empty_words::put(aut, 0, x, one).ok_or(Refusal::Pending)?;
+    let (verdict, count, n) = search(aut, config, budget, first)?;
+    aut_empty_words::clear_seen(aut);
+    aut_empty_words::clear_pending(aut, n);
+    Ok((verdict, count))
 }

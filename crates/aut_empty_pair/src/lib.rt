@@ -1,77 +1,33 @@
 // A pair of is_empty of aut.rs: its fresh packets are seen, end a string, or go on.
 #![tactic(auto)]
 
-ghost use Rattle.aut_empty_pair.specs.Clauses.{PreExpand, PostExpand};
+ghost use Rattle.aut_sets.specs.Lent.{SameLent};
+ghost use Rattle.aut_empty_pair.specs.Clauses.{ExpandAsked, Expands};
 
-use aut_empty_walk::Walked;
-use aut_states::{Config, Counts};
+use aut_relations::Aut;
+use aut_states::{Config, STATE, word};
+use refusal::Refusal;
 use sp::SP;
 
-// so many pending entries, or a string is found; or 01's number
-#[derive(Clone, Copy)]
-pub enum Turned {
-    Goes(Counts, usize),
-    Found(Counts),
-    Refused(u32),
-}
-
-// fresh packets at a state: they are seen; a string ends here, or they go on
+// fresh packets at a state: they are seen; a string ends here (None), or they go on, and there are so many pending entries
 pub fn expand(
-    sp: &mut [u32],
-    nodes: &mut [u32],
-    states: &mut [u32],
-    members: &mut [u32],
-    transitions: &mut [u32],
-    pending: &mut [u32],
-    scratch: &mut [u32],
-    c: Counts,
+    aut: &mut Aut,
     config: Config,
     n: usize,
     x: u32,
     fresh: SP,
-) -> Turned
-    requires { PreExpand config.fields config.limits sp.old nodes.old states.old members.old
-        transitions.old pending.old scratch.old c n x fresh.0 }
-    ensures { PostExpand config.fields config.limits c n x fresh.0 result sp.old
-        nodes.old states.old members.old transitions.old
-        pending.old scratch.old sp.new nodes.new states.new
-        members.new transitions.new pending.new scratch.new }
+) -> Result<Option<usize>, Refusal>
+    requires { ExpandAsked config aut.old n x fresh.0 }
+    ensures keeps { SameLent aut.old aut.new }
+    ensures gives { Expands config n x fresh.0 aut.old result aut.new }
 {
-    let fields = config.fields;
-    let seen = aut_empty_words::seen_at(states, fields, x);
-    let sp::Made::Node(both, k) = aut_sets::set_union(sp, scratch, c, fields, seen, fresh) else {
-        return Turned::Refused(aut_states::refusal::SP);
-    };
-    let c1 = Counts { sp: k, ..c };
-    let spp::Made::Node(ends, k1) = aut_epsilon::epsilon_on(
-        nodes, states, members, scratch, c1, config, x,
-    ) else {
-        return Turned::Refused(aut_states::refusal::SPP);
-    };
-    let c2 = Counts { spp: k1, ..c1 };
-    if aut_sets::set_has_image(sp, nodes, scratch, c2, fields, fresh, ends) {
-        return Turned::Found(c2);
+    let seen = aut_empty_words::seen_at(aut, config, x);
+    let both = aut_sets::union(aut, config, seen, fresh)?;
+    let ends = aut_epsilon::epsilon(aut, config, x)?;
+    if aut_sets::has_image(aut, config, fresh, ends) {
+        return Ok(None);
     }
-    let walked = aut_empty_walk::spread(
-        sp,
-        nodes,
-        states,
-        members,
-        transitions,
-        pending,
-        scratch,
-        c2,
-        config,
-        n,
-        x,
-        fresh,
-    );
-    match walked {
-        Walked::Refused(e) => Turned::Refused(e),
-        Walked::On(d, m) => {
-            let i = x as usize;
-            states[aut_states::STATE * i + aut_states::word::SEEN] = both.0 + 1;
-            Turned::Goes(d, m)
-        }
-    }
+    let m = aut_empty_walk::spread(aut, config, n, x, fresh)?;
+    aut.states.words[STATE * x as usize + word::SEEN] = both.0 + 1;
+    Ok(Some(m))
 }

@@ -1,21 +1,26 @@
 -- 01, `is_empty` (a pair is taken, and only what was not seen before goes on): what a turn in code asks and promises.
-use Rattle.std.specs.Prelude.{List, ℕ, ◌-◌, ◌/◌, ◌<◌, length}
+use Rattle.std.specs.Prelude.{◌≡◌, List, ℕ, ◌+◌, ◌*◌, ◌-◌, ◌/◌, ◌<◌, length, get_or, set, Option, Result, IfOk}
+use Rattle.refusal.specs.declared.Refusal.{Refusal}
 use Rattle.netkat_steps.specs.Handles as Handles
-use Rattle.aut_query_steps.specs.Search.{machine}
-use Rattle.aut_query_stage.proofs.Layer.{query_layer}
-use Rattle.aut_states.specs.Clauses.{limits_of}
-use Rattle.aut_states.specs.declared.Counts.{Counts}
-use Rattle.aut_states.specs.declared.Limits.{Limits}
-use Rattle.aut_stage.specs.Stage.{Post}
-use Rattle.aut_query_calls.specs.Working.{clear_of}
-use Rattle.aut_empty_pair.specs.declared.Turned.{Turned}
+use Rattle.aut_query_stage.specs.Lent.{GoesQuery}
+use Rattle.aut_states.specs.declared.Config.{Config}
+use Rattle.aut_relations.specs.declared.Aut.{Aut as Lent}
+use Rattle.aut_query_calls.specs.Working.{clear_in}
 use Rattle.aut_empty_words.specs.Words.{entry_at, entries_of, seen_in}
-use Rattle.aut_empty_pair.specs.Clauses.{Seeking, turned_of, TurnedTo}
+use Rattle.aut_empty_walk.specs.Clauses.{search_in}
+use Rattle.aut_empty_pair.specs.Clauses.{SeekingIn, turn_of, TurnedTo}
 
-pub record PreTurn (N : ℕ) (l : Limits) (sp t st mem tr p s : List ℕ) (c : Counts) (n : ℕ) : Type 0 where
-  pub seeking : Seeking N l sp t st mem tr c s p n
+-- the words of entry k have been read, and are 0
+pub record Takes (p : List ℕ) (k i h : ℕ) (p' : List ℕ) : Type 0 where
+  pub state : i ≡ get_or p (2 * k) 0
+  pub packets : h ≡ get_or p (2 * k + 1) 0
+  pub left : p' ≡ set (set p (2 * k) 0) (2 * k + 1) 0
+
+pub record TurnAsked (k : Config) (x : Lent) (n : ℕ) : Type 0 where
+  pub search : SeekingIn k x n
   pub some : 0 < n
 
-pub record PostTurn (N : ℕ) (l : Limits) (c : Counts) (n : ℕ) (r : Turned) (sp t st mem tr p s sp' t' st' mem' tr' p' s' : List ℕ) : Type 0 where
-  pub post : Post (query_layer N l) 0 1088 (λ τ v. Unit) (Handles.turn (machine N (limits_of l) (length p / 2)) (entry_at p (n - 1)) (entries_of p (n - 1)) (seen_in N st) (clear_of sp t st mem tr c)) (clear_of sp t st mem tr c) c (turned_of N (limits_of l) (length p / 2) st' p' r) (clear_of sp' t' st' mem' tr') s s'
-  pub to : TurnedTo N l sp' t' st' mem' tr' (n - 1) r s' p'
+pub record Turns (k : Config) (n : ℕ) (x : Lent) (r : Result (Option ℕ) Refusal) (y : Lent) : Type 0 where
+  pub post : GoesQuery k 0 1088 clear_in (λ τ v. Unit) (turn_of k (length x.pending.now / 2) y.states.words.now y.pending.now)
+      (Handles.turn (search_in k x) (entry_at x.pending.now (n - 1)) (entries_of x.pending.now (n - 1)) (seen_in k.fields x.states.words.now)) x r y
+  pub held : IfOk r (TurnedTo k (n - 1) y)

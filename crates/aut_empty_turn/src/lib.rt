@@ -1,59 +1,41 @@
 // A turn of is_empty of aut.rs: a pair is taken from the pending table, and what is fresh of it goes on.
 #![tactic(auto)]
 
-ghost use Rattle.aut_empty_turn.specs.Clauses.{PreTurn, PostTurn};
+ghost use Rattle.std.specs.Prelude.{◌≡◌, ◌+◌, ◌*◌, ◌<◌, length};
+ghost use Rattle.aut_sets.specs.Lent.{OnlyMarks, SameLent};
+ghost use Rattle.aut_empty_turn.specs.Clauses.{Takes, TurnAsked, Turns};
 
-use aut_empty_pair::Turned;
-use aut_states::{Config, Counts};
+use aut_relations::Aut;
+use aut_states::Config;
+use refusal::Refusal;
 use sp::SP;
 
-// the last pending entry is taken
-pub fn turn(
-    sp: &mut [u32],
-    nodes: &mut [u32],
-    states: &mut [u32],
-    members: &mut [u32],
-    transitions: &mut [u32],
-    pending: &mut [u32],
-    scratch: &mut [u32],
-    c: Counts,
-    config: Config,
-    n: usize,
-) -> Turned
-    requires { PreTurn config.fields config.limits sp.old nodes.old states.old members.old
-        transitions.old pending.old scratch.old c n }
-    ensures { PostTurn config.fields config.limits c n result sp.old nodes.old
-        states.old members.old transitions.old pending.old
-        scratch.old sp.new nodes.new states.new members.new
-        transitions.new pending.new scratch.new }
+// entry k is taken out: a state and a packet set
+fn take(aut: &mut Aut, k: usize) -> (u32, SP)
+    requires { 2 * k + 1 < length aut.old.pending.now }
+    ensures keeps { OnlyMarks aut.old aut.new }
+    ensures states { aut.new.states ≡ aut.old.states }
+    ensures gives { Takes aut.old.pending.now k result.0 result.1.0 aut.new.pending.now }
 {
-    let fields = config.fields;
+    let x = aut.pending[2 * k];
+    let packets = SP(aut.pending[2 * k + 1]);
+    aut.pending[2 * k] = 0;
+    aut.pending[2 * k + 1] = 0;
+    (x, packets)
+}
+
+// the last pending entry is taken: a string is found (None), or so many entries are left
+pub fn turn(aut: &mut Aut, config: Config, n: usize) -> Result<Option<usize>, Refusal>
+    requires { TurnAsked config aut.old n }
+    ensures keeps { SameLent aut.old aut.new }
+    ensures gives { Turns config n aut.old result aut.new }
+{
     let k = n - 1;
-    let x = pending[2 * k];
-    let packets = SP(pending[2 * k + 1]);
-    pending[2 * k] = 0;
-    pending[2 * k + 1] = 0;
-    let seen = aut_empty_words::seen_at(states, fields, x);
-    let sp::Made::Node(fresh, m) = aut_sets::set_difference(sp, scratch, c, fields, packets, seen)
-    else {
-        return Turned::Refused(aut_states::refusal::SP);
-    };
-    let d = Counts { sp: m, ..c };
-    if sp::is_zero(fields, fresh) {
-        return Turned::Goes(d, k);
+    let (x, packets) = take(aut, k);
+    let seen = aut_empty_words::seen_at(aut, config, x);
+    let fresh = aut_sets::difference(aut, config, packets, seen)?;
+    if sp::is_zero(config.fields, fresh) {
+        return Ok(Some(k));
     }
-    aut_empty_pair::expand(
-        sp,
-        nodes,
-        states,
-        members,
-        transitions,
-        pending,
-        scratch,
-        d,
-        config,
-        k,
-        x,
-        fresh,
-    )
+    aut_empty_pair::expand(aut, config, k, x, fresh)
 }

@@ -1,118 +1,139 @@
 -- The fresh packets of a state along one transition, and along its list: the bodies of `follow` and `walk`, by the rule for a run of calls (aut_stage).
-use Rattle.std.specs.Prelude.{if◌then◌else◌}
+use Rattle.std.specs.Prelude.{if◌then◌else◌, Result, Ok, Err, Option, Some, None, ok_or}
 use mathlib.Core.Path.{◌≡◌, refl, sym, ◌∙◌, ap, ap₂, subst}
 use mathlib.Core.Bool.{Bool, true, false}
 use mathlib.Core.List.{List, [], ◌∷◌, map, Memᴰ}
 use Prim.Native.Nat.{ℕ, zero, suc, ◌+◌, ◌*◌, ◌-◌, ◌/◌, ◌≤◌, ◌<◌}
 use native.Mathlib.Omega.{arith}
 use lib.Dec.{eqb, ltb}
-use lib.ListN.{length, get_or}
+use lib.ListN.{length, get_or, set}
 use borrow.Author.Tests.{eqb-true, eqb-false, lt-ltb, le-ltb}
 use Rattle.common.specs.Outcome.{Outcome, refused, given, Step, return, after}
-use Rattle.common.specs.Runs.{table}
-use Rattle.netkat_steps.specs.ListSteps.{Edge, edge}
+use Rattle.refusal.specs.declared.Refusal.{Refusal}
+use Rattle.refusal.specs.Numbers.{number_of}
+use Rattle.netkat_steps.specs.ListSteps.{edge}
 use Rattle.netkat_steps.specs.Handles as Handles
-use Rattle.netkat_steps.specs.Handles.{Entry}
+use Rattle.netkat_steps.specs.Handles.{Entry, Link}
 use Rattle.sp_steps.specs.Model as Sp
 use Rattle.sp_steps.proofs.Laws as SpLaws
 use Rattle.sp.specs.declared.SP.{SP}
-use Rattle.sp.specs.declared.Made as sets
 use Rattle.spp_steps.proofs.Laws.{at_ext, by_test}
 use Rattle.spp_steps.specs.ImageModel as Images
-use Rattle.spp_steps.specs.ImageModel.{stores}
+use Rattle.spp.specs.declared.SPPstore.{SPPstore}
+use Rattle.spp_image.specs.Reuse.{Written}
 use Rattle.aut_steps.proofs.Wf.{state_grown}
 use Rattle.aut_st_steps.specs.Edges.{edges}
 use Rattle.aut_delta_steps.specs.Delta.{start_of, count_of, list_at}
-use Rattle.aut_delta_stage.specs.OnStore.{store_of}
+use Rattle.aut_delta_stage.specs.OnTables.{store_in}
 use Rattle.aut_query_steps.specs.Tables.{Tables, making_sets}
-use Rattle.aut_query_steps.specs.Search.{capacity, link, machine}
-use Rattle.aut_query_stage.specs.Layer.{tables_of}
-use Rattle.aut_query_stage.proofs.Layer.{query_layer}
+use Rattle.aut_query_steps.specs.Search.{capacity, link}
+use Rattle.aut_query_stage.specs.Lent.{tables_in, query_layer}
+use Rattle.aut_query_stage.proofs.Lent.{query_laws}
 use Rattle.aut_states.specs.Clauses.{limits_of}
-use Rattle.aut_states.specs.declared.Counts.{Counts}
-use Rattle.aut_states.specs.declared.Limits.{Limits}
-use Rattle.aut_stage.specs.Stage.{seen, Stage}
-use Rattle.aut_stage.proofs.Stage.{begin, next, stuck, instead, done, all_of}
-use Rattle.aut_sets.specs.Clauses.{PostImage}
-use Rattle.aut_query_calls.specs.Working.{clear_of, Working, EdgeIn}
-use Rattle.aut_query_calls.proofs.Working.{Ran, with_sets, SetIn}
+use Rattle.aut_states.specs.declared.Config.{Config}
+use Rattle.aut_stage.specs.Rule.{Laws, Post, Stage}
+use Rattle.aut_stage.proofs.Rule.{begin, next, instead, done, all_of, Folds, Turned, turn, over, again}
+use Rattle.aut_free.specs.Clear.{clear_tables}
+use Rattle.aut_relations.specs.declared.Aut.{Aut as Lent}
+use Rattle.aut_relations.specs.declared.Transitions.{Transitions}
+use Rattle.aut_sets.specs.Lent.{diagrams_in, OnlySets, OnlyMarks, OnlySearch}
+use Rattle.aut_sets.specs.Clauses.{PreLead, Gives}
+use Rattle.aut_query_calls.specs.Working.{clear_in, Working, WorkingIn, EdgeIn}
+use Rattle.aut_query_calls.specs.Working.{SetIn}
 use Rattle.aut_query_calls.proofs.Works.{prepared}
-use Rattle.aut_query_calls.proofs.Calls.{asks_lead, images_refused, push_given}
-use Rattle.aut_empty_walk.specs.declared.Walked.{Walked}
-use Rattle.aut_empty_walk.specs.declared.Walked.TheVariants as walked
+use Rattle.aut_query_calls.proofs.Calls.{asks_lead, push_ran}
+use Rattle.aut_query_calls.proofs.Ran.{Ran}
+use Rattle.aut_sets.proofs.Kept.{search_refl, search_trans}
 use Rattle.aut_empty_words.specs.Words.{entries_of, Stack, Puts}
-use Rattle.aut_empty_walk.specs.Clauses.{PostWalk, walked_of, along, PreFollow, Follows, Walking}
-use Rattle.aut_empty_words.proofs.Stacks.{after_after, entries_length, entries_put, stack_put, stack_later, fits_in}
+use Rattle.aut_empty_words.proofs.Stacks.{after_after, entries_length, entries_put, stack_put, stack_later, fits_in, same_tables}
+use Rattle.aut_empty_walk.specs.Clauses.{search_in, Walks, along, FollowAsked, Follows, WalkAsked, WalksAll}
+
+refused_walks : {k : Config} {o : Step Tables (List (Entry ℕ))} {x y : Lent} {r : Result ℕ Refusal} {e : Refusal} → r ≡ Err e → o (clear_in x) ≡ refused (number_of e) → Walks k o x r y
+refused_walks {k} {o} {x} {y} q i = subst (λ (r : Result ℕ Refusal). Walks k o x r y) (sym q) (record { post = record { post = record { is = i; then = tt } }; held = tt })
 
 -- ---- follow
 
-module _ {N : ℕ} {c : Counts} {n fresh label : ℕ} {sp t p s : List ℕ} (R : PreFollow N sp t p s c n fresh label) (target : ℕ) {r : sets.Made} {sp1 s1 : List ℕ}
-    (A : PostImage N (Images.push N N fresh label) (stores (table sp c.sp) (table t c.spp)) r sp1 s s1) where
+module _ {k : Config} {x : Lent} {n fresh target label : ℕ} (R : FollowAsked k x n fresh target label) where
+  abbrev N : ℕ
+  N = k.fields
+
+  abbrev p : List ℕ
+  p = x.pending.now
+
+  L : Laws (query_layer k.fields k.limits)
+  L = query_laws k.fields k.limits
+
+  abbrev whole : Outcome Tables (List (Entry ℕ))
+  whole = along N (limits_of k.limits) (length x.pending.now / 2) fresh (record { target = target; label = label }) (entries_of x.pending.now n) (clear_in x)
+
   -- what is done with the packets that came along
-  abbrev placing : Limits → ℕ → Step Tables (List (Entry ℕ))
-  placing l h = if Sp.is_zero N h then return (entries_of p n) else Handles.put (machine N (limits_of l) (length p / 2)) target h (entries_of p n)
+  abbrev placing : ℕ → Step Tables (List (Entry ℕ))
+  placing h = if Sp.is_zero N h then return (entries_of p n) else Handles.put (search_in k x) target h (entries_of p n)
 
-  pub follow_full : r ≡ sets.Made.Full → Follows N c n fresh target label (walked.Refused 20) sp t p s sp1 p s1
-  follow_full q = record {
-    is = λ l st mem tr W k S. record { post = stuck (query_layer N l) 0 0 (images_refused t st mem tr c W A q) (placing l) (begin (query_layer N l) 0 0 W.ready refl); to = tt };
-  }
+  start : Stage (query_layer k.fields k.limits) 0 0 whole (after (making_sets (Images.push N N fresh label) (clear_in x)) placing) (clear_in x) (clear_in x) x.scratch.now x.scratch.now
+  start = begin L 0 0 R.working.working.ready refl
 
-  module _ {h : SP} {k : ℕ} (q : r ≡ sets.Made.Node h k) (len : length s1 ≡ length s) where
-    module _ (l : Limits) (st mem tr : List ℕ) (W : Working N l (tables_of sp t st mem tr c) s) where
-      pushed : Ran N l 0 0 (SetIn N) (making_sets (Images.push N N fresh label) (clear_of sp t st mem tr c)) (tables_of sp t st mem tr c) c (with_sets c k) h.0 (tables_of sp1 t st mem tr) s s1
-      pushed = push_given t st mem tr c W label R.lead.image.at_r q len fresh R.lead.at_a A
+  pub push_asks : PreLead N (diagrams_in x) x.scratch.now fresh label
+  push_asks = asks_lead x R.working.working fresh R.at label R.edge.at
 
-      stage : Stage (query_layer N l) 0 0 (along N (limits_of l) (length p / 2) fresh (record { target = target; label = label }) (entries_of p n) (clear_of sp t st mem tr c)) (placing l h.0 (clear_of sp1 t st mem tr (with_sets c k)))
-          (clear_of sp t st mem tr c) (clear_of sp1 t st mem tr (with_sets c k)) c (with_sets c k) s s1
-      stage = next (query_layer N l) 0 0 pushed.post (all_of 0 0) (placing l) (begin (query_layer N l) 0 0 W.ready refl)
+  module _ {y : Lent} (K : OnlySets x y) where
+    abbrev Pushes : Result SP Refusal → Type 0
+    Pushes r = Gives (Written N) (λ (h : SP). h.0) (Images.push N N fresh label) (diagrams_in x) r (diagrams_in y) x.scratch.now y.scratch.now
 
-      nonzero : {o : Outcome Tables (List (Entry ℕ))} (b : Bool) → Sp.is_zero N h.0 ≡ false → ltb n (capacity (length p / 2)) ≡ b
-          → (if b then return (record { state = target; packets = h.0 } ∷ entries_of p n) else (λ σ. refused 24)) (clear_of sp1 t st mem tr (with_sets c k)) ≡ o
-          → placing l h.0 (clear_of sp1 t st mem tr (with_sets c k)) ≡ o
-      nonzero b z w e =
-          ap (λ (b : Bool). (if b then return (entries_of p n) else Handles.put (machine N (limits_of l) (length p / 2)) target h.0 (entries_of p n)) (clear_of sp1 t st mem tr (with_sets c k))) z
-          ∙ ap (λ (b : Bool). (if b then return (record { state = target; packets = h.0 } ∷ entries_of p n) else (λ σ. refused 24)) (clear_of sp1 t st mem tr (with_sets c k)))
-          (ap (λ (i : ℕ). ltb i (capacity (length p / 2))) (entries_length p n) ∙ w) ∙ e
+    ran : {r : Result SP Refusal} → Pushes r → Ran k 0 0 (SetIn N) (λ (h : SP). h.0) (making_sets (Images.push N N fresh label)) x r y
+    ran G = push_ran R.working.working fresh R.at label R.edge.at K G
 
-    -- nothing came along
-    pub follow_zero : true ≡ Sp.is_zero N h.0 → Follows N c n fresh target label (walked.On (with_sets c k) n) sp t p s sp1 p s1
-    follow_zero z = record {
-      is = λ l st mem tr W i S. record {
-        post = done (query_layer N l) 0 0 (clear_of sp1 t st mem tr) (instead (query_layer N l) 0 0 (stage l st mem tr W)
-            (ap (λ (b : Bool). (if b then return (entries_of p n) else Handles.put (machine N (limits_of l) (length p / 2)) target h.0 (entries_of p n)) (clear_of sp1 t st mem tr (with_sets c k))) (sym z))) tt;
-        to = ((pushed l st mem tr W).working, stack_later (pushed l st mem tr W).post.then.ext S);
-      };
-    }
+    pub follow_stuck : {e : Refusal} {r : Result ℕ Refusal} {z : Lent} → r ≡ Err e → Pushes (Err e) → Follows k n fresh target label x r z
+    follow_stuck q G = refused_walks q (start.is ∙ ap (λ (o : Outcome Tables ℕ). after o placing) (ran G).post.is)
 
-    module _ (z : false ≡ Sp.is_zero N h.0) (p1 : List ℕ) (b : Bool) (Q : Puts b p n target h.0 p1) where
-      puts : (d : Bool) → b ≡ d → Puts d p n target h.0 p1
-      puts d e = subst (λ (b : Bool). Puts b p n target h.0 p1) e Q
+    module _ {h : SP} (G : Pushes (Ok h)) where
+      W1 : Working N k.limits (tables_in y) y.scratch.now
+      W1 = (ran G).working
 
-      put_in : Puts true p n target h.0 p1 → Follows N c n fresh target label (walked.On (with_sets c k) (n + 1)) sp t p s sp1 p1 s1
-      put_in P = subst (λ (x : List ℕ). Follows N c n fresh target label (walked.On (with_sets c k) (n + 1)) sp t p s sp1 x s1) (sym P.1) (record {
-        is = λ l st mem tr W i S. record {
-          post = done (query_layer N l) 0 0 (clear_of sp1 t st mem tr) (instead (query_layer N l) 0 0 (stage l st mem tr W)
-              (nonzero l st mem tr W true (sym z) (lt-ltb n (capacity (length p / 2)) P.0) (ap (λ (es : List (Entry ℕ)). given (clear_of sp1 t st mem tr (with_sets c k)) es) (sym (entries_put p n target h.0 (fits_in p n P.0)))))) tt;
-          to = (
-            (pushed l st mem tr W).working,
-            stack_put p n target h.0 (fits_in p n P.0) (stack_later (pushed l st mem tr W).post.then.ext S) i (pushed l st mem tr W).post.then.holds,
-          );
+      S1 : Stack N (clear_in y) p n
+      S1 = stack_later (ran G).post.then.ext R.stack
+
+      stage : Stage (query_layer k.fields k.limits) 0 0 whole (placing h.0 (clear_in y)) (clear_in x) (clear_in y) x.scratch.now y.scratch.now
+      stage = next L 0 0 (ran G).post (all_of 0 0) placing start
+
+      -- nothing came along
+      pub follow_zero : true ≡ Sp.is_zero N h.0 → Follows k n fresh target label x (Ok n) y
+      follow_zero z = record {
+        post = record {
+          post = rw K.pending (done L 0 0 (instead L 0 0 stage (ap (λ (b : Bool). (if b then return (entries_of p n) else Handles.put (search_in k x) target h.0 (entries_of p n)) (clear_in y)) (sym z))) tt);
         };
-      })
-
-      pub follow_put : b ≡ true → Follows N c n fresh target label (walked.On (with_sets c k) (n + 1)) sp t p s sp1 p1 s1
-      follow_put e = put_in (puts true e)
-
-      put_out : Puts false p n target h.0 p1 → Follows N c n fresh target label (walked.Refused 24) sp t p s sp1 p1 s1
-      put_out P = record {
-        is = λ l st mem tr W i S. record {
-          post = record { is = (stage l st mem tr W).is ∙ nonzero l st mem tr W false (sym z) (le-ltb n (capacity (length p / 2)) P) refl; then = tt };
-          to = tt;
-        };
+        held = (W1, rw K.pending S1);
       }
 
-      pub follow_no_entry : b ≡ false → Follows N c n fresh target label (walked.Refused 24) sp t p s sp1 p1 s1
-      follow_no_entry e = put_out (puts false e)
+      module _ {z : Lent} (K2 : OnlyMarks y z) (same : z.states ≡ y.states) (nonzero : false ≡ Sp.is_zero N h.0) where
+        abbrev q : List ℕ
+        q = set (set p (2 * n) target) (2 * n + 1) h.0
+
+        -- one more entry, by whether there is room
+        room : {o : Outcome Tables (List (Entry ℕ))} (b : Bool) → ltb n (capacity (length p / 2)) ≡ b → (if b then return (record { state = target; packets = h.0 } ∷ entries_of p n) else (λ σ. refused 24)) (clear_in y) ≡ o
+            → placing h.0 (clear_in y) ≡ o
+        room b w e =
+            ap (λ (b : Bool). (if b then return (entries_of p n) else Handles.put (search_in k x) target h.0 (entries_of p n)) (clear_in y)) (sym nonzero)
+            ∙ ap (λ (b : Bool). (if b then return (record { state = target; packets = h.0 } ∷ entries_of p n) else (λ σ. refused 24)) (clear_in y))
+            (ap (λ (i : ℕ). ltb i (capacity (length p / 2))) (entries_length p n) ∙ w) ∙ e
+
+        pushed : n < capacity (length p / 2) → Post (query_layer k.fields k.limits) 0 0 (λ τ es. Unit) (entries_of q) whole (clear_in x) (Ok (n + 1)) (clear_in y) x.scratch.now y.scratch.now
+        pushed l = done L 0 0 (instead L 0 0 stage (room true (lt-ltb n (capacity (length p / 2)) l) (ap (λ (es : List (Entry ℕ)). given (clear_in y) es) (sym (entries_put p n target h.0 (fits_in p n l)))))) tt
+
+        placed : (o : Option ℕ) → Puts o x.pending.now n target h.0 z.pending.now → Follows k n fresh target label x (ok_or o Refusal.Pending) z
+        placed (Some m) P = rw P.0 (record {
+          post = record {
+            post = rw K2.scratch (rw P.2 (subst (λ (τ : Tables). Post (query_layer k.fields k.limits) 0 0 (λ τ es. Unit) (entries_of q) whole (clear_in x) (Ok (n + 1)) (clear_tables τ) x.scratch.now y.scratch.now) (sym (same_tables K2 same)) (pushed P.1)));
+          };
+          held = (
+            rw K2.scratch (subst (λ (τ : Tables). Working N k.limits τ y.scratch.now) (sym (same_tables K2 same)) W1),
+            rw P.2 (subst (λ (τ : Tables). Stack N (clear_tables τ) q (n + 1)) (sym (same_tables K2 same)) (stack_put p n target h.0 (fits_in p n P.1) S1 (state_grown (ran G).post.then.ext.grown R.edge.known) (ran G).post.then.holds)),
+          );
+        })
+        placed None P = refused_walks refl (stage.is ∙ room false (le-ltb n (capacity (length p / 2)) P) refl)
+
+        pub follow_put : (o : Option ℕ) {r : Result ℕ Refusal} → Puts o y.pending.now n target h.0 z.pending.now → r ≡ ok_or o Refusal.Pending → Follows k n fresh target label x r z
+        follow_put o {r} P e = subst (λ (r : Result ℕ Refusal). Follows k n fresh target label x r z) (sym e) (placed o (rw K.pending at P))
 
 -- ---- the list
 
@@ -139,109 +160,132 @@ nth_edge tr (suc k) a i l = go (nth_edge tr k (a + 1) (i - 1))
 
 -- ---- walk
 
--- j - 1 transitions are walked
-pub record Along (N : ℕ) (l : Limits) (sp₀ t st mem tr p₀ s₀ : List ℕ) (c : Counts) (n x fresh : ℕ) (sp p s : List ℕ) (d : Counts) (m j : ℕ) : Type 0 where
-  pub stage : Stage (query_layer N l) 0 0 (Handles.walk (machine N (limits_of l) (length p₀ / 2)) fresh (map link (list_at (store_of t st mem tr c) x)) (entries_of p₀ n) (clear_of sp₀ t st mem tr c))
-      (Handles.walk (machine N (limits_of l) (length p₀ / 2)) fresh (map link (edges tr (start_of st x + (j - 1)) (count_of st x - j))) (entries_of p m) (clear_of sp t st mem tr d))
-      (clear_of sp₀ t st mem tr c) (clear_of sp t st mem tr d) c d s₀ s
-  pub working : Working N l (tables_of sp t st mem tr d) s
-  pub stack : Stack N (clear_of sp t st mem tr d) p m
+-- the links from place j on
+abbrev links_on : Lent → ℕ → ℕ → List (Link ℕ)
+links_on x i j = map link (edges x.transitions.words.now (start_of x.states.words.now i + j) (count_of x.states.words.now i - 1 - j))
 
-module _ {N : ℕ} {l : Limits} {sp₀ t st mem tr p₀ s₀ : List ℕ} {c : Counts} {n x fresh : ℕ} (R : Walking N l sp₀ t st mem tr p₀ s₀ c n x fresh) where
-  pub along_begin : Along N l sp₀ t st mem tr p₀ s₀ c n x fresh sp₀ p₀ s₀ c n 1
+-- one link, and then the others
+folds : (k : Config) (x : Lent) (fresh : ℕ) → Folds (λ (e : Link ℕ) (pending : List (Entry ℕ)). along k.fields (limits_of k.limits) (length x.pending.now / 2) fresh e pending) (Handles.walk (search_in k x) fresh)
+unfolding Handles.walk
+folds k x fresh = record { none = λ es σ. refl; some = λ e es pending σ. sym (after_after (making_sets (Images.push k.fields k.fields fresh e.label) σ) _ _) }
+
+abbrev Whole : Config → Lent → (n i fresh : ℕ) → Outcome Tables (List (Entry ℕ))
+Whole k x n i fresh = Handles.walk (search_in k x) fresh (map link (list_at (store_in x) i)) (entries_of x.pending.now n) (clear_in x)
+
+-- from x₀ on, j - 1 transitions are walked
+pub record Along (k : Config) (x₀ : Lent) (n i fresh : ℕ) (x : Lent) (m j : ℕ) : Type 0 where
+  pub keeps : OnlySearch x₀ x
+  pub states : x.states ≡ x₀.states
+  pub turned : Turned (query_layer k.fields k.limits) 0 0 (Handles.walk (search_in k x₀) fresh) (links_on x₀ i) (count_of x₀.states.words.now i - 1) (λ τ es. Unit) (Whole k x₀ n i fresh) (clear_in x₀) (clear_in x) x₀.scratch.now x.scratch.now (entries_of x.pending.now m) (j - 1)
+  pub working : WorkingIn k x
+  pub stack : Stack k.fields (clear_in x) x.pending.now m
+
+module _ {k : Config} {x₀ : Lent} {n i fresh : ℕ} (R : WalkAsked k x₀ n i fresh) where
+  abbrev st : List ℕ
+  st = x₀.states.words.now
+
+  abbrev tr : List ℕ
+  tr = x₀.transitions.words.now
+
+  Q : Laws (query_layer k.fields k.limits)
+  Q = query_laws k.fields k.limits
+
+  F : Folds (λ (e : Link ℕ) (pending : List (Entry ℕ)). along k.fields (limits_of k.limits) (length x₀.pending.now / 2) fresh e pending) (Handles.walk (search_in k x₀) fresh)
+  F = folds k x₀ fresh
+
+  pub walk_begin : Along k x₀ n i fresh x₀ n 1
   unfolding list_at
-  along_begin = record {
-    stage = begin (query_layer N l) 0 0 R.working.ready
-        (ap (λ (a : ℕ). Handles.walk (machine N (limits_of l) (length p₀ / 2)) fresh (map link (edges tr a (count_of st x - 1))) (entries_of p₀ n) (clear_of sp₀ t st mem tr c)) {x = start_of st x} {y = start_of st x + (1 - 1)} (omega arith));
-    working = R.working;
-    stack = R.stack;
+  walk_begin = record {
+    keeps = search_refl x₀;
+    states = refl;
+    turned = record {
+      most = omega arith;
+      stage = begin Q 0 0 R.asked.working.working.ready
+          (ap (λ (a : ℕ). Handles.walk (search_in k x₀) fresh (map link (edges tr a (count_of st i - 1))) (entries_of x₀.pending.now n) (clear_in x₀)) {x = start_of st i} {y = start_of st i + (1 - 1)} (omega arith)
+          ∙ ap (λ (b : ℕ). Handles.walk (search_in k x₀) fresh (map link (edges tr (start_of st i + (1 - 1)) b)) (entries_of x₀.pending.now n) (clear_in x₀)) {x = count_of st i - 1} {y = count_of st i - 1 - (1 - 1)} (omega arith));
+      holds = tt;
+    };
+    working = R.asked.working;
+    stack = R.asked.stack;
   }
 
   -- the words of the state, and of the list
-  pub state_in : 12 * x + 11 < length st
-  state_in = omega (arith, R.has, (prepared R.working).worked.good.fits)
+  pub state_in : 12 * i + 11 < length st
+  state_in = omega (arith, R.asked.has, (prepared x₀ R.asked.working.working).worked.good.fits)
 
-  pub list_in : {j : ℕ} → 1 ≤ j → j < count_of st x → 2 * (start_of st x + (j - 1)) + 1 < length tr
-  list_in {j} a b = omega (arith, ((prepared R.working).worked.lists.held x R.has).inside (count_of st x - 1) (omega arith), (prepared R.working).worked.lists.fit)
+  list_in : {j : ℕ} → 1 ≤ j → j < count_of st i → 2 * (start_of st i + (j - 1)) + 1 < length tr
+  list_in {j} a b = omega (arith, ((prepared x₀ R.asked.working.working).worked.lists.held i R.asked.has).inside (count_of st i - 1) (omega arith), (prepared x₀ R.asked.working.working).worked.lists.fit)
 
-  module _ {sp p s : List ℕ} {d : Counts} {m j : ℕ} (I : Along N l sp₀ t st mem tr p₀ s₀ c n x fresh sp p s d m j) (same : length p ≡ length p₀) where
-    pub along_end : count_of st x ≤ j → PostWalk N l (Handles.walk (machine N (limits_of l) (length p₀ / 2)) fresh (map link (list_at (store_of t st mem tr c) x)) (entries_of p₀ n) (clear_of sp₀ t st mem tr c)) sp₀ t st mem tr c (walked.On d m) sp s₀ s p
-    unfolding Handles.walk
-    along_end k = record {
-      post = done (query_layer N l) 0 0 (clear_of sp t st mem tr)
-          (instead (query_layer N l) 0 0 I.stage (ap (λ (es : List Edge). Handles.walk (machine N (limits_of l) (length p₀ / 2)) fresh (map link es) (entries_of p m) (clear_of sp t st mem tr d)) (edges_none tr (start_of st x + (j - 1)) (count_of st x - j) (omega arith)))) tt;
-      to = (I.working, I.stack);
+  -- start and marked are words of the state
+  module _ {start marked : ℕ} (e-start : start ≡ get_or st (12 * i + 5) 0) (e-marked : marked ≡ get_or st (12 * i + 6) 0) {x : Lent} {m j : ℕ} (I : Along k x₀ n i fresh x m j) where
+    over_all : marked ≤ j → count_of st i - 1 ≤ j - 1
+    unfolding count_of
+    over_all b = omega (arith, e-marked)
+
+    pub walk_end : marked ≤ j → WalksAll k n i fresh x₀ (Ok m) x
+    walk_end b = record {
+      post = record {
+        post = done Q 0 0 (over Q 0 0 F I.turned (ap (map link) (edges_none tr (start_of st i + (j - 1)) (count_of st i - 1 - (j - 1)) (omega (arith, over_all b))))) tt;
+      };
+      held = (I.working.working, I.stack);
     }
 
-    module _ (a : 1 ≤ j) (b : j < count_of st x) (target label : ℕ) (e1 : target ≡ get_or tr (2 * (start_of st x + (j - 1))) 0) (e2 : label ≡ get_or tr (2 * (start_of st x + (j - 1)) + 1) 0) where
-      abbrev M : Handles.Machine
-      M = machine N (limits_of l) (length p₀ / 2)
-
-      edge_in : EdgeIn N (clear_of sp₀ t st mem tr c) (edge target label)
-      unfolding list_at
-      edge_in = subst (EdgeIn N (clear_of sp₀ t st mem tr c)) (ap₂ edge (sym e1) (sym e2)) (R.list.edges _ (nth_edge tr (count_of st x - 1) (start_of st x) (j - 1) (omega arith)))
-
-      pub follow_ready : PreFollow N sp t p s d m fresh label
-      follow_ready = record {
-        lead = asks_lead t st mem tr d I.working label (at_ext I.stage.ext.grown.nodes N label edge_in.at) fresh (SpLaws.at_ext I.stage.ext.sets N fresh R.at);
-        room = I.stack.room;
-      }
-
-      turned : Stage (query_layer N l) 0 0 (Handles.walk M fresh (map link (list_at (store_of t st mem tr c) x)) (entries_of p₀ n) (clear_of sp₀ t st mem tr c))
-          (after (along N (limits_of l) (length p₀ / 2) fresh (record { target = target; label = label }) (entries_of p m) (clear_of sp t st mem tr d)) (Handles.walk M fresh (map link (edges tr (start_of st x + (j + 1 - 1)) (count_of st x - (j + 1))))))
-          (clear_of sp₀ t st mem tr c) (clear_of sp t st mem tr d) c d s₀ s
-      unfolding Handles.walk
-      turned = instead (query_layer N l) 0 0 I.stage (
-          ap (λ (es : List Edge). Handles.walk M fresh (map link es) (entries_of p m) (clear_of sp t st mem tr d)) (edges_next tr (start_of st x + (j - 1)) (count_of st x - j) (omega arith) ∙ rest)
-          ∙ sym (after_after (making_sets (Images.push N N fresh label) (clear_of sp t st mem tr d)) _ _))
-        where
-          rest : edge (get_or tr (2 * (start_of st x + (j - 1))) 0) (get_or tr (2 * (start_of st x + (j - 1)) + 1) 0) ∷ edges tr (start_of st x + (j - 1) + 1) (count_of st x - j - 1) ≡ edge target label ∷ edges tr (start_of st x + (j + 1 - 1)) (count_of st x - (j + 1))
-          rest =
-              ap₂ (λ (u v : ℕ). edge u v ∷ edges tr (start_of st x + (j - 1) + 1) (count_of st x - j - 1)) (sym e1) (sym e2)
-              ∙ ap (λ (u : ℕ). edge target label ∷ edges tr u (count_of st x - j - 1)) {x = start_of st x + (j - 1) + 1} {y = start_of st x + (j + 1 - 1)} (omega arith)
-              ∙ ap (λ (v : ℕ). edge target label ∷ edges tr (start_of st x + (j + 1 - 1)) v) {x = count_of st x - j - 1} {y = count_of st x - (j + 1)} (omega arith)
-
-      module _ {r : Walked} {sp1 p1 s1 : List ℕ} (F : Follows N d m fresh target label r sp t p s sp1 p1 s1) where
-        came : PostWalk N l (along N (limits_of l) (length p₀ / 2) fresh (record { target = target; label = label }) (entries_of p m) (clear_of sp t st mem tr d)) sp t st mem tr d r sp1 s s1 p1
-        came = subst (λ (k : ℕ). PostWalk N l (along N (limits_of l) (k / 2) fresh (record { target = target; label = label }) (entries_of p m) (clear_of sp t st mem tr d)) sp t st mem tr d r sp1 s s1 p1) same
-            (F.is l st mem tr I.working (state_grown I.stage.ext.grown edge_in.known) I.stack)
-
-        pub along_stuck : {e : ℕ} → r ≡ walked.Refused e → PostWalk N l (Handles.walk M fresh (map link (list_at (store_of t st mem tr c) x)) (entries_of p₀ n) (clear_of sp₀ t st mem tr c)) sp₀ t st mem tr c (walked.Refused e) sp1 s₀ s1 p1
-        along_stuck {e} q = record {
-          post = stuck (query_layer N l) 0 0 (came.post.is ∙ ap (λ (z : Walked). seen (walked_of p1 z) (clear_of sp1 t st mem tr)) q) (Handles.walk M fresh (map link (edges tr (start_of st x + (j + 1 - 1)) (count_of st x - (j + 1))))) turned;
-          to = tt;
-        }
-
-        pub along_again : {d1 : Counts} {m1 : ℕ} → r ≡ walked.On d1 m1 → Along N l sp₀ t st mem tr p₀ s₀ c n x fresh sp1 p1 s1 d1 m1 (j + 1)
-        along_again {d1} {m1} q =
-            let v = subst (λ (z : Walked). PostWalk N l (along N (limits_of l) (length p₀ / 2) fresh (record { target = target; label = label }) (entries_of p m) (clear_of sp t st mem tr d)) sp t st mem tr d z sp1 s s1 p1) q came in
-            record { stage = next (query_layer N l) 0 0 v.post (all_of 0 0) (Handles.walk M fresh (map link (edges tr (start_of st x + (j + 1 - 1)) (count_of st x - (j + 1))))) turned; working = v.to.0; stack = v.to.1 }
-
-  -- ---- in the words of the code
-
-  module _ {start marked : ℕ} (e-start : start ≡ get_or st (12 * x + 5) 0) (e-marked : marked ≡ get_or st (12 * x + 6) 0) {sp p s : List ℕ} {d : Counts} {m j : ℕ} (I : Along N l sp₀ t st mem tr p₀ s₀ c n x fresh sp p s d m j) (same : length p ≡ length p₀) where
-    pub walk_end : marked ≤ j → PostWalk N l (Handles.walk (machine N (limits_of l) (length p₀ / 2)) fresh (map link (list_at (store_of t st mem tr c) x)) (entries_of p₀ n) (clear_of sp₀ t st mem tr c)) sp₀ t st mem tr c (walked.On d m) sp s₀ s p
-    unfolding count_of
-    walk_end k = along_end I same (omega (arith, e-marked))
-
     module _ (a : 1 ≤ j) (b : j < marked) where
-      fewer : j < count_of st x
+      fewer : j < count_of st i
       unfolding count_of
       fewer = omega (arith, e-marked)
 
-      place : 2 * (start + j - 1) ≡ 2 * (start_of st x + (j - 1))
+      place : 2 * (start + j - 1) ≡ 2 * (start_of st i + (j - 1))
       unfolding start_of
       place = omega (arith, e-start)
 
-      pub walk_in : 2 * (start + j - 1) + 1 < length tr
-      walk_in = omega (arith, place, list_in a fewer)
+      same : get_or x.transitions.words.now ≡ get_or tr
+      same = ap (λ (t : Transitions). get_or t.words.now) I.keeps.transitions
 
-      pub walk_follow : PreFollow N sp t p s d m fresh (get_or tr (2 * (start + j - 1) + 1) 0)
-      walk_follow = follow_ready I same a fewer (get_or tr (2 * (start + j - 1)) 0) (get_or tr (2 * (start + j - 1) + 1) 0) (ap (λ (i : ℕ). get_or tr i 0) place) (ap (λ (i : ℕ). get_or tr (i + 1) 0) place)
+      pub walk_in : 2 * (start + j - 1) + 1 < length x.transitions.words.now
+      walk_in = rw I.keeps.transitions (omega (arith, place, list_in a fewer))
 
-      module _ {r : Walked} {sp1 p1 s1 : List ℕ} (F : Follows N d m fresh (get_or tr (2 * (start + j - 1)) 0) (get_or tr (2 * (start + j - 1) + 1) 0) r sp t p s sp1 p1 s1) where
-        pub walk_stuck : {e : ℕ} → r ≡ walked.Refused e → PostWalk N l (Handles.walk (machine N (limits_of l) (length p₀ / 2)) fresh (map link (list_at (store_of t st mem tr c) x)) (entries_of p₀ n) (clear_of sp₀ t st mem tr c)) sp₀ t st mem tr c (walked.Refused e) sp1 s₀ s1 p1
-        walk_stuck q = along_stuck I same a fewer (get_or tr (2 * (start + j - 1)) 0) (get_or tr (2 * (start + j - 1) + 1) 0) (ap (λ (i : ℕ). get_or tr i 0) place) (ap (λ (i : ℕ). get_or tr (i + 1) 0) place) F q
+      -- the words that are read
+      module _ {target label : ℕ} (e1 : target ≡ get_or x.transitions.words.now (2 * (start + j - 1)) 0) (e2 : label ≡ get_or x.transitions.words.now (2 * (start + j - 1) + 1) 0) where
+        is1 : target ≡ get_or tr (2 * (start_of st i + (j - 1))) 0
+        is1 = e1 ∙ ap (λ (f : ℕ → ℕ → ℕ). f (2 * (start + j - 1)) 0) same ∙ ap (λ (a : ℕ). get_or tr a 0) place
 
-        pub walk_again : {d1 : Counts} {m1 : ℕ} → r ≡ walked.On d1 m1 → Along N l sp₀ t st mem tr p₀ s₀ c n x fresh sp1 p1 s1 d1 m1 (j + 1)
-        walk_again q = along_again I same a fewer (get_or tr (2 * (start + j - 1)) 0) (get_or tr (2 * (start + j - 1) + 1) 0) (ap (λ (i : ℕ). get_or tr i 0) place) (ap (λ (i : ℕ). get_or tr (i + 1) 0) place) F q
+        is2 : label ≡ get_or tr (2 * (start_of st i + (j - 1)) + 1) 0
+        is2 = e2 ∙ ap (λ (f : ℕ → ℕ → ℕ). f (2 * (start + j - 1) + 1) 0) same ∙ ap (λ (a : ℕ). get_or tr (a + 1) 0) place
+
+        edge_in : EdgeIn k.fields (clear_in x₀) (edge target label)
+        unfolding list_at
+        edge_in = subst (EdgeIn k.fields (clear_in x₀)) (ap₂ edge (sym is1) (sym is2)) (R.list.edges _ (nth_edge tr (count_of st i - 1) (start_of st i) (j - 1) (omega (arith, fewer))))
+
+        pub follow_asks : FollowAsked k x m fresh target label
+        follow_asks = record {
+          working = I.working;
+          stack = I.stack;
+          at = SpLaws.at_ext I.turned.stage.ext.sets k.fields fresh R.asked.at;
+          edge = record { known = state_grown I.turned.stage.ext.grown edge_in.known; at = at_ext I.turned.stage.ext.grown.nodes k.fields label edge_in.at };
+        }
+
+        on_next : links_on x₀ i (j - 1) ≡ record { target = target; label = label } ∷ links_on x₀ i (j - 1 + 1)
+        on_next =
+            ap (map link) (edges_next tr (start_of st i + (j - 1)) (count_of st i - 1 - (j - 1)) (omega (arith, fewer)))
+            ∙ ap₂ (λ (u v : ℕ). record { target = u; label = v } ∷ map link (edges tr (start_of st i + (j - 1) + 1) (count_of st i - 1 - (j - 1) - 1))) (sym is1) (sym is2)
+            ∙ ap (λ (u : ℕ). record { target = target; label = label } ∷ map link (edges tr u (count_of st i - 1 - (j - 1) - 1))) {x = start_of st i + (j - 1) + 1} {y = start_of st i + (j - 1 + 1)} (omega arith)
+            ∙ ap (λ (v : ℕ). record { target = target; label = label } ∷ map link (edges tr (start_of st i + (j - 1 + 1)) v)) {x = count_of st i - 1 - (j - 1) - 1} {y = count_of st i - 1 - (j - 1 + 1)} (omega arith)
+
+        module _ {y : Lent} where
+          -- what `follow` did, with as many entries lent as at the beginning
+          came : {r : Result ℕ Refusal} → Follows k m fresh target label x r y → Walks k (along k.fields (limits_of k.limits) (length x₀.pending.now / 2) fresh (record { target = target; label = label }) (entries_of x.pending.now m)) x r y
+          came {r} G = subst (λ (c : ℕ). Walks k (along k.fields (limits_of k.limits) (c / 2) fresh (record { target = target; label = label }) (entries_of x.pending.now m)) x r y) I.keeps.entries G
+
+          pub walk_stuck : {e : Refusal} {r : Result ℕ Refusal} {z : Lent} → r ≡ Err e → Follows k m fresh target label x (Err e) y → WalksAll k n i fresh x₀ r z
+          walk_stuck q G = refused_walks q ((turn Q 0 0 F I.turned on_next).is ∙ ap (λ (o : Outcome Tables (List (Entry ℕ))). after o (Handles.walk (search_in k x₀) fresh (links_on x₀ i (j - 1 + 1)))) (came G).post.post.is)
+
+          pub walk_again : {m1 : ℕ} → OnlySearch x y → y.states ≡ x.states → Follows k m fresh target label x (Ok m1) y → Along k x₀ n i fresh y m1 (j + 1)
+          walk_again {m1} K s G = record {
+            keeps = search_trans I.keeps K;
+            states = s ∙ I.states;
+            turned = subst (λ (c : ℕ). Turned (query_layer k.fields k.limits) 0 0 (Handles.walk (search_in k x₀) fresh) (links_on x₀ i) (count_of st i - 1) (λ τ es. Unit) (Whole k x₀ n i fresh) (clear_in x₀) (clear_in y) x₀.scratch.now y.scratch.now (entries_of y.pending.now m1) c) {x = j - 1 + 1} {y = j + 1 - 1} (omega arith)
+                (again Q 0 0 F I.turned (omega (arith, fewer)) on_next (came G).post.post (all_of 0 0));
+            working = record { fields = ap (λ (t : SPPstore). t.fields) K.spp ∙ I.working.fields; working = G.held.0 };
+            stack = G.held.1;
+          }

@@ -23,7 +23,10 @@ use Rattle.aut_steps.proofs.Wf.{state_grown}
 use Rattle.aut_query_steps.specs.Tables.{Tables, ExtTables}
 use Rattle.aut_query_steps.specs.Search.{capacity}
 use Rattle.aut_query_steps.specs.Pending.{Pending, Entries}
-use Rattle.aut_empty_words.specs.Words.{entry_at, entries_of, seen_in, Stack, Rested}
+use Rattle.aut_query_stage.specs.Lent.{tables_in}
+use Rattle.aut_relations.specs.declared.Aut.{Aut as Lent}
+use Rattle.aut_sets.specs.Lent.{OnlyMarks}
+use Rattle.aut_empty_words.specs.Words.{entry_at, entries_of, seen_in, Stack}
 
 -- one step after two others
 pub after_after : {S A B X : Type 0} (o : Outcome S A) (f : A → Step S B) (g : B → Step S X) → after (after o f) g ≡ after o (λ a σ. after (f a σ) g)
@@ -148,24 +151,8 @@ seen_set N st x h l = fun_ext (λ y. by_test (eqb x y)
     here : (if eqb (h + 1) 0 then Sp.zero_at N else (h + 1) - 1) ≡ h
     here = ap (λ (b : Bool). if b then Sp.zero_at N else (h + 1) - 1) (ne_eqb (h + 1) 0 (λ e. omega arith)) ∙ omega arith
 
--- a set's handle is small
-pub set_small : {N : ℕ} {t : Table} → SpLaws.Wf N t → (d h : ℕ) → SpLaws.ValidAt t d h → h < 33554434
-set_small w zero h a = omega arith
-set_small w (suc d) h a = omega (arith, a.1, w.small)
+-- ---- all tables
 
--- ---- words cleared
-
-pub rested_none : (st : List ℕ) → Rested st 0 st
-rested_none st = record { zero = λ x l. absurd (omega arith); beyond = λ x l. refl; kept = λ x w l n. refl }
-
-pub rested_more : {st st' : List ℕ} {i : ℕ} → Rested st i st' → 12 * i + 8 < length st' → Rested st (i + 1) (set st' (12 * i + 8) 0)
-rested_more {st} {st'} {i} r l = record {
-  zero = λ x k. by_test (eqb x i)
-      (λ b. subst (λ (j : ℕ). get_or (set st' (12 * i + 8) 0) (12 * j + 8) 0 ≡ 0) (sym (eqb-true x i b)) (get_or-set_same st' (12 * i + 8) 0 0 l))
-      (λ b. get_or-set_other st' (12 * i + 8) (12 * x + 8) 0 0 (λ e. eqb-false x i b (omega arith)) ∙ r.zero x (omega (arith, eqb-false x i b)));
-  beyond = λ x k. get_or-set_other st' (12 * i + 8) (12 * x + 8) 0 0 (λ e. omega arith) ∙ r.beyond x (omega arith);
-  kept = λ x w k n. get_or-set_other st' (12 * i + 8) (12 * x + w) 0 0 (λ e. n (omega arith)) ∙ r.kept x w k n;
-}
-
-pub rested_all : {st st' : List ℕ} {i n : ℕ} → Rested st i st' → i ≤ n → n ≤ i → Rested st n st'
-rested_all {st} {st'} {i} {n} r a b = subst (λ (k : ℕ). Rested st k st') {x = i} {y = n} (omega arith) r
+-- the states were not written: all tables are as they were
+pub same_tables : {x y : Lent} → OnlyMarks x y → y.states ≡ x.states → tables_in y ≡ tables_in x
+same_tables K e = rw K.sp (rw K.spp (rw e (rw K.members (rw K.transitions refl))))

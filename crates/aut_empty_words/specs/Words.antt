@@ -1,5 +1,5 @@
 -- 01, "Lent tables" (the pending table, state word 8) and `is_empty`: how the search stands in words, and what is written there.
-use Rattle.std.specs.Prelude.{◌≡◌, Bool, true, false, List, [], ◌∷◌, ℕ, zero, suc, ◌+◌, ◌*◌, ◌-◌, ◌/◌, ◌≤◌, ◌<◌, eqb, length, get_or, set, if◌then◌else◌}
+use Rattle.std.specs.Prelude.{◌≡◌, List, [], ◌∷◌, ℕ, zero, suc, ◌+◌, ◌*◌, ◌-◌, ◌/◌, ◌≤◌, ◌<◌, eqb, length, get_or, set, if◌then◌else◌, Option, Some, None}
 use Rattle.netkat_steps.specs.Handles.{Entry}
 use Rattle.sp_steps.specs.Model as Sp
 use Rattle.aut_query_steps.specs.Tables.{Tables}
@@ -26,9 +26,9 @@ pub record Stack (N : ℕ) (σ : Tables) (p : List ℕ) (n : ℕ) : Type 0 where
 
 -- ---- pending entries, and words cleared
 
-abbrev pub Puts : Bool → List ℕ → ℕ → ℕ → ℕ → List ℕ → Type 0
-Puts true p n t h p' = (n < capacity (length p / 2)) × (p' ≡ set (set p (2 * n) t) (2 * n + 1) h)
-Puts false p n t h p' = capacity (length p / 2) ≤ n
+abbrev pub Puts : Option ℕ → List ℕ → ℕ → ℕ → ℕ → List ℕ → Type 0
+Puts (Some m) p n t h p' = (m ≡ n + 1) × (n < capacity (length p / 2)) × (p' ≡ set (set p (2 * n) t) (2 * n + 1) h)
+Puts None p n t h p' = capacity (length p / 2) ≤ n
 
 -- words 8 of the first n states are 0, all else is as it was
 pub record Rested (st : List ℕ) (n : ℕ) (st' : List ℕ) : Type 0 where

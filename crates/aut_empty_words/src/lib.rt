@@ -3,49 +3,64 @@
 #![tactic(auto)]
 
 ghost use Rattle.std.specs.Prelude.{◌≡◌, ◌+◌, ◌*◌, ◌≤◌, ◌<◌, length};
+ghost use Rattle.aut_sets.specs.Lent.{OnlyMarks};
 ghost use Rattle.aut_empty_words.specs.Words.{seen_in, Puts, Rested, Emptied};
 
+use aut_relations::Aut;
+use aut_states::{Config, STATE, word};
 use sp::SP;
 
 // the packets seen at a state
-pub fn seen_at(states: &[u32], fields: u32, x: u32) -> SP
-    requires { (12 * x + 11 < length states.now) × (fields ≤ 31) }
-    ensures { result.0 ≡ seen_in fields states.now x }
+pub fn seen_at(aut: &Aut, config: Config, x: u32) -> SP
+    requires { (12 * x + 11 < length aut.now.states.words.now) × (config.fields ≤ 31) }
+    ensures { result.0 ≡ seen_in config.fields aut.now.states.words.now x }
 {
-    let i = x as usize;
-    let word = states[aut_states::STATE * i + aut_states::word::SEEN];
+    let word = aut.states.words[STATE * x as usize + word::SEEN];
     if word == 0 {
-        return sp::zero_at_depth(fields);
+        return sp::zero_at_depth(config.fields);
     }
     SP(word - 1)
 }
 
-// one more pending entry, if there is room
-pub fn put(pending: &mut [u32], n: usize, target: u32, packets: SP) -> bool
-    ensures { Puts result pending.old n target packets.0 pending.new }
+// one more pending entry: n + 1, or None if no entry is left
+pub fn put(aut: &mut Aut, n: usize, target: u32, packets: SP) -> Option<usize>
+    ensures keeps { OnlyMarks aut.old aut.new }
+    ensures states { aut.new.states ≡ aut.old.states }
+    ensures gives { Puts result aut.old.pending.now n target packets.0 aut.new.pending.now }
 {
-    if n < aut_query_calls::capacity(pending.len()) {
-        pending[2 * n] = target;
-        pending[2 * n + 1] = packets.0;
-        return true;
+    if n >= aut_query_calls::capacity(aut) {
+        return None;
     }
-    false
+    aut.pending[2 * n] = target;
+    aut.pending[2 * n + 1] = packets.0;
+    Some(n + 1)
 }
 
 // no state has seen packets
-pub fn clear_seen(states: &mut [u32], count: usize)
-    requires { 12 * count ≤ length states.old }
-    ensures { Rested states.old count states.new }
+pub fn clear_seen(aut: &mut Aut)
+    requires { 12 * aut.old.states.count ≤ length aut.old.states.words.now }
+    ensures keeps { OnlyMarks aut.old aut.new }
+    ensures pending { aut.new.pending ≡ aut.old.pending }
+    ensures gives { Rested aut.old.states.words.now aut.old.states.count aut.new.states.words.now }
 {
-    for i in 0..count {
-        states[aut_states::STATE * i + aut_states::word::SEEN] = 0;
+    for i in 0..aut.states.count {
+        aut.states.words[STATE * i + word::SEEN] = 0;
     }
 }
 
-// the first n pending entries go
-pub fn clear_pending(pending: &mut [u32], n: usize)
+fn clear_entries(pending: &mut [u32], n: usize)
     requires { 2 * n ≤ length pending.old }
     ensures { Emptied pending.old n pending.new }
 {
     pending[..2 * n].fill(0);
+}
+
+// the first n pending entries go
+pub fn clear_pending(aut: &mut Aut, n: usize)
+    requires { 2 * n ≤ length aut.old.pending.now }
+    ensures keeps { OnlyMarks aut.old aut.new }
+    ensures states { aut.new.states ≡ aut.old.states }
+    ensures gives { Emptied aut.old.pending.now n aut.new.pending.now }
+{
+    clear_entries(aut.pending, n);
 }

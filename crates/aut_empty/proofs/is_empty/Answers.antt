@@ -1,31 +1,42 @@
-use Rattle.std.proofs.Common.{ap, not}
-use mathlib.Core.Path.{◌∙◌}
+use Rattle.refusal.proofs.Passed.{passed}
 use Rattle.aut_empty.proofs.Runs as runs
 use Rattle.aut_empty.proofs.is_empty.Goals as goal
 
-pub returns-then-not-put : goal.returns-then-not-put
-returns-then-not-put c =
-    runs.empty_full c.requires c.one_at_depth-one.ensures c.args.budget c.put.new.pending c.put.result c.put.ensures (ap not c.if-not-put.true) _
+pub returns-in_err-first-clause-gives : goal.returns-in_err-first-clause-gives
+returns-in_err-first-clause-gives c =
+    runs.empty_full c.requires c.one_at_depth-one.ensures c.args.budget c.put.result c.put.ensures.keeps c.put.ensures.states c.put.ensures.gives _ c.in_err-first.ensures.value (passed c.from_residual.ensures)
 
-pub search-ended-requires : goal.search-ended-requires
-search-ended-requires c =
-    runs.search_asks c.requires c.one_at_depth-one.ensures c.args.budget c.put.new.pending c.put.result c.put.ensures (ap not c.if-not-put.false)
+pub search-requires : goal.search-requires
+search-requires c =
+    let p = c.put.ensures in
+    runs.search_asks c.requires c.one_at_depth-one.ensures c.args.budget c.put.result p.keeps p.states p.gives c.in_ok-first.ensures.value
+
+pub returns-in_err-verdict-clause-gives : goal.returns-in_err-verdict-clause-gives
+returns-in_err-verdict-clause-gives c =
+    let p = c.put.ensures in
+    runs.empty_stuck c.requires c.one_at_depth-one.ensures c.args.budget c.put.result p.keeps p.states p.gives c.in_ok-first.ensures.value _ (passed c.from_residual-in_err-verdict.ensures) c.in_err-verdict.ensures.gives
 
 pub clear_seen-requires : goal.clear_seen-requires
 clear_seen-requires c =
-    runs.clear_seen_asks c.requires c.one_at_depth-one.ensures c.args.budget c.put.new.pending c.put.result c.put.ensures (ap not c.if-not-put.false) c.search-ended.ensures c.in-At.is
+    let p = c.put.ensures in
+    runs.clear_seen_asks c.requires c.one_at_depth-one.ensures c.args.budget c.put.result p.keeps p.states p.gives c.in_ok-first.ensures.value c.in_ok-verdict.ensures.gives
 
 pub clear_pending-requires : goal.clear_pending-requires
 clear_pending-requires c =
-    runs.clear_pending_asks c.requires c.one_at_depth-one.ensures c.args.budget c.put.new.pending c.put.result c.put.ensures (ap not c.if-not-put.false) c.search-ended.ensures c.in-At.is
+    let p = c.put.ensures in
+    let s = c.clear_seen.ensures in
+    runs.clear_pending_asks c.requires c.one_at_depth-one.ensures c.args.budget c.put.result p.keeps p.states p.gives c.in_ok-first.ensures.value c.in_ok-verdict.ensures.gives s.keeps s.pending s.gives
 
-pub returns-in-Refused : goal.returns-in-Refused
-returns-in-Refused c =
-    runs.empty_stuck c.requires c.one_at_depth-one.ensures c.args.budget c.put.new.pending c.put.result c.put.ensures (ap not c.if-not-put.false) c.search-ended.ensures c.in-Refused.is _
+pub returns-clause-pending : goal.returns-clause-pending
+returns-clause-pending c =
+    let p = c.put.ensures in
+    let s = c.clear_seen.ensures in
+    let e = c.clear_pending.ensures in
+    runs.empty_pending c.requires c.one_at_depth-one.ensures c.args.budget c.put.result p.keeps p.states p.gives c.in_ok-first.ensures.value c.in_ok-verdict.ensures.gives s.keeps s.pending s.gives e.keeps e.states e.gives
 
-pub shape_of-pending-in-At : goal.shape_of-pending-in-At
-shape_of-pending-in-At c = c.clear_pending.auto.pending ∙ c.search-ended.auto.pending ∙ c.put.auto.pending
-
-pub returns-in-At : goal.returns-in-At
-returns-in-At c =
-    runs.empty_done c.requires c.one_at_depth-one.ensures c.args.budget c.put.new.pending c.put.result c.put.ensures (ap not c.if-not-put.false) c.search-ended.ensures c.in-At.is c.clear_seen.ensures c.clear_seen.auto.states c.clear_pending.ensures
+pub returns-clause-gives : goal.returns-clause-gives
+returns-clause-gives c =
+    let p = c.put.ensures in
+    let s = c.clear_seen.ensures in
+    let e = c.clear_pending.ensures in
+    runs.empty_done c.requires c.one_at_depth-one.ensures c.args.budget c.put.result p.keeps p.states p.gives c.in_ok-first.ensures.value c.in_ok-verdict.ensures.gives s.keeps s.pending s.gives e.keeps e.states e.gives

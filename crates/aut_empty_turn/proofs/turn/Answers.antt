@@ -1,32 +1,41 @@
 use mathlib.Core.Path.{sym, ◌∙◌}
-use native.Mathlib.Omega.{arith}
-use lib.ListN.{length-set}
+use Rattle.refusal.proofs.Passed.{passed}
 use Rattle.aut_empty_turn.proofs.Turns as turns
 use Rattle.aut_empty_turn.proofs.turn.Goals as goal
 
-pub bounds-pending-k-4 : goal.bounds-pending-k-4
-bounds-pending-k-4 c = simp length-set (omega (arith, turns.top_in c.requires))
+pub take-x-requires : goal.take-x-requires
+take-x-requires c = turns.top_in c.requires
 
 pub seen_at-seen-requires : goal.seen_at-seen-requires
-seen_at-seen-requires c = turns.turn_seen_asks c.requires
+seen_at-seen-requires c =
+    let t = c.take-x.ensures in
+    turns.seen_asks c.requires t.keeps t.states t.gives
 
-pub set_difference-requires : goal.set_difference-requires
-set_difference-requires c = turns.difference_asks c.requires c.seen_at-seen.ensures
+pub difference-requires : goal.difference-requires
+difference-requires c =
+    let t = c.take-x.ensures in
+    turns.difference_asks c.requires t.keeps t.states t.gives c.seen_at-seen.ensures
 
-pub returns-in_default : goal.returns-in_default
-returns-in_default c = turns.turn_full c.requires c.seen_at-seen.ensures c.set_difference.ensures c.in_default.is
+pub returns-in_err-fresh-clause-gives : goal.returns-in_err-fresh-clause-gives
+returns-in_err-fresh-clause-gives c =
+    let t = c.take-x.ensures in
+    let d = c.in_err-fresh.ensures in
+    turns.turn_stuck c.requires t.keeps t.states t.gives c.seen_at-seen.ensures d.keeps (passed c.from_residual.ensures) d.gives
 
-pub returns-then-is_zero : goal.returns-then-is_zero
-returns-then-is_zero c =
-    turns.turn_zero c.requires c.seen_at-seen.ensures c.set_difference.ensures c.in-Node.is c.set_difference.auto.scratch (sym c.if-is_zero.true ∙ c.is_zero.ensures)
+pub returns-then-is_zero-clause-gives : goal.returns-then-is_zero-clause-gives
+returns-then-is_zero-clause-gives c =
+    let t = c.take-x.ensures in
+    let d = c.in_ok-fresh.ensures in
+    turns.turn_zero c.requires t.keeps t.states t.gives c.seen_at-seen.ensures d.keeps d.gives (sym c.if-is_zero.true ∙ c.is_zero.ensures)
 
 pub expand-requires : goal.expand-requires
 expand-requires c =
-    turns.expand_asks c.requires c.seen_at-seen.ensures c.set_difference.ensures c.in-Node.is c.set_difference.auto.scratch
+    let t = c.take-x.ensures in
+    let d = c.in_ok-fresh.ensures in
+    turns.expand_asks c.requires t.keeps t.states t.gives c.seen_at-seen.ensures d.keeps d.gives
 
-pub shape_of-pending : goal.shape_of-pending
-shape_of-pending c = c.expand.auto.pending ∙ turns.popped c.requires
-
-pub returns : goal.returns
-returns c =
-    turns.turn_expand c.requires c.seen_at-seen.ensures c.set_difference.ensures c.in-Node.is c.set_difference.auto.scratch (sym c.if-is_zero.false ∙ c.is_zero.ensures) c.expand.ensures
+pub returns-clause-gives : goal.returns-clause-gives
+returns-clause-gives c =
+    let t = c.take-x.ensures in
+    let d = c.in_ok-fresh.ensures in
+    turns.turn_expand c.requires t.keeps t.states t.gives c.seen_at-seen.ensures d.keeps d.gives (sym c.if-is_zero.false ∙ c.is_zero.ensures) c.expand.result c.expand.ensures.gives

@@ -1,14 +1,15 @@
-use Rattle.aut_empty_walk.proofs.Spreads as turns
+use Rattle.refusal.proofs.Passed.{passed}
+use Rattle.aut_empty_walk.proofs.Spreads as spreads
 use Rattle.aut_empty_walk.proofs.spread.Goals as goal
 
-pub delta_on-worked-requires : goal.delta_on-worked-requires
-delta_on-worked-requires c = turns.delta_asks c.requires
+pub delta-requires : goal.delta-requires
+delta-requires c = spreads.delta_asks c.requires
+
+pub returns-in_err-delta-clause-gives : goal.returns-in_err-delta-clause-gives
+returns-in_err-delta-clause-gives c = spreads.spread_stuck c.requires c.in_err-delta.ensures.keeps (passed c.from_residual.ensures) c.in_err-delta.ensures.gives
 
 pub walk-requires : goal.walk-requires
-walk-requires c = turns.walk_asks c.requires c.delta_on-worked.ensures c.in-Done.is c.delta_on-worked.auto.scratch
+walk-requires c = spreads.walk_asks c.requires c.in_ok-delta.ensures.keeps c.in_ok-delta.ensures.gives
 
-pub returns-in-Refused : goal.returns-in-Refused
-returns-in-Refused c = turns.spread_stuck c.requires c.delta_on-worked.ensures c.in-Refused.is
-
-pub returns-in-Done : goal.returns-in-Done
-returns-in-Done c = turns.spread_done c.requires c.delta_on-worked.ensures c.in-Done.is c.delta_on-worked.auto.scratch c.walk.ensures
+pub returns-clause-gives : goal.returns-clause-gives
+returns-clause-gives c = spreads.spread_done c.requires c.in_ok-delta.ensures.keeps c.in_ok-delta.ensures.gives c.walk.ensures.states c.walk.result c.walk.ensures.gives
