@@ -1,110 +1,105 @@
 -- Round after round: one more, the fewest hops, and the loop, whose bound is that of the steps.
-use Rattle.std.specs.Prelude.{if◌then◌else◌}
+use Rattle.std.specs.Prelude.{not, Option, Some, None, Result, Ok, Err, is_some, if◌then◌else◌}
 use mathlib.Core.Path.{◌≡◌, refl, sym, ◌∙◌, ap, subst}
 use mathlib.Core.Bool.{Bool, true, false}
 use mathlib.Core.List.{List, [], ◌∷◌, ◌++◌, Memᴰ}
-use mathlib.Core.Option.{Option, none, some}
+use mathlib.Core.Option.{Option as Fewest, none, some}
 use Prim.Native.Nat.{ℕ, suc, ◌+◌, ◌*◌, ◌-◌, ◌^◌, ◌≤◌, ◌<◌}
 use native.Mathlib.Omega.{arith}
 use native.Mathlib.Nat.{mul-le-mul}
 use lib.ListN.{length, length-append, get_or}
 use lib.Pow.{pow_mono}
-use borrow.Author.Tests.{lt-ltb, le-ltb}
-use Rattle.common.specs.Outcome.{Outcome, refused, given, Step, return, after}
+use Rattle.common.specs.Outcome.{given, Step, return, after}
+use Rattle.refusal.specs.declared.Refusal.{Refusal}
 use Rattle.sp_steps.specs.Model as Sp
 use Rattle.spp_steps.proofs.Laws.{by_test}
 use Rattle.aut_query_steps.specs.Tables.{Tables}
 use Rattle.aut_why_steps.specs.Why.{Sets, same_on, round_zero, round, rounds, most_rounds, fewest}
 use Rattle.aut_why_steps.proofs.Progress.{Progress, progress_begin, progress_few, progress_next, now_valid}
-use Rattle.aut_query_stage.specs.Layer.{tables_of}
-use Rattle.aut_query_stage.proofs.Layer.{query_layer}
+use Rattle.aut_query_stage.specs.Lent.{tables_in, query_layer, GoesQuery}
+use Rattle.aut_query_stage.proofs.Lent.{query_laws}
 use Rattle.aut_states.specs.Clauses.{limits_of}
-use Rattle.aut_states.specs.declared.Counts.{Counts}
-use Rattle.aut_states.specs.declared.Limits.{Limits}
-use Rattle.aut_stage.specs.Stage.{Layer, gave, Came, Post, Stage}
-use Rattle.aut_stage.proofs.Stage.{begin, next, instead, done, finish, all_of}
+use Rattle.aut_states.specs.declared.Config.{Config}
+use Rattle.aut_stage.specs.Rule.{Came, Post, Stage}
+use Rattle.aut_stage.proofs.Rule.{begin, next, instead, stuck, done, finish, all_of}
+use Rattle.aut_relations.specs.declared.Aut.{Aut as Lent}
+use Rattle.aut_sets.specs.Lent.{OnlyMarks}
 use Rattle.aut_free.specs.Clear.{clear_tables}
-use Rattle.aut_query_calls.specs.Working.{clear_of}
-use Rattle.aut_query_calls.proofs.Working.{with_sets}
+use Rattle.aut_query_calls.specs.Working.{clear_in}
 use Rattle.aut_live_words.specs.Work.{seconds}
 use Rattle.aut_live_words.specs.Clauses.{PreKeep}
 use Rattle.aut_live_words.proofs.Words.{seconds_length}
 use Rattle.aut_why_words.specs.Walk.{Walk, HasSets}
 use Rattle.aut_why_words.specs.Words.{same_words, copy_words, PreCopy}
+use Rattle.aut_live_words.proofs.Held.{tables_marked}
+use Rattle.aut_query_calls.specs.Working.{with_words}
 use Rattle.aut_why_words.proofs.Walks.{walk_there, walk_keeps, walk_copied, clear_copied, has_copied, same_sets, no_test}
-use Rattle.aut_why_rounds.specs.declared.Nodes.{Nodes}
-use Rattle.aut_why_rounds.specs.declared.Nodes.TheVariants as nodes
-use Rattle.aut_why_rounds.specs.declared.Whys.{Whys}
-use Rattle.aut_why_rounds.specs.declared.Whys.TheVariants as whys
-use Rattle.aut_why_rounds.specs.Clauses.{SetsOn, Rounding, round_of, Rounded, RoundedBy, hops_word}
-use Rattle.aut_why.specs.declared.Next.{Next}
-use Rattle.aut_why.specs.declared.Next.TheVariants as more
-use Rattle.aut_why.specs.Loop.{OneMoreBy, hops_after, Going, RoundsAt, RoundsBy, all_rounds}
+use Rattle.aut_why_rounds.specs.Clauses.{SetsOn, RoundingIn, Under, Rounded, hops_of}
+use Rattle.aut_why.specs.Loop.{OneMore, hops_after, GoingIn, RoundsAt, RoundsGive, all_rounds, AllAt}
 
--- a postcondition of tables that are equal
-post_at : {𝓛 : Layer} {a n : ℕ} {A : Type 0} {P : 𝓛.Store → A → Type 0} {o : Outcome 𝓛.Store A} {σ : 𝓛.Store} {c d : 𝓛.Counts} {x : A} {at at' : 𝓛.Counts → 𝓛.Store} {s s' : List ℕ}
-    → Post 𝓛 a n P o σ c (gave d x) at s s' → at' d ≡ at d → Post 𝓛 a n P o σ c (gave d x) at' s s'
-post_at {𝓛} {a} {n} {A} {P} {o} {σ} {c} {d} {x} {at} {at'} {s} {s'} p q = record {
-  is = p.is ∙ ap (λ (τ : 𝓛.Store). given τ x) (sym q);
-  then = subst (λ (τ : 𝓛.Store). Came 𝓛 a n P σ τ c d x s s') (sym q) p.then;
+-- tables that are as a call left them
+goes_on : {k : Config} {a n : ℕ} {V U A : Type 0} {P : Tables → A → Type 0} {w : A} {o : Step Tables A} {x y z : Lent} {v : V} (u : U) → GoesQuery k a n clear_in P (λ (v : V). w) o x (Ok v) y → clear_in z ≡ clear_in y → z.scratch.now ≡ y.scratch.now
+    → GoesQuery k a n clear_in P (λ (u : U). w) o x (Ok u) z
+goes_on {k} {a} {n} {P = P} {w = w} {x = x} {y = y} {z = z} u G q e = record {
+  post = record {
+    is = G.post.is ∙ ap (λ (τ : Tables). given τ w) (sym q);
+    then = subst (λ (s : List ℕ). Came (query_layer k.fields k.limits) a n P (clear_in x) (clear_in z) w x.scratch.now s) (sym e)
+        (subst (λ (τ : Tables). Came (query_layer k.fields k.limits) a n P (clear_in x) τ w x.scratch.now y.scratch.now) (sym q) G.post.then);
+  };
 }
 
 -- ---- words 9 have gone into words 8
 
-module _ (t mem tr : List ℕ) {N : ℕ} {l : Limits} {o : Outcome Tables Sets} {σ : Tables} {c d : Counts} {sp1 st1 s s1 p : List ℕ} {n : ℕ} (G : Rounded N l o σ c d (tables_of sp1 t st1 mem tr) s s1 p n) where
-  pub copy_keeps : PreKeep st1 p n
-  copy_keeps = walk_keeps G.walk
+module _ {k : Config} {x y : Lent} {n : ℕ} {after : Sets} (G : Under k x y n after) where
+  pub copy_asks : PreCopy y.states.words.now y.pending.now n 9 8
+  copy_asks = record { states = walk_keeps G.walk; from = omega arith; to = omega arith }
 
-  pub copy_asks : PreCopy st1 p n 9 8
-  copy_asks = record { states = copy_keeps; from = omega arith; to = omega arith }
+  module _ {z : Lent} (K : OnlyMarks y z) (q : z.pending ≡ y.pending) (E : z.states.words.now ≡ copy_words 9 8 (seconds y.pending.now 0 n) y.states.words.now) where
+    copied_tables : tables_in z ≡ with_words (copy_words 9 8 (seconds y.pending.now 0 n) y.states.words.now) (tables_in y)
+    copied_tables = tables_marked K ∙ ap (λ (u : List ℕ). with_words u (tables_in y)) E
 
-  module _ {st2 : List ℕ} (K : st2 ≡ copy_words 9 8 (seconds p 0 n) st1) where
-    pub copied_clear : clear_of sp1 t st2 mem tr d ≡ clear_of sp1 t st1 mem tr d
-    copied_clear = ap (λ (u : List ℕ). clear_of sp1 t u mem tr d) K ∙ clear_copied 9 8 (omega arith) sp1 t mem tr d (omega arith) (seconds p 0 n) st1
+    copied_clear : clear_in z ≡ clear_in y
+    copied_clear = ap clear_tables copied_tables ∙ clear_copied 9 8 (omega arith) (tables_in y) (omega arith) (seconds y.pending.now 0 n) y.states.words.now
 
-    pub copied_walk : Walk N l (tables_of sp1 t st2 mem tr d) s1 p n
-    copied_walk = subst (λ (u : List ℕ). Walk N l (tables_of sp1 t u mem tr d) s1 p n) (sym K) (walk_copied 9 8 (omega arith) (omega arith) G.walk)
+    copied_walk : Walk k.fields k.limits (tables_in z) z.scratch.now z.pending.now n
+    copied_walk = rw q (rw K.scratch (rw copied_tables (walk_copied (tables_in y) 9 8 (omega arith) (omega arith) G.walk)))
 
-    pub copied_sets : HasSets 8 st2 p n G.next
-    copied_sets = subst (λ (u : List ℕ). HasSets 8 u p n G.next) (sym K) (has_copied 9 8 (omega arith) (omega arith) G.walk (omega arith) (λ q. omega arith) G.sets)
+    copied_sets : HasSets 8 z.states.words.now z.pending.now n after
+    copied_sets = rw q (rw E (has_copied (tables_in y) 9 8 (omega arith) (omega arith) G.walk (omega arith) (λ q. omega arith) G.sets))
 
 -- ---- one round more
 
-module _ (sp t st mem tr : List ℕ) (c : Counts) {N : ℕ} {l : Limits} {s p : List ℕ} {n : ℕ} {now : Sets} (R : Rounding N l false (tables_of sp t st mem tr c) s p n now) where
-  abbrev σ : Tables
-  σ = tables_of sp t st mem tr c
+module _ (k : Config) (x : Lent) {n : ℕ} {now : Sets} (R : RoundingIn k false x n now) where
+  pub next_stuck : {e : Refusal} {y : Lent} → Rounded k false now n x (Err e) y → OneMore k now n x (Err e) y
+  next_stuck G = record { next = G.next; post = record { post = record { is = G.post.post.is; then = tt } }; compared = tt }
 
-  abbrev RoundBy : (sp1 st1 s1 : List ℕ) → Nodes → Type 0
-  RoundBy sp1 st1 s1 r = RoundedBy N l (round_of N false (seconds p 0 n) now (clear_tables σ)) σ c r (tables_of sp1 t st1 mem tr) s s1 p n
+  module _ {y : Lent} (p : y.pending ≡ x.pending) (G : Rounded k false now n x (Ok tt) y) where
+    pub next_keeps : PreKeep y.states.words.now y.pending.now n
+    next_keeps = walk_keeps G.under.walk
 
-  module _ (r : Nodes) (sp1 st1 s1 : List ℕ) (A : RoundBy sp1 st1 s1 r) where
-    pub next_stuck : r ≡ nodes.Full → round N (seconds p 0 n) now (clear_tables σ) ≡ refused 20
-    next_stuck q = subst (RoundBy sp1 st1 s1) q A
+    pub next_copies : PreCopy y.states.words.now y.pending.now n 9 8
+    next_copies = copy_asks G.under
 
-    module _ {m : ℕ} (q : r ≡ nodes.At m) where
-      G : RoundBy sp1 st1 s1 (nodes.At m)
-      G = subst (RoundBy sp1 st1 s1) q A
+    before : HasSets 8 y.states.words.now y.pending.now n now
+    before = rw p (record { is = λ i m. G.under.others i 8 (omega arith) (λ e. omega arith) ∙ (R.sets refl).is i m })
 
-      pub next_keeps : PreKeep st1 p n
-      next_keeps = copy_keeps t mem tr G
+    same_is : {b : Bool} → same_words (seconds y.pending.now 0 n) y.states.words.now ≡ b → same_on (seconds y.pending.now 0 n) now G.next ≡ b
+    same_is e = sym (same_sets before G.under.sets) ∙ e
 
-      pub next_copies : PreCopy st1 p n 9 8
-      next_copies = copy_asks t mem tr G
+    pub next_same : {b : Bool} → same_words (seconds y.pending.now 0 n) y.states.words.now ≡ b → b ≡ true → OneMore k now n x (Ok false) y
+    next_same e f = record {
+      next = G.next;
+      post = goes_on false G.post refl refl;
+      compared = record { walk = G.under.walk; is = same_is (e ∙ f); sets = λ z. absurd (no_test false z refl) };
+    }
 
-      same_is : {b : Bool} → same_words (seconds p 0 n) st1 ≡ b → same_on (seconds p 0 n) now G.next ≡ b
-      same_is e = sym (same_sets (record { is = λ x k. G.others x 8 (omega arith) (λ e. omega arith) ∙ (R.sets refl).is x k }) G.sets) ∙ e
-
-      pub next_same : {b : Bool} → same_words (seconds p 0 n) st1 ≡ b → b ≡ true → OneMoreBy N l σ now c (more.Same m) (tables_of sp1 t st1 mem tr) s s1 p n
-      next_same e f = record { next = G.next; post = G.post; walk = G.walk; is = same_is (e ∙ f); sets = λ z. absurd (no_test true refl z) }
-
-      pub next_more : {b : Bool} → same_words (seconds p 0 n) st1 ≡ b → b ≡ false → {st2 : List ℕ} → st2 ≡ copy_words 9 8 (seconds p 0 n) st1 → OneMoreBy N l σ now c (more.More m) (tables_of sp1 t st2 mem tr) s s1 p n
-      next_more e f K = record {
-        next = G.next;
-        post = post_at G.post (copied_clear t mem tr G K);
-        walk = copied_walk t mem tr G K;
-        is = same_is (e ∙ f);
-        sets = λ z. copied_sets t mem tr G K;
-      }
+    pub next_more : {b : Bool} → same_words (seconds y.pending.now 0 n) y.states.words.now ≡ b → b ≡ false
+        → {z : Lent} → OnlyMarks y z → z.pending ≡ y.pending → z.states.words.now ≡ copy_words 9 8 (seconds y.pending.now 0 n) y.states.words.now → OneMore k now n x (Ok true) z
+    next_more e f K q E = record {
+      next = G.next;
+      post = goes_on true G.post (copied_clear G.under K q E) (rw K.scratch refl);
+      compared = record { walk = copied_walk G.under K q E; is = rw q (same_is (e ∙ f)); sets = λ z. copied_sets G.under K q E };
+    }
 
 -- ---- the fewest hops
 
@@ -114,72 +109,70 @@ module _ (N x : ℕ) where
   hops_cons k w ws b q = ap (λ (b : Bool). if b then fewest N x (suc k) ws else some k) q
 
   -- one round more
-  pub hops_more : (k : ℕ) (ws : List Sets) (w : Sets) → hops_word (fewest N x k (ws ++ w ∷ [])) ≡ hops_after N (w x) (k + length ws) (hops_word (fewest N x k ws))
+  hops_more : (k : ℕ) (ws : List Sets) (w : Sets) → hops_of (fewest N x k (ws ++ w ∷ [])) ≡ hops_after N (w x) (k + length ws) (hops_of (fewest N x k ws))
   unfolding fewest
-  hops_more k [] w =
-      word (Sp.is_zero N (w x))
-      ∙ ap (λ (j : ℕ). if Sp.is_zero N (w x) then 0 else j + 1) {x = k} {y = k + 0} (omega arith)
-      ∙ sym (ap (λ (b : Bool). if b then 0 else (if Sp.is_zero N (w x) then 0 else k + 0 + 1)) (le-ltb 0 0 (omega arith)))
+  hops_more k [] w = last (Sp.is_zero N (w x)) ∙ ap (λ (j : ℕ). if Sp.is_zero N (w x) then None else Some j) {x = k} {y = k + 0} (omega arith)
     where
-      word : (b : Bool) → hops_word (if b then none else some k) ≡ (if b then 0 else k + 1)
-      word true = refl
-      word false = refl
+      last : (b : Bool) → hops_of (if b then none else some k) ≡ (if b then None else Some k)
+      last true = refl
+      last false = refl
   hops_more k (v ∷ ws) w = by_test (Sp.is_zero N (v x))
       (λ b.
-      ap hops_word (hops_cons k v (ws ++ w ∷ []) true b) ∙ hops_more (suc k) ws w
-      ∙ ap (λ (j : ℕ). hops_after N (w x) j (hops_word (fewest N x (suc k) ws))) {x = suc k + length ws} {y = k + suc (length ws)} (omega arith)
-      ∙ sym (ap (λ (o : Option ℕ). hops_after N (w x) (k + suc (length ws)) (hops_word o)) (hops_cons k v ws true b)))
+      ap hops_of (hops_cons k v (ws ++ w ∷ []) true b) ∙ hops_more (suc k) ws w
+      ∙ ap (λ (j : ℕ). hops_after N (w x) j (hops_of (fewest N x (suc k) ws))) {x = suc k + length ws} {y = k + suc (length ws)} (omega arith)
+      ∙ sym (ap (λ (o : Fewest ℕ). hops_after N (w x) (k + suc (length ws)) (hops_of o)) (hops_cons k v ws true b)))
       (λ b.
-      ap hops_word (hops_cons k v (ws ++ w ∷ []) false b)
-      ∙ sym (ap (λ (o : Option ℕ). hops_after N (w x) (k + suc (length ws)) (hops_word o)) (hops_cons k v ws false b)
-      ∙ ap (λ (b : Bool). if b then k + 1 else (if Sp.is_zero N (w x) then 0 else k + suc (length ws) + 1)) (lt-ltb 0 (k + 1) (omega arith))))
+      ap hops_of (hops_cons k v (ws ++ w ∷ []) false b)
+      ∙ sym (ap (λ (o : Fewest ℕ). hops_after N (w x) (k + suc (length ws)) (hops_of o)) (hops_cons k v ws false b)))
 
 -- by which way it is told
-module _ (N h k f : ℕ) where
-  pub hops_there : 0 < f → f ≡ hops_after N h k f
-  hops_there l = sym (ap (λ (b : Bool). if b then f else (if Sp.is_zero N h then 0 else k + 1)) (lt-ltb 0 f l))
+module _ (N h k : ℕ) where
+  pub hops_there : (f : Option ℕ) → is_some f ≡ true → f ≡ hops_after N h k f
+  hops_there (Some j) e = refl
+  hops_there None e = absurd (no_test false e refl)
 
-  hops_by : f ≤ 0 → (b : Bool) → Sp.is_zero N h ≡ b → (if b then 0 else k + 1) ≡ hops_after N h k f
-  hops_by l b q = sym (ap (λ (c : Bool). if c then f else (if Sp.is_zero N h then 0 else k + 1)) (le-ltb 0 f l) ∙ ap (λ (c : Bool). if c then 0 else k + 1) q)
+  hops_by : (f : Option ℕ) → is_some f ≡ false → (b : Bool) → Sp.is_zero N h ≡ b → (if b then None else Some k) ≡ hops_after N h k f
+  hops_by (Some j) e b q = absurd (no_test true refl e)
+  hops_by None e b q = sym (ap (λ (c : Bool). if c then None else Some k) q)
 
-  pub hops_none : f ≤ 0 → {b : Bool} → b ≡ Sp.is_zero N h → b ≡ true → 0 ≡ hops_after N h k f
-  hops_none l q e = hops_by l true (sym q ∙ e)
+  pub hops_none : (f : Option ℕ) → is_some f ≡ false → {b : Bool} → b ≡ Sp.is_zero N h → b ≡ true → None ≡ hops_after N h k f
+  hops_none f e q t = hops_by f e true (sym q ∙ t)
 
-  pub hops_first : f ≤ 0 → {b : Bool} → b ≡ Sp.is_zero N h → b ≡ false → k + 1 ≡ hops_after N h k f
-  hops_first l q e = hops_by l false (sym q ∙ e)
+  pub hops_first : (f : Option ℕ) → is_some f ≡ false → {b : Bool} → b ≡ Sp.is_zero N h → b ≡ false → Some k ≡ hops_after N h k f
+  hops_first f e q t = hops_by f e false (sym q ∙ t)
 
 -- ---- until none changes
 
 -- the rounds are few: there are at most 2 ^ 24 states and 2 ^ 31 packets
-pub rounds_small : (N n k : ℕ) → N ≤ 31 → n ≤ 16777216 → k < n * 2 ^ N + 1 → k < 36028797018963969
+rounds_small : (N n k : ℕ) → N ≤ 31 → n ≤ 16777216 → k < n * 2 ^ N + 1 → k < 36028797018963969
 rounds_small N n k a b l =
     let q : 2 ^ N ≤ 2147483648 = pow_mono {j = 31} a in
     let m : n * 2 ^ N ≤ 16777216 * 2147483648 = mul-le-mul b q in
     omega (arith, m, l)
 
-module _ (sp t st mem tr : List ℕ) (c : Counts) {N : ℕ} {l : Limits} {s p : List ℕ} {n : ℕ} {first : Sets} {x : ℕ} (Q : Going N l (tables_of sp t st mem tr c) s p n first x) where
-  abbrev κ : Tables
-  κ = clear_of sp t st mem tr c
+module _ (k : Config) (x : Lent) {n : ℕ} {first : Sets} {i : ℕ} (Q : GoingIn k x n first i) where
+  abbrev N : ℕ
+  N = k.fields
 
   abbrev ss : List ℕ
-  ss = seconds p 0 n
+  ss = seconds x.pending.now 0 n
 
-  abbrev all : Outcome Tables (List Sets)
-  all = rounds N (most_rounds N ss) ss [] first κ
+  abbrev all : Step Tables (List Sets)
+  all = rounds N (most_rounds N ss) ss [] first
 
-  -- k rounds are done before `now`, which is in words 8
-  pub record Between (sp1 st1 : List ℕ) (m f k : ℕ) (s1 : List ℕ) : Type 0 where
+  -- j rounds are done before `now`, which is in words 8
+  pub record Between (z : Lent) (f : Option ℕ) (j : ℕ) : Type 0 where
     pub done : List Sets
     pub now : Sets
     pub most : ℕ
     pub enough : most + length done ≡ most_rounds N ss
-    pub long : k ≡ length done
-    pub stage : Stage (query_layer N l) 0 0 all (rounds N most ss done now (clear_of sp1 t st1 mem tr (with_sets c m))) κ (clear_of sp1 t st1 mem tr (with_sets c m)) c (with_sets c m) s s1
-    pub rounding : Rounding N l false (tables_of sp1 t st1 mem tr (with_sets c m)) s1 p n now
-    pub progress : Progress N (limits_of l) ss (clear_of sp1 t st1 mem tr (with_sets c m)) done now
-    pub hops : f ≡ hops_word (fewest N x 0 done)
+    pub long : j ≡ length done
+    pub stage : Stage (query_layer N k.limits) 0 0 (all (clear_in x)) (rounds N most ss done now (clear_in z)) (clear_in x) (clear_in z) x.scratch.now z.scratch.now
+    pub rounding : RoundingIn k false z n now
+    pub progress : Progress N (limits_of k.limits) ss (clear_in z) done now
+    pub hops : f ≡ hops_of (fewest N i 0 done)
 
-  pub rounds_begin : Between sp st c.sp 0 0 s
+  pub rounds_begin : Between x None 0
   unfolding fewest
   rounds_begin = record {
     done = [];
@@ -187,41 +180,38 @@ module _ (sp t st mem tr : List ℕ) (c : Counts) {N : ℕ} {l : Limits} {s p : 
     most = most_rounds N ss;
     enough = omega arith;
     long = refl;
-    stage = begin (query_layer N l) 0 0 Q.rounding.walk.working.ready refl;
+    stage = begin (query_laws N k.limits) 0 0 Q.rounding.walk.working.ready refl;
     rounding = Q.rounding;
     progress = Q.progress;
     hops = refl;
   }
 
-  module _ {sp1 st1 s1 : List ℕ} {m f k : ℕ} (v : Between sp1 st1 m f k s1) where
-    abbrev d : Counts
-    d = with_sets c m
+  module _ {z : Lent} {f : Option ℕ} {j : ℕ} (p : z.pending ≡ x.pending) (v : Between z f j) where
+    pub rounds_few : j < n * 2 ^ N + 1
+    rounds_few = subst (λ (m : ℕ). j < m * 2 ^ N + 1) (seconds_length x.pending.now 0 n) (subst (λ (m : ℕ). m < most_rounds N ss) (sym v.long) (progress_few v.progress))
 
-    abbrev κ1 : Tables
-    κ1 = clear_of sp1 t st1 mem tr d
+    pub rounds_less : j < 36028797018963969
+    rounds_less = rounds_small N n j Q.rounding.walk.working.ready.ready.few (omega (arith, Q.rounding.walk.room)) rounds_few
 
-    pub rounds_few : k < n * 2 ^ N + 1
-    rounds_few = subst (λ (j : ℕ). k < j * 2 ^ N + 1) (seconds_length p 0 n) (subst (λ (j : ℕ). j < most_rounds N ss) (sym v.long) (progress_few v.progress))
+    among : Memᴰ i (seconds z.pending.now 0 n)
+    among = rw p Q.among
 
-    pub rounds_less : k < 36028797018963969
-    rounds_less = rounds_small N n k Q.rounding.walk.working.ready.ready.few (omega (arith, Q.rounding.walk.room)) rounds_few
+    pub rounds_there : 12 * i + 11 < length z.states.words.now
+    rounds_there = walk_there v.rounding.walk i among
 
-    pub rounds_there : 12 * x + 11 < length st1
-    rounds_there = walk_there v.rounding.walk x Q.among
+    word_is : get_or z.states.words.now (12 * i + 8) 0 ≡ v.now i + 1
+    word_is = (v.rounding.sets refl).is i among
 
-    word_is : get_or st1 (12 * x + 8) 0 ≡ v.now x + 1
-    word_is = (v.rounding.sets refl).is x Q.among
-
-    pub rounds_some : 0 < get_or st1 (12 * x + 8) 0
+    pub rounds_some : 0 < get_or z.states.words.now (12 * i + 8) 0
     rounds_some = omega (arith, word_is)
 
     -- the fewest hops, with this round
-    module _ {f1 : ℕ} (h : f1 ≡ hops_after N (get_or st1 (12 * x + 8) 0 - 1) k f) where
-      hops_is : f1 ≡ hops_word (fewest N x 0 (v.done ++ v.now ∷ []))
+    module _ {f1 : Option ℕ} (h : f1 ≡ hops_after N (get_or z.states.words.now (12 * i + 8) 0 - 1) j f) where
+      hops_is : f1 ≡ hops_of (fewest N i 0 (v.done ++ v.now ∷ []))
       hops_is =
-          h ∙ ap (λ (w : ℕ). hops_after N w k f) {x = get_or st1 (12 * x + 8) 0 - 1} {y = v.now x} (omega (arith, word_is))
-          ∙ ap (λ (j : ℕ). hops_after N (v.now x) j f) {x = k} {y = 0 + length v.done} (omega (arith, v.long))
-          ∙ ap (hops_after N (v.now x) (0 + length v.done)) v.hops ∙ sym (hops_more N x 0 v.done v.now)
+          h ∙ ap (λ (w : ℕ). hops_after N w j f) {x = get_or z.states.words.now (12 * i + 8) 0 - 1} {y = v.now i} (omega (arith, word_is))
+          ∙ ap (λ (m : ℕ). hops_after N (v.now i) m f) {x = j} {y = 0 + length v.done} (omega (arith, v.long))
+          ∙ ap (hops_after N (v.now i) (0 + length v.done)) v.hops ∙ sym (hops_more N i 0 v.done v.now)
 
       -- the bound is not used up
       abbrev left : ℕ
@@ -233,101 +223,107 @@ module _ (sp t st mem tr : List ℕ) (c : Counts) {N : ℕ} {l : Limits} {s p : 
       abbrev on : Sets → Step Tables (List Sets)
       on w = if same_on ss v.now w then return (v.done ++ v.now ∷ []) else rounds N left ss (v.done ++ v.now ∷ []) w
 
-      turned : Stage (query_layer N l) 0 0 all (after (round N ss v.now κ1) on) κ κ1 c d s s1
+      turned : Stage (query_layer N k.limits) 0 0 (all (clear_in x)) (after (round N ss v.now (clear_in z)) on) (clear_in x) (clear_in z) x.scratch.now z.scratch.now
       unfolding rounds
-      turned = instead (query_layer N l) 0 0 v.stage (ap (λ (j : ℕ). rounds N j ss v.done v.now κ1) left_suc)
+      turned = instead (query_laws N k.limits) 0 0 v.stage (ap (λ (m : ℕ). rounds N m ss v.done v.now (clear_in z)) left_suc)
 
-      abbrev MoreBy : (sp2 st2 s2 : List ℕ) → Next → Type 0
-      MoreBy sp2 st2 s2 r = OneMoreBy N l (tables_of sp1 t st1 mem tr d) v.now d r (tables_of sp2 t st2 mem tr) s1 s2 p n
+      -- the round, of the states that stood in the entries at first
+      module _ {r : Result Bool Refusal} {w : Lent} (O : OneMore k v.now n z r w) where
+        round_is : GoesQuery k 0 0 clear_in (SetsOn N ss) (λ b. O.next) (round N ss v.now) z r w
+        round_is = subst (λ (t : List ℕ). GoesQuery k 0 0 clear_in (SetsOn N (seconds t 0 n)) (λ b. O.next) (round N (seconds t 0 n) v.now) z r w) same O.post
+          where
+            same : z.pending.now ≡ x.pending.now
+            same = rw p refl
 
-      module _ (r : Next) (sp2 st2 s2 : List ℕ) (A : MoreBy sp2 st2 s2 r) where
-        pub rounds_stuck : r ≡ more.Full → all ≡ refused 20
-        rounds_stuck q = turned.is ∙ ap (λ (o : Outcome Tables Sets). after o on) (subst (MoreBy sp2 st2 s2) q A)
+      pub rounds_stuck : {e : Refusal} {w : Lent} → OneMore k v.now n z (Err e) w → RoundsAt k all n i x (Err e) w
+      rounds_stuck O = record { sets = []; post = record { post = stuck (query_laws N k.limits) 0 0 (round_is O).post on turned }; ended = tt }
 
-        pub rounds_end : {m2 : ℕ} → r ≡ more.Same m2 → RoundsAt N l all (tables_of sp t st mem tr c) c (with_sets c m2) n n x f1 (tables_of sp2 t st2 mem tr) s s2 p
-        rounds_end {m2} q =
-            let O : MoreBy sp2 st2 s2 (more.Same m2) = subst (MoreBy sp2 st2 s2) q A in
+      module _ {b : Bool} {w : Lent} (O : OneMore k v.now n z (Ok b) w) (q : w.pending ≡ x.pending) where
+        went : Stage (query_layer N k.limits) 0 0 (all (clear_in x)) (on O.next (clear_in w)) (clear_in x) (clear_in w) x.scratch.now w.scratch.now
+        went = next (query_laws N k.limits) 0 0 (round_is O).post (all_of 0 0) on turned
+
+        same_first : same_on ss v.now O.next ≡ not b
+        same_first = subst (λ (t : List ℕ). same_on (seconds t 0 n) v.now O.next ≡ not b) now_is O.compared.is
+          where
+            now_is : w.pending.now ≡ x.pending.now
+            now_is = rw q refl
+
+        chosen : {c : Bool} → not b ≡ c → Stage (query_layer N k.limits) 0 0 (all (clear_in x)) ((if c then return (v.done ++ v.now ∷ []) else rounds N left ss (v.done ++ v.now ∷ []) O.next) (clear_in w)) (clear_in x) (clear_in w) x.scratch.now w.scratch.now
+        chosen c = instead (query_laws N k.limits) 0 0 went (ap (λ (b : Bool). (if b then return (v.done ++ v.now ∷ []) else rounds N left ss (v.done ++ v.now ∷ []) O.next) (clear_in w)) (same_first ∙ c))
+
+        pub rounds_end : b ≡ false → RoundsAt k all n i x (Ok f1) w
+        rounds_end e = record {
+          sets = v.done ++ v.now ∷ [];
+          post = record { post = done (query_laws N k.limits) 0 0 (chosen (ap not e)) tt };
+          ended = record {
+            walk = O.compared.walk;
+            hops = hops_is;
+            few = rw q (omega (arith, progress_few v.progress, length-append v.done (v.now ∷ [])));
+          };
+        }
+
+        pub rounds_again : b ≡ true → Between w f1 (j + 1)
+        rounds_again e =
+            let P = progress_next v.progress (round_is O).post.is (same_first ∙ ap not e) in
             record {
-              sets = v.done ++ v.now ∷ [];
-              same = refl;
-              post = done (query_layer N l) 0 0 (λ e. clear_of sp2 t st2 mem tr e)
-                  (instead (query_layer N l) 0 0 (next (query_layer N l) 0 0 O.post (all_of 0 0) on turned)
-                  (ap (λ (b : Bool). (if b then return (v.done ++ v.now ∷ []) else rounds N left ss (v.done ++ v.now ∷ []) O.next) (clear_of sp2 t st2 mem tr (with_sets c m2))) O.is)) tt;
-              walk = O.walk;
+              done = v.done ++ v.now ∷ [];
+              now = O.next;
+              most = left;
+              enough = omega (arith, left_suc, v.enough, length-append v.done (v.now ∷ []));
+              long = omega (arith, v.long, length-append v.done (v.now ∷ []));
+              stage = chosen (ap not e);
+              rounding = record { walk = O.compared.walk; sets = λ z. O.compared.sets e; valid = λ z y m. now_valid P y };
+              progress = P;
               hops = hops_is;
-              few = omega (arith, progress_few v.progress, length-append v.done (v.now ∷ []));
             }
-
-        module _ {m2 : ℕ} (q : r ≡ more.More m2) where
-          O : MoreBy sp2 st2 s2 (more.More m2)
-          O = subst (MoreBy sp2 st2 s2) q A
-
-          pub rounds_again : Between sp2 st2 m2 f1 (k + 1) s2
-          rounds_again =
-              let P = progress_next v.progress O.post.is O.is in
-              record {
-                done = v.done ++ v.now ∷ [];
-                now = O.next;
-                most = left;
-                enough = omega (arith, left_suc, v.enough, length-append v.done (v.now ∷ []));
-                long = omega (arith, v.long, length-append v.done (v.now ∷ []));
-                stage = instead (query_layer N l) 0 0 (next (query_layer N l) 0 0 O.post (all_of 0 0) on turned)
-                    (ap (λ (b : Bool). (if b then return (v.done ++ v.now ∷ []) else rounds N left ss (v.done ++ v.now ∷ []) O.next) (clear_of sp2 t st2 mem tr (with_sets c m2))) O.is);
-                rounding = record { walk = O.walk; sets = λ z. O.sets z; valid = λ z y i. now_valid P y };
-                progress = P;
-                hops = hops_is;
-              }
 
 -- ---- from round 0 on
 
-module _ (sp t st mem tr : List ℕ) (c : Counts) {N : ℕ} {l : Limits} {s p : List ℕ} {n x : ℕ} (K : Walk N l (tables_of sp t st mem tr c) s p n) (i : Memᴰ x (seconds p 0 n)) where
-  abbrev κ₀ : Tables
-  κ₀ = clear_of sp t st mem tr c
-
-  abbrev whole : Outcome Tables (List Sets)
-  whole = all_rounds N (seconds p 0 n) κ₀
+module _ (k : Config) (x : Lent) {n i : ℕ} (K : Walk k.fields k.limits (tables_in x) x.scratch.now x.pending.now n) (m : Memᴰ i (seconds x.pending.now 0 n)) where
+  abbrev ss₀ : List ℕ
+  ss₀ = seconds x.pending.now 0 n
 
   -- round 0 asks for no sets
-  pub zero_rounding : Rounding N l true (tables_of sp t st mem tr c) s p n (λ t. Sp.zero_at N)
+  pub zero_rounding : RoundingIn k true x n (λ t. Sp.zero_at k.fields)
   zero_rounding = record { walk = K; sets = λ q. absurd (no_test true refl q); valid = λ q. absurd (no_test true refl q) }
 
-  abbrev ZeroBy : (sp1 st1 s1 : List ℕ) → Nodes → Type 0
-  ZeroBy sp1 st1 s1 r = RoundedBy N l (round_of N true (seconds p 0 n) (λ t. Sp.zero_at N) κ₀) (tables_of sp t st mem tr c) c r (tables_of sp1 t st1 mem tr) s s1 p n
-
   abbrev on_rounds : Sets → Step Tables (List Sets)
-  on_rounds = rounds N (most_rounds N (seconds p 0 n)) (seconds p 0 n) []
+  on_rounds = rounds k.fields (most_rounds k.fields ss₀) ss₀ []
 
-  module _ (r : Nodes) (sp1 st1 s1 : List ℕ) (A : ZeroBy sp1 st1 s1 r) where
-    pub all_stuck : r ≡ nodes.Full → whole ≡ refused 20
-    all_stuck q = ap (λ (o : Outcome Tables Sets). after o on_rounds) (subst (ZeroBy sp1 st1 s1) q A)
+  at_first : Stage (query_layer k.fields k.limits) 0 0 (all_rounds k.fields ss₀ (clear_in x)) (after (round_zero k.fields ss₀ (clear_in x)) on_rounds) (clear_in x) (clear_in x) x.scratch.now x.scratch.now
+  at_first = begin (query_laws k.fields k.limits) 0 0 K.working.ready refl
 
-    module _ {m : ℕ} (q : r ≡ nodes.At m) where
-      pub Z : ZeroBy sp1 st1 s1 (nodes.At m)
-      Z = subst (ZeroBy sp1 st1 s1) q A
+  pub all_stuck : {e : Refusal} {y : Lent} → Rounded k true (λ t. Sp.zero_at k.fields) n x (Err e) y → AllAt k n i x (Err e) y
+  all_stuck G = record { sets = []; post = record { post = stuck (query_laws k.fields k.limits) 0 0 G.post.post on_rounds at_first }; ended = tt }
 
-      pub all_copies : PreCopy st1 p n 9 8
-      all_copies = copy_asks t mem tr Z
+  module _ {y : Lent} (p : y.pending ≡ x.pending) (G : Rounded k true (λ t. Sp.zero_at k.fields) n x (Ok tt) y) where
+    pub all_copies : PreCopy y.states.words.now y.pending.now n 9 8
+    all_copies = copy_asks G.under
 
-      module _ {st2 : List ℕ} (E : st2 ≡ copy_words 9 8 (seconds p 0 n) st1) where
-        zero_post : Post (query_layer N l) 0 0 (SetsOn N (seconds p 0 n)) (round_zero N (seconds p 0 n) κ₀) κ₀ c (gave (with_sets c m) Z.next) (λ e. clear_of sp1 t st2 mem tr e) s s1
-        zero_post = post_at Z.post (copied_clear t mem tr Z E)
+    module _ {z : Lent} (M : OnlyMarks y z) (q : z.pending ≡ y.pending) (E : z.states.words.now ≡ copy_words 9 8 (seconds y.pending.now 0 n) y.states.words.now) where
+      zero_post : GoesQuery k 0 0 clear_in (SetsOn k.fields ss₀) (λ u. G.next) (round_zero k.fields ss₀) x (Ok (tt {0})) z
+      zero_post = goes_on _ G.post (copied_clear G.under M q E) (rw M.scratch refl)
 
-        pub all_going : Going N l (tables_of sp1 t st2 mem tr (with_sets c m)) s1 p n Z.next x
-        all_going =
-            let P = (progress_begin K.working.ready.ordered K.links zero_post.is).1 in
-            record { rounding = record { walk = copied_walk t mem tr Z E; sets = λ z. copied_sets t mem tr Z E; valid = λ z y j. now_valid P y }; progress = P; among = i }
+      pub all_going : GoingIn k z n G.next i
+      all_going =
+          let P = (progress_begin K.working.ready.ordered K.links zero_post.post.is).1 in
+          record {
+            rounding = record { walk = copied_walk G.under M q E; sets = λ z. copied_sets G.under M q E; valid = λ z y j. now_valid P y };
+            progress = rw q (rw p P);
+            among = rw q (rw p m);
+          }
 
-        on_1 : Stage (query_layer N l) 0 0 whole (on_rounds Z.next (clear_of sp1 t st2 mem tr (with_sets c m))) κ₀ (clear_of sp1 t st2 mem tr (with_sets c m)) c (with_sets c m) s s1
-        on_1 = next (query_layer N l) 0 0 zero_post (all_of 0 0) on_rounds (begin (query_layer N l) 0 0 K.working.ready refl)
-
-        pub all_done : (r2 : Whys) (sp2 st3 s2 : List ℕ) → RoundsBy N l (on_rounds Z.next (clear_of sp1 t st2 mem tr (with_sets c m))) (tables_of sp1 t st2 mem tr (with_sets c m)) (with_sets c m) r2 n x (tables_of sp2 t st3 mem tr) s1 s2 p
-            → RoundsBy N l whole (tables_of sp t st mem tr c) c r2 n x (tables_of sp2 t st3 mem tr) s s2 p
-        all_done (whys.To d j f) sp2 st3 s2 B = record {
-          sets = B.sets;
-          same = B.same;
-          post = finish (query_layer N l) 0 0 on_1 (gave d B.sets) B.post (all_of 0 0);
-          walk = B.walk;
-          hops = B.hops;
-          few = B.few;
-        }
-        all_done (whys.Refused e) sp2 st3 s2 B = on_1.is ∙ B
+      pub all_done : {r : Result (Option ℕ) Refusal} {w : Lent} → RoundsGive k n i z r w → AllAt k n i x r w
+      all_done {r} {w} H =
+          let B = H.gives G.next all_going in
+          record {
+            sets = B.sets;
+            post = record {
+              post = finish (query_laws k.fields k.limits) 0 0 (next (query_laws k.fields k.limits) 0 0 zero_post.post (all_of 0 0) on_rounds at_first) r
+                  (subst (λ (t : List ℕ). Post (query_layer k.fields k.limits) 0 0 (λ τ w. Unit) (λ (f : Option ℕ). B.sets) (rounds k.fields (most_rounds k.fields (seconds t 0 n)) (seconds t 0 n) [] G.next (clear_in z)) (clear_in z) r (clear_in w) z.scratch.now w.scratch.now) same B.post.post) (all_of 0 0);
+            };
+            ended = B.ended;
+          }
+        where
+          same : z.pending.now ≡ x.pending.now
+          same = rw q (rw p refl)

@@ -1,229 +1,90 @@
 // The rounds of `why a`: the live sets are worked out and kept first.
 #![tactic(auto)]
 
-ghost use Rattle.std.specs.Prelude.{◌≡◌, ◌+◌, ◌*◌, ◌-◌, false, get_or};
-ghost use Rattle.aut_query_stage.specs.Layer.{tables_of, PreQuery};
-ghost use Rattle.aut_why_rounds.specs.Clauses.{PreRound};
-ghost use Rattle.aut_why.specs.Loop.{PostNext, PreHops, hops_after, PreRounds, PostRounds, PreAll, PostAll};
-ghost use Rattle.aut_why.specs.Clauses.{PostWhy};
+ghost use Rattle.std.specs.Prelude.{◌≡◌, ◌+◌, ◌*◌, ◌-◌, false, get_or, IfErr};
+ghost use Rattle.refusal.specs.declared.Refusal.TheVariants.{Sp};
+ghost use Rattle.aut_sets.specs.Lent.{OnlySearch, SameLent};
+ghost use Rattle.aut_query_stage.specs.Lent.{QueryAsked};
+ghost use Rattle.aut_why_rounds.specs.Clauses.{RoundAsked};
+ghost use Rattle.aut_why.specs.Loop.{NextGives, PreHops, hops_after, RoundsAsked, RoundsGive, AllAsked, AllAt};
+ghost use Rattle.aut_why.specs.Clauses.{WhyAt};
 
-use aut_live_words::Walked;
-use aut_states::{Config, Counts};
-use aut_why_rounds::{Nodes, Whys};
+use aut_relations::Aut;
+use aut_states::{Config, STATE};
+use refusal::Refusal;
 use sp::SP;
 
-// the number of packet nodes, by whether no set has changed
-#[derive(Clone, Copy)]
-pub enum Next {
-    Same(usize),
-    More(usize),
-    Full,
-}
-
-// one round more; if it changed a set, it goes into words 8
-fn next_round(
-    sp: &mut [u32],
-    nodes: &[u32],
-    states: &mut [u32],
-    transitions: &[u32],
-    pending: &[u32],
-    scratch: &mut [u32],
-    c: Counts,
-    config: Config,
-    n: usize,
-) -> Next
-    requires { PreRound config.fields config.limits false sp.old nodes.now states.old transitions.now
-        scratch.old pending.now c n }
-    ensures { PostNext config.fields config.limits sp.old nodes.now
-        states.old transitions.now scratch.old pending.now c n result
-        sp.new states.new scratch.new }
+// one round more; if it changed a set, it goes into words 8. Whether it did
+fn next_round(aut: &mut Aut, config: Config, n: usize) -> Result<bool, Refusal>
+    requires { RoundAsked config false aut.old n }
+    ensures keeps { OnlySearch aut.old aut.new }
+    ensures pending { aut.new.pending ≡ aut.old.pending }
+    ensures only { IfErr result (λ e. e ≡ Sp) }
+    ensures gives { NextGives config n aut.old result aut.new }
 {
-    let Nodes::At(m) = aut_why_rounds::round(
-        sp,
-        nodes,
-        states,
-        transitions,
-        pending,
-        scratch,
-        c,
-        config,
-        false,
-        n,
-    ) else {
-        return Next::Full;
-    };
-    if aut_why_words::same_sets(states, pending, n) {
-        return Next::Same(m);
+    aut_why_rounds::round(aut, config, false, n)?;
+    if aut_why_words::same_sets(aut, n) {
+        return Ok(false);
     }
-    aut_why_words::copy_sets(states, pending, n, 9, 8);
-    Next::More(m)
+    aut_why_words::copy_sets(aut, n, 9, 8);
+    Ok(true)
 }
 
-// the fewest hops + 1 of a string of x: f, or k + 1 if round k, in words 8, is the first with a set that is not empty
-fn hops_after(states: &[u32], fields: u32, x: u32, k: usize, f: usize) -> usize
-    requires { PreHops fields states.now x k }
-    ensures { result ≡ hops_after fields (get_or states.now (12 * x + 8) 0 - 1) k f }
+// the fewest hops of a string of x: f, or k if round k, in words 8, is the first with a set that is not empty
+fn hops_after(aut: &Aut, config: Config, x: u32, k: usize, f: Option<usize>) -> Option<usize>
+    requires { PreHops config.fields aut.now.states.words.now x }
+    ensures { result ≡ hops_after config.fields (get_or aut.now.states.words.now (12 * x + 8) 0 - 1)
+        k f }
 {
-    if f > 0 {
+    if f.is_some() {
         return f;
     }
-    let set = SP(states[aut_states::STATE * (x as usize) + 8] - 1);
-    if sp::is_zero(fields, set) {
-        return 0;
+    let set = SP(aut.states.words[STATE * (x as usize) + 8] - 1);
+    if sp::is_zero(config.fields, set) {
+        return None;
     }
-    k + 1
+    Some(k)
 }
 
-// until no set changes
-fn rounds(
-    sp: &mut [u32],
-    nodes: &[u32],
-    states: &mut [u32],
-    transitions: &[u32],
-    pending: &[u32],
-    scratch: &mut [u32],
-    c: Counts,
-    config: Config,
-    n: usize,
-    x: u32,
-) -> Whys
-    requires { PreRounds config.fields config.limits sp.old nodes.now states.old transitions.now
-        scratch.old pending.now c n x }
-    ensures { PostRounds config.fields config.limits sp.old nodes.now
-        states.old transitions.now scratch.old pending.now c n x result
-        sp.new states.new scratch.new }
+// until no set changes: the fewest hops of a string of x
+fn rounds(aut: &mut Aut, config: Config, n: usize, x: u32) -> Result<Option<usize>, Refusal>
+    requires { RoundsAsked config aut.old n x }
+    ensures keeps { OnlySearch aut.old aut.new }
+    ensures pending { aut.new.pending ≡ aut.old.pending }
+    ensures gives { RoundsGive config n x aut.old result aut.new }
 {
-    let mut m = c.sp;
-    let mut f = 0;
+    let mut f = None;
     let mut k = 0;
     loop {
-        f = hops_after(states, config.fields, x, k, f);
-        let d = Counts { sp: m, ..c };
-        let next = next_round(
-            sp,
-            nodes,
-            states,
-            transitions,
-            pending,
-            scratch,
-            d,
-            config,
-            n,
-        );
-        match next {
-            Next::Full => {
-                return Whys::Refused(aut_states::refusal::SP);
-            }
-            Next::Same(m1) => {
-                return Whys::To(Counts { sp: m1, ..c }, n, f);
-            }
-            Next::More(m1) => {
-                m = m1;
-            }
+        f = hops_after(aut, config, x, k, f);
+        let changed = next_round(aut, config, n)?;
+        if !changed {
+            return Ok(f);
         }
         k += 1;
     }
 }
 
 // round 0, and the others
-fn all_rounds(
-    sp: &mut [u32],
-    nodes: &[u32],
-    states: &mut [u32],
-    transitions: &[u32],
-    pending: &[u32],
-    scratch: &mut [u32],
-    c: Counts,
-    config: Config,
-    n: usize,
-    x: u32,
-) -> Whys
-    requires { PreAll config.fields config.limits sp.old nodes.now states.old transitions.now
-        scratch.old pending.now c n x }
-    ensures { PostAll config.fields config.limits sp.old nodes.now
-        states.old transitions.now scratch.old pending.now c n x result
-        sp.new states.new scratch.new }
+fn all_rounds(aut: &mut Aut, config: Config, n: usize, x: u32) -> Result<Option<usize>, Refusal>
+    requires { AllAsked config aut.old n x }
+    ensures keeps { OnlySearch aut.old aut.new }
+    ensures pending { aut.new.pending ≡ aut.old.pending }
+    ensures gives { AllAt config n x aut.old result aut.new }
 {
-    let Nodes::At(m) = aut_why_rounds::round(
-        sp,
-        nodes,
-        states,
-        transitions,
-        pending,
-        scratch,
-        c,
-        config,
-        true,
-        n,
-    ) else {
-        return Whys::Refused(aut_states::refusal::SP);
-    };
-    aut_why_words::copy_sets(states, pending, n, 9, 8);
-    let d = Counts { sp: m, ..c };
-    rounds(
-        sp,
-        nodes,
-        states,
-        transitions,
-        pending,
-        scratch,
-        d,
-        config,
-        n,
-        x,
-    )
+    aut_why_rounds::round(aut, config, true, n)?;
+    aut_why_words::copy_sets(aut, n, 9, 8);
+    rounds(aut, config, n, x)
 }
 
-// the n states reached, in the pending table, have been worked out until no set changed
-pub fn why_sets(
-    sp: &mut [u32],
-    nodes: &mut [u32],
-    states: &mut [u32],
-    members: &mut [u32],
-    transitions: &mut [u32],
-    pending: &mut [u32],
-    scratch: &mut [u32],
-    c: Counts,
-    config: Config,
-    x: u32,
-) -> Whys
-    requires { PreQuery config.fields config.limits
-        (tables_of sp.old nodes.old states.old members.old transitions.old c) scratch.old pending.old x }
-    ensures { PostWhy config.fields config.limits x
-        (tables_of sp.old nodes.old states.old members.old
-        transitions.old c) c result
-        (tables_of sp.new nodes.new states.new members.new
-        transitions.new) scratch.old scratch.new pending.old
-        pending.new }
+// the states reached, in the pending table, have been worked out until no set changed: how many there are, and the fewest hops of a string of x
+pub fn why_sets(aut: &mut Aut, config: Config, x: u32) -> Result<(usize, Option<usize>), Refusal>
+    requires { QueryAsked config aut.old x }
+    ensures keeps { SameLent aut.old aut.new }
+    ensures gives { WhyAt config x aut.old result aut.new }
 {
-    let walked = aut_live::live_sets(
-        sp,
-        nodes,
-        states,
-        members,
-        transitions,
-        pending,
-        scratch,
-        c,
-        config,
-        x,
-    );
-    match walked {
-        Walked::Refused(e) => Whys::Refused(e),
-        Walked::To(d, n) => {
-            aut_live_words::keep(states, pending, n);
-            all_rounds(
-                sp,
-                nodes,
-                states,
-                transitions,
-                pending,
-                scratch,
-                d,
-                config,
-                n,
-                x,
-            )
-        }
-    }
+    let n = aut_live::live_sets(aut, config, x)?;
+    aut_live_words::keep(aut, n);
+    let hops = all_rounds(aut, config, n, x)?;
+    Ok((n, hops))
 }

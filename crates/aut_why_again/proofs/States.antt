@@ -5,30 +5,33 @@ use mathlib.Core.List.{List, Memᴰ}
 use Prim.Native.Nat.{ℕ, suc, ◌+◌, ◌*◌, ◌-◌, ◌<◌}
 use native.Mathlib.Omega.{arith}
 use lib.ListN.{length, get_or, set}
-use Rattle.common.specs.Outcome.{Outcome, given}
+use Rattle.std.specs.Prelude.{Ok, Err}
+use Rattle.common.specs.Outcome.{Outcome, given, Step}
 use Rattle.common.proofs.Follow.{given_same, refused≢given}
 use Rattle.netkat_steps.specs.ListSteps.{Edge}
+use Rattle.refusal.specs.declared.Refusal.{Refusal}
 use Rattle.sp.specs.declared.SP.{SP}
-use Rattle.sp.specs.declared.Made as sets
+use Rattle.aut_relations.specs.declared.Aut.{Aut as Lent}
+use Rattle.aut_sets.specs.Lent.{sets_in, OnlySets, OnlySearch}
 use Rattle.aut_st_steps.specs.Edges.{edges}
 use Rattle.aut_delta_steps.specs.Delta.{start_of, count_of, list_at}
-use Rattle.aut_query_steps.specs.Tables.{Tables}
-use Rattle.aut_query_stage.specs.Layer.{tables_of}
-use Rattle.aut_query_stage.proofs.Layer.{Leaves}
-use Rattle.aut_states.specs.declared.Counts.{Counts}
+use Rattle.aut_delta_stage.specs.OnTables.{store_in}
+use Rattle.aut_query_steps.specs.Tables.{Tables, tables}
+use Rattle.aut_query_stage.specs.Lent.{Leaves, tables_in}
+use Rattle.aut_states.specs.declared.Config.{Config}
 use Rattle.aut_states.specs.declared.Limits.{Limits}
-use Rattle.aut_free.specs.Clear.{clear}
+use Rattle.aut_free.specs.Clear.{clear, clear_tables}
 use Rattle.aut_free.proofs.Clearing.{clear_kept}
-use Rattle.aut_query_calls.specs.Working.{clear_of}
-use Rattle.aut_query_calls.proofs.Working.{with_sets}
-use Rattle.aut_live_pull.proofs.Settling.{set_small}
+use Rattle.aut_query_calls.specs.Working.{clear_in}
+use Rattle.aut_sets.proofs.Kept.{set_small}
 use Rattle.aut_live_words.specs.Work.{seconds}
+use Rattle.aut_live_words.specs.Clauses.{Listed}
 use Rattle.aut_why_steps.specs.Why.{Sets, turn, round_at}
 use Rattle.aut_why_words.specs.Walk.{Walk}
-use Rattle.aut_why_words.proofs.Walks.{walk_there}
-use Rattle.aut_why_rounds.specs.Clauses as Rounds
-use Rattle.aut_why_rounds.proofs.Turns as turns
-use Rattle.aut_why_rounds.specs.Clauses.{SetBy}
+use Rattle.aut_why_words.proofs.Walks.{walk_known, walk_there}
+use Rattle.aut_query_calls.specs.Working.{words_in, with_words}
+use Rattle.aut_why_words.proofs.Lent.{sets_base}
+use Rattle.aut_why_rounds.specs.Clauses.{GivesSet, Turning}
 use Rattle.aut_why_marks.specs.Clauses.{PreChanged, PostChanged}
 use Rattle.aut_why_again.specs.Redone.{Worked}
 use Rattle.aut_why_again.specs.Clauses.{Onward}
@@ -42,84 +45,94 @@ not_true : (b : Bool) → not b ≡ true → b ≡ false
 not_true true q = sym q
 not_true false q = refl
 
+-- nothing but words of states, scratch and entries was written, and no node is made
+pub search_tables : {x y : Lent} → OnlySearch x y → sets_in y ≡ sets_in x → tables_in y ≡ with_words y.states.words.now (tables_in x)
+search_tables {x} {y} K e = ap₂ tables e base
+  where
+    base : store_in y ≡ (with_words y.states.words.now (tables_in x)).base
+    base = rw K.spp (rw K.count (rw K.members (rw K.transitions refl)))
+
 -- ---- a step that stands
 
-module _ (N : ℕ) (l : Limits) (sp t st mem tr s : List ℕ) (c : Counts) {o : Outcome Tables ℕ} {u : ℕ} (q : o ≡ given (clear_of sp t st mem tr c) u)
-    (r : sets.Made) (sp1 s1 : List ℕ) (D : SetBy N l o (tables_of sp t st mem tr c) c r (tables_of sp1 t st mem tr) s s1) where
-  abbrev By : sets.Made → Type 0
-  By r = SetBy N l o (tables_of sp t st mem tr c) c r (tables_of sp1 t st mem tr) s s1
+module _ {g : Config} {o : Step Tables ℕ} {x y : Lent} {u : ℕ} (q : o (clear_in x) ≡ given (clear_in x) u) where
+  pub not_refused : {e : Refusal} → GivesSet g o x (Err e) y → ⊥
+  not_refused D = refused≢given (sym D.post.is ∙ q)
 
-  pub not_full : r ≡ sets.Made.Full → ⊥
-  not_full e = refused≢given (sym (subst By e D) ∙ q)
-
-  module _ {h : SP} {k : ℕ} (e : r ≡ sets.Made.Node h k) where
-    G : By (sets.Made.Node h k)
-    G = subst By e D
-
-    same : given (clear_of sp1 t st mem tr (with_sets c k)) h.0 ≡ given (clear_of sp t st mem tr c) u
-    same = sym G.is ∙ q
+  module _ {h : SP} (D : GivesSet g o x (Ok h) y) where
+    same : given (clear_in y) h.0 ≡ given (clear_in x) u
+    same = sym D.post.is ∙ q
 
     pub small : h.0 + 1 < 4294967296
-    small = set_small N h.0 G.then.ready.ordered.sets G.then.holds
+    small = set_small g.fields h.0 D.post.then.ready.ordered.sets D.post.then.holds
 
-    pub worked : (w x : ℕ) → length s1 ≡ length s → Worked N (tables_of sp t st mem tr c) w x u sp st s sp1 (set st (12 * x + w) (h.0 + 1)) s1
-    worked w x len = record {
-      sets = ap (λ (τ : Tables). τ.sets.words) (store_same same);
-      word = ap (λ (v : ℕ). set st (12 * x + w) (v + 1)) (given_same same);
-      frame = subst (λ (τ : Tables). Leaves N 0 0 τ s s1) (store_same same) G.then.frame;
-      len = len;
+    pub worked : OnlySets x y → (w i : ℕ) → Worked g.fields w i u (tables_in x) (with_words (set (words_in (tables_in y)) (12 * i + w) (h.0 + 1)) (tables_in y)) x.scratch.now y.scratch.now
+    worked K w i = record {
+      tables = ap (λ (τ : Tables). with_words (set (words_in τ) (12 * i + w) (h.0 + 1)) τ) none_made ∙ ap (λ (v : ℕ). with_words (set (words_in (tables_in x)) (12 * i + w) (v + 1)) (tables_in x)) (given_same same);
+      frame = subst (λ (τ : Tables). Leaves g.fields 0 0 τ x.scratch.now y.scratch.now) (store_same same) D.post.then.frame;
+      len = K.length;
     }
+      where
+        none_made : tables_in y ≡ tables_in x
+        none_made = ap₂ tables (ap (λ (τ : Tables). τ.sets) (store_same same)) (sets_base K)
 
 -- ---- what the steps ask
 
-module _ (sp t st mem tr : List ℕ) (c : Counts) {N : ℕ} {l : Limits} {s p : List ℕ} {n : ℕ} {ws : List Sets} {x : ℕ} where
-  module _ {k : ℕ} (T : Onward N l (tables_of sp t st mem tr c) s p n ws k) (m : Memᴰ x (seconds p 0 n)) where
-    abbrev K : Walk N l (tables_of sp t st mem tr c) s p n
-    K = T.on.standing.walk
+module _ {N : ℕ} {l : Limits} {σ : Tables} {s p : List ℕ} {n : ℕ} {ws : List Sets} {k i : ℕ} (T : Onward N l σ s p n ws k) (m : Memᴰ i (seconds p 0 n)) where
+  abbrev K : Walk N l σ s p n
+  K = T.on.standing.walk
 
-    pub turn_there : 12 * x + 11 < length st
-    turn_there = walk_there K x m
+  abbrev st : List ℕ
+  st = words_in σ
 
-    pub turn_asks : Rounds.Turning N l (tables_of sp t st mem tr c) s p n (round_at N ws k) x
-    turn_asks = record { walk = K; sets = T.on.here.sets; valid = λ y i. T.on.standing.again.at k y; among = m }
+  abbrev tr : List ℕ
+  tr = σ.base.transitions.words
 
-    pub turn_stands : turn N (round_at N ws k) x (clear_of sp t st mem tr c) ≡ given (clear_of sp t st mem tr c) (round_at N ws (k + 1) x)
-    turn_stands = T.on.standing.again.next k (omega (arith, T.more)) x m ∙ ap (λ (j : ℕ). given (clear_of sp t st mem tr c) (round_at N ws j x)) {x = suc k} {y = k + 1} (omega arith)
+  pub turn_there : 12 * i + 11 < length st
+  turn_there = walk_there K i m
 
-    -- ---- its stored list
+  pub turn_asks : Turning N l σ s p n (round_at N ws k) i
+  turn_asks = record { walk = K; sets = T.on.here.sets; valid = λ y j. T.on.standing.again.at k y; among = m }
 
-    count_clear : count_of (clear st) x ≡ count_of st x
-    unfolding count_of
-    count_clear = clear_kept st x 6 (omega arith)
+  pub turn_stands : turn N (round_at N ws k) i (clear_tables σ) ≡ given (clear_tables σ) (round_at N ws (k + 1) i)
+  turn_stands = T.on.standing.again.next k (omega (arith, T.more)) i m ∙ ap (λ (j : ℕ). given (clear_tables σ) (round_at N ws j i)) {x = suc k} {y = k + 1} (omega arith)
 
-    start_clear : start_of (clear st) x ≡ start_of st x
-    unfolding start_of
-    start_clear = clear_kept st x 5 (omega arith)
+  -- ---- its stored list
 
-    list_is : list_at (clear_of sp t st mem tr c).base x ≡ edges tr (start_of st x) (count_of st x - 1)
-    unfolding list_at
-    list_is = ap₂ (λ (a k : ℕ). edges tr a (k - 1)) start_clear count_clear
+  count_clear : count_of (clear st) i ≡ count_of st i
+  unfolding count_of
+  count_clear = clear_kept st i 6 (omega arith)
 
-    leads : (e : Edge) → Memᴰ e (edges tr (start_of st x) (count_of st x - 1)) → Memᴰ e.target (seconds p 0 n)
-    leads e i = (K.links x m).leads e (subst (λ (es : List Edge). Memᴰ e es) (sym list_is) i)
+  start_clear : start_of (clear st) i ≡ start_of st i
+  unfolding start_of
+  start_clear = clear_kept st i 5 (omega arith)
 
-    pub turn_listed : PreChanged st tr x
-    unfolding start_of count_of
-    turn_listed = record {
-      listed = record { state = turn_there; some = turns.turn_some sp t st mem tr c turn_asks; inside = turns.turn_inside sp t st mem tr c turn_asks };
-      targets = λ e i. walk_there K e.target (leads e i);
-    }
+  list_is : list_at (clear_tables σ).base i ≡ edges tr (start_of st i) (count_of st i - 1)
+  unfolding list_at
+  list_is = ap₂ (λ (a k : ℕ). edges tr a (k - 1)) start_clear count_clear
 
-    -- no target's set changed
-    pub turn_stays : (r : Bool) → not r ≡ true → PostChanged st tr x r → Worked N (tables_of sp t st mem tr c) 9 x (round_at N ws (k + 1) x) sp st s sp (set st (12 * x + 9) (get_or st (12 * x + 8) 0)) s
-    turn_stays r z q = record {
-      sets = refl;
-      word = ap (set st (12 * x + 9)) (T.on.here.sets.is x m ∙ ap (λ (h : ℕ). h + 1) stays);
-      frame = leaves_none N (clear_of sp t st mem tr c) s;
-      len = refl;
-    }
-      where
-        stays : round_at N ws k x ≡ round_at N ws (k + 1) x
-        stays = round_stays T.on.standing.again k x m T.more (λ e i.
-            let j = subst (λ (es : List Edge). Memᴰ e es) list_is i in
-            T.on.here.marks e.target (leads e j) (unchanged st (edges tr (start_of st x) (count_of st x - 1)) (sym q ∙ not_true r z) e j))
+  leads : (e : Edge) → Memᴰ e (edges tr (start_of st i) (count_of st i - 1)) → Memᴰ e.target (seconds p 0 n)
+  leads e j = (K.links i m).leads e (subst (λ (es : List Edge). Memᴰ e es) (sym list_is) j)
+
+  some : 0 < count_of st i
+  some = omega (arith, count_clear, (K.links i m).marked)
+
+  listed : Listed st tr i
+  listed =
+      let L = K.working.ready.ordered.worked.lists in
+      record { state = turn_there; some = some; inside = omega (arith, L.fit, (L.held i (walk_known K i m)).inside (count_of st i - 1) (omega (arith, count_clear, some)), start_clear) }
+
+  pub turn_listed : PreChanged st tr i
+  turn_listed = record { listed = listed; targets = λ e j. walk_there K e.target (leads e j) }
+
+  -- no target's set changed
+  pub turn_stays : (r : Bool) → not r ≡ true → PostChanged st tr i r → Worked N 9 i (round_at N ws (k + 1) i) σ (with_words (set st (12 * i + 9) (get_or st (12 * i + 8) 0)) σ) s s
+  turn_stays r z q = record {
+    tables = ap (λ (v : ℕ). with_words (set st (12 * i + 9) v) σ) (T.on.here.sets.is i m ∙ ap (λ (h : ℕ). h + 1) stays);
+    frame = leaves_none N (clear_tables σ) s;
+    len = refl;
+  }
+    where
+      stays : round_at N ws k i ≡ round_at N ws (k + 1) i
+      stays = round_stays T.on.standing.again k i m T.more (λ e j.
+          let f = subst (λ (es : List Edge). Memᴰ e es) list_is j in
+          T.on.here.marks e.target (leads e f) (unchanged st (edges tr (start_of st i) (count_of st i - 1)) (sym q ∙ not_true r z) e f))

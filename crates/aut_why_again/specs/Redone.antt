@@ -2,12 +2,13 @@
 use Rattle.std.specs.Prelude.{◌≡◌, ℕ, ◌+◌, ◌*◌, ◌-◌, ◌≤◌, ◌<◌, length, get_or, set}
 use mathlib.Core.List.{List, Memᴰ}
 use Rattle.aut_query_steps.specs.Tables.{Tables}
-use Rattle.aut_query_stage.proofs.Layer.{Leaves}
+use Rattle.aut_query_stage.specs.Lent.{Leaves}
 use Rattle.aut_states.specs.declared.Limits.{Limits}
 use Rattle.aut_free.specs.Clear.{clear_tables}
 use Rattle.aut_live_words.specs.Work.{seconds}
 use Rattle.aut_why_steps.specs.Why.{Sets, round_at}
 use Rattle.aut_why_words.specs.Walk.{HasSets, Standing}
+use Rattle.aut_query_calls.specs.Working.{words_in, with_words}
 use Rattle.aut_why_marks.specs.Columns.{Writes}
 
 -- the words that are written: all that are free, and those but the round that is kept
@@ -17,17 +18,16 @@ Free w = 8 ≤ w
 abbrev pub Unkept : ℕ → Type 0
 Unkept w = (8 ≤ w) × (w ≡ 10 → ⊥)
 
--- from the tables σ: no node is made; of the states ss the words W are written
-pub record Redone (N : ℕ) (σ : Tables) (W : ℕ → Type 0) (ss sp st s sp' st' s' : List ℕ) : Type 0 where
-  pub sets : sp' ≡ sp
-  pub words : Writes W ss st st'
+-- from the tables σ to τ: no node is made; of the states ss the words W are written, and no other word of the tables
+pub record Redone (N : ℕ) (W : ℕ → Type 0) (ss : List ℕ) (σ τ : Tables) (s s' : List ℕ) : Type 0 where
+  pub tables : τ ≡ with_words (words_in τ) σ
+  pub words : Writes W ss (words_in σ) (words_in τ)
   pub frame : Leaves N 0 0 (clear_tables σ) s s'
   pub len : length s' ≡ length s
 
 -- .. of the state x word w alone, which is the set h
-pub record Worked (N : ℕ) (σ : Tables) (w x h : ℕ) (sp st s sp' st' s' : List ℕ) : Type 0 where
-  pub sets : sp' ≡ sp
-  pub word : st' ≡ set st (12 * x + w) (h + 1)
+pub record Worked (N w x h : ℕ) (σ τ : Tables) (s s' : List ℕ) : Type 0 where
+  pub tables : τ ≡ with_words (set (words_in σ) (12 * x + w) (h + 1)) σ
   pub frame : Leaves N 0 0 (clear_tables σ) s s'
   pub len : length s' ≡ length s
 
@@ -39,4 +39,4 @@ pub record AtRound (N : ℕ) (st p : List ℕ) (n : ℕ) (ws : List Sets) (k : �
 -- the rounds ws stand, and this is round k
 pub record OnRound (N : ℕ) (l : Limits) (σ : Tables) (s p : List ℕ) (n : ℕ) (ws : List Sets) (k : ℕ) : Type 0 where
   pub standing : Standing N l σ s p n ws
-  pub here : AtRound N σ.base.aut.states.words p n ws k
+  pub here : AtRound N (words_in σ) p n ws k

@@ -1,284 +1,115 @@
 // An earlier round of `why` is worked out again, which makes no node: the sets that a hop is picked from. Words 8 to 11 of the states are as in aut_why_marks.
 #![tactic(auto)]
 
+ghost use Rattle.std.specs.Prelude.{◌≡◌};
+ghost use Rattle.aut_sets.specs.Lent.{OnlySearch};
 ghost use Rattle.aut_why_again.specs.Clauses.{PreTurnAgain, PostTurnAgain, PreStart, PostStart, PreTurns, PostTurns, PreForward, PostForward, PreRemake, PostRemake, PreSetsFor, PostFromMark, PostSetsFor};
 
-use aut_states::{Config, Counts};
-use aut_why_rounds::Nodes;
+use aut_relations::Aut;
+use aut_states::{Config, STATE};
+use aut_why_marks::word;
 
-// round 0; its sets stand, so `Full` is not met
-fn start(
-    sp: &mut [u32],
-    nodes: &[u32],
-    states: &mut [u32],
-    transitions: &[u32],
-    pending: &[u32],
-    scratch: &mut [u32],
-    c: Counts,
-    config: Config,
-    n: usize,
-)
-    requires { PreStart config.fields config.limits sp.old nodes.now states.old transitions.now
-        scratch.old pending.now c n }
-    ensures { PostStart config.fields config.limits sp.old nodes.now
-        states.old transitions.now scratch.old pending.now c n
-        sp.new states.new scratch.new }
+// round 0; its sets stand, so it is not refused
+fn start(aut: &mut Aut, config: Config, n: usize)
+    requires { PreStart config aut.old n }
+    ensures keeps { OnlySearch aut.old aut.new }
+    ensures pending { aut.new.pending ≡ aut.old.pending }
+    ensures gives { PostStart config n aut.old aut.new }
 {
-    let Nodes::At(_) = aut_why_rounds::round(
-        sp,
-        nodes,
-        states,
-        transitions,
-        pending,
-        scratch,
-        c,
-        config,
-        true,
-        n,
-    ) else {
+    let Ok(_) = aut_why_rounds::round(aut, config, true, n) else {
         return;
     };
-    aut_why_marks::restore(states, pending, n, aut_why_marks::word::UNDER);
+    aut_why_marks::restore(aut, n, word::UNDER);
 }
 
-// the set of s in the next round, which stands, so `Full` is not met; where no target's set changed it stays
-fn turn_again(
-    sp: &mut [u32],
-    nodes: &[u32],
-    states: &mut [u32],
-    transitions: &[u32],
-    scratch: &mut [u32],
-    c: Counts,
-    config: Config,
-    s: u32,
-)
-    requires { PreTurnAgain config.fields config.limits sp.old nodes.now states.old transitions.now
-        scratch.old c s }
-    ensures { PostTurnAgain config.fields config.limits sp.old nodes.now
-        states.old transitions.now scratch.old c s sp.new
-        states.new scratch.new }
+// the set of s in the next round, which stands, so it is not refused; where no target's set changed it stays
+fn turn_again(aut: &mut Aut, config: Config, s: u32)
+    requires { PreTurnAgain config aut.old s }
+    ensures keeps { OnlySearch aut.old aut.new }
+    ensures pending { aut.new.pending ≡ aut.old.pending }
+    ensures gives { PostTurnAgain config s aut.old aut.new }
 {
-    let at = aut_states::STATE * (s as usize);
-    if !aut_why_marks::changed(states, transitions, s) {
-        let v = states[at + aut_why_marks::word::BEFORE];
-        states[at + aut_why_marks::word::UNDER] = v;
+    let at = STATE * (s as usize);
+    if !aut_why_marks::changed(aut, s) {
+        let v = aut.states.words[at + word::BEFORE];
+        aut.states.words[at + word::UNDER] = v;
         return;
     }
-    let sp::Made::Node(h, _) = aut_why_rounds::turn(
-        sp,
-        nodes,
-        states,
-        transitions,
-        scratch,
-        c,
-        config,
-        s,
-    ) else {
+    let Ok(h) = aut_why_rounds::turn(aut, config, s) else {
         return;
     };
-    states[at + aut_why_marks::word::UNDER] = h.0 + 1;
+    aut.states.words[at + word::UNDER] = h.0 + 1;
 }
 
 // the next round, in words 9
-fn turns(
-    sp: &mut [u32],
-    nodes: &[u32],
-    states: &mut [u32],
-    transitions: &[u32],
-    pending: &[u32],
-    scratch: &mut [u32],
-    c: Counts,
-    config: Config,
-    n: usize,
-)
-    requires { PreTurns config.fields config.limits sp.old nodes.now states.old transitions.now
-        scratch.old pending.now c n }
-    ensures { PostTurns config.fields config.limits sp.old nodes.now
-        states.old transitions.now scratch.old pending.now c n
-        sp.new states.new scratch.new }
+fn turns(aut: &mut Aut, config: Config, n: usize)
+    requires { PreTurns config aut.old n }
+    ensures keeps { OnlySearch aut.old aut.new }
+    ensures pending { aut.new.pending ≡ aut.old.pending }
+    ensures gives { PostTurns config n aut.old aut.new }
 {
     for i in 0..n {
-        let s = pending[2 * i + 1];
-        turn_again(sp, nodes, states, transitions, scratch, c, config, s);
+        let s = aut.pending[2 * i + 1];
+        turn_again(aut, config, s);
     }
 }
 
 // from round `from` to round `to`
-fn forward(
-    sp: &mut [u32],
-    nodes: &[u32],
-    states: &mut [u32],
-    transitions: &[u32],
-    pending: &[u32],
-    scratch: &mut [u32],
-    c: Counts,
-    config: Config,
-    n: usize,
-    from: usize,
-    to: usize,
-)
-    requires { PreForward config.fields config.limits sp.old nodes.now states.old transitions.now
-        scratch.old pending.now c n from to }
-    ensures { PostForward config.fields config.limits sp.old nodes.now
-        states.old transitions.now scratch.old pending.now c n from to
-        sp.new states.new scratch.new }
+fn forward(aut: &mut Aut, config: Config, n: usize, from: usize, to: usize)
+    requires { PreForward config aut.old n from to }
+    ensures keeps { OnlySearch aut.old aut.new }
+    ensures pending { aut.new.pending ≡ aut.old.pending }
+    ensures gives { PostForward config n from to aut.old aut.new }
 {
     for _ in from..to {
-        turns(
-            sp,
-            nodes,
-            states,
-            transitions,
-            pending,
-            scratch,
-            c,
-            config,
-            n,
-        );
-        aut_why_marks::renew(states, pending, n);
+        turns(aut, config, n);
+        aut_why_marks::renew(aut, n);
     }
 }
 
 // round k is kept
-fn remake(
-    sp: &mut [u32],
-    nodes: &[u32],
-    states: &mut [u32],
-    transitions: &[u32],
-    pending: &[u32],
-    scratch: &mut [u32],
-    c: Counts,
-    config: Config,
-    n: usize,
-    k: usize,
-)
-    requires { PreRemake config.fields config.limits sp.old nodes.now states.old transitions.now
-        scratch.old pending.now c n k }
-    ensures { PostRemake config.fields config.limits sp.old nodes.now
-        states.old transitions.now scratch.old pending.now c n k
-        sp.new states.new scratch.new }
+fn remake(aut: &mut Aut, config: Config, n: usize, k: usize)
+    requires { PreRemake config aut.old n k }
+    ensures keeps { OnlySearch aut.old aut.new }
+    ensures pending { aut.new.pending ≡ aut.old.pending }
+    ensures gives { PostRemake config n k aut.old aut.new }
 {
-    start(
-        sp,
-        nodes,
-        states,
-        transitions,
-        pending,
-        scratch,
-        c,
-        config,
-        n,
-    );
-    forward(
-        sp,
-        nodes,
-        states,
-        transitions,
-        pending,
-        scratch,
-        c,
-        config,
-        n,
-        0,
-        k,
-    );
-    aut_why_words::copy_sets(
-        states,
-        pending,
-        n,
-        aut_why_marks::word::BEFORE,
-        aut_why_marks::word::KEPT,
-    );
+    start(aut, config, n);
+    forward(aut, config, n, 0, k);
+    aut_why_words::copy_sets(aut, n, word::BEFORE, word::KEPT);
 }
 
 // a round up to j that is kept: the one that was, or the last one whose number `step` divides
-fn from_mark(
-    sp: &mut [u32],
-    nodes: &[u32],
-    states: &mut [u32],
-    transitions: &[u32],
-    pending: &[u32],
-    scratch: &mut [u32],
-    c: Counts,
-    config: Config,
-    n: usize,
-    j: usize,
-    mark: usize,
-    step: usize,
-) -> usize
-    requires { PreSetsFor config.fields config.limits sp.old nodes.now states.old transitions.now
-        scratch.old pending.now c n j mark step }
-    ensures { PostFromMark config.fields config.limits sp.old nodes.now
-        states.old transitions.now scratch.old pending.now c n j mark result
-        sp.new states.new scratch.new }
+fn from_mark(aut: &mut Aut, config: Config, n: usize, j: usize, mark: usize, step: usize) -> usize
+    requires { PreSetsFor config aut.old n j mark step }
+    ensures keeps { OnlySearch aut.old aut.new }
+    ensures pending { aut.new.pending ≡ aut.old.pending }
+    ensures gives { PostFromMark config n j mark aut.old result aut.new }
 {
     if j < mark {
         let k = j - j % step;
-        remake(
-            sp,
-            nodes,
-            states,
-            transitions,
-            pending,
-            scratch,
-            c,
-            config,
-            n,
-            k,
-        );
+        remake(aut, config, n, k);
         return k;
     }
-    aut_why_marks::restore(states, pending, n, aut_why_marks::word::KEPT);
+    aut_why_marks::restore(aut, n, word::KEPT);
     mark
 }
 
 // Words 8 of the n states get round j. Words 10 have round `mark`, to go on from if it is not later than j; the round that they have now is given back.
 pub fn sets_for(
-    sp: &mut [u32],
-    nodes: &[u32],
-    states: &mut [u32],
-    transitions: &[u32],
-    pending: &[u32],
-    scratch: &mut [u32],
-    c: Counts,
+    aut: &mut Aut,
     config: Config,
     n: usize,
     j: usize,
     mark: usize,
     step: usize,
 ) -> usize
-    requires { PreSetsFor config.fields config.limits sp.old nodes.now states.old transitions.now
-        scratch.old pending.now c n j mark step }
-    ensures { PostSetsFor config.fields config.limits sp.old nodes.now
-        states.old transitions.now scratch.old pending.now c n j mark result
-        sp.new states.new scratch.new }
+    requires { PreSetsFor config aut.old n j mark step }
+    ensures keeps { OnlySearch aut.old aut.new }
+    ensures pending { aut.new.pending ≡ aut.old.pending }
+    ensures gives { PostSetsFor config n j mark aut.old result aut.new }
 {
-    let k = from_mark(
-        sp,
-        nodes,
-        states,
-        transitions,
-        pending,
-        scratch,
-        c,
-        config,
-        n,
-        j,
-        mark,
-        step,
-    );
-    forward(
-        sp,
-        nodes,
-        states,
-        transitions,
-        pending,
-        scratch,
-        c,
-        config,
-        n,
-        k,
-        j,
-    );
+    let k = from_mark(aut, config, n, j, mark, step);
+    forward(aut, config, n, k, j);
     k
 }

@@ -10,7 +10,6 @@ use native.Mathlib.Omega.{arith}
 use lib.ListN.{get_or}
 use Rattle.std.specs.Prelude as code
 use Rattle.common.specs.Packets.{Packet, Set}
-use Rattle.common.specs.Runs.{table}
 use Rattle.netkat.specs.Lists.{State, Transition}
 use Rattle.netkat_paths.specs.Order.{value, map, least}
 use Rattle.netkat_paths.specs.Pick.{Hop, hop_to, lower_hop, hop}
@@ -19,21 +18,18 @@ use Rattle.netkat_paths.proofs.PickLaws.{number, Led, hop_least}
 use Rattle.netkat_steps.specs.ListSteps.{Edge}
 use Rattle.sp_steps.specs.Model as Sp
 use Rattle.sp_steps.specs.Wf as SpLaws
-use Rattle.spp_steps.specs.ImageModel.{Stores, stores}
+use Rattle.spp_steps.specs.ImageModel.{Stores}
 use Rattle.aut_st_steps.specs.Edges.{edges, EdgeAt, EdgesAt}
 use Rattle.aut_st_steps.proofs.Places.{edge_at, edge_at_lem, edges_split, edges_on}
 use Rattle.aut_delta_steps.specs.Delta.{start_of, count_of, list_at}
 use Rattle.aut_delta_steps.specs.PlainSearch.{decoded}
 use Rattle.aut_delta_steps.proofs.ListGoes.{list_at_lem}
-use Rattle.aut_query_steps.specs.Tables.{Tables}
+use Rattle.aut_query_steps.specs.Tables.{Tables, diagrams}
 use Rattle.aut_why_steps.specs.Why.{Sets}
-use Rattle.aut_query_stage.specs.Layer.{tables_of}
 use Rattle.aut_states.specs.Clauses.{limits_of}
-use Rattle.aut_states.specs.declared.Counts.{Counts}
 use Rattle.aut_states.specs.declared.Limits.{Limits}
-use Rattle.aut_free.specs.Clear.{clear}
+use Rattle.aut_free.specs.Clear.{clear, clear_tables}
 use Rattle.aut_free.proofs.Clearing.{clear_kept}
-use Rattle.aut_query_calls.specs.Working.{clear_of}
 use Rattle.aut_live_words.specs.Work.{seconds}
 use Rattle.aut_live_words.specs.Clauses.{Listed}
 use Rattle.aut_why_words.specs.Walk.{Walk, HasSets}
@@ -61,12 +57,18 @@ edge_in s a k i l = subst (Memᴰ (edge_at s (a + i))) (sym (ap (edges s a) {x =
     behind e fs [] = mathlib.Core.List.Memᴰ.head refl
     behind e fs (f ∷ es) = mathlib.Core.List.Memᴰ.tail (behind e fs es)
 
-module _ (sp t st mem tr : List ℕ) (c : Counts) {N : ℕ} {l : Limits} {s p : List ℕ} {n : ℕ} (K : Walk N l (tables_of sp t st mem tr c) s p n) where
+module _ {τ : Tables} {N : ℕ} {l : Limits} {s p : List ℕ} {n : ℕ} (K : Walk N l τ s p n) where
   abbrev C : Tables
-  C = clear_of sp t st mem tr c
+  C = clear_tables τ
 
   abbrev σ : Stores
-  σ = stores (table sp c.sp) (table t c.spp)
+  σ = diagrams τ
+
+  abbrev st : List ℕ
+  st = τ.base.aut.states.words
+
+  abbrev tr : List ℕ
+  tr = τ.base.transitions.words
 
   clear_count : (x : ℕ) → count_of (clear st) x ≡ count_of st x
   unfolding count_of
@@ -96,7 +98,7 @@ module _ (sp t st mem tr : List ℕ) (c : Counts) {N : ℕ} {l : Limits} {s p : 
     entries : EdgesAt N C.base.aut (list_of st tr x)
     entries = subst (EdgesAt N C.base.aut) (list_is x) (list_at_lem (limits_of l) ((K.working.ready.ordered.worked.lists.held x (walk_known K x m)).list (K.links x m).marked))
 
-    module _ (before : Sets) (H : HasSets 8 st p n before) (A : (y : ℕ) → Memᴰ y (seconds p 0 n) → SpLaws.ValidAt (table sp c.sp) N (before y)) where
+    module _ (before : Sets) (H : HasSets 8 st p n before) (A : (y : ℕ) → Memᴰ y (seconds p 0 n) → SpLaws.ValidAt τ.sets N (before y)) where
       ahead_is : (y : ℕ) → Memᴰ y (seconds p 0 n) → ahead_of st y ≡ before y
       ahead_is y k = omega (arith, H.is y k)
 
@@ -105,21 +107,21 @@ module _ (sp t st mem tr : List ℕ) (c : Counts) {N : ℕ} {l : Limits} {s p : 
           let y : ℕ = get_or tr (2 * (start_of st x + i)) 0 in
           let e : EdgeAt N C.base.aut (edge_at tr (start_of st x + i)) = edge_at_lem tr (start_of st x) (count_of st x - 1) i k entries in
           let u : Memᴰ y (seconds p 0 n) = (K.links x m).leads (edge_at tr (start_of st x + i)) (subst (Memᴰ (edge_at tr (start_of st x + i))) (sym (list_is x)) (edge_in tr (start_of st x) (count_of st x - 1) i k)) in
-          record { state = walk_there K y u; some = omega (arith, H.is y u); set = subst (SpLaws.ValidAt (table sp c.sp) N) (sym (ahead_is y u)) (A y u); relation = e.relation }
+          record { state = walk_there K y u; some = omega (arith, H.is y u); set = subst (SpLaws.ValidAt τ.sets N) (sym (ahead_is y u)) (A y u); relation = e.relation }
 
       pub hop_ready : {packet : ℕ} (q : Packet N) → value q ≡ packet → LeastReady N σ s → PreHop N σ st tr s x packet
       hop_ready q e R = record { ready = R; list = listed; aheads = ahead_of_lem; small = subst (λ (k : ℕ). k < 2 ^ N) e (value_small q) }
 
       -- what was found, by lists and sets
-      hop_is : (q : Packet N) → hop (Lists.map (leading N σ) (list_of st tr x)) (aheads N σ st) q none ≡ hop (Lists.map (decoded N C.base.aut) (list_at C.base x)) (λ y. Sp.mem sp N (before y)) q none
+      hop_is : (q : Packet N) → hop (Lists.map (leading N σ) (list_of st tr x)) (aheads N σ st) q none ≡ hop (Lists.map (decoded N C.base.aut) (list_at C.base x)) (λ y. Sp.mem τ.sets.words N (before y)) q none
       hop_is q =
           ap (λ (es : List Edge). hop (Lists.map (leading N σ) es) (aheads N σ st) q none) (sym (list_is x))
-          ∙ hop_alike (Lists.map (decoded N C.base.aut) (list_at C.base x)) (aheads N σ st) (λ y. Sp.mem sp N (before y)) q none
+          ∙ hop_alike (Lists.map (decoded N C.base.aut) (list_at C.base x)) (aheads N σ st) (λ y. Sp.mem τ.sets.words N (before y)) q none
           (λ u k. let (e, i, f) = map_in (decoded N C.base.aut) (list_at C.base x) k in
-          ap (Sp.mem sp N) (ahead_is u.target (subst (λ (y : ℕ). Memᴰ y (seconds p 0 n)) (sym (ap (λ (u : Transition State N). u.target) f)) ((K.links x m).leads e i))))
+          ap (Sp.mem τ.sets.words N) (ahead_is u.target (subst (λ (y : ℕ). Memᴰ y (seconds p 0 n)) (sym (ap (λ (u : Transition State N). u.target) f)) ((K.links x m).leads e i))))
 
       module _ {packet : ℕ} {r : code.Option (ℕ × ℕ)} {s' : List ℕ} (P : PostHop N σ st tr x packet r s s') (q : Packet N) (is : value q ≡ packet) {h : Hop N}
-          (E : hop (Lists.map (decoded N C.base.aut) (list_at C.base x)) (λ y. Sp.mem sp N (before y)) q none ≡ some h) where
+          (E : hop (Lists.map (decoded N C.base.aut) (list_at C.base x)) (λ y. Sp.mem τ.sets.words N (before y)) q none ≡ some h) where
         pub hop_there : r ≡ code.None → ⊥
         hop_there e = none-ne-some h (sym (subst (λ (r : code.Option (ℕ × ℕ)). Hops r (hop (Lists.map (leading N σ) (list_of st tr x)) (aheads N σ st) q none)) e (P.is q is)) ∙ hop_is q ∙ E)
 
@@ -130,8 +132,8 @@ module _ (sp t st mem tr : List ℕ) (c : Counts) {N : ℕ} {l : Limits} {s p : 
             (i ∙ ap (λ (h : Hop N). value h.packet) (sym z), j ∙ ap (λ (h : Hop N). h.target) (sym z))
 
       -- the target is one of the states
-      pub hop_among : (q : Packet N) {h : Hop N} → hop (Lists.map (decoded N C.base.aut) (list_at C.base x)) (λ y. Sp.mem sp N (before y)) q none ≡ some h → Memᴰ h.target (seconds p 0 n)
+      pub hop_among : (q : Packet N) {h : Hop N} → hop (Lists.map (decoded N C.base.aut) (list_at C.base x)) (λ y. Sp.mem τ.sets.words N (before y)) q none ≡ some h → Memᴰ h.target (seconds p 0 n)
       hop_among q {h} E =
-          let d = found_good (subst (Found (Led (Lists.map (decoded N C.base.aut) (list_at C.base x)) (λ y. Sp.mem sp N (before y)) q) number) E (hop_least (Lists.map (decoded N C.base.aut) (list_at C.base x)) (λ y. Sp.mem sp N (before y)) q)) in
+          let d = found_good (subst (Found (Led (Lists.map (decoded N C.base.aut) (list_at C.base x)) (λ y. Sp.mem τ.sets.words N (before y)) q) number) E (hop_least (Lists.map (decoded N C.base.aut) (list_at C.base x)) (λ y. Sp.mem τ.sets.words N (before y)) q)) in
           let (e, i, f) = map_in (decoded N C.base.aut) (list_at C.base x) d.listed in
           subst (λ (y : ℕ). Memᴰ y (seconds p 0 n)) (sym (ap (λ (u : Transition State N). u.target) f) ∙ d.leads.target) ((K.links x m).leads e i)

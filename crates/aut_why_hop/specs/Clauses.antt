@@ -1,6 +1,6 @@
 -- 02 (i): "It picks the fewest hops, then the smallest start, then the hops in order": what the choice of one hop asks and promises. Word 8 of a transition's target is the set (+ 1) of packets
 -- from which the rest can still be had.
-use Rattle.std.specs.Prelude.{◌≡◌, Bool, ◌&&◌, ◌||◌, List, map, ℕ, ◌+◌, ◌*◌, ◌-◌, ◌^◌, ◌≤◌, ◌<◌, eqb, ltb, length, get_or}
+use Rattle.std.specs.Prelude.{◌≡◌, Bool, true, List, map, ℕ, ◌+◌, ◌*◌, ◌-◌, ◌^◌, ◌≤◌, ◌<◌, ltb, length, get_or}
 use Rattle.std.specs.Prelude as code
 use Rattle.std.proofs.Math.Option.{Option, none, some}
 use Rattle.common.specs.Packets.{Packet, Set}
@@ -63,9 +63,10 @@ pub record PreLed (N : ℕ) (σ : Stores) (st tr s : List ℕ) (i packet : ℕ) 
   pub ahead : Ahead N σ st (get_or tr (2 * i) 0) (get_or tr (2 * i + 1) 0)
   pub small : packet < 2 ^ N
 
--- the first number is the lower one, of two that are + 1 and 0 for none
-abbrev pub sooner : ℕ → ℕ → Bool
-sooner r best = ltb 0 r && (eqb best 0 || ltb r best)
+-- the packet is lower than that of the best hop so far
+abbrev pub sooner : ℕ → code.Option (ℕ × ℕ) → Bool
+sooner packet code.None = true
+sooner packet (code.Some (low, t)) = ltb packet low
 
 -- ---- the list of x
 

@@ -2,87 +2,60 @@
 #![tactic(auto)]
 
 ghost use Rattle.std.specs.Prelude.{◌≡◌, ◌*◌, ◌+◌, get_or};
-ghost use Rattle.common.specs.Runs.{table};
-ghost use Rattle.spp_steps.specs.ImageModel.{stores};
+ghost use Rattle.aut_sets.specs.Lent.{diagrams_in, OnlyScratch};
 ghost use Rattle.aut_why_least.specs.Clauses.{PostLed};
 ghost use Rattle.aut_why_hop.specs.Clauses.{ahead_of, sooner, PreLed, PreHop, PostHop};
 
-use aut_states::Counts;
+use aut_relations::Aut;
+use aut_states::Config;
 use sp::SP;
 use spp::SPP;
 
 // by transition i of the table
-fn led(
-    sp: &[u32],
-    nodes: &[u32],
-    states: &[u32],
-    transitions: &[u32],
-    scratch: &mut [u32],
-    c: Counts,
-    fields: u32,
-    i: usize,
-    packet: u32,
-) -> u32
-    requires { PreLed fields (stores (table sp.now c.sp) (table nodes.now c.spp)) states.now
-        transitions.now scratch.old i packet }
-    ensures { PostLed fields (stores (table sp.now c.sp) (table nodes.now c.spp))
-        packet (ahead_of states.now (get_or transitions.now (2 * i) 0))
-        (get_or transitions.now (2 * i + 1) 0) result scratch.old scratch.new }
+fn led(aut: &mut Aut, config: Config, i: usize, packet: u32) -> Option<u32>
+    requires { PreLed config.fields (diagrams_in aut.old) aut.old.states.words.now
+        aut.old.transitions.words.now aut.old.scratch.now i packet }
+    ensures keeps { OnlyScratch aut.old aut.new }
+    ensures gives { PostLed config.fields (diagrams_in aut.old) packet
+        (ahead_of aut.old.states.words.now (get_or aut.old.transitions.words.now (2 * i) 0))
+        (get_or aut.old.transitions.words.now (2 * i + 1) 0) result aut.old.scratch.now
+        aut.new.scratch.now }
 {
-    let target = transitions[2 * i] as usize;
-    let label = SPP(transitions[2 * i + 1]);
-    let ahead = SP(states[aut_states::STATE * target + aut_states::word::SEEN] - 1);
-    aut_why_least::led_to(sp, nodes, scratch, c, fields, packet, ahead, label)
+    let target = aut.transitions.words[2 * i] as usize;
+    let label = SPP(aut.transitions.words[2 * i + 1]);
+    let ahead = SP(aut.states.words[aut_states::STATE * target + aut_states::word::SEEN] - 1);
+    aut_why_least::led_to(aut, config, packet, ahead, label)
 }
 
-// numbers + 1, 0 for none
-fn is_lower(r: u32, best: u32) -> bool
-    ensures { result ≡ sooner r best }
+// than the packet of the best hop so far
+fn is_lower(packet: u32, best: Option<(u32, u32)>) -> bool
+    ensures { result ≡ sooner packet best }
 {
-    r > 0 && (best == 0 || r < best)
+    match best {
+        None => true,
+        Some((low, _)) => packet < low,
+    }
 }
 
 // the packet, and the state that it leads to
-pub fn hop(
-    sp: &[u32],
-    nodes: &[u32],
-    states: &[u32],
-    transitions: &[u32],
-    scratch: &mut [u32],
-    c: Counts,
-    fields: u32,
-    x: u32,
-    packet: u32,
-) -> Option<(u32, u32)>
-    requires { PreHop fields (stores (table sp.now c.sp) (table nodes.now c.spp)) states.now
-        transitions.now scratch.old x packet }
-    ensures { PostHop fields (stores (table sp.now c.sp) (table nodes.now c.spp))
-        states.now transitions.now x packet result scratch.old scratch.new }
+pub fn hop(aut: &mut Aut, config: Config, x: u32, packet: u32) -> Option<(u32, u32)>
+    requires { PreHop config.fields (diagrams_in aut.old) aut.old.states.words.now
+        aut.old.transitions.words.now aut.old.scratch.now x packet }
+    ensures keeps { OnlyScratch aut.old aut.new }
+    ensures gives { PostHop config.fields (diagrams_in aut.old) aut.old.states.words.now
+        aut.old.transitions.words.now x packet result aut.old.scratch.now
+        aut.new.scratch.now }
 {
     let j = x as usize;
-    let start = states[aut_states::STATE * j + aut_states::word::START] as usize;
-    let k = states[aut_states::STATE * j + aut_states::word::COUNT] as usize - 1;
-    let mut best = 0;
-    let mut to = 0;
+    let start = aut.states.words[aut_states::STATE * j + aut_states::word::START] as usize;
+    let k = aut.states.words[aut_states::STATE * j + aut_states::word::COUNT] as usize - 1;
+    let mut best = None;
     for i in 0..k {
-        let r = led(
-            sp,
-            nodes,
-            states,
-            transitions,
-            scratch,
-            c,
-            fields,
-            start + i,
-            packet,
-        );
-        if is_lower(r, best) {
-            best = r;
-            to = transitions[2 * (start + i)];
+        if let Some(p) = led(aut, config, start + i, packet) {
+            if is_lower(p, best) {
+                best = Some((p, aut.transitions.words[2 * (start + i)]));
+            }
         }
     }
-    if best == 0 {
-        return None;
-    }
-    Some((best - 1, to))
+    best
 }

@@ -16,7 +16,7 @@ use Rattle.aut_relations.specs.Behind.{LISTS, cached}
 use Rattle.aut_sets.specs.Clauses.{NotesBehind}
 use Rattle.aut_query_steps.specs.Tables.{Tables, diagrams, ExtTables}
 use Rattle.aut_query_stage.specs.Layer.{Readable, QueryReady}
-use Rattle.aut_query_stage.proofs.Layer.{Notable, Leaves}
+use Rattle.aut_query_stage.specs.Lent.{Notable, Leaves}
 use Rattle.aut_states.specs.declared.Limits.{Limits}
 use Rattle.aut_why_least.specs.Clauses.{Forgotten}
 

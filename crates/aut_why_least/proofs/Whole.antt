@@ -1,4 +1,5 @@
 -- The full set leaves out no packet.
+use Rattle.std.specs.Prelude.{Option}
 use mathlib.Core.Path.{◌≡◌, refl, sym, ◌∙◌, ap, subst}
 use mathlib.Core.Bool.{Bool, true, false, ◌&&◌}
 use mathlib.Core.List.{List}
@@ -10,7 +11,7 @@ use Rattle.sp_steps.specs.Wf as SpLaws
 use Rattle.sp_steps.proofs.Laws.{den_one}
 use Rattle.spp_steps.specs.Model as Spp
 use Rattle.spp_steps.specs.ImageModel.{Stores}
-use Rattle.spp_least.specs.Clauses.{word_of, led_to}
+use Rattle.spp_least.specs.Clauses.{number_of, led_to}
 use Rattle.aut_why_least.specs.Clauses.{PreEnd, PreLed, PostLed, PostEnd}
 
 and_yes : (b : Bool) → b && true ≡ b
@@ -24,8 +25,8 @@ module _ {N : ℕ} {σ : Stores} {s : List ℕ} {k r : ℕ} (q : PreEnd N σ s k
   pub asked : PreLed N σ s k a r
   asked = record { end = q; at_a = full.at }
 
-  pub answered : {w : ℕ} {s' : List ℕ} → PostLed N σ k a r w s s' → PostEnd N σ k r w s s'
+  pub answered : {w : Option ℕ} {s' : List ℕ} → PostLed N σ k a r w s s' → PostEnd N σ k r w s s'
   answered v = record {
-    is = λ p e. v.is p e ∙ ap word_of (least_same (led_to σ N a r p) (λ z. Spp.mem σ.spp.words N r p z) (λ h. ap (λ (b : Bool). Spp.mem σ.spp.words N r p h && b) (full.means h) ∙ and_yes (Spp.mem σ.spp.words N r p h)));
+    is = λ p e. v.is p e ∙ ap number_of (least_same (led_to σ N a r p) (λ z. Spp.mem σ.spp.words N r p z) (λ h. ap (λ (b : Bool). Spp.mem σ.spp.words N r p h && b) (full.means h) ∙ and_yes (Spp.mem σ.spp.words N r p h)));
     left = v.left;
   }

@@ -1,6 +1,6 @@
--- 02 (i), "the smallest start, then the hops in order, then the end", as words: the least packet of a set, the least of a set to which a relation leads a packet, and the least to which it leads
--- at all. Of scratch only the cache is written, with right results of codes that no other operation has.
-use Rattle.std.specs.Prelude.{◌≡◌, List, ℕ, ◌^◌, ◌≤◌, ◌<◌, length, get_or}
+-- 02 (i), "the smallest start, then the hops in order, then the end": the least packet of a set, the least of a set to which a relation leads a packet, and the least to which it leads
+-- at all, each by its number, or none. Of scratch only the cache is written, with right results of codes that no other operation has.
+use Rattle.std.specs.Prelude.{◌≡◌, List, ℕ, Option, ◌^◌, ◌≤◌, ◌<◌, length, get_or}
 use Rattle.common.specs.Packets.{Packet}
 use Rattle.common.specs.Runs.{Table}
 use Rattle.cache.specs.Cache.{Sound}
@@ -10,7 +10,7 @@ use Rattle.spp_steps.specs.Model as Spp
 use Rattle.spp_steps.specs.Wf.{ValidAt}
 use Rattle.spp_steps.specs.ImageModel.{Stores}
 use Rattle.spp_steps.specs.Images.{BothWf}
-use Rattle.spp_least.specs.Clauses.{word_of, led_to, LeastRead, LeastNoted}
+use Rattle.spp_least.specs.Clauses.{number_of, led_to, LeastRead, LeastNoted}
 use Rattle.aut_relations.specs.Behind.{LISTS, cached}
 use Rattle.aut_sets.specs.Clauses.{NotesBehind}
 
@@ -34,12 +34,12 @@ pub record PreLed (N : ℕ) (σ : Stores) (s : List ℕ) (k a r : ℕ) : Type 0 
   pub end : PreEnd N σ s k r
   pub at_a : SpLaws.ValidAt σ.sp N a
 
-pub record PostLed (N : ℕ) (σ : Stores) (k a r w : ℕ) (s s' : List ℕ) : Type 0 where
-  pub is : (p : Packet N) → value p ≡ k → w ≡ word_of (least N (led_to σ N a r p))
+pub record PostLed (N : ℕ) (σ : Stores) (k a r : ℕ) (w : Option ℕ) (s s' : List ℕ) : Type 0 where
+  pub is : (p : Packet N) → value p ≡ k → w ≡ number_of (least N (led_to σ N a r p))
   pub left : NotesBehind (LeastNoted σ) s s'
 
-pub record PostEnd (N : ℕ) (σ : Stores) (k r w : ℕ) (s s' : List ℕ) : Type 0 where
-  pub is : (p : Packet N) → value p ≡ k → w ≡ word_of (least N (λ z. Spp.mem σ.spp.words N r p z))
+pub record PostEnd (N : ℕ) (σ : Stores) (k r : ℕ) (w : Option ℕ) (s s' : List ℕ) : Type 0 where
+  pub is : (p : Packet N) → value p ≡ k → w ≡ number_of (least N (λ z. Spp.mem σ.spp.words N r p z))
   pub left : NotesBehind (LeastNoted σ) s s'
 
 -- the cache is zeroed, the lists are as they were

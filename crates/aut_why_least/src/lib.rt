@@ -1,99 +1,87 @@
-// Least packets for `why`: the cache that the search takes lies in scratch, behind the lists. A packet is told as its number + 1, or 0 if there is none.
+// Least packets for `why`: the cache that the search takes lies in scratch, behind the lists. A packet is told by its number.
 #![tactic(auto)]
 
-ghost use Rattle.std.specs.Prelude.{◌≡◌, ◌<◌, IfSome};
+ghost use Rattle.std.specs.Prelude.{◌≡◌};
 ghost use Rattle.common.specs.Runs.{table};
 ghost use Rattle.netkat_paths.specs.Order.{least};
 ghost use Rattle.sp_steps.specs.Model.{mem};
-ghost use Rattle.spp_steps.specs.ImageModel.{stores};
-ghost use Rattle.spp_least.specs.Clauses.{word, word_of};
+ghost use Rattle.sp.specs.Clauses as Sets;
+ghost use Rattle.spp.specs.Clauses as Relations;
+ghost use Rattle.spp_least.specs.Clauses.{number_of};
+ghost use Rattle.aut_sets.specs.Lent.{sets_in, diagrams_in, OnlyScratch};
 ghost use Rattle.aut_why_least.specs.Clauses.{PreFirst, PreLed, PostLed, PreEnd, PostEnd, Forgotten};
 
-use aut_states::Counts;
-use sp::{SP, SPview};
-use spp::{SPP, SPPview};
+use aut_relations::Aut;
+use aut_states::Config;
+use sp::{SP, SPstore, SPview};
+use spp::{SPP, SPPstore, SPPview};
 
-// a packet as a word
-fn to_word(packet: Option<u32>) -> u32
-    requires { IfSome packet (λ k. k < 4294967295) }
-    ensures { result ≡ word packet }
+fn sets<'a>(sp: &'a SPstore) -> SPview<'a>
+    ensures { Sets.view_of result ≡ table sp.now.nodes.now sp.now.count }
 {
-    packet.map_or(0, |k| k + 1)
+    SPview {
+        nodes: &sp.nodes[..],
+        count: sp.count,
+    }
+}
+
+fn relations<'a>(spp: &'a SPPstore, fields: u32) -> SPPview<'a>
+    ensures view { Relations.view_of result ≡ table spp.now.nodes.now spp.now.count }
+    ensures fields { result.fields ≡ fields }
+{
+    SPPview {
+        nodes: &spp.nodes[..],
+        count: spp.count,
+        fields,
+    }
 }
 
 // the least packet of a set
-pub fn first_of(sp: &[u32], c: Counts, fields: u32, s: SP) -> u32
-    requires { PreFirst fields (table sp.now c.sp) s.0 }
-    ensures { result ≡ word_of (least fields (mem sp.now fields s.0)) }
+pub fn first_of(aut: &Aut, config: Config, s: SP) -> Option<u32>
+    requires { PreFirst config.fields (sets_in aut.now) s.0 }
+    ensures { result ≡ number_of (least config.fields (mem aut.now.sp.nodes.now config.fields s.0)) }
 {
-    let sets = SPview {
-        nodes: sp,
-        count: c.sp,
-    };
-    to_word(spp_least::least(sets, fields, s))
+    spp_least::least(sets(&aut.sp), config.fields, s)
 }
 
 // the least packet of the set to which the relation leads the packet with that number
-pub fn led_to(
-    sp: &[u32],
-    nodes: &[u32],
-    scratch: &mut [u32],
-    c: Counts,
-    fields: u32,
-    packet: u32,
-    s: SP,
-    r: SPP,
-) -> u32
-    requires { PreLed fields (stores (table sp.now c.sp) (table nodes.now c.spp)) scratch.old packet
-        s.0 r.0 }
-    ensures { PostLed fields (stores (table sp.now c.sp) (table nodes.now c.spp))
-        packet s.0 r.0 result scratch.old scratch.new }
+pub fn led_to(aut: &mut Aut, config: Config, packet: u32, s: SP, r: SPP) -> Option<u32>
+    requires { PreLed config.fields (diagrams_in aut.old) aut.old.scratch.now packet s.0 r.0 }
+    ensures keeps { OnlyScratch aut.old aut.new }
+    ensures gives { PostLed config.fields (diagrams_in aut.old) packet s.0 r.0 result
+        aut.old.scratch.now aut.new.scratch.now }
 {
-    let sets = SPview {
-        nodes: sp,
-        count: c.sp,
-    };
-    let relations = SPPview {
-        nodes,
-        count: c.spp,
-        fields,
-    };
-    let led = spp_least::least_led(
-        sets,
-        relations,
-        &mut scratch[aut_scratch::LISTS..],
+    let at = aut_scratch::LISTS;
+    let fields = config.fields;
+    spp_least::least_led(
+        sets(&aut.sp),
+        relations(&aut.spp, fields),
+        &mut aut.scratch[at..],
         fields,
         packet,
         s,
         r,
-    );
-    to_word(led)
+    )
 }
 
 // the least packet to which the relation leads the packet with that number
-pub fn end_of(
-    nodes: &[u32],
-    sp: &[u32],
-    scratch: &mut [u32],
-    c: Counts,
-    fields: u32,
-    packet: u32,
-    r: SPP,
-) -> u32
-    requires { PreEnd fields (stores (table sp.now c.sp) (table nodes.now c.spp)) scratch.old packet
-        r.0 }
-    ensures { PostEnd fields (stores (table sp.now c.sp) (table nodes.now c.spp))
-        packet r.0 result scratch.old scratch.new }
+pub fn end_of(aut: &mut Aut, config: Config, packet: u32, r: SPP) -> Option<u32>
+    requires { PreEnd config.fields (diagrams_in aut.old) aut.old.scratch.now packet r.0 }
+    ensures keeps { OnlyScratch aut.old aut.new }
+    ensures gives { PostEnd config.fields (diagrams_in aut.old) packet r.0 result
+        aut.old.scratch.now aut.new.scratch.now }
 {
-    let all = sp::one_at_depth(fields);
-    led_to(sp, nodes, scratch, c, fields, packet, all, r)
+    let all = sp::one_at_depth(config.fields);
+    led_to(aut, config, packet, all, r)
 }
 
 // the cache is emptied
-pub fn forget(scratch: &mut [u32])
-    ensures { Forgotten scratch.old scratch.new }
+pub fn forget(aut: &mut Aut)
+    ensures keeps { OnlyScratch aut.old aut.new }
+    ensures gives { Forgotten aut.old.scratch.now aut.new.scratch.now }
 {
-    if aut_scratch::LISTS < scratch.len() {
-        scratch[aut_scratch::LISTS..].fill(0);
+    let at = aut_scratch::LISTS;
+    if at < aut.scratch.len() {
+        aut.scratch[at..].fill(0);
     }
 }

@@ -1,41 +1,46 @@
 -- A round: the sets of the n states, in turn, go into words 9.
-use Rattle.std.specs.Prelude.{if◌then◌else◌}
+use Rattle.std.specs.Prelude.{Result, Ok, Err, if◌then◌else◌}
 use mathlib.Core.Path.{◌≡◌, refl, sym, ◌∙◌, ap, subst}
 use mathlib.Core.Logic.{◌≢◌, ◌⊎◌, inl, inr, ⊎_elim}
 use mathlib.Core.Bool.{Bool, true, false}
 use mathlib.Core.List.Memᴰ
 use mathlib.Core.List.{List, Memᴰ}
-use Prim.Native.Nat.{ℕ, ◌+◌, ◌*◌, ◌-◌, ◌≤◌, ◌<◌}
+use Prim.Native.Nat.{ℕ, zero, suc, ◌+◌, ◌*◌, ◌-◌, ◌≤◌, ◌<◌}
 use native.Mathlib.Omega.{arith}
 use lib.Dec.{eqb}
 use lib.ListN.{length, get_or, set}
 use lib.Seq.{get_or-set_same, get_or-set_other}
 use borrow.Author.Tests.{eqb-true, eqb-false}
-use Rattle.common.specs.Outcome.{Outcome, refused, Step, after}
-use Rattle.common.specs.Runs.{table}
+use Rattle.common.specs.Outcome.{Outcome, Step, after}
+use Rattle.common.specs.Runs.{Table}
+use Rattle.refusal.specs.declared.Refusal.{Refusal}
 use Rattle.sp_steps.specs.Wf as SpLaws
 use Rattle.sp_steps.proofs.Laws as SpLawsProofs
 use Rattle.sp.specs.declared.SP.{SP}
-use Rattle.sp.specs.declared.Made as sets
 use Rattle.spp_steps.proofs.Laws.{by_test}
 use Rattle.aut_query_steps.specs.Tables.{Tables}
 use Rattle.aut_query_steps.specs.Live.{live_at}
 use Rattle.aut_why_steps.specs.Why.{Sets, ends, turn, each}
-use Rattle.aut_query_stage.specs.Layer.{tables_of}
-use Rattle.aut_query_stage.proofs.Layer.{query_layer}
-use Rattle.aut_states.specs.declared.Counts.{Counts}
+use Rattle.aut_query_stage.specs.Lent.{tables_in, query_layer}
+use Rattle.aut_query_stage.proofs.Lent.{query_laws}
+use Rattle.aut_states.specs.declared.Config.{Config}
 use Rattle.aut_states.specs.declared.Limits.{Limits}
-use Rattle.aut_stage.specs.Stage.{Stage}
-use Rattle.aut_stage.proofs.Stage.{begin, next, instead, done, all_of}
-use Rattle.aut_query_calls.specs.Working.{clear_of}
-use Rattle.aut_query_calls.proofs.Working.{with_sets}
-use Rattle.aut_query_calls.proofs.Works.{clear_written}
+use Rattle.aut_stage.specs.Rule.{Stage}
+use Rattle.aut_stage.proofs.Rule.{begin, next, instead, stuck, done, all_of}
+use Rattle.aut_relations.specs.declared.Aut.{Aut as Lent}
+use Rattle.aut_sets.specs.Lent.{sets_in, OnlySets}
+use Rattle.aut_free.specs.Clear.{clear_tables}
+use Rattle.aut_query_calls.specs.Working.{clear_in}
+use Rattle.aut_sets.proofs.Kept.{set_small}
 use Rattle.aut_live_words.specs.Work.{seconds}
 use Rattle.aut_live_words.proofs.Words.{seconds_on, seconds_done, seconds_all, second_in}
-use Rattle.aut_live_pull.proofs.Settling.{set_small}
 use Rattle.aut_why_words.specs.Walk.{Walk}
+use Rattle.aut_live_words.proofs.Held.{clear_set_in}
+use Rattle.aut_query_calls.specs.Working.{with_words}
 use Rattle.aut_why_words.proofs.Walks.{walk_there, walk_made, walk_written}
-use Rattle.aut_why_rounds.specs.Clauses.{SetBy, Visited, Turning, step_of, start_of, SetsOn, Rounding, round_of, Rounded}
+use Rattle.aut_why_words.proofs.Lent.{sets_base}
+use Rattle.aut_why_rounds.specs.Clauses.{GivesSet, Visited, Turning, step_of, start_of, SetsOn, Rounding, RoundingIn, Stepped, round_of, Rounded}
+use Rattle.aut_why_rounds.proofs.Turns.{sets_working}
 
 -- ---- one state
 
@@ -47,12 +52,12 @@ module _ {N : ℕ} {l : Limits} {first : Bool} {σ : Tables} {s p : List ℕ} {n
   step_turning q = record { walk = R.walk; sets = R.sets q; valid = R.valid q; among = m }
 
 -- .. by which of the two it is
-module _ (N : ℕ) (l : Limits) (before : Sets) (x : ℕ) (κ σ : Tables) (c : Counts) (r : sets.Made) (at : Counts → Tables) (s s' : List ℕ) where
-  pub step_ends : {first : Bool} → first ≡ true → SetBy N l (ends N x κ) σ c r at s s' → SetBy N l (step_of N first before x κ) σ c r at s s'
-  step_ends q A = subst (λ (b : Bool). SetBy N l (step_of N b before x κ) σ c r at s s') (sym q) A
+module _ (k : Config) (before : Sets) (i : ℕ) (x : Lent) (r : Result SP Refusal) (y : Lent) where
+  pub step_ends : {first : Bool} → first ≡ true → GivesSet k (ends k.fields i) x r y → GivesSet k (step_of k.fields first before i) x r y
+  step_ends q A = subst (λ (b : Bool). GivesSet k (step_of k.fields b before i) x r y) (sym q) A
 
-  pub step_turns : {first : Bool} → first ≡ false → SetBy N l (turn N before x κ) σ c r at s s' → SetBy N l (step_of N first before x κ) σ c r at s s'
-  step_turns q A = subst (λ (b : Bool). SetBy N l (step_of N b before x κ) σ c r at s s') (sym q) A
+  pub step_turns : {first : Bool} → first ≡ false → GivesSet k (turn k.fields before i) x r y → GivesSet k (step_of k.fields first before i) x r y
+  step_turns q A = subst (λ (b : Bool). GivesSet k (step_of k.fields b before i) x r y) (sym q) A
 
 -- ---- all states
 
@@ -60,9 +65,12 @@ start_valid : (N : ℕ) (first : Bool) (before : Sets) (ss : List ℕ) (σ : Tab
 start_valid N true before ss σ w f y m = SpLawsProofs.zero_at_lem w N (omega arith)
 start_valid N false before ss σ w f y m = f refl y m
 
-module _ (sp t st mem tr : List ℕ) (c : Counts) {N : ℕ} {l : Limits} {first : Bool} {s p : List ℕ} {n : ℕ} {before : Sets} (R : Rounding N l first (tables_of sp t st mem tr c) s p n before) where
-  abbrev κ : Tables
-  κ = clear_of sp t st mem tr c
+module _ (k : Config) (x : Lent) {first : Bool} {n : ℕ} {before : Sets} (R : RoundingIn k first x n before) where
+  abbrev N : ℕ
+  N = k.fields
+
+  abbrev p : List ℕ
+  p = x.pending.now
 
   abbrev ss : List ℕ
   ss = seconds p 0 n
@@ -71,40 +79,38 @@ module _ (sp t st mem tr : List ℕ) (c : Counts) {N : ℕ} {l : Limits} {first 
   f = step_of N first before
 
   abbrev whole : Outcome Tables Sets
-  whole = round_of N first ss before κ
+  whole = round_of N first ss before (clear_in x)
 
   -- i states have their sets
-  pub record Passed (sp1 st1 : List ℕ) (m i : ℕ) (s1 : List ℕ) : Type 0 where
+  pub record Passed (z : Lent) (i : ℕ) : Type 0 where
     pub now : Sets
-    pub stage : Stage (query_layer N l) 0 0 whole (each f (seconds p i (n - i)) now (clear_of sp1 t st1 mem tr (with_sets c m))) κ (clear_of sp1 t st1 mem tr (with_sets c m)) c (with_sets c m) s s1
-    pub walk : Walk N l (tables_of sp1 t st1 mem tr (with_sets c m)) s1 p n
-    pub valid : SetsOn N ss (tables_of sp1 t st1 mem tr (with_sets c m)) now
-    pub has : (x : ℕ) → Memᴰ x ss → Memᴰ x (seconds p i (n - i)) ⊎ (get_or st1 (12 * x + 9) 0 ≡ now x + 1)
-    pub others : (x w : ℕ) → w < 12 → w ≢ 9 → get_or st1 (12 * x + w) 0 ≡ get_or st (12 * x + w) 0
+    pub stage : Stage (query_layer N k.limits) 0 0 whole (each f (seconds p i (n - i)) now (clear_in z)) (clear_in x) (clear_in z) x.scratch.now z.scratch.now
+    pub walk : Walk N k.limits (tables_in z) z.scratch.now p n
+    pub valid : SetsOn N ss (tables_in z) now
+    pub has : (j : ℕ) → Memᴰ j ss → Memᴰ j (seconds p i (n - i)) ⊎ (get_or z.states.words.now (12 * j + 9) 0 ≡ now j + 1)
+    pub others : (j w : ℕ) → w < 12 → w ≢ 9 → get_or z.states.words.now (12 * j + w) 0 ≡ get_or x.states.words.now (12 * j + w) 0
 
-  pub pass_begin : Passed sp st c.sp 0 s
+  pub pass_begin : Passed x 0
   pass_begin = record {
     now = start_of N first before;
-    stage = begin (query_layer N l) 0 0 R.walk.working.ready (ap (λ (xs : List ℕ). each f xs (start_of N first before) κ) (seconds_all p n));
+    stage = begin (query_laws N k.limits) 0 0 R.walk.working.ready (ap (λ (xs : List ℕ). each f xs (start_of N first before) (clear_in x)) (seconds_all p n));
     walk = R.walk;
-    valid = start_valid N first before ss (tables_of sp t st mem tr c) R.walk.working.ready.ordered.sets R.valid;
-    has = λ x m. inl (subst (Memᴰ x) (seconds_all p n) m);
-    others = λ x w a b. refl;
+    valid = start_valid N first before ss (tables_in x) R.walk.working.ready.ordered.sets R.valid;
+    has = λ j m. inl (subst (Memᴰ j) (seconds_all p n) m);
+    others = λ j w a b. refl;
   }
 
-  module _ {sp1 st1 s1 : List ℕ} {m i : ℕ} (v : Passed sp1 st1 m i s1) where
-    abbrev d : Counts
-    d = with_sets c m
-
-    abbrev κ1 : Tables
-    κ1 = clear_of sp1 t st1 mem tr d
-
-    pub pass_rounding : Rounding N l first (tables_of sp1 t st1 mem tr d) s1 p n before
+  module _ {z : Lent} {i : ℕ} (v : Passed z i) where
+    pass_rounding : Rounding N k.limits first (tables_in z) z.scratch.now p n before
     pass_rounding = record {
       walk = v.walk;
-      sets = λ q. record { is = λ x k. v.others x 8 (omega arith) (λ e. omega arith) ∙ (R.sets q).is x k };
-      valid = λ q y k. SpLawsProofs.at_ext v.stage.ext.sets N (before y) (R.valid q y k);
+      sets = λ q. record { is = λ j m. v.others j 8 (omega arith) (λ e. omega arith) ∙ (R.sets q).is j m };
+      valid = λ q y m. SpLawsProofs.at_ext v.stage.ext.sets N (before y) (R.valid q y m);
     }
+
+    -- the entries are as they were
+    pub pass_asks : z.pending ≡ x.pending → RoundingIn k first z n before
+    pass_asks q = rw q pass_rounding
 
     pub pass_entry : i < n → 2 * i + 1 < length p
     pass_entry lt = omega (arith, R.walk.room)
@@ -116,70 +122,95 @@ module _ (sp t st mem tr : List ℕ) (c : Counts) {N : ℕ} {l : Limits} {first 
       pub pass_in : Memᴰ y ss
       pass_in = second_in p 0 n i (omega arith) (omega arith)
 
-      pub pass_there : 12 * y + 11 < length st1
+      pub pass_there : 12 * y + 11 < length z.states.words.now
       pass_there = walk_there v.walk y pass_in
 
-      abbrev rest : List ℕ
-      rest = seconds p (i + 1) (n - (i + 1))
+      -- .. of the state that stands in the entry
+      pub pass_given : z.pending ≡ x.pending → {r : Result SP Refusal} {w : Lent} → Stepped k first (get_or z.pending.now (2 * i + 1) 0) z r w → GivesSet k (f y) z r w
+      pass_given q {r} {w} G = subst (λ (t : List ℕ). GivesSet k (f (get_or t (2 * i + 1) 0)) z r w) same (G.gives n before (pass_asks q) here)
+        where
+          here : Memᴰ (get_or z.pending.now (2 * i + 1) 0) (seconds z.pending.now 0 n)
+          here = rw q pass_in
 
-      turned : Stage (query_layer N l) 0 0 whole (after (f y κ1) (λ u. each f rest (live_at y u v.now))) κ κ1 c d s s1
+          same : z.pending.now ≡ p
+          same = rw q refl
+
+      abbrev rest : ℕ → Step Tables Sets
+      rest u = each f (seconds p (i + 1) (n - (i + 1))) (live_at y u v.now)
+
+      turned : Stage (query_layer N k.limits) 0 0 whole (after (f y (clear_in z)) rest) (clear_in x) (clear_in z) x.scratch.now z.scratch.now
       unfolding each
-      turned = instead (query_layer N l) 0 0 v.stage (ap (λ (xs : List ℕ). each f xs v.now κ1) (seconds_on p n i lt))
+      turned = instead (query_laws N k.limits) 0 0 v.stage (ap (λ (xs : List ℕ). each f xs v.now (clear_in z)) (seconds_on p n i lt))
 
-      abbrev OneBy : (sp2 s2 : List ℕ) → sets.Made → Type 0
-      OneBy sp2 s2 r = SetBy N l (f y κ1) (tables_of sp1 t st1 mem tr d) d r (tables_of sp2 t st1 mem tr) s1 s2
+      pub pass_stuck : {e : Refusal} {w : Lent} → GivesSet k (f y) z (Err e) w → Rounded k first before n x (Err e) w
+      pass_stuck G = record { next = before; post = record { post = stuck (query_laws N k.limits) 0 0 G.post rest turned }; under = tt }
 
-      module _ (r : sets.Made) (sp2 s2 : List ℕ) (A : OneBy sp2 s2 r) where
-        pub pass_stuck : r ≡ sets.Made.Full → whole ≡ refused 20
-        pass_stuck q = turned.is ∙ ap (λ (o : Outcome Tables ℕ). after o (λ u. each f rest (live_at y u v.now))) (subst (OneBy sp2 s2) q A)
+      module _ {h : SP} {w : Lent} (A : OnlySets z w) (G : GivesSet k (f y) z (Ok h) w) where
+        pub pass_small : h.0 + 1 < 4294967296
+        pass_small = set_small N h.0 G.post.then.ready.ordered.sets G.post.then.holds
 
-        module _ {h : SP} {m2 : ℕ} (q : r ≡ sets.Made.Node h m2) where
-          P : OneBy sp2 s2 (sets.Made.Node h m2)
-          P = subst (OneBy sp2 s2) q A
-
-          pub pass_small : h.0 + 1 < 4294967296
-          pass_small = set_small N h.0 P.then.ready.ordered.sets P.then.holds
+        -- the word is written
+        module _ (u : Lent) (E : tables_in u ≡ with_words (set w.states.words.now (12 * y + 9) (h.0 + 1)) (tables_in w)) (S : u.scratch.now ≡ w.scratch.now) where
+          abbrev st1 : List ℕ
+          st1 = z.states.words.now
 
           abbrev st2 : List ℕ
           st2 = set st1 (12 * y + 9) (h.0 + 1)
 
+          words : u.states.words.now ≡ st2
+          words = ap (λ (τ : Tables). τ.base.aut.states.words) E ∙ rw A.states refl
+
+          sets : sets_in u ≡ sets_in w
+          sets = ap (λ (τ : Tables). τ.sets) E
+
+          cleared : clear_in u ≡ clear_in w
+          cleared = ap clear_tables E ∙ clear_set_in (tables_in w) y 9 (h.0 + 1) (omega arith) (omega arith)
+
           abbrev new : Sets
           new = live_at y h.0 v.now
 
-          -- the word of x, which is y or had its set
-          written : (x : ℕ) → (x ≡ y) ⊎ (get_or st1 (12 * x + 9) 0 ≡ v.now x + 1) → get_or st2 (12 * x + 9) 0 ≡ new x + 1
-          written x w = by_test (eqb y x)
-              (λ b. subst (λ (z : ℕ). get_or st2 (12 * z + 9) 0 ≡ h.0 + 1) (eqb-true y x b) (get_or-set_same st1 (12 * y + 9) (h.0 + 1) 0 (omega (arith, pass_there)))
-              ∙ sym (ap (λ (b : Bool). (if b then h.0 else v.now x) + 1) b))
-              (λ b. let n : (y ≡ x → ⊥) = eqb-false y x b in
-              get_or-set_other st1 (12 * y + 9) (12 * x + 9) (h.0 + 1) 0 (λ e. n (omega arith))
-              ∙ ⊎_elim (λ e. absurd (n (sym e))) (λ e. e) w ∙ sym (ap (λ (b : Bool). (if b then h.0 else v.now x) + 1) b))
+          -- the word of j, which is y or had its set
+          written : (j : ℕ) → (j ≡ y) ⊎ (get_or st1 (12 * j + 9) 0 ≡ v.now j + 1) → get_or st2 (12 * j + 9) 0 ≡ new j + 1
+          written j c = by_test (eqb y j)
+              (λ b. subst (λ (z : ℕ). get_or st2 (12 * z + 9) 0 ≡ h.0 + 1) (eqb-true y j b) (get_or-set_same st1 (12 * y + 9) (h.0 + 1) 0 (omega (arith, pass_there)))
+              ∙ sym (ap (λ (b : Bool). (if b then h.0 else v.now j) + 1) b))
+              (λ b. let n : (y ≡ j → ⊥) = eqb-false y j b in
+              get_or-set_other st1 (12 * y + 9) (12 * j + 9) (h.0 + 1) 0 (λ e. n (omega arith))
+              ∙ ⊎_elim (λ e. absurd (n (sym e))) (λ e. e) c ∙ sym (ap (λ (b : Bool). (if b then h.0 else v.now j) + 1) b))
 
-          walk_2 : Walk N l (tables_of sp2 t st1 mem tr (with_sets c m2)) s2 p n
-          walk_2 = walk_made v.walk (record { ready = P.then.ready; fresh = v.walk.working.fresh })
+          stage_2 : Stage (query_layer N k.limits) 0 0 whole (rest h.0 (clear_in w)) (clear_in x) (clear_in w) x.scratch.now w.scratch.now
+          stage_2 = next (query_laws N k.limits) 0 0 G.post (all_of 0 0) rest turned
 
-          pub pass_again : Passed sp2 st2 m2 (i + 1) s2
+          walk_2 : Walk N k.limits (tables_in w) w.scratch.now p n
+          walk_2 = walk_made v.walk (sets_base A) (sets_working k A v.walk.working G.post.then.ready)
+
+          set_here : (j : ℕ) → Memᴰ j ss → SpLaws.ValidAt (sets_in w) N (new j)
+          set_here j m = by_test (eqb y j)
+              (λ b. subst (SpLaws.ValidAt (sets_in w) N) (sym (ap (λ (b : Bool). if b then h.0 else v.now j) b)) G.post.then.holds)
+              (λ b. subst (SpLaws.ValidAt (sets_in w) N) (sym (ap (λ (b : Bool). if b then h.0 else v.now j) b)) (SpLawsProofs.at_ext G.post.then.ext.sets N (v.now j) (v.valid j m)))
+
+          pub pass_again : Passed u (i + 1)
           pass_again = record {
             now = new;
-            stage = subst (λ (τ : Tables). Stage (query_layer N l) 0 0 whole (each f rest new τ) κ τ c (with_sets c m2) s s2) (sym (clear_written sp2 t st1 mem tr (with_sets c m2) y 9 (h.0 + 1) (omega arith) (omega arith)))
-                (next (query_layer N l) 0 0 P (all_of 0 0) (λ u. each f rest (live_at y u v.now)) turned);
-            walk = walk_written walk_2 y 9 (h.0 + 1) (omega arith) (omega arith) pass_in;
-            valid = λ x k. by_test (eqb y x)
-                (λ b. subst (SpLaws.ValidAt (table sp2 m2) N) (sym (ap (λ (b : Bool). if b then h.0 else v.now x) b)) P.then.holds)
-                (λ b. subst (SpLaws.ValidAt (table sp2 m2) N) (sym (ap (λ (b : Bool). if b then h.0 else v.now x) b)) (SpLawsProofs.at_ext P.then.ext.sets N (v.now x) (v.valid x k)));
-            has = λ x k. ⊎_elim
-                (λ j. ⊎_elim (λ e. inr (written x (inl e))) (λ j. inl j) (Memᴰ.cases_cons (subst (Memᴰ x) (seconds_on p n i lt) j)))
-                (λ e. inr (written x (inr e))) (v.has x k);
-            others = λ x w a b. get_or-set_other st1 (12 * y + 9) (12 * x + w) (h.0 + 1) 0 (λ e. b (omega arith)) ∙ v.others x w a b;
+            stage = rw S (rw cleared stage_2);
+            walk = rw S (rw E (walk_written walk_2 y 9 (h.0 + 1) (omega arith) (omega arith) pass_in));
+            valid = λ j m. subst (λ (τ : Table). SpLaws.ValidAt τ N (new j)) (sym sets) (set_here j m);
+            has = λ j m. ⊎_elim
+                (λ c. ⊎_elim (λ e. inr (rw words (written j (inl e)))) (λ c. inl c) (Memᴰ.cases_cons (subst (Memᴰ j) (seconds_on p n i lt) c)))
+                (λ e. inr (rw words (written j (inr e)))) (v.has j m);
+            others = λ j w a b. rw words (get_or-set_other st1 (12 * y + 9) (12 * j + w) (h.0 + 1) 0 (λ e. b (omega arith)) ∙ v.others j w a b);
           }
 
-    pub pass_end : n ≤ i → Rounded N l whole (tables_of sp t st mem tr c) c d (tables_of sp1 t st1 mem tr) s s1 p n
+    pub pass_end : n ≤ i → z.pending ≡ x.pending → Rounded k first before n x (Ok tt) z
     unfolding each
-    pass_end le = record {
+    pass_end le q = record {
       next = v.now;
-      post = done (query_layer N l) 0 0 (λ e. clear_of sp1 t st1 mem tr e)
-          (instead (query_layer N l) 0 0 v.stage (ap (λ (xs : List ℕ). each f xs v.now κ1) (seconds_done p i n i le))) v.valid;
-      walk = v.walk;
-      sets = record { is = λ x k. ⊎_elim (λ j. absurd (Memᴰ.not-nil (subst (Memᴰ x) (seconds_done p i n i le) j))) (λ e. e) (v.has x k) };
-      others = v.others;
+      post = record {
+        post = done (query_laws N k.limits) 0 0 (instead (query_laws N k.limits) 0 0 v.stage (ap (λ (xs : List ℕ). each f xs v.now (clear_in z)) (seconds_done p i n i le))) v.valid;
+      };
+      under = rw q (record {
+        walk = v.walk;
+        sets = record { is = λ j m. ⊎_elim (λ c. absurd (Memᴰ.not-nil (subst (Memᴰ j) (seconds_done p i n i le) c))) (λ e. e) (v.has j m) };
+        others = v.others;
+      });
     }

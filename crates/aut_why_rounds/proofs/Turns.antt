@@ -1,26 +1,27 @@
 -- The set of a state: bwd of its epsilon, joined with each transition, by the rule for a run of calls (aut_stage).
-use Rattle.std.specs.Prelude.{if◌then◌else◌}
+use Rattle.std.specs.Prelude.{Result, Ok, Err, if◌then◌else◌}
 use mathlib.Core.Path.{◌≡◌, refl, sym, ◌∙◌, ap, ap₂, subst}
 use mathlib.Core.Logic.{⊎_elim}
 use mathlib.Core.List.Memᴰ
-use mathlib.Core.List.{List, Memᴰ}
+use mathlib.Core.List.{List, ◌∷◌, Memᴰ}
 use Prim.Native.Nat.{ℕ, zero, suc, ◌+◌, ◌*◌, ◌-◌, ◌≤◌, ◌<◌}
 use native.Mathlib.Omega.{arith}
 use lib.Dec.{eqb}
 use lib.ListN.{length, get_or}
 use borrow.Author.Tests.{eqb-true, eqb-false}
 use Rattle.common.specs.Outcome.{Outcome, refused, given, Step, after}
-use Rattle.common.specs.Runs.{table}
+use Rattle.refusal.specs.declared.Refusal.{Refusal}
 use Rattle.netkat.specs.Lists.{State, Transition}
 use Rattle.netkat_steps.specs.ListSteps.{Edge, Are}
 use Rattle.sp_steps.specs.Model as Sp
+use Rattle.sp_steps.specs.Reuse.{SpNoted}
 use Rattle.sp_steps.specs.Wf as SpLaws
 use Rattle.sp_steps.proofs.Laws as SpLawsProofs
 use Rattle.sp.specs.declared.SP.{SP}
-use Rattle.sp.specs.declared.Made as sets
 use Rattle.spp_steps.specs.Wf.{ValidAt}
 use Rattle.spp_steps.proofs.Laws.{by_test}
 use Rattle.spp_steps.specs.ImageModel as Images
+use Rattle.spp_image.specs.Reuse.{Written}
 use Rattle.aut_steps.specs.Tables as Aut
 use Rattle.aut_steps.specs.Tables.{SPP, kind_of, op1}
 use Rattle.aut_st_steps.specs.Edges.{edges}
@@ -28,25 +29,33 @@ use Rattle.aut_st_steps.proofs.Places.{edge_at, edges_on, edges_done}
 use Rattle.aut_delta_steps.specs.Epsilon.{epsilon_of, value_of}
 use Rattle.aut_delta_steps.specs.EpsilonDown.{Known}
 use Rattle.aut_delta_steps.proofs.EpsilonDown.{known_means}
-use Rattle.aut_delta_steps.specs.Delta.{start_of, count_of, list_at}
+use Rattle.aut_delta_steps.specs.Delta.{start_of, count_of, list_at, Store}
 use Rattle.aut_delta_steps.specs.Fits.{tables as readings}
+use Rattle.aut_steps.specs.Wf.{states}
 use Rattle.aut_query_steps.specs.Tables.{Tables, diagrams, on_sets, making_sets}
+use Rattle.aut_query_steps.proofs.Tables.{both_wf}
 use Rattle.aut_why_steps.specs.Why.{Sets, ends, joins, turn}
-use Rattle.aut_query_stage.specs.Layer.{tables_of}
-use Rattle.aut_query_stage.proofs.Layer.{query_layer}
-use Rattle.aut_states.specs.declared.Counts.{Counts}
+use Rattle.cache.proofs.Cache.{sound_map}
+use Rattle.aut_query_stage.specs.Layer.{QueryReady}
+use Rattle.aut_query_stage.specs.Lent.{tables_in, query_layer}
+use Rattle.aut_query_stage.proofs.Lent.{query_laws}
+use Rattle.aut_states.specs.declared.Config.{Config}
 use Rattle.aut_states.specs.declared.Limits.{Limits}
-use Rattle.aut_stage.specs.Stage.{gave, Stage}
-use Rattle.aut_stage.proofs.Stage.{begin, next, instead, done, finish, all_of}
-use Rattle.aut_sets.specs.Clauses.{PreSets, PostSets, PreImage, PreLead, PostImage}
-use Rattle.aut_free.specs.Clear.{clear}
+use Rattle.aut_stage.specs.Rule.{Stage, Post}
+use Rattle.aut_stage.proofs.Rule.{begin, next, instead, stuck, done, finish, all_of}
+use Rattle.aut_relations.specs.declared.Aut.{Aut as Lent}
+use Rattle.aut_sets.specs.Lent.{sets_in, diagrams_in, OnlySets}
+use Rattle.aut_sets.specs.Clauses.{Gives, PreSets, PreImage, PreLead}
+use Rattle.aut_free.specs.Clear.{clear, clear_tables, in_store}
 use Rattle.aut_free.proofs.Clearing.{clear_length, clear_kept}
-use Rattle.aut_query_calls.specs.Working.{clear_of, Working}
-use Rattle.aut_query_calls.proofs.Working.{Ran, with_sets, SetIn}
-use Rattle.aut_query_calls.proofs.Calls.{asks_image, asks_lead, asks_sets, bwd_given, pull_given, images_refused, union_given, sets_refused}
+use Rattle.aut_query_calls.specs.Working.{clear_in, Working}
+use Rattle.aut_query_calls.specs.Working.{SetIn}
+use Rattle.aut_query_calls.proofs.Ran.{Ran}
+use Rattle.aut_query_calls.proofs.Calls.{asks_lead, asks_sets, bwd_ran, pull_ran, union_ran}
 use Rattle.aut_live_words.specs.Work.{seconds}
 use Rattle.aut_why_words.proofs.Walks.{walk_known, walk_there, walk_made}
-use Rattle.aut_why_rounds.specs.Clauses.{SetBy, Visited, join_one, Joining, Turning}
+use Rattle.aut_why_words.proofs.Lent.{sets_base}
+use Rattle.aut_why_rounds.specs.Clauses.{GivesSet, Visited, join_one, Joining, Turning, TurningIn}
 
 -- ---- without hops
 
@@ -60,12 +69,12 @@ value_clear st x =
     kind_clear : (st : List ℕ) (x : ℕ) → get_or (clear st) (12 * x) 0 ≡ get_or st (12 * x) 0
     kind_clear st x = subst (λ (j : ℕ). get_or (clear st) j 0 ≡ get_or st j 0) {x = 12 * x + 0} {y = 12 * x} (omega arith) (clear_kept st x 0 (omega arith))
 
-module _ (sp t st mem tr : List ℕ) (c : Counts) {N : ℕ} {l : Limits} {s : List ℕ} {x : ℕ} (K : Visited N l (tables_of sp t st mem tr c) s x) where
-  abbrev κ₀ : Tables
-  κ₀ = clear_of sp t st mem tr c
+module _ {N : ℕ} {l : Limits} {σ : Tables} {s : List ℕ} {x : ℕ} (K : Visited N l σ s x) where
+  abbrev st : List ℕ
+  st = σ.base.aut.states.words
 
   pub ends_there : 12 * x + 11 < length st
-  ends_there = omega (arith, K.linked.known, subst (λ (k : ℕ). 12 * c.states ≤ k) (clear_length st) K.working.ready.ready.good.fits)
+  ends_there = omega (arith, K.linked.known, subst (λ (k : ℕ). 12 * states σ.base.aut ≤ k) (clear_length st) K.working.ready.ready.good.fits)
 
   known_clear : Known (clear st) x
   known_clear n = ⊎_elim (λ q. absurd (n q)) (λ k. k) K.linked.has_epsilon
@@ -78,63 +87,58 @@ module _ (sp t st mem tr : List ℕ) (c : Counts) {N : ℕ} {l : Limits} {s : Li
       kind = subst (λ (j : ℕ). get_or (clear st) j 0 ≡ get_or st j 0) {x = 12 * x + 0} {y = 12 * x} (omega arith) (clear_kept st x 0 (omega arith))
 
   module _ {e : ℕ} (q : value_of st x ≡ e) where
-    value_at : ValidAt (table t c.spp) N e
+    pub value_at : ValidAt σ.base.aut.nodes N e
     value_at =
         let W = K.working.ready.ordered.worked in
-        subst (ValidAt (table t c.spp) N) (value_clear st x ∙ q) (known_means (record { good = W.good; epsilons = W.epsilons }) K.linked.known known_clear).den.at
+        subst (ValidAt σ.base.aut.nodes N) (value_clear st x ∙ q) (known_means (record { good = W.good; epsilons = W.epsilons }) K.linked.known known_clear).den.at
 
-    pub ends_asks : PreImage N (diagrams κ₀) s e
-    ends_asks = asks_image t st mem tr c K.working e value_at
+    pub ends_asks : PreImage N (diagrams σ) s e
+    ends_asks = record { few = K.working.ready.ready.few; wf = both_wf K.working.ready.ordered; room = K.working.ready.ready.room; sound = sound_map (λ op x y r v. v.images) K.working.ready.sound; at_r = value_at }
 
-    ends_is : ends N x κ₀ ≡ making_sets (Images.bwd N e) κ₀
+    ends_is : ends N x (clear_tables σ) ≡ making_sets (Images.bwd N e) (clear_tables σ)
     unfolding ends
-    ends_is = ap (λ (v : ℕ). making_sets (Images.bwd N v) κ₀) (value_clear st x ∙ q)
+    ends_is = ap (λ (v : ℕ). making_sets (Images.bwd N v) (clear_tables σ)) (value_clear st x ∙ q)
 
-    pub ends_done : (r : sets.Made) (sp' s' : List ℕ) → PostImage N (Images.bwd N e) (diagrams κ₀) r sp' s s' → length s' ≡ length s → SetBy N l (ends N x κ₀) (tables_of sp t st mem tr c) c r (tables_of sp' t st mem tr) s s'
-    ends_done (sets.Made.Node h k) sp' s' A len =
-        let P = (bwd_given t st mem tr c K.working e value_at refl len A).post in
-        record { is = ends_is ∙ P.is; then = P.then }
-    ends_done sets.Made.Full sp' s' A len = ends_is ∙ images_refused t st mem tr c K.working A refl
+pub ends_done : {k : Config} {x y : Lent} {i e : ℕ} {r : Result SP Refusal} → Visited k.fields k.limits (tables_in x) x.scratch.now i → value_of x.states.words.now i ≡ e → OnlySets x y
+    → Gives (Written k.fields) (λ (h : SP). h.0) (Images.bwd k.fields e) (diagrams_in x) r (diagrams_in y) x.scratch.now y.scratch.now → GivesSet k (ends k.fields i) x r y
+ends_done {k} {x} {e = e} K q A G = let P = (bwd_ran K.working e (value_at K q) A G).post in record { post = record { is = ends_is K q ∙ P.is; then = P.then } }
 
 -- ---- one transition
 
-module _ (sp t st mem tr : List ℕ) (c : Counts) {N : ℕ} {l : Limits} {s : List ℕ} {y label u : ℕ} (J : Joining N l (tables_of sp t st mem tr c) s y label u) where
-  abbrev κ₁ : Tables
-  κ₁ = clear_of sp t st mem tr c
+module _ (k : Config) (x : Lent) {y label u : ℕ} (J : Joining k.fields k.limits (tables_in x) x.scratch.now y label u) where
+  abbrev N : ℕ
+  N = k.fields
 
   abbrev ahead : ℕ
-  ahead = get_or st (12 * y + 8) 0 - 1
+  ahead = get_or x.states.words.now (12 * y + 8) 0 - 1
 
-  abbrev one : Outcome Tables ℕ
-  one = join_one N label ahead u κ₁
+  pub pull_asks : PreLead N (diagrams_in x) x.scratch.now ahead label
+  pull_asks = asks_lead x J.working ahead J.ahead label J.at_label
 
-  pub pull_asks : PreLead N (diagrams κ₁) s ahead label
-  pull_asks = asks_lead t st mem tr c J.working label J.at_label ahead J.ahead
+  stage_0 : Stage (query_layer N k.limits) 0 0 (join_one N label ahead u (clear_in x)) (after (making_sets (Images.pull N N label ahead) (clear_in x)) (λ p. on_sets (Sp.union N u p))) (clear_in x) (clear_in x) x.scratch.now x.scratch.now
+  stage_0 = begin (query_laws N k.limits) 0 0 J.working.ready refl
 
-  stage_0 : Stage (query_layer N l) 0 0 one (after (making_sets (Images.pull N N label ahead) κ₁) (λ p. on_sets (Sp.union N u p))) κ₁ κ₁ c c s s
-  stage_0 = begin (query_layer N l) 0 0 J.working.ready refl
+  abbrev Pulls : Result SP Refusal → Lent → Type 0
+  Pulls r z = Gives (Written N) (λ (h : SP). h.0) (Images.pull N N label ahead) (diagrams_in x) r (diagrams_in z) x.scratch.now z.scratch.now
 
-  module _ {r1 : sets.Made} {sp1 s1 : List ℕ} (A : PostImage N (Images.pull N N label ahead) (diagrams κ₁) r1 sp1 s s1) where
-    pub pull_stuck : r1 ≡ sets.Made.Full → one ≡ refused 20
-    pull_stuck e = ap (λ (z : Outcome Tables ℕ). after z (λ p. on_sets (Sp.union N u p))) (images_refused t st mem tr c J.working A e)
+  pub pull_stuck : {e : Refusal} {z : Lent} → OnlySets x z → Pulls (Err e) z → GivesSet k (join_one N label ahead u) x (Err e) z
+  pull_stuck A G = record { post = stuck (query_laws N k.limits) 0 0 (pull_ran J.working ahead J.ahead label J.at_label A G).post (λ p. on_sets (Sp.union N u p)) stage_0 }
 
-    module _ (len1 : length s1 ≡ length s) {h1 : SP} {n1 : ℕ} (q1 : r1 ≡ sets.Made.Node h1 n1) where
-      ran_1 : Ran N l 0 0 (SetIn N) (making_sets (Images.pull N N label ahead) κ₁) (tables_of sp t st mem tr c) c (with_sets c n1) h1.0 (tables_of sp1 t st mem tr) s s1
-      ran_1 = pull_given t st mem tr c J.working label J.at_label q1 len1 ahead J.ahead A
+  module _ {h : SP} {z : Lent} (A : OnlySets x z) (G : Pulls (Ok h) z) where
+    ran_1 : Ran k 0 0 (SetIn N) (λ (h : SP). h.0) (making_sets (Images.pull N N label ahead)) x (Ok h) z
+    ran_1 = pull_ran J.working ahead J.ahead label J.at_label A G
 
-      stage_1 : Stage (query_layer N l) 0 0 one (on_sets (Sp.union N u h1.0) (clear_of sp1 t st mem tr (with_sets c n1))) κ₁ (clear_of sp1 t st mem tr (with_sets c n1)) c (with_sets c n1) s s1
-      stage_1 = next (query_layer N l) 0 0 ran_1.post (all_of 0 0) (λ p. on_sets (Sp.union N u p)) stage_0
+    stage_1 : Stage (query_layer N k.limits) 0 0 (join_one N label ahead u (clear_in x)) (on_sets (Sp.union N u h.0) (clear_in z)) (clear_in x) (clear_in z) x.scratch.now z.scratch.now
+    stage_1 = next (query_laws N k.limits) 0 0 ran_1.post (all_of 0 0) (λ p. on_sets (Sp.union N u p)) stage_0
 
-      at_1 : SpLaws.ValidAt (table sp1 n1) N u
-      at_1 = SpLawsProofs.at_ext ran_1.post.then.ext.sets N u J.at
+    at_1 : SpLaws.ValidAt (sets_in z) N u
+    at_1 = SpLawsProofs.at_ext ran_1.post.then.ext.sets N u J.at
 
-      pub union_asks : PreSets N (table sp1 n1) s1 u h1.0
-      union_asks = asks_sets t st mem tr (with_sets c n1) ran_1.working u at_1 h1.0 ran_1.post.then.holds
+    pub union_asks : PreSets N (sets_in z) z.scratch.now u h.0
+    union_asks = asks_sets z ran_1.working u at_1 h.0 ran_1.post.then.holds
 
-      pub join_done : (r2 : sets.Made) (sp2 s2 : List ℕ) → PostSets (Sp.union N u h1.0) (table sp1 n1) r2 sp2 s1 s2 → length s2 ≡ length s1 → SetBy N l one (tables_of sp t st mem tr c) c r2 (tables_of sp2 t st mem tr) s s2
-      join_done (sets.Made.Node h k) sp2 s2 B len =
-          finish (query_layer N l) 0 0 stage_1 (gave (with_sets c k) h.0) (union_given t st mem tr (with_sets c n1) ran_1.working u at_1 h1.0 ran_1.post.then.holds refl len B).post (all_of 0 0)
-      join_done sets.Made.Full sp2 s2 B len = stage_1.is ∙ sets_refused t st mem tr (with_sets c n1) ran_1.working B refl
+    pub join_done : {r : Result SP Refusal} {w : Lent} → OnlySets z w → Gives SpNoted (λ (h : SP). h.0) (Sp.union N u h.0) (sets_in z) r (sets_in w) z.scratch.now w.scratch.now → GivesSet k (join_one N label ahead u) x r w
+    join_done {r} B H = record { post = finish (query_laws N k.limits) 0 0 stage_1 r (union_ran ran_1.working u at_1 h.0 ran_1.post.then.holds B H).post (all_of 0 0) }
 
 -- ---- all transitions of a state
 
@@ -154,154 +158,173 @@ after_after : {S A B C : Type 0} (o : Outcome S A) (f : A → Step S B) (g : B �
 after_after (refused e) f g = refl
 after_after (given σ a) f g = refl
 
-module _ (sp t st mem tr : List ℕ) (c : Counts) {N : ℕ} {l : Limits} {s p : List ℕ} {n : ℕ} {before : Sets} {x : ℕ} (T : Turning N l (tables_of sp t st mem tr c) s p n before x) where
-  abbrev κ : Tables
-  κ = clear_of sp t st mem tr c
+-- packet sets have been made
+module _ (k : Config) {x z : Lent} (A : OnlySets x z) where
+  pub sets_working : Working k.fields k.limits (tables_in x) x.scratch.now → QueryReady k.fields k.limits (clear_in z) z.scratch.now → Working k.fields k.limits (tables_in z) z.scratch.now
+  sets_working W R = record { ready = R; fresh = subst (λ (b : Store). (j : ℕ) → 12 * states b.aut ≤ j → get_or b.aut.states.words j 0 ≡ 0) (sym (sets_base A)) W.fresh }
+
+  module _ {n : ℕ} {before : Sets} {i : ℕ} (T : TurningIn k x n before i) where
+    pub turn_made : QueryReady k.fields k.limits (clear_in z) z.scratch.now → SpLaws.Ext (sets_in x) (sets_in z) → TurningIn k z n before i
+    turn_made R e = rw A.pending (record {
+      walk = walk_made T.walk (sets_base A) (sets_working T.walk.working R);
+      sets = record { is = λ y m. ap (λ (b : Store). get_or b.aut.states.words (12 * y + 8) 0) (sets_base A) ∙ T.sets.is y m };
+      valid = λ y m. SpLawsProofs.at_ext e k.fields (before y) (T.valid y m);
+      among = T.among;
+    })
+
+module _ {N : ℕ} {l : Limits} {σ : Tables} {s p : List ℕ} {n : ℕ} {before : Sets} {x : ℕ} (T : Turning N l σ s p n before x) where
+  abbrev sw : List ℕ
+  sw = σ.base.aut.states.words
 
   abbrev start : ℕ
-  start = get_or st (12 * x + 5) 0
+  start = get_or sw (12 * x + 5) 0
 
-  abbrev k : ℕ
-  k = get_or st (12 * x + 6) 0 - 1
+  abbrev many : ℕ
+  many = get_or sw (12 * x + 6) 0 - 1
 
-  list_is : list_at κ.base x ≡ edges tr start k
+  list_is : list_at (clear_tables σ).base x ≡ edges σ.base.transitions.words start many
   unfolding list_at start_of count_of
-  list_is = ap₂ (λ (a k : ℕ). edges tr a (k - 1)) (clear_kept st x 5 (omega arith)) (clear_kept st x 6 (omega arith))
+  list_is = ap₂ (λ (a k : ℕ). edges σ.base.transitions.words a (k - 1)) (clear_kept sw x 5 (omega arith)) (clear_kept sw x 6 (omega arith))
 
-  pub turn_visited : Visited N l (tables_of sp t st mem tr c) s x
+  pub turn_visited : Visited N l σ s x
   turn_visited = record { working = T.walk.working; all = seconds p 0 n; linked = T.walk.links x T.among }
 
-  pub turn_there : 12 * x + 11 < length st
+  pub turn_there : 12 * x + 11 < length sw
   turn_there = walk_there T.walk x T.among
 
-  pub turn_some : 1 ≤ get_or st (12 * x + 6) 0
+  pub turn_some : 1 ≤ get_or sw (12 * x + 6) 0
   unfolding count_of
-  turn_some = omega (arith, (T.walk.links x T.among).marked, clear_kept st x 6 (omega arith))
+  turn_some = omega (arith, (T.walk.links x T.among).marked, clear_kept sw x 6 (omega arith))
 
-  pub turn_inside : 2 * (start + k) ≤ length tr
+  pub turn_inside : 2 * (start + many) ≤ length σ.base.transitions.words
   unfolding start_of count_of
   turn_inside =
       let L = T.walk.working.ready.ordered.worked.lists in
-      omega (arith, L.fit, (L.held x (walk_known T.walk x T.among)).inside k (omega (arith, turn_some, clear_kept st x 6 (omega arith))), clear_kept st x 5 (omega arith))
+      omega (arith, L.fit, (L.held x (walk_known T.walk x T.among)).inside many (omega (arith, turn_some, clear_kept sw x 6 (omega arith))), clear_kept sw x 5 (omega arith))
 
-  -- packet sets have been made
-  module _ {sp1 s1 : List ℕ} {m : ℕ} (W : Working N l (tables_of sp1 t st mem tr (with_sets c m)) s1) (e : SpLaws.Ext (table sp c.sp) (table sp1 m)) where
-    pub turn_made : Turning N l (tables_of sp1 t st mem tr (with_sets c m)) s1 p n before x
-    turn_made = record { walk = walk_made T.walk W; sets = T.sets; valid = λ y i. SpLawsProofs.at_ext e N (before y) (T.valid y i); among = T.among }
+module _ (k : Config) (x : Lent) {n : ℕ} {before : Sets} {s : ℕ} (T : TurningIn k x n before s) where
+  abbrev M : ℕ
+  M = k.fields
 
-  module _ (u : ℕ) (U : SpLaws.ValidAt (table sp c.sp) N u) where
-    abbrev all : Outcome Tables ℕ
-    all = joins N (list_at κ.base x) before u κ
+  abbrev tr : List ℕ
+  tr = x.transitions.words.now
+
+  abbrev κ : Tables
+  κ = clear_in x
+
+  abbrev from : ℕ
+  from = get_or x.states.words.now (12 * s + 5) 0
+
+  abbrev len : ℕ
+  len = get_or x.states.words.now (12 * s + 6) 0 - 1
+
+  module _ (u : ℕ) (U : SpLaws.ValidAt (sets_in x) M u) where
+    abbrev all : Step Tables ℕ
+    all = joins M (list_at κ.base s) before u
 
     -- i transitions are joined
-    pub record Joined (sp1 : List ℕ) (m u1 i : ℕ) (s1 : List ℕ) : Type 0 where
-      pub stage : Stage (query_layer N l) 0 0 all (joins N (edges tr (start + i) (k - i)) before u1 (clear_of sp1 t st mem tr (with_sets c m))) κ (clear_of sp1 t st mem tr (with_sets c m)) c (with_sets c m) s s1
-      pub turning : Turning N l (tables_of sp1 t st mem tr (with_sets c m)) s1 p n before x
-      pub at : SpLaws.ValidAt (table sp1 m) N u1
+    pub record Joined (z : Lent) (v i : ℕ) : Type 0 where
+      pub stage : Stage (query_layer M k.limits) 0 0 (all κ) (joins M (edges tr (from + i) (len - i)) before v (clear_in z)) κ (clear_in z) x.scratch.now z.scratch.now
+      pub turning : TurningIn k z n before s
+      pub at : SpLaws.ValidAt (sets_in z) M v
 
-    pub join_begin : Joined sp c.sp u 0 s
+    pub join_begin : Joined x u 0
     join_begin = record {
-      stage = begin (query_layer N l) 0 0 T.walk.working.ready
-          (ap (λ (es : List Edge). joins N es before u κ) (list_is ∙ ap₂ (λ (a k : ℕ). edges tr a k) {x = start} {y = start + 0} {u = k} {v = k - 0} (omega arith) (omega arith)));
+      stage = begin (query_laws M k.limits) 0 0 T.walk.working.ready
+          (ap (λ (es : List Edge). joins M es before u κ) (list_is T ∙ ap₂ (λ (a k : ℕ). edges tr a k) {x = from} {y = from + 0} {u = len} {v = len - 0} (omega arith) (omega arith)));
       turning = T;
       at = U;
     }
 
-    module _ {sp1 s1 : List ℕ} {m u1 i : ℕ} (v : Joined sp1 m u1 i s1) where
-      abbrev d : Counts
-      d = with_sets c m
+    module _ {z : Lent} {v i : ℕ} (A : OnlySets x z) (g : Joined z v i) where
+      module _ (lt : i < len) where
+        abbrev tz : List ℕ
+        tz = z.transitions.words.now
 
-      abbrev κ2 : Tables
-      κ2 = clear_of sp1 t st mem tr d
+        same : tz ≡ tr
+        same = rw A.transitions refl
 
-      module _ (lt : i < k) where
         abbrev y : ℕ
-        y = get_or tr (2 * (start + i)) 0
+        y = get_or tz (2 * (from + i)) 0
 
         abbrev label : ℕ
-        label = get_or tr (2 * (start + i) + 1) 0
+        label = get_or tz (2 * (from + i) + 1) 0
 
-        listed : Memᴰ (edge_at tr (start + i)) (list_at κ.base x)
-        listed = subst (λ (es : List Edge). Memᴰ (edge_at tr (start + i)) es) (sym list_is) (edge_in tr start k i lt)
+        abbrev set : ℕ
+        set = get_or z.states.words.now (12 * y + 8) 0 - 1
 
-        target_in : Memᴰ y (seconds p 0 n)
-        target_in = (T.walk.links x T.among).leads (edge_at tr (start + i)) listed
+        listed : Memᴰ (edge_at tz (from + i)) (list_at κ.base s)
+        listed = subst (λ (t : List ℕ). Memᴰ (edge_at t (from + i)) (list_at κ.base s)) (sym same) (subst (λ (es : List Edge). Memᴰ (edge_at tr (from + i)) es) (sym (list_is T)) (edge_in tr from len i lt))
 
-        ahead_is : before y ≡ get_or st (12 * y + 8) 0 - 1
-        ahead_is = omega (arith, T.sets.is y target_in)
+        target_in : Memᴰ y (seconds x.pending.now 0 n)
+        target_in = (T.walk.links s T.among).leads (edge_at tz (from + i)) listed
 
-        pub join_asks : Joining N l (tables_of sp1 t st mem tr d) s1 y label u1
+        target_on : Memᴰ y (seconds z.pending.now 0 n)
+        target_on = rw A.pending target_in
+
+        ahead_is : before y ≡ set
+        ahead_is = omega (arith, g.turning.sets.is y target_on)
+
+        pub join_asks : Joining M k.limits (tables_in z) z.scratch.now y label v
         unfolding count_of
         join_asks = record {
-          working = v.turning.walk.working;
-          there = walk_there T.walk y target_in;
-          some = omega (arith, T.sets.is y target_in);
-          ahead = subst (SpLaws.ValidAt (table sp1 m) N) ahead_is (v.turning.valid y target_in);
-          at_label = edge_at_lem ((T.walk.working.ready.ordered.worked.lists.held x (walk_known T.walk x T.among)).list (T.walk.links x T.among).marked).are listed;
-          at = v.at;
+          working = g.turning.walk.working;
+          there = walk_there g.turning.walk y target_on;
+          some = omega (arith, g.turning.sets.is y target_on);
+          ahead = subst (SpLaws.ValidAt (sets_in z) M) ahead_is (g.turning.valid y target_on);
+          at_label = subst (λ (b : Store). ValidAt b.aut.nodes M label) (sym (sets_base A))
+              (edge_at_lem ((T.walk.working.ready.ordered.worked.lists.held s (walk_known T.walk s T.among)).list (T.walk.links s T.among).marked).are listed);
+          at = g.at;
         }
 
-        turned : Stage (query_layer N l) 0 0 all (after (join_one N label (get_or st (12 * y + 8) 0 - 1) u1 κ2) (joins N (edges tr (start + (i + 1)) (k - (i + 1))) before)) κ κ2 c d s s1
+        abbrev rest : ℕ → Step Tables ℕ
+        rest = joins M (edges tr (from + (i + 1)) (len - (i + 1))) before
+
+        turned : Stage (query_layer M k.limits) 0 0 (all κ) (after (join_one M label set v (clear_in z)) rest) κ (clear_in z) x.scratch.now z.scratch.now
         unfolding joins
-        turned = instead (query_layer N l) 0 0 v.stage
-            (ap (λ (es : List Edge). joins N es before u1 κ2) (edges_on tr start k i lt)
-            ∙ after_after (making_sets (Images.pull N N label (before y)) κ2) (λ q. on_sets (Sp.union N u1 q)) (joins N (edges tr (start + (i + 1)) (k - (i + 1))) before)
-            ∙ ap (λ (a : ℕ). after (join_one N label a u1 κ2) (joins N (edges tr (start + (i + 1)) (k - (i + 1))) before)) ahead_is)
+        turned = instead (query_laws M k.limits) 0 0 g.stage
+            (ap (λ (es : List Edge). joins M es before v (clear_in z)) (edges_on tr from len i lt)
+            ∙ ap (λ (t : List ℕ). joins M (edge_at t (from + i) ∷ edges tr (from + (i + 1)) (len - (i + 1))) before v (clear_in z)) (sym same)
+            ∙ after_after (making_sets (Images.pull M M label (before y)) (clear_in z)) (λ q. on_sets (Sp.union M v q)) rest
+            ∙ ap (λ (a : ℕ). after (join_one M label a v (clear_in z)) rest) ahead_is)
 
-        abbrev OneBy : (sp2 s2 : List ℕ) → sets.Made → Type 0
-        OneBy sp2 s2 r = SetBy N l (join_one N label (get_or st (12 * y + 8) 0 - 1) u1 κ2) (tables_of sp1 t st mem tr d) d r (tables_of sp2 t st mem tr) s1 s2
+        pub join_stuck : {e : Refusal} {w : Lent} → GivesSet k (join_one M label set v) z (Err e) w → GivesSet k all x (Err e) w
+        join_stuck G = record { post = stuck (query_laws M k.limits) 0 0 G.post rest turned }
 
-        module _ (r : sets.Made) (sp2 s2 : List ℕ) (A : OneBy sp2 s2 r) where
-          pub join_stuck : r ≡ sets.Made.Full → all ≡ refused 20
-          join_stuck q = turned.is ∙ ap (λ (o : Outcome Tables ℕ). after o (joins N (edges tr (start + (i + 1)) (k - (i + 1))) before)) (subst (OneBy sp2 s2) q A)
+        pub join_again : {h : SP} {w : Lent} → OnlySets z w → GivesSet k (join_one M label set v) z (Ok h) w → Joined w h.0 (i + 1)
+        join_again B G =
+            let c = next (query_laws M k.limits) 0 0 G.post (all_of 0 0) rest turned in
+            record { stage = c; turning = turn_made k B g.turning G.post.then.ready G.post.then.ext.sets; at = G.post.then.holds }
 
-          pub join_again : {h : SP} {m2 : ℕ} → r ≡ sets.Made.Node h m2 → Joined sp2 m2 h.0 (i + 1) s2
-          join_again {h} {m2} q =
-              let P : OneBy sp2 s2 (sets.Made.Node h m2) = subst (OneBy sp2 s2) q A in
-              let g = next (query_layer N l) 0 0 P (all_of 0 0) (joins N (edges tr (start + (i + 1)) (k - (i + 1))) before) turned in
-              record {
-                stage = g;
-                turning = turn_made (record { ready = P.then.ready; fresh = T.walk.working.fresh }) g.ext.sets;
-                at = P.then.holds;
-              }
-
-      pub join_end : k ≤ i → (h : SP) → h.0 ≡ u1 → SetBy N l all (tables_of sp t st mem tr c) c (sets.Made.Node h m) (tables_of sp1 t st mem tr) s s1
+      pub join_end : {h : SP} → len ≤ i → h.0 ≡ v → GivesSet k all x (Ok h) z
       unfolding joins
-      join_end le h q = done (query_layer N l) 0 0 (λ e. clear_of sp1 t st mem tr e)
-          (instead (query_layer N l) 0 0 v.stage
-          (ap (λ (es : List Edge). joins N es before u1 κ2) (edges_done tr (start + i) k i le) ∙ ap (given κ2) (sym q)))
-          (subst (SpLaws.ValidAt (table sp1 m) N) (sym q) v.at)
+      join_end le q = record {
+        post = done (query_laws M k.limits) 0 0
+            (instead (query_laws M k.limits) 0 0 g.stage (ap (λ (es : List Edge). joins M es before v (clear_in z)) (edges_done tr (from + i) len i le) ∙ ap (given (clear_in z)) (sym q)))
+            (subst (SpLaws.ValidAt (sets_in z) M) (sym q) g.at);
+      }
 
   -- ---- the turn
 
-  abbrev whole : Outcome Tables ℕ
-  whole = turn N before x κ
-
-  turn_is : whole ≡ after (ends N x κ) (joins N (list_at κ.base x) before)
+  turn_is : turn M before s κ ≡ after (ends M s κ) (joins M (list_at κ.base s) before)
   unfolding turn
   turn_is = refl
 
-  abbrev EndsBy : (sp1 s1 : List ℕ) → sets.Made → Type 0
-  EndsBy sp1 s1 r = SetBy N l (ends N x κ) (tables_of sp t st mem tr c) c r (tables_of sp1 t st mem tr) s s1
+  at_first : Stage (query_layer M k.limits) 0 0 (turn M before s κ) (after (ends M s κ) (joins M (list_at κ.base s) before)) κ κ x.scratch.now x.scratch.now
+  at_first = begin (query_laws M k.limits) 0 0 T.walk.working.ready turn_is
 
-  module _ (r1 : sets.Made) (sp1 s1 : List ℕ) (A : EndsBy sp1 s1 r1) where
-    pub turn_stuck : r1 ≡ sets.Made.Full → whole ≡ refused 20
-    turn_stuck q = turn_is ∙ ap (λ (o : Outcome Tables ℕ). after o (joins N (list_at κ.base x) before)) (subst (EndsBy sp1 s1) q A)
+  pub turn_stuck : {e : Refusal} {z : Lent} → GivesSet k (ends M s) x (Err e) z → GivesSet k (turn M before s) x (Err e) z
+  turn_stuck G = record { post = stuck (query_laws M k.limits) 0 0 G.post (joins M (list_at κ.base s) before) at_first }
 
-    module _ {h : SP} {m : ℕ} (q : r1 ≡ sets.Made.Node h m) where
-      E : EndsBy sp1 s1 (sets.Made.Node h m)
-      E = subst (EndsBy sp1 s1) q A
+  module _ {h : SP} {z : Lent} (A : OnlySets x z) (G : GivesSet k (ends M s) x (Ok h) z) where
+    pub turn_after : TurningIn k z n before s
+    turn_after = turn_made k A T G.post.then.ready G.post.then.ext.sets
 
-      pub turn_after : Turning N l (tables_of sp1 t st mem tr (with_sets c m)) s1 p n before x
-      turn_after = turn_made (record { ready = E.then.ready; fresh = T.walk.working.fresh }) E.then.ext.sets
+    pub turn_at : SpLaws.ValidAt (sets_in z) M h.0
+    turn_at = G.post.then.holds
 
-      pub turn_at : SpLaws.ValidAt (table sp1 m) N h.0
-      turn_at = E.then.holds
-
-      on_1 : Stage (query_layer N l) 0 0 whole (joins N (list_at κ.base x) before h.0 (clear_of sp1 t st mem tr (with_sets c m))) κ (clear_of sp1 t st mem tr (with_sets c m)) c (with_sets c m) s s1
-      on_1 = next (query_layer N l) 0 0 E (all_of 0 0) (joins N (list_at κ.base x) before) (begin (query_layer N l) 0 0 T.walk.working.ready turn_is)
-
-      pub turn_done : (r2 : sets.Made) (sp2 s2 : List ℕ) → SetBy N l (joins N (list_at κ.base x) before h.0 (clear_of sp1 t st mem tr (with_sets c m))) (tables_of sp1 t st mem tr (with_sets c m)) (with_sets c m) r2 (tables_of sp2 t st mem tr) s1 s2
-          → SetBy N l whole (tables_of sp t st mem tr c) c r2 (tables_of sp2 t st mem tr) s s2
-      turn_done (sets.Made.Node g j) sp2 s2 B = finish (query_layer N l) 0 0 on_1 (gave (with_sets c j) g.0) B (all_of 0 0)
-      turn_done sets.Made.Full sp2 s2 B = on_1.is ∙ B
+    pub turn_done : {r : Result SP Refusal} {w : Lent} → GivesSet k (joins M (list_at (clear_in z).base s) before h.0) z r w → GivesSet k (turn M before s) x r w
+    turn_done {r} {w} H = record {
+      post = finish (query_laws M k.limits) 0 0 (next (query_laws M k.limits) 0 0 G.post (all_of 0 0) (joins M (list_at κ.base s) before) at_first) r
+          (subst (λ (b : Store). Post (query_layer M k.limits) 0 0 (SetIn M) (λ (h : SP). h.0) (joins M (list_at (in_store clear b) s) before h.0 (clear_in z)) (clear_in z) r (clear_in w) z.scratch.now w.scratch.now) (sets_base A) H.post) (all_of 0 0);
+    }

@@ -1,52 +1,41 @@
 -- 02 (i): "states in `states` order get the starts of strings with at most k hops: `bwd` of epsilon, joined by ascending target with `pull` of the k - 1 sets": what a round in code asks and promises.
-use Rattle.std.specs.Prelude.{◌≡◌, ◌≢◌, Bool, true, false, ℕ, ◌+◌, ◌*◌, ◌-◌, ◌<◌, length, get_or}
+use Rattle.std.specs.Prelude.{◌≡◌, ◌≢◌, Bool, true, false, ℕ, ◌+◌, ◌*◌, ◌-◌, ◌<◌, length, get_or, Option, Some, None, Result}
 use mathlib.Core.List.{List, Memᴰ}
-use Rattle.std.proofs.Math.Option.{Option, none, some}
-use Rattle.common.specs.Outcome.{Outcome, refused, Step, ◌>>=◌}
-use Rattle.common.specs.Runs.{table}
+use Rattle.std.proofs.Math.Option.{Option as Fewest, none, some}
+use Rattle.common.specs.Outcome.{Step, ◌>>=◌}
+use Rattle.refusal.specs.declared.Refusal.{Refusal}
 use Rattle.sp_steps.specs.Model as Sp
 use Rattle.sp_steps.specs.Wf as SpLaws
-use Rattle.sp.specs.declared.Made as sets
+use Rattle.sp.specs.declared.SP.{SP}
 use Rattle.spp_steps.specs.Wf.{ValidAt}
 use Rattle.spp_steps.specs.ImageModel as Images
 use Rattle.aut_delta_steps.specs.Delta.{list_at}
 use Rattle.aut_query_steps.specs.Tables.{Tables, on_sets, making_sets}
 use Rattle.aut_query_steps.specs.Explored.{Linked}
 use Rattle.aut_why_steps.specs.Why.{Sets, ends, joins, turn, each}
-use Rattle.aut_query_stage.specs.Layer.{tables_of}
-use Rattle.aut_query_stage.proofs.Layer.{query_layer}
-use Rattle.aut_states.specs.declared.Counts.{Counts}
+use Rattle.aut_query_stage.specs.Lent.{tables_in, GoesQuery}
+use Rattle.aut_states.specs.declared.Config.{Config}
 use Rattle.aut_states.specs.declared.Limits.{Limits}
-use Rattle.aut_stage.specs.Stage.{gave, Post}
+use Rattle.aut_relations.specs.declared.Aut.{Aut as Lent}
+use Rattle.aut_relations.specs.Lent.{Unless}
+use Rattle.aut_sets.specs.Lent.{sets_in}
 use Rattle.aut_free.specs.Clear.{clear_tables}
-use Rattle.aut_query_calls.specs.Working.{clear_of, Working}
-use Rattle.aut_query_calls.proofs.Working.{with_sets, SetIn}
+use Rattle.aut_query_calls.specs.Working.{clear_in, Working}
+use Rattle.aut_query_calls.specs.Working.{SetIn}
 use Rattle.aut_live_words.specs.Work.{seconds}
 use Rattle.aut_why_words.specs.Walk.{Walk, HasSets}
-use Rattle.aut_why_rounds.specs.declared.Nodes.{Nodes}
-use Rattle.aut_why_rounds.specs.declared.Nodes.TheVariants as nodes
 
 -- ---- the set of a state
 
--- a step o has given a set, or there is no node for it
-abbrev pub SetBy : (N : ℕ) → Limits → Outcome Tables ℕ → Tables → Counts → sets.Made → (Counts → Tables) → (s s' : List ℕ) → Type 0
-SetBy N l o σ c (sets.Made.Node h k) at s s' = Post (query_layer N l) 0 0 (SetIn N) o (clear_tables σ) c (gave (with_sets c k) h.0) (λ e. clear_tables (at e)) s s'
-SetBy N l o σ c sets.Made.Full at s s' = o ≡ refused 20
+-- a function does the step o, which gives a set, from the tables x: it has come to the answer r and the tables y
+abbrev pub GivesSet : Config → Step Tables ℕ → Lent → Result SP Refusal → Lent → Type 0
+GivesSet k o x r y = GoesQuery k 0 0 clear_in (SetIn k.fields) (λ h. h.0) o x r y
 
 -- x has its list and its epsilon
 pub record Visited (N : ℕ) (l : Limits) (σ : Tables) (s : List ℕ) (x : ℕ) : Type 0 where
   pub working : Working N l σ s
   pub all : List ℕ
   pub linked : Linked (clear_tables σ).base all x
-
--- members and transitions are not taken
-pub record PreEnds (N : ℕ) (l : Limits) (sp t st s : List ℕ) (c : Counts) (x : ℕ) : Type 0 where
-  pub members : List ℕ
-  pub transitions : List ℕ
-  pub visited : Visited N l (tables_of sp t st members transitions c) s x
-
-abbrev pub PostEnds : (N : ℕ) → Limits → (sp t st s : List ℕ) → Counts → (x : ℕ) → sets.Made → (sp' s' : List ℕ) → Type 0
-PostEnds N l sp t st s c x r sp' s' = (mem tr : List ℕ) → Visited N l (tables_of sp t st mem tr c) s x → SetBy N l (ends N x (clear_of sp t st mem tr c)) (tables_of sp t st mem tr c) c r (tables_of sp' t st mem tr) s s'
 
 -- what one transition leads back is joined to u
 abbrev pub join_one : (N label ahead u : ℕ) → Step Tables ℕ
@@ -61,15 +50,6 @@ pub record Joining (N : ℕ) (l : Limits) (σ : Tables) (s : List ℕ) (y label 
   pub at_label : ValidAt σ.base.aut.nodes N label
   pub at : SpLaws.ValidAt σ.sets N u
 
-pub record PreJoin (N : ℕ) (l : Limits) (sp t st s : List ℕ) (c : Counts) (y label u : ℕ) : Type 0 where
-  pub members : List ℕ
-  pub transitions : List ℕ
-  pub joining : Joining N l (tables_of sp t st members transitions c) s y label u
-
-abbrev pub PostJoin : (N : ℕ) → Limits → (sp t st s : List ℕ) → Counts → (y label u : ℕ) → sets.Made → (sp' s' : List ℕ) → Type 0
-PostJoin N l sp t st s c y label u r sp' s' = (mem tr : List ℕ) → Joining N l (tables_of sp t st mem tr c) s y label u
-    → SetBy N l (join_one N label (get_or st (12 * y + 8) 0 - 1) u (clear_of sp t st mem tr c)) (tables_of sp t st mem tr c) c r (tables_of sp' t st mem tr) s s'
-
 -- words 8 of the n states have the sets `before`; x is one of them
 pub record Turning (N : ℕ) (l : Limits) (σ : Tables) (s p : List ℕ) (n : ℕ) (before : Sets) (x : ℕ) : Type 0 where
   pub walk : Walk N l σ s p n
@@ -77,26 +57,25 @@ pub record Turning (N : ℕ) (l : Limits) (σ : Tables) (s p : List ℕ) (n : �
   pub valid : (y : ℕ) → Memᴰ y (seconds p 0 n) → SpLaws.ValidAt σ.sets N (before y)
   pub among : Memᴰ x (seconds p 0 n)
 
--- the members and the entries are not taken
-pub record PreTurn (N : ℕ) (l : Limits) (sp t st tr s : List ℕ) (c : Counts) (x : ℕ) : Type 0 where
-  pub members : List ℕ
-  pub pending : List ℕ
+-- .. of all tables
+abbrev pub TurningIn : Config → Lent → (n : ℕ) → Sets → (i : ℕ) → Type 0
+TurningIn k x n before i = Turning k.fields k.limits (tables_in x) x.scratch.now x.pending.now n before i
+
+pub record TurnAsked (k : Config) (x : Lent) (i : ℕ) : Type 0 where
   pub count : ℕ
   pub before : Sets
-  pub turning : Turning N l (tables_of sp t st members tr c) s pending count before x
+  pub turning : TurningIn k x count before i
 
-abbrev pub PostTurn : (N : ℕ) → Limits → (sp t st tr s : List ℕ) → Counts → (x : ℕ) → sets.Made → (sp' s' : List ℕ) → Type 0
-PostTurn N l sp t st tr s c x r sp' s' = (mem p : List ℕ) (n : ℕ) (before : Sets) → Turning N l (tables_of sp t st mem tr c) s p n before x
-    → SetBy N l (turn N before x (clear_of sp t st mem tr c)) (tables_of sp t st mem tr c) c r (tables_of sp' t st mem tr) s s'
+pub record Turns (k : Config) (i : ℕ) (x : Lent) (r : Result SP Refusal) (y : Lent) : Type 0 where
+  pub gives : (n : ℕ) (before : Sets) → TurningIn k x n before i → GivesSet k (turn k.fields before i) x r y
 
--- .. and u is a set, which each transition of x is joined to
-pub record PreJoins (N : ℕ) (l : Limits) (sp t st tr s : List ℕ) (c : Counts) (x u : ℕ) : Type 0 where
-  pub turn : PreTurn N l sp t st tr s c x
-  pub at : SpLaws.ValidAt (table sp c.sp) N u
+-- .. and u is a set, which each transition of i is joined to
+pub record JoinsAsked (k : Config) (x : Lent) (i u : ℕ) : Type 0 where
+  pub turn : TurnAsked k x i
+  pub at : SpLaws.ValidAt (sets_in x) k.fields u
 
-abbrev pub PostJoins : (N : ℕ) → Limits → (sp t st tr s : List ℕ) → Counts → (x u : ℕ) → sets.Made → (sp' s' : List ℕ) → Type 0
-PostJoins N l sp t st tr s c x u r sp' s' = (mem p : List ℕ) (n : ℕ) (before : Sets) → Turning N l (tables_of sp t st mem tr c) s p n before x → SpLaws.ValidAt (table sp c.sp) N u
-    → SetBy N l (joins N (list_at (clear_of sp t st mem tr c).base x) before u (clear_of sp t st mem tr c)) (tables_of sp t st mem tr c) c r (tables_of sp' t st mem tr) s s'
+pub record Joins (k : Config) (i u : ℕ) (x : Lent) (r : Result SP Refusal) (y : Lent) : Type 0 where
+  pub gives : (n : ℕ) (before : Sets) → TurningIn k x n before i → SpLaws.ValidAt (sets_in x) k.fields u → GivesSet k (joins k.fields (list_at (clear_in x).base i) before u) x r y
 
 -- ---- a round
 
@@ -120,45 +99,45 @@ pub record Rounding (N : ℕ) (l : Limits) (first : Bool) (σ : Tables) (s p : L
   pub sets : first ≡ false → HasSets 8 σ.base.aut.states.words p n before
   pub valid : first ≡ false → SetsOn N (seconds p 0 n) σ before
 
-pub record PreStep (N : ℕ) (l : Limits) (first : Bool) (sp t st tr s : List ℕ) (c : Counts) (x : ℕ) : Type 0 where
-  pub members : List ℕ
-  pub pending : List ℕ
+-- .. of all tables
+abbrev pub RoundingIn : Config → Bool → Lent → (n : ℕ) → Sets → Type 0
+RoundingIn k first x n before = Rounding k.fields k.limits first (tables_in x) x.scratch.now x.pending.now n before
+
+-- i is one of the states
+pub record StepAsked (k : Config) (first : Bool) (x : Lent) (i : ℕ) : Type 0 where
   pub count : ℕ
   pub before : Sets
-  pub rounding : Rounding N l first (tables_of sp t st members tr c) s pending count before
-  pub among : Memᴰ x (seconds pending 0 count)
+  pub rounding : RoundingIn k first x count before
+  pub among : Memᴰ i (seconds x.pending.now 0 count)
 
-abbrev pub PostStep : (N : ℕ) → Limits → Bool → (sp t st tr s : List ℕ) → Counts → (x : ℕ) → sets.Made → (sp' s' : List ℕ) → Type 0
-PostStep N l first sp t st tr s c x r sp' s' = (mem p : List ℕ) (n : ℕ) (before : Sets) → Rounding N l first (tables_of sp t st mem tr c) s p n before → Memᴰ x (seconds p 0 n)
-    → SetBy N l (step_of N first before x (clear_of sp t st mem tr c)) (tables_of sp t st mem tr c) c r (tables_of sp' t st mem tr) s s'
+pub record Stepped (k : Config) (first : Bool) (i : ℕ) (x : Lent) (r : Result SP Refusal) (y : Lent) : Type 0 where
+  pub gives : (n : ℕ) (before : Sets) → RoundingIn k first x n before → Memᴰ i (seconds x.pending.now 0 n) → GivesSet k (step_of k.fields first before i) x r y
 
-pub record PreRound (N : ℕ) (l : Limits) (first : Bool) (sp t st tr s p : List ℕ) (c : Counts) (n : ℕ) : Type 0 where
-  pub members : List ℕ
+pub record RoundAsked (k : Config) (first : Bool) (x : Lent) (n : ℕ) : Type 0 where
   pub before : Sets
-  pub rounding : Rounding N l first (tables_of sp t st members tr c) s p n before
+  pub rounding : RoundingIn k first x n before
 
-abbrev pub round_of : ℕ → Bool → List ℕ → Sets → Tables → Outcome Tables Sets
-round_of N first ss before σ = each (step_of N first before) ss (start_of N first before) σ
+abbrev pub round_of : ℕ → Bool → List ℕ → Sets → Step Tables Sets
+round_of N first ss before = each (step_of N first before) ss (start_of N first before)
 
--- the round has given `next`, in words 9; the other words are as they were
-pub record Rounded (N : ℕ) (l : Limits) (o : Outcome Tables Sets) (σ : Tables) (c d : Counts) (at : Counts → Tables) (s s' p : List ℕ) (n : ℕ) : Type 0 where
+-- the sets `next` are in words 9; the other words are as they were
+pub record Under (k : Config) (x y : Lent) (n : ℕ) (next : Sets) : Type 0 where
+  pub walk : Walk k.fields k.limits (tables_in y) y.scratch.now y.pending.now n
+  pub sets : HasSets 9 y.states.words.now y.pending.now n next
+  pub others : (i w : ℕ) → w < 12 → w ≢ 9 → get_or y.states.words.now (12 * i + w) 0 ≡ get_or x.states.words.now (12 * i + w) 0
+
+-- a round after `before` has come to the answer r and the tables y; unless refused, it has given `next`
+pub record Rounded (k : Config) (first : Bool) (before : Sets) (n : ℕ) (x : Lent) (r : Result Unit Refusal) (y : Lent) : Type 0 where
   pub next : Sets
-  pub post : Post (query_layer N l) 0 0 (SetsOn N (seconds p 0 n)) o (clear_tables σ) c (gave d next) (λ e. clear_tables (at e)) s s'
-  pub walk : Walk N l (at d) s' p n
-  pub sets : HasSets 9 (at d).base.aut.states.words p n next
-  pub others : (x w : ℕ) → w < 12 → w ≢ 9 → get_or (at d).base.aut.states.words (12 * x + w) 0 ≡ get_or σ.base.aut.states.words (12 * x + w) 0
+  pub post : GoesQuery k 0 0 clear_in (SetsOn k.fields (seconds x.pending.now 0 n)) (λ u. next) (round_of k.fields first (seconds x.pending.now 0 n) before) x r y
+  pub under : Unless r (Under k x y n next)
 
-abbrev pub RoundedBy : (N : ℕ) → Limits → Outcome Tables Sets → Tables → Counts → Nodes → (Counts → Tables) → (s s' p : List ℕ) → (n : ℕ) → Type 0
-RoundedBy N l o σ c (nodes.At k) at s s' p n = Rounded N l o σ c (with_sets c k) at s s' p n
-RoundedBy N l o σ c nodes.Full at s s' p n = o ≡ refused 20
-
-abbrev pub PostRound : (N : ℕ) → Limits → Bool → (sp t st tr s p : List ℕ) → Counts → (n : ℕ) → Nodes → (sp' st' s' : List ℕ) → Type 0
-PostRound N l first sp t st tr s p c n r sp' st' s' = (mem : List ℕ) (before : Sets) → Rounding N l first (tables_of sp t st mem tr c) s p n before
-    → RoundedBy N l (round_of N first (seconds p 0 n) before (clear_of sp t st mem tr c)) (tables_of sp t st mem tr c) c r (tables_of sp' t st' mem tr) s s' p n
+pub record RoundGives (k : Config) (first : Bool) (n : ℕ) (x : Lent) (r : Result Unit Refusal) (y : Lent) : Type 0 where
+  pub gives : (before : Sets) → RoundingIn k first x n before → Rounded k first before n x r y
 
 -- ---- the fewest hops
 
--- + 1, and 0 for none
-abbrev pub hops_word : Option ℕ → ℕ
-hops_word none = 0
-hops_word (some k) = k + 1
+-- as the code has it
+abbrev pub hops_of : Fewest ℕ → Option ℕ
+hops_of none = None
+hops_of (some k) = Some k

@@ -1,200 +1,100 @@
 // The rounds of `why`: the starts of strings with at most k hops, k rising from 0 until none changes.
 #![tactic(auto)]
 
-ghost use Rattle.aut_why_rounds.specs.Clauses.{PreEnds, PostEnds, PreJoin, PostJoin, PreJoins, PostJoins, PreTurn, PostTurn, PreStep, PostStep, PreRound, PostRound};
+ghost use Rattle.std.specs.Prelude.{◌≡◌, ◌+◌, ◌*◌, ◌-◌, get_or, IfErr};
+ghost use Rattle.refusal.specs.declared.Refusal.TheVariants.{Sp};
+ghost use Rattle.aut_why_steps.specs.Why.{ends};
+ghost use Rattle.aut_sets.specs.Lent.{OnlySets, OnlySearch};
+ghost use Rattle.aut_query_stage.specs.Lent.{tables_in};
+ghost use Rattle.aut_why_rounds.specs.Clauses.{GivesSet, Visited, join_one, Joining, TurnAsked, Turns, JoinsAsked, Joins, StepAsked, Stepped, RoundAsked, RoundGives};
 
-use aut_states::{Config, Counts};
+use aut_relations::Aut;
+use aut_states::{Config, STATE, word};
+use refusal::Refusal;
 use sp::SP;
 use spp::SPP;
 
-// counts, the number of states, and the fewest hops + 1 of a string, 0 if there is none; or 01's number
-#[derive(Clone, Copy)]
-pub enum Whys {
-    To(Counts, usize, usize),
-    Refused(u32),
-}
-
-// the number of packet nodes
-#[derive(Clone, Copy)]
-pub enum Nodes {
-    At(usize),
-    Full,
-}
-
 // the starts of s's strings without hops
-fn ends_at(
-    sp: &mut [u32],
-    nodes: &[u32],
-    states: &[u32],
-    scratch: &mut [u32],
-    c: Counts,
-    config: Config,
-    s: u32,
-) -> sp::Made
-    requires { PreEnds config.fields config.limits sp.old nodes.now states.now scratch.old c s }
-    ensures { PostEnds config.fields config.limits sp.old nodes.now
-        states.now scratch.old c s result sp.new scratch.new }
+fn ends_at(aut: &mut Aut, config: Config, s: u32) -> Result<SP, Refusal>
+    requires { Visited config.fields config.limits (tables_in aut.old) aut.old.scratch.now s }
+    ensures keeps { OnlySets aut.old aut.new }
+    ensures only { IfErr result (λ e. e ≡ Sp) }
+    ensures gives { GivesSet config (ends config.fields s) aut.old result aut.new }
 {
-    let e = aut_why_words::epsilon_at(states, s);
-    aut_sets::set_bwd(sp, nodes, scratch, c, config.fields, e)
+    let e = aut_why_words::epsilon_at(aut, s);
+    aut_sets::bwd(aut, config, e)
 }
 
 // u joined with what a transition to t leads back from the set of the round before
-fn join_one(
-    sp: &mut [u32],
-    nodes: &[u32],
-    states: &[u32],
-    scratch: &mut [u32],
-    c: Counts,
-    config: Config,
-    t: u32,
-    label: SPP,
-    u: SP,
-) -> sp::Made
-    requires { PreJoin config.fields config.limits sp.old nodes.now states.now scratch.old c t
-        label.0 u.0 }
-    ensures { PostJoin config.fields config.limits sp.old nodes.now
-        states.now scratch.old c t label.0 u.0 result sp.new
-        scratch.new }
+fn join_one(aut: &mut Aut, config: Config, t: u32, label: SPP, u: SP) -> Result<SP, Refusal>
+    requires { Joining config.fields config.limits (tables_in aut.old) aut.old.scratch.now t label.0
+        u.0 }
+    ensures keeps { OnlySets aut.old aut.new }
+    ensures only { IfErr result (λ e. e ≡ Sp) }
+    ensures gives { GivesSet config
+        (join_one config.fields label.0 (get_or aut.old.states.words.now (12 * t + 8) 0 - 1) u.0)
+        aut.old result aut.new }
 {
-    let ahead = SP(states[aut_states::STATE * (t as usize) + 8] - 1);
-    let sp::Made::Node(back, n) = aut_sets::set_pull(
-        sp,
-        nodes,
-        scratch,
-        c,
-        config.fields,
-        label,
-        ahead,
-    ) else {
-        return sp::Made::Full;
-    };
-    aut_sets::set_union(sp, scratch, Counts { sp: n, ..c }, config.fields, u, back)
+    let ahead = SP(aut.states.words[STATE * (t as usize) + 8] - 1);
+    let back = aut_sets::pull(aut, config, label, ahead)?;
+    aut_sets::union(aut, config, u, back)
 }
 
 // u joined with what each transition of s leads back
-fn join_all(
-    sp: &mut [u32],
-    nodes: &[u32],
-    states: &[u32],
-    transitions: &[u32],
-    scratch: &mut [u32],
-    c: Counts,
-    config: Config,
-    s: u32,
-    u: SP,
-) -> sp::Made
-    requires { PreJoins config.fields config.limits sp.old nodes.now states.now transitions.now
-        scratch.old c s u.0 }
-    ensures { PostJoins config.fields config.limits sp.old nodes.now
-        states.now transitions.now scratch.old c s u.0 result sp.new
-        scratch.new }
+fn join_all(aut: &mut Aut, config: Config, s: u32, u: SP) -> Result<SP, Refusal>
+    requires { JoinsAsked config aut.old s u.0 }
+    ensures keeps { OnlySets aut.old aut.new }
+    ensures only { IfErr result (λ e. e ≡ Sp) }
+    ensures gives { Joins config s u.0 aut.old result aut.new }
 {
     let j = s as usize;
-    let start = states[aut_states::STATE * j + aut_states::word::START] as usize;
-    let k = states[aut_states::STATE * j + aut_states::word::COUNT] as usize - 1;
+    let start = aut.states.words[STATE * j + word::START] as usize;
+    let k = aut.states.words[STATE * j + word::COUNT] as usize - 1;
     let mut u = u;
-    let mut m = c.sp;
     for i in 0..k {
-        let t = transitions[2 * (start + i)];
-        let label = SPP(transitions[2 * (start + i) + 1]);
-        let d = Counts { sp: m, ..c };
-        let sp::Made::Node(u1, m1) = join_one(sp, nodes, states, scratch, d, config, t, label, u)
-        else {
-            return sp::Made::Full;
-        };
-        u = u1;
-        m = m1;
+        let t = aut.transitions.words[2 * (start + i)];
+        let label = SPP(aut.transitions.words[2 * (start + i) + 1]);
+        u = join_one(aut, config, t, label, u)?;
     }
-    sp::Made::Node(u, m)
+    Ok(u)
 }
 
 // the set of s, from the sets of the round before in words 8
-pub fn turn(
-    sp: &mut [u32],
-    nodes: &[u32],
-    states: &[u32],
-    transitions: &[u32],
-    scratch: &mut [u32],
-    c: Counts,
-    config: Config,
-    s: u32,
-) -> sp::Made
-    requires { PreTurn config.fields config.limits sp.old nodes.now states.now transitions.now
-        scratch.old c s }
-    ensures { PostTurn config.fields config.limits sp.old nodes.now
-        states.now transitions.now scratch.old c s result sp.new
-        scratch.new }
+pub fn turn(aut: &mut Aut, config: Config, s: u32) -> Result<SP, Refusal>
+    requires { TurnAsked config aut.old s }
+    ensures keeps { OnlySets aut.old aut.new }
+    ensures only { IfErr result (λ e. e ≡ Sp) }
+    ensures gives { Turns config s aut.old result aut.new }
 {
-    let sp::Made::Node(u, n) = ends_at(sp, nodes, states, scratch, c, config, s) else {
-        return sp::Made::Full;
-    };
-    let d = Counts { sp: n, ..c };
-    join_all(sp, nodes, states, transitions, scratch, d, config, s, u)
+    let u = ends_at(aut, config, s)?;
+    join_all(aut, config, s, u)
 }
 
 // the set of s in a round: in the first without hops, later from the round before
-fn set_of(
-    sp: &mut [u32],
-    nodes: &[u32],
-    states: &[u32],
-    transitions: &[u32],
-    scratch: &mut [u32],
-    c: Counts,
-    config: Config,
-    first: bool,
-    s: u32,
-) -> sp::Made
-    requires { PreStep config.fields config.limits first sp.old nodes.now states.now transitions.now
-        scratch.old c s }
-    ensures { PostStep config.fields config.limits first sp.old nodes.now
-        states.now transitions.now scratch.old c s result sp.new
-        scratch.new }
+fn set_of(aut: &mut Aut, config: Config, first: bool, s: u32) -> Result<SP, Refusal>
+    requires { StepAsked config first aut.old s }
+    ensures keeps { OnlySets aut.old aut.new }
+    ensures only { IfErr result (λ e. e ≡ Sp) }
+    ensures gives { Stepped config first s aut.old result aut.new }
 {
     if first {
-        return ends_at(sp, nodes, states, scratch, c, config, s);
+        return ends_at(aut, config, s);
     }
-    turn(sp, nodes, states, transitions, scratch, c, config, s)
+    turn(aut, config, s)
 }
 
 // the sets of the n states go into words 9
-pub fn round(
-    sp: &mut [u32],
-    nodes: &[u32],
-    states: &mut [u32],
-    transitions: &[u32],
-    pending: &[u32],
-    scratch: &mut [u32],
-    c: Counts,
-    config: Config,
-    first: bool,
-    n: usize,
-) -> Nodes
-    requires { PreRound config.fields config.limits first sp.old nodes.now states.old transitions.now
-        scratch.old pending.now c n }
-    ensures { PostRound config.fields config.limits first sp.old nodes.now
-        states.old transitions.now scratch.old pending.now c n result
-        sp.new states.new scratch.new }
+pub fn round(aut: &mut Aut, config: Config, first: bool, n: usize) -> Result<(), Refusal>
+    requires { RoundAsked config first aut.old n }
+    ensures keeps { OnlySearch aut.old aut.new }
+    ensures pending { aut.new.pending ≡ aut.old.pending }
+    ensures only { IfErr result (λ e. e ≡ Sp) }
+    ensures gives { RoundGives config first n aut.old result aut.new }
 {
-    let mut m = c.sp;
     for i in 0..n {
-        let s = pending[2 * i + 1];
-        let d = Counts { sp: m, ..c };
-        let sp::Made::Node(h, m1) = set_of(
-            sp,
-            nodes,
-            states,
-            transitions,
-            scratch,
-            d,
-            config,
-            first,
-            s,
-        ) else {
-            return Nodes::Full;
-        };
-        states[aut_states::STATE * (s as usize) + 9] = h.0 + 1;
-        m = m1;
+        let s = aut.pending[2 * i + 1];
+        let h = set_of(aut, config, first, s)?;
+        aut.states.words[STATE * (s as usize) + 9] = h.0 + 1;
     }
-    Nodes::At(m)
+    Ok(())
 }

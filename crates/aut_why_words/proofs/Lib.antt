@@ -1,3 +1,4 @@
 -- Read in this order.
 pub mod Loops  -- the loops over the states
 pub mod Walks  -- how `Walk` and `HasSets` go on
+pub mod Lent  -- what calls leave of all tables

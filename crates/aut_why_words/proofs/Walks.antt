@@ -17,44 +17,52 @@ use Rattle.aut_query_steps.specs.Explored.{Linked}
 use Rattle.aut_query_steps.proofs.ExploreLaws.{any_mem}
 use Rattle.aut_query_steps.specs.Tables.{Tables}
 use Rattle.aut_why_steps.specs.Why.{Sets, same_on}
-use Rattle.aut_query_stage.specs.Layer.{Zeroed, tables_of}
-use Rattle.aut_states.specs.declared.Counts.{Counts}
+use Rattle.aut_steps.specs.Wf.{states}
+use Rattle.aut_delta_steps.specs.Delta.{Store}
+use Rattle.aut_query_stage.specs.Layer.{Zeroed}
 use Rattle.aut_states.specs.declared.Limits.{Limits}
+use Rattle.aut_free.specs.Clear.{clear, clear_tables, in_store}
 use Rattle.aut_free.proofs.Clear.{AtRest}
 use Rattle.aut_free.proofs.Clearing.{clear_length, is_clear}
-use Rattle.aut_query_calls.specs.Working.{clear_of, Working}
-use Rattle.aut_query_calls.proofs.Working.{with_sets}
-use Rattle.aut_query_calls.proofs.Works.{clear_written, working_written}
+use Rattle.aut_query_calls.specs.Working.{Working}
 use Rattle.aut_live_words.specs.Work.{seconds}
 use Rattle.aut_live_words.specs.Clauses.{PreKeep}
 use Rattle.aut_live_words.proofs.Words.{second_in}
-use Rattle.aut_live_words.proofs.Held.{mem_any}
+use Rattle.aut_live_words.proofs.Held.{mem_any, clear_set_in, working_set}
+use Rattle.aut_query_calls.specs.Working.{words_in, with_words}
 use Rattle.aut_why_words.specs.Walk.{Walk, HasSets}
 use Rattle.aut_why_words.specs.Words.{same_words, copy_words, zero_words, clear_all, PostClear}
 use Rattle.aut_why_words.proofs.Loops.{zero_length}
 
 -- ---- the states reached
 
-module _ {N : ℕ} {l : Limits} {sp t st mem tr : List ℕ} {c : Counts} {s p : List ℕ} {n : ℕ} (K : Walk N l (tables_of sp t st mem tr c) s p n) where
-  pub walk_known : (x : ℕ) → Memᴰ x (seconds p 0 n) → x < c.states
+module _ {N : ℕ} {l : Limits} {σ : Tables} {s p : List ℕ} {n : ℕ} (K : Walk N l σ s p n) where
+  pub walk_known : (x : ℕ) → Memᴰ x (seconds p 0 n) → x < states σ.base.aut
   walk_known x m = (K.links x m).known
 
-  pub walk_there : (x : ℕ) → Memᴰ x (seconds p 0 n) → 12 * x + 11 < length st
-  walk_there x m = omega (arith, walk_known x m, subst (λ (k : ℕ). 12 * c.states ≤ k) (clear_length st) K.working.ready.ready.good.fits)
+  pub walk_there : (x : ℕ) → Memᴰ x (seconds p 0 n) → 12 * x + 11 < length (words_in σ)
+  walk_there x m = omega (arith, walk_known x m, subst (λ (k : ℕ). 12 * states σ.base.aut ≤ k) (clear_length (words_in σ)) K.working.ready.ready.good.fits)
 
-  pub walk_keeps : PreKeep st p n
+  pub walk_keeps : PreKeep (words_in σ) p n
   walk_keeps = record { fits = omega (arith, K.room); states = λ i a. walk_there (get_or p (2 * i + 1) 0) (second_in p 0 n i (omega arith) (omega arith)) }
 
   -- packet sets were made
-  pub walk_made : {sp' s' : List ℕ} {k : ℕ} → Working N l (tables_of sp' t st mem tr (with_sets c k)) s' → Walk N l (tables_of sp' t st mem tr (with_sets c k)) s' p n
-  walk_made W = record { working = W; links = K.links; rest = K.rest; first = K.first; after = K.after; room = K.room }
+  pub walk_made : {τ : Tables} {s' : List ℕ} → τ.base ≡ σ.base → Working N l τ s' → Walk N l τ s' p n
+  walk_made {τ} q W = record {
+    working = W;
+    links = λ x m. subst (λ (b : Store). Linked (in_store clear b) (seconds p 0 n) x) (sym q) (K.links x m);
+    rest = λ x w a b m. ap (λ (b : Store). get_or b.aut.states.words (12 * x + w) 0) q ∙ K.rest x w a b m;
+    first = K.first;
+    after = K.after;
+    room = K.room;
+  }
 
   -- a word of one of them is written
-  pub walk_written : (x w v : ℕ) → 8 ≤ w → w < 12 → Memᴰ x (seconds p 0 n) → Walk N l (tables_of sp t (set st (12 * x + w) v) mem tr c) s p n
+  pub walk_written : (x w v : ℕ) → 8 ≤ w → w < 12 → Memᴰ x (seconds p 0 n) → Walk N l (with_words (set (words_in σ) (12 * x + w) v) σ) s p n
   walk_written x w v a b m = record {
-    working = working_written sp t st mem tr c x w v a b (walk_known x m) K.working;
-    links = λ y k. subst (λ (τ : Tables). Linked τ.base (seconds p 0 n) y) (sym (clear_written sp t st mem tr c x w v a b)) (K.links y k);
-    rest = λ y u e f k. get_or-set_other st (12 * x + w) (12 * y + u) v 0 (λ q. k (subst (λ (z : ℕ). Memᴰ z (seconds p 0 n)) {x = x} {y = y} (omega arith) m)) ∙ K.rest y u e f k;
+    working = working_set σ x w v a b (walk_known x m) K.working;
+    links = λ y k. subst (λ (τ : Tables). Linked τ.base (seconds p 0 n) y) (sym (clear_set_in σ x w v a b)) (K.links y k);
+    rest = λ y u e f k. get_or-set_other (words_in σ) (12 * x + w) (12 * y + u) v 0 (λ q. k (subst (λ (z : ℕ). Memᴰ z (seconds p 0 n)) {x = x} {y = y} (omega arith) m)) ∙ K.rest y u e f k;
     first = K.first;
     after = K.after;
     room = K.room;
@@ -104,27 +112,27 @@ module _ (a b : ℕ) (less : b < 12) where
     copy_here [] st z k m = elim m [ ]
 
   -- words 8 to 11 may be copied
-  module _ (sp t mem tr : List ℕ) (c : Counts) (low : 8 ≤ b) where
-    pub clear_copied : (xs st : List ℕ) → clear_of sp t (copy_words a b xs st) mem tr c ≡ clear_of sp t st mem tr c
+  module _ (σ : Tables) (low : 8 ≤ b) where
+    pub clear_copied : (xs st : List ℕ) → clear_tables (with_words (copy_words a b xs st) σ) ≡ clear_tables (with_words st σ)
     unfolding copy_words
     clear_copied [] st = refl
-    clear_copied (y ∷ xs) st = clear_copied xs (set st (12 * y + b) (get_or st (12 * y + a) 0)) ∙ clear_written sp t st mem tr c y b (get_or st (12 * y + a) 0) low less
+    clear_copied (y ∷ xs) st = clear_copied xs (set st (12 * y + b) (get_or st (12 * y + a) 0)) ∙ clear_set_in (with_words st σ) y b (get_or st (12 * y + a) 0) low less
 
   pub has_beside : {st p : List ℕ} {n w : ℕ} {v : Sets} → w < 12 → w ≢ b → HasSets w st p n v → HasSets w (copy_words a b (seconds p 0 n) st) p n v
   has_beside {st} {p} {n} {w} k q h = record { is = λ x m. copy_other (seconds p 0 n) st x w k q ∙ h.is x m }
 
-module _ {N : ℕ} {l : Limits} {sp t mem tr : List ℕ} {c : Counts} {s p : List ℕ} {n : ℕ} (a b : ℕ) (low : 8 ≤ b) (less : b < 12) where
-  copies : (xs st : List ℕ) → ((x : ℕ) → Memᴰ x xs → Memᴰ x (seconds p 0 n)) → Walk N l (tables_of sp t st mem tr c) s p n → Walk N l (tables_of sp t (copy_words a b xs st) mem tr c) s p n
+module _ {N : ℕ} {l : Limits} (σ : Tables) {s p : List ℕ} {n : ℕ} (a b : ℕ) (low : 8 ≤ b) (less : b < 12) where
+  copies : (xs st : List ℕ) → ((x : ℕ) → Memᴰ x xs → Memᴰ x (seconds p 0 n)) → Walk N l (with_words st σ) s p n → Walk N l (with_words (copy_words a b xs st) σ) s p n
   unfolding copy_words
   copies [] st f K = K
   copies (y ∷ xs) st f K = copies xs (set st (12 * y + b) (get_or st (12 * y + a) 0)) (λ x m. f x (Memᴰ.tail m)) (walk_written K y b (get_or st (12 * y + a) 0) low less (f y (Memᴰ.head refl)))
 
-  module _ {st : List ℕ} (K : Walk N l (tables_of sp t st mem tr c) s p n) where
-    pub walk_copied : Walk N l (tables_of sp t (copy_words a b (seconds p 0 n) st) mem tr c) s p n
-    walk_copied = copies (seconds p 0 n) st (λ x m. m) K
+  module _ (K : Walk N l σ s p n) where
+    pub walk_copied : Walk N l (with_words (copy_words a b (seconds p 0 n) (words_in σ)) σ) s p n
+    walk_copied = copies (seconds p 0 n) (words_in σ) (λ x m. m) K
 
-    pub has_copied : {v : Sets} → a < 12 → a ≢ b → HasSets a st p n v → HasSets b (copy_words a b (seconds p 0 n) st) p n v
-    has_copied k q h = record { is = λ x m. copy_here a b less k q (seconds p 0 n) st x (walk_there K x m) m ∙ h.is x m }
+    pub has_copied : {v : Sets} → a < 12 → a ≢ b → HasSets a (words_in σ) p n v → HasSets b (copy_words a b (seconds p 0 n) (words_in σ)) p n v
+    has_copied k q h = record { is = λ x m. copy_here a b less k q (seconds p 0 n) (words_in σ) x (walk_there K x m) m ∙ h.is x m }
 
 -- ---- words 8 and 9 are compared
 
@@ -213,16 +221,16 @@ pub no_test : (b : Bool) → b ≡ true → b ≡ false → ⊥
 no_test true t f = let z : ◌≡◌ {A = ℕ} 0 1 = ap (λ (b : Bool). if b then 0 else 1) f in absurd (omega arith)
 no_test false t f = let z : ◌≡◌ {A = ℕ} 0 1 = sym (ap (λ (b : Bool). if b then 0 else 1) t) in absurd (omega arith)
 
-module _ {N : ℕ} {l : Limits} {sp t st mem tr : List ℕ} {c : Counts} {s p : List ℕ} {n : ℕ} (K : Walk N l (tables_of sp t st mem tr c) s p n) {st' p' : List ℕ} (E : PostClear n st p st' p') where
+module _ {N : ℕ} {l : Limits} {σ : Tables} {s p : List ℕ} {n : ℕ} (K : Walk N l σ s p n) {st' p' : List ℕ} (E : PostClear n (words_in σ) p st' p') where
   at_rest : AtRest st'
   at_rest z w a b = ap (λ (u : List ℕ). get_or u (12 * z + w) 0) E.is ∙ by_test (any (eqb z) (seconds p 0 n))
-      (λ e. let m = any_mem z (seconds p 0 n) e in all_here (seconds p 0 n) st z w a b (walk_there K z m) m)
-      (λ e. all_stays (seconds p 0 n) st (12 * z + w) (K.rest z w a b (λ m. absurd (no_test (any (eqb z) (seconds p 0 n)) (mem_any m) e))))
+      (λ e. let m = any_mem z (seconds p 0 n) e in all_here (seconds p 0 n) (words_in σ) z w a b (walk_there K z m) m)
+      (λ e. all_stays (seconds p 0 n) (words_in σ) (12 * z + w) (K.rest z w a b (λ m. absurd (no_test (any (eqb z) (seconds p 0 n)) (mem_any m) e))))
 
   -- the tables are at rest again: nothing but words 8 to 11 has changed
-  pub walk_cleared : tables_of sp t st' mem tr c ≡ clear_of sp t st mem tr c
-  walk_cleared = ap (λ (u : List ℕ). tables_of sp t u mem tr c)
-      (is_clear st' st (ap length E.is ∙ all_length (seconds p 0 n) st) (λ z w a. ap (λ (u : List ℕ). get_or u (12 * z + w) 0) E.is ∙ all_low (seconds p 0 n) st z w a) at_rest)
+  pub walk_cleared : with_words st' σ ≡ clear_tables σ
+  walk_cleared = ap (λ (u : List ℕ). with_words u σ)
+      (is_clear st' (words_in σ) (ap length E.is ∙ all_length (seconds p 0 n) (words_in σ)) (λ z w a. ap (λ (u : List ℕ). get_or u (12 * z + w) 0) E.is ∙ all_low (seconds p 0 n) (words_in σ) z w a) at_rest)
 
   pub walk_zeroed : Zeroed p'
   walk_zeroed j = by_test (eqb (j % 2) 0)

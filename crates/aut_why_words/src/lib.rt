@@ -5,32 +5,31 @@
 ghost use Rattle.std.specs.Prelude.{◌≡◌, ◌+◌, ◌*◌, ◌<◌, length};
 ghost use Rattle.aut_delta_steps.specs.Epsilon.{value_of};
 ghost use Rattle.aut_delta_steps.specs.EpsilonDown.{Known};
+ghost use Rattle.aut_sets.specs.Lent.{OnlyMarks};
 ghost use Rattle.aut_live_words.specs.Work.{seconds};
 ghost use Rattle.aut_live_words.specs.Clauses.{PreKeep};
 ghost use Rattle.aut_why_words.specs.Words.{same_words, copy_words, PreCopy, PostClear};
 
+use aut_relations::Aut;
+use aut_states::STATE;
 use spp::SPP;
 
 // the epsilon of x, which is worked out
-pub fn epsilon_at(states: &[u32], x: u32) -> SPP
-    requires { (12 * x + 11 < length states.now) × Known states.now x }
-    ensures { value_of states.now x ≡ result.0 }
+pub fn epsilon_at(aut: &Aut, x: u32) -> SPP
+    requires { (12 * x + 11 < length aut.now.states.words.now) × Known aut.now.states.words.now x }
+    ensures { value_of aut.now.states.words.now x ≡ result.0 }
 {
-    let i = aut_states::STATE * (x as usize);
-    if states[i] == aut_states::kind::SPP {
-        return SPP(states[i + 1]);
-    }
-    SPP(states[i + 4] - 1)
+    aut_epsilon::value(&aut.states, x)
 }
 
 // whether the sets in words 8 and 9 of the n states are equal
-pub fn same_sets(states: &[u32], pending: &[u32], n: usize) -> bool
-    requires { PreKeep states.now pending.now n }
-    ensures { same_words (seconds pending.now 0 n) states.now ≡ result }
+pub fn same_sets(aut: &Aut, n: usize) -> bool
+    requires { PreKeep aut.now.states.words.now aut.now.pending.now n }
+    ensures { same_words (seconds aut.now.pending.now 0 n) aut.now.states.words.now ≡ result }
 {
     for i in 0..n {
-        let at = aut_states::STATE * (pending[2 * i + 1] as usize);
-        if states[at + 8] != states[at + 9] {
+        let at = STATE * (aut.pending[2 * i + 1] as usize);
+        if aut.states.words[at + 8] != aut.states.words[at + 9] {
             return false;
         }
     }
@@ -38,30 +37,33 @@ pub fn same_sets(states: &[u32], pending: &[u32], n: usize) -> bool
 }
 
 // word `to` of the n states gets their word `from`
-pub fn copy_sets(states: &mut [u32], pending: &[u32], n: usize, from: usize, to: usize)
-    requires { PreCopy states.old pending.now n from to }
-    ensures { states.new ≡
-        copy_words from to (seconds pending.now 0 n) states.old }
+pub fn copy_sets(aut: &mut Aut, n: usize, from: usize, to: usize)
+    requires { PreCopy aut.old.states.words.now aut.old.pending.now n from to }
+    ensures keeps { OnlyMarks aut.old aut.new }
+    ensures pending { aut.new.pending ≡ aut.old.pending }
+    ensures gives { aut.new.states.words.now ≡
+        copy_words from to (seconds aut.old.pending.now 0 n) aut.old.states.words.now }
 {
     for i in 0..n {
-        let at = aut_states::STATE * (pending[2 * i + 1] as usize);
-        let set = states[at + from];
-        states[at + to] = set;
+        let at = STATE * (aut.pending[2 * i + 1] as usize);
+        let set = aut.states.words[at + from];
+        aut.states.words[at + to] = set;
     }
 }
 
 // words 8 to 11 of the n states and the n entries are zero again
-pub fn clear(states: &mut [u32], pending: &mut [u32], n: usize)
-    requires { PreKeep states.old pending.old n }
-    ensures { PostClear n states.old pending.old states.new
-        pending.new }
+pub fn clear(aut: &mut Aut, n: usize)
+    requires { PreKeep aut.old.states.words.now aut.old.pending.now n }
+    ensures keeps { OnlyMarks aut.old aut.new }
+    ensures gives { PostClear n aut.old.states.words.now aut.old.pending.now
+        aut.new.states.words.now aut.new.pending.now }
 {
     for i in 0..n {
-        let at = aut_states::STATE * (pending[2 * i + 1] as usize);
-        states[at + 8] = 0;
-        states[at + 9] = 0;
-        states[at + 10] = 0;
-        states[at + 11] = 0;
-        pending[2 * i + 1] = 0;
+        let at = STATE * (aut.pending[2 * i + 1] as usize);
+        aut.states.words[at + 8] = 0;
+        aut.states.words[at + 9] = 0;
+        aut.states.words[at + 10] = 0;
+        aut.states.words[at + 11] = 0;
+        aut.pending[2 * i + 1] = 0;
     }
 }

@@ -1,35 +1,35 @@
+use Rattle.refusal.proofs.Passed.{passed}
 use Rattle.sp_steps.specs.Model as Sp
 use Rattle.aut_why.proofs.Loop as loops
 use Rattle.aut_why.proofs.all_rounds.Goals as goal
 
 pub round-requires : goal.round-requires
-round-requires c =
-    record { members = c.requires.members; before = λ t. Sp.zero_at c.args.config.fields; rounding = loops.zero_rounding c.args.sp.now c.args.nodes.now c.args.states.now c.requires.members c.args.transitions.now c.args.c c.requires.walk c.requires.among }
+round-requires c = record { before = λ t. Sp.zero_at c.args.config.fields; rounding = loops.zero_rounding c.args.config c.args.aut.now c.requires.walk c.requires.among }
 
-pub returns-in_default : goal.returns-in_default
-returns-in_default c =
-    λ mem K i. loops.all_stuck c.args.sp.now c.args.nodes.now c.args.states.now mem c.args.transitions.now c.args.c K i c.round.result c.round.new.sp c.round.new.states c.round.new.scratch
-    (c.round.ensures mem (λ t. Sp.zero_at c.args.config.fields) (loops.zero_rounding c.args.sp.now c.args.nodes.now c.args.states.now mem c.args.transitions.now c.args.c K i)) c.in_default.is
+pub returns-in_err-round-clause-gives : goal.returns-in_err-round-clause-gives
+returns-in_err-round-clause-gives c =
+    let Q = c.requires in
+    let R = loops.zero_rounding c.args.config c.args.aut.now Q.walk Q.among in
+    rw (passed c.from_residual.ensures) (loops.all_stuck c.args.config c.args.aut.now Q.walk Q.among (c.in_err-round.ensures.gives.gives (λ t. Sp.zero_at c.args.config.fields) R))
 
 pub copy_sets-requires : goal.copy_sets-requires
 copy_sets-requires c =
-    loops.all_copies c.args.sp.now c.args.nodes.now c.args.states.now c.requires.members c.args.transitions.now c.args.c c.requires.walk c.requires.among c.round.result c.round.new.sp c.round.new.states c.round.new.scratch
-    (c.round.ensures c.requires.members (λ t. Sp.zero_at c.args.config.fields) (loops.zero_rounding c.args.sp.now c.args.nodes.now c.args.states.now c.requires.members c.args.transitions.now c.args.c c.requires.walk c.requires.among)) c.in-At.is
+    let Q = c.requires in
+    let R = loops.zero_rounding c.args.config c.args.aut.now Q.walk Q.among in
+    loops.all_copies c.args.config c.args.aut.now Q.walk Q.among c.round.ensures.pending (c.in_ok-round.ensures.gives.gives (λ t. Sp.zero_at c.args.config.fields) R)
 
 pub rounds-requires : goal.rounds-requires
 rounds-requires c =
-    let Z = c.round.ensures c.requires.members (λ t. Sp.zero_at c.args.config.fields) (loops.zero_rounding c.args.sp.now c.args.nodes.now c.args.states.now c.requires.members c.args.transitions.now c.args.c c.requires.walk c.requires.among) in
-    record {
-      members = c.requires.members;
-      now = (loops.Z c.args.sp.now c.args.nodes.now c.args.states.now c.requires.members c.args.transitions.now c.args.c c.requires.walk c.requires.among c.round.result c.round.new.sp c.round.new.states c.round.new.scratch Z c.in-At.is).next;
-      going = loops.all_going c.args.sp.now c.args.nodes.now c.args.states.now c.requires.members c.args.transitions.now c.args.c c.requires.walk c.requires.among c.round.result c.round.new.sp c.round.new.states c.round.new.scratch Z c.in-At.is c.copy_sets.ensures;
-    }
+    let Q = c.requires in
+    let R = loops.zero_rounding c.args.config c.args.aut.now Q.walk Q.among in
+    let G = c.in_ok-round.ensures.gives.gives (λ t. Sp.zero_at c.args.config.fields) R in
+    let K = c.copy_sets.ensures in
+    record { now = G.next; going = loops.all_going c.args.config c.args.aut.now Q.walk Q.among c.round.ensures.pending G K.keeps K.pending K.gives }
 
-pub returns : goal.returns
-returns c =
-    λ mem K i.
-    let Z = c.round.ensures mem (λ t. Sp.zero_at c.args.config.fields) (loops.zero_rounding c.args.sp.now c.args.nodes.now c.args.states.now mem c.args.transitions.now c.args.c K i) in
-    loops.all_done c.args.sp.now c.args.nodes.now c.args.states.now mem c.args.transitions.now c.args.c K i c.round.result c.round.new.sp c.round.new.states c.round.new.scratch Z c.in-At.is c.copy_sets.ensures
-    c.rounds.result c.rounds.new.sp c.rounds.new.states c.rounds.new.scratch
-    (c.rounds.ensures mem (loops.Z c.args.sp.now c.args.nodes.now c.args.states.now mem c.args.transitions.now c.args.c K i c.round.result c.round.new.sp c.round.new.states c.round.new.scratch Z c.in-At.is).next
-    (loops.all_going c.args.sp.now c.args.nodes.now c.args.states.now mem c.args.transitions.now c.args.c K i c.round.result c.round.new.sp c.round.new.states c.round.new.scratch Z c.in-At.is c.copy_sets.ensures))
+pub returns-clause-gives : goal.returns-clause-gives
+returns-clause-gives c =
+    let Q = c.requires in
+    let R = loops.zero_rounding c.args.config c.args.aut.now Q.walk Q.among in
+    let G = c.in_ok-round.ensures.gives.gives (λ t. Sp.zero_at c.args.config.fields) R in
+    let K = c.copy_sets.ensures in
+    loops.all_done c.args.config c.args.aut.now Q.walk Q.among c.round.ensures.pending G K.keeps K.pending K.gives c.rounds.ensures.gives

@@ -1,22 +1,22 @@
+use Rattle.refusal.proofs.Passed.{passed}
 use Rattle.aut_why.proofs.Loop as loops
 use Rattle.aut_why.proofs.next_round.Goals as goal
 
-pub returns-in_default : goal.returns-in_default
-returns-in_default c =
-    λ mem now R. loops.next_stuck c.args.sp.now c.args.nodes.now c.args.states.now mem c.args.transitions.now c.args.c R c.round.result c.round.new.sp c.round.new.states c.round.new.scratch (c.round.ensures mem now R) c.in_default.is
+pub returns-in_err-round-clause-gives : goal.returns-in_err-round-clause-gives
+returns-in_err-round-clause-gives c = record { gives = λ now R. rw (passed c.from_residual.ensures) (loops.next_stuck c.args.config c.args.aut.now R (c.in_err-round.ensures.gives.gives now R)) }
 
 pub same_sets-requires : goal.same_sets-requires
-same_sets-requires c =
-    loops.next_keeps c.args.sp.now c.args.nodes.now c.args.states.now c.requires.members c.args.transitions.now c.args.c c.requires.rounding c.round.result c.round.new.sp c.round.new.states c.round.new.scratch (c.round.ensures c.requires.members c.requires.before c.requires.rounding) c.in-At.is
+same_sets-requires c = loops.next_keeps c.args.config c.args.aut.now c.requires.rounding c.round.ensures.pending (c.in_ok-round.ensures.gives.gives c.requires.before c.requires.rounding)
 
-pub returns-then-same_sets : goal.returns-then-same_sets
-returns-then-same_sets c =
-    λ mem now R. loops.next_same c.args.sp.now c.args.nodes.now c.args.states.now mem c.args.transitions.now c.args.c R c.round.result c.round.new.sp c.round.new.states c.round.new.scratch (c.round.ensures mem now R) c.in-At.is c.same_sets.ensures c.if-same_sets.true
+pub returns-then-same_sets-clause-gives : goal.returns-then-same_sets-clause-gives
+returns-then-same_sets-clause-gives c = record {
+  gives = λ now R. loops.next_same c.args.config c.args.aut.now R c.round.ensures.pending (c.in_ok-round.ensures.gives.gives now R) c.same_sets.ensures c.if-same_sets.true;
+}
 
 pub copy_sets-requires : goal.copy_sets-requires
-copy_sets-requires c =
-    loops.next_copies c.args.sp.now c.args.nodes.now c.args.states.now c.requires.members c.args.transitions.now c.args.c c.requires.rounding c.round.result c.round.new.sp c.round.new.states c.round.new.scratch (c.round.ensures c.requires.members c.requires.before c.requires.rounding) c.in-At.is
+copy_sets-requires c = loops.next_copies c.args.config c.args.aut.now c.requires.rounding c.round.ensures.pending (c.in_ok-round.ensures.gives.gives c.requires.before c.requires.rounding)
 
-pub returns : goal.returns
-returns c =
-    λ mem now R. loops.next_more c.args.sp.now c.args.nodes.now c.args.states.now mem c.args.transitions.now c.args.c R c.round.result c.round.new.sp c.round.new.states c.round.new.scratch (c.round.ensures mem now R) c.in-At.is c.same_sets.ensures c.if-same_sets.false c.copy_sets.ensures
+pub returns-clause-gives : goal.returns-clause-gives
+returns-clause-gives c = record {
+  gives = λ now R. loops.next_more c.args.config c.args.aut.now R c.round.ensures.pending (c.in_ok-round.ensures.gives.gives now R) c.same_sets.ensures c.if-same_sets.false c.copy_sets.ensures.keeps c.copy_sets.ensures.pending c.copy_sets.ensures.gives;
+}

@@ -1,31 +1,20 @@
-use mathlib.Core.Path.{◌∙◌}
+use Rattle.refusal.proofs.Passed.{passed}
 use Rattle.aut_why.proofs.Whys as why
 use Rattle.aut_why.proofs.why_sets.Goals as goal
 
+pub returns-in_err-n-clause-gives : goal.returns-in_err-n-clause-gives
+returns-in_err-n-clause-gives c = rw (passed c.from_residual.ensures) (why.why_refused c.requires c.in_err-n.ensures.gives)
+
 pub keep-requires : goal.keep-requires
-keep-requires c =
-    why.why_keeps c.requires c.live_sets-walked.result c.live_sets-walked.new.sp c.live_sets-walked.new.nodes c.live_sets-walked.new.states c.live_sets-walked.new.members c.live_sets-walked.new.transitions c.live_sets-walked.new.scratch c.live_sets-walked.new.pending c.live_sets-walked.ensures c.in-To.is
+keep-requires c = why.why_keeps c.requires c.in_ok-n.ensures.gives
 
 pub all_rounds-requires : goal.all_rounds-requires
-all_rounds-requires c =
-    record {
-      members = c.live_sets-walked.new.members;
-      walk = why.why_walk c.requires c.live_sets-walked.result c.live_sets-walked.new.sp c.live_sets-walked.new.nodes c.live_sets-walked.new.states c.live_sets-walked.new.members c.live_sets-walked.new.transitions c.live_sets-walked.new.scratch c.live_sets-walked.new.pending c.live_sets-walked.ensures c.in-To.is c.keep.ensures;
-      among = why.why_in c.requires c.live_sets-walked.result c.live_sets-walked.new.sp c.live_sets-walked.new.nodes c.live_sets-walked.new.states c.live_sets-walked.new.members c.live_sets-walked.new.transitions c.live_sets-walked.new.scratch c.live_sets-walked.new.pending c.live_sets-walked.ensures c.in-To.is;
-    }
+all_rounds-requires c = why.why_all c.requires c.in_ok-n.ensures.gives c.keep.ensures.keeps c.keep.ensures.pending c.keep.ensures.gives
 
-pub returns-in-Refused : goal.returns-in-Refused
-returns-in-Refused c =
-    why.why_refused c.requires c.live_sets-walked.result c.live_sets-walked.new.sp c.live_sets-walked.new.nodes c.live_sets-walked.new.states c.live_sets-walked.new.members c.live_sets-walked.new.transitions c.live_sets-walked.new.scratch c.live_sets-walked.new.pending c.live_sets-walked.ensures c.in-Refused.is
+pub returns-in_err-hops-clause-gives : goal.returns-in_err-hops-clause-gives
+returns-in_err-hops-clause-gives c =
+    rw (passed c.from_residual-in_err-hops.ensures) (why.why_stuck c.requires c.in_ok-n.ensures.gives c.keep.ensures.keeps c.keep.ensures.pending c.keep.ensures.gives c.in_err-hops.ensures.gives)
 
-pub shape_of-sp-in-To : goal.shape_of-sp-in-To
-shape_of-sp-in-To c = c.all_rounds.auto.sp ∙ c.live_sets-walked.auto.sp
-
-pub returns-in-To : goal.returns-in-To
-returns-in-To c =
-    why.why_done c.requires c.live_sets-walked.result c.live_sets-walked.new.sp c.live_sets-walked.new.nodes c.live_sets-walked.new.states c.live_sets-walked.new.members c.live_sets-walked.new.transitions c.live_sets-walked.new.scratch c.live_sets-walked.new.pending c.live_sets-walked.ensures c.in-To.is c.keep.ensures
-    c.all_rounds.result c.all_rounds.new.sp c.all_rounds.new.states c.all_rounds.new.scratch
-    (c.all_rounds.ensures c.live_sets-walked.new.members
-    (why.why_walk c.requires c.live_sets-walked.result c.live_sets-walked.new.sp c.live_sets-walked.new.nodes c.live_sets-walked.new.states c.live_sets-walked.new.members c.live_sets-walked.new.transitions c.live_sets-walked.new.scratch c.live_sets-walked.new.pending c.live_sets-walked.ensures c.in-To.is c.keep.ensures)
-    (why.why_in c.requires c.live_sets-walked.result c.live_sets-walked.new.sp c.live_sets-walked.new.nodes c.live_sets-walked.new.states c.live_sets-walked.new.members c.live_sets-walked.new.transitions c.live_sets-walked.new.scratch c.live_sets-walked.new.pending c.live_sets-walked.ensures c.in-To.is))
-    (c.all_rounds.auto.scratch ∙ c.live_sets-walked.auto.scratch)
+pub returns-clause-gives : goal.returns-clause-gives
+returns-clause-gives c =
+    why.why_done c.requires c.in_ok-n.ensures.gives c.keep.ensures.keeps c.keep.ensures.pending c.keep.ensures.gives c.all_rounds.ensures.pending c.in_ok-hops.ensures.gives

@@ -1,32 +1,41 @@
+use mathlib.Core.Path.{refl, ◌∙◌}
+use Rattle.std.proofs.Common.{rules}
 use Rattle.aut_why_words.proofs.Walks.{walk_keeps}
+use Rattle.aut_why_words.proofs.Lent.{marks_tables}
 use Rattle.aut_why_marks.proofs.Loops.{keep_on}
 use Rattle.aut_why_again.proofs.Steps as steps
 use Rattle.aut_why_again.proofs.forward.Goals as goal
 
 pub loop-init : goal.loop-init
-loop-init c =
-    λ mem ws A. steps.forward_begin c.args.sp.now c.args.nodes.now c.args.states.now mem c.args.transitions.now c.args.c A
+loop-init c = record { keeps = search rules; pending = refl; started = λ ws A. steps.forward_begin A }
 
 pub turns-requires : goal.turns-requires
 turns-requires c =
-    record {
-      members = c.requires.members;
+    let I = c.loop.invariant in
+    rw I.pending (record {
       rounds = c.requires.rounds;
       round = c.loop.counter;
-      turning = steps.forward_turning c.args.sp.now c.args.nodes.now c.args.states.now c.requires.members c.args.transitions.now c.args.c c.requires.ahead (c.loop.invariant c.requires.members c.requires.rounds c.requires.ahead) c.loop-test.true;
-    }
+      turning = steps.forward_turning c.requires.ahead (I.started c.requires.rounds c.requires.ahead) c.loop-test.true;
+    })
 
 pub renew-requires : goal.renew-requires
 renew-requires c =
-    let T = steps.forward_turning c.args.sp.now c.args.nodes.now c.args.states.now c.requires.members c.args.transitions.now c.args.c c.requires.ahead (c.loop.invariant c.requires.members c.requires.rounds c.requires.ahead) c.loop-test.true in
-    keep_on (walk_keeps T.on.standing.walk) (c.turns.ensures c.requires.members c.requires.rounds c.loop.counter T).fills.words.len
+    let I = c.loop.invariant in
+    let T = steps.forward_turning c.requires.ahead (I.started c.requires.rounds c.requires.ahead) c.loop-test.true in
+    rw (c.turns.ensures.pending, I.pending) (keep_on (walk_keeps T.on.standing.walk) c.turns.ensures.keeps.words)
 
 pub loop-preserved : goal.loop-preserved
 loop-preserved c =
-    λ mem ws A. let B = c.loop.invariant mem ws A in
-    steps.forward_again c.args.sp.now c.args.nodes.now c.args.states.now mem c.args.transitions.now c.args.c A B
-    (c.turns.ensures mem ws c.loop.counter (steps.forward_turning c.args.sp.now c.args.nodes.now c.args.states.now mem c.args.transitions.now c.args.c A B c.loop-test.true)) c.renew.ensures
+    let I = c.loop.invariant in
+    let E = rw I.pending at c.turns.ensures.gives in
+    let R = rw (c.turns.ensures.pending, I.pending) at c.renew.ensures.gives in
+    record {
+      keeps = search rules;
+      pending = c.renew.ensures.pending ∙ c.turns.ensures.pending ∙ I.pending;
+      started = λ ws A. let B = I.started ws A in
+          rw c.renew.ensures.keeps.scratch (steps.forward_again A B (E ws c.loop.counter (steps.forward_turning A B c.loop-test.true)) (marks_tables c.renew.ensures.keeps) R);
+    }
 
-pub returns : goal.returns
-returns c =
-    λ mem ws A. steps.forward_end c.args.sp.now c.args.nodes.now c.args.states.now mem c.args.transitions.now c.args.c A (c.loop.invariant mem ws A) c.loop-test.false (c.loop.auto.counter-end c.requires.ahead.later)
+pub returns-clause-gives : goal.returns-clause-gives
+returns-clause-gives c =
+    λ ws A. steps.forward_end A (c.loop.invariant.started ws A) c.loop-test.false (c.loop.auto.counter-end c.requires.ahead.later)

@@ -1,12 +1,17 @@
+use mathlib.Core.Path.{◌≡◌}
 use mathlib.Core.List.{List}
 use Prim.Native.Nat.{ℕ, ◌+◌}
+use Rattle.aut_sets.specs.Lent.{OnlySearch}
+use Rattle.aut_query_stage.specs.Lent.{tables_in}
 use Rattle.aut_why_steps.specs.Why.{Sets, round_at}
-use Rattle.aut_query_stage.specs.Layer.{tables_of}
-use Rattle.aut_why_again.specs.Clauses.{Onward}
+use Rattle.aut_why_again.specs.Clauses.{OnwardIn}
 use Rattle.aut_why_again.proofs.Runs.{Running}
 use Rattle.aut_why_again.proofs.turns.Given as goal
 
 abbrev pub invariant-loop-i : goal.invariant-loop-i
-invariant-loop-i l =
-    (mem : List ℕ) (ws : List Sets) (k : ℕ) → Onward l.config.fields l.config.limits (tables_of l.initial.sp l.nodes l.initial.states mem l.transitions l.c) l.initial.scratch l.pending l.n ws k
-    → Running l.config.fields (tables_of l.initial.sp l.nodes l.initial.states mem l.transitions l.c) (round_at l.config.fields ws (k + 1)) l.n l.pending l.initial.sp l.initial.states l.initial.scratch l.sp l.states l.scratch l.i
+invariant-loop-i l = record {
+  keeps : OnlySearch l.initial.aut l.aut;
+  pending : l.aut.pending ≡ l.initial.aut.pending;
+  runs : (ws : List Sets) (k : ℕ) → OnwardIn l.config l.initial.aut l.n ws k
+      → Running l.config.fields (round_at l.config.fields ws (k + 1)) l.n l.initial.aut.pending.now (tables_in l.initial.aut) (tables_in l.aut) l.initial.aut.scratch.now l.aut.scratch.now l.i;
+}

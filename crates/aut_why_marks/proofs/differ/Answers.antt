@@ -1,18 +1,25 @@
-use mathlib.Core.Path.{◌∙◌}
+use mathlib.Core.Path.{refl, sym, ◌∙◌}
 use native.Mathlib.Omega.{arith}
+use Rattle.std.proofs.Common.{rules}
 use Rattle.aut_why_marks.specs.Clauses.{moved_at}
 use Rattle.aut_why_marks.proofs.Loops as loops
 use Rattle.aut_why_marks.proofs.differ.Goals as goal
 
 pub loop-i-init : goal.loop-i-init
-loop-i-init c = loops.fill_begin 11 (λ x. moved_at c.args.states.now x)
+loop-i-init c = record { keeps = search rules; pending = refl; words = loops.fill_begin 11 (λ x. moved_at c.args.aut.now.states.words.now x) }
 
 pub moved-v-requires : goal.moved-v-requires
-moved-v-requires c = omega (arith, c.requires.states c.loop-i.i c.loop-i-test.true, c.loop-i.invariant.words.len)
+moved-v-requires c =
+    rw c.loop-i.invariant.pending (omega (arith, c.requires.states c.loop-i.i c.loop-i-test.true, c.loop-i.invariant.words.words.len))
 
 pub loop-i-preserved : goal.loop-i-preserved
-loop-i-preserved c =
-    loops.fill_again 11 (λ x. moved_at c.args.states.now x) c.loop-i.invariant c.loop-i-test.true (omega arith) (c.requires.states c.loop-i.i c.loop-i-test.true) (c.moved-v.ensures ∙ loops.moved_on c.loop-i.invariant _)
+loop-i-preserved c = record {
+  keeps = search rules;
+  pending = search rules;
+  words = rw c.loop-i.invariant.pending
+      (loops.fill_again 11 (λ x. moved_at c.args.aut.now.states.words.now x) c.loop-i.invariant.words c.loop-i-test.true (omega arith) (c.requires.states c.loop-i.i c.loop-i-test.true)
+      (rw (sym c.loop-i.invariant.pending) (c.moved-v.ensures ∙ loops.moved_on c.loop-i.invariant.words _)));
+}
 
-pub returns : goal.returns
-returns c = loops.fill_end 11 (λ x. moved_at c.args.states.now x) c.loop-i.invariant c.loop-i.auto.i-end c.loop-i-test.false
+pub returns-clause-gives : goal.returns-clause-gives
+returns-clause-gives c = loops.fill_end 11 (λ x. moved_at c.args.aut.now.states.words.now x) c.loop-i.invariant.words c.loop-i.auto.i-end c.loop-i-test.false

@@ -1,5 +1,11 @@
+use mathlib.Core.Path.{◌≡◌}
+use Rattle.aut_sets.specs.Lent.{OnlyMarks}
 use Rattle.aut_why_marks.proofs.Loops.{Filling}
 use Rattle.aut_why_marks.proofs.fill.Given as goal
 
 abbrev pub invariant-loop-i : goal.invariant-loop-i
-invariant-loop-i l = Filling l.w (λ x. l.v) l.n l.pending l.initial.states l.states l.i
+invariant-loop-i l = record {
+  keeps : OnlyMarks l.initial.aut l.aut;
+  pending : l.aut.pending ≡ l.initial.aut.pending;
+  words : Filling l.w (λ x. l.v) l.n l.initial.aut.pending.now l.initial.aut.states.words.now l.aut.states.words.now l.i;
+}

@@ -1,52 +1,66 @@
+use mathlib.Core.Path.{refl}
 use native.Mathlib.Omega.{arith}
+use Rattle.std.proofs.Common.{rules}
+use Rattle.refusal.proofs.Passed.{passed}
 use Rattle.aut_why_rounds.proofs.Passes as passes
 use Rattle.aut_why_rounds.proofs.round.Goals as goal
 
 pub loop-i-init : goal.loop-i-init
-loop-i-init c =
-    λ mem before R. passes.pass_begin c.args.sp.now c.args.nodes.now c.args.states.now mem c.args.transitions.now c.args.c R
+loop-i-init c = record { keeps = search rules; pending = refl; passed = λ before R. passes.pass_begin c.args.config c.args.aut.now R }
+
+pub bounds-aut-i : goal.bounds-aut-i
+bounds-aut-i c =
+    let I = c.loop-i.invariant in
+    rw I.pending (passes.pass_entry c.args.config c.args.aut.now c.requires.rounding (I.passed c.requires.before c.requires.rounding) c.loop-i-test.true)
 
 pub set_of-requires : goal.set_of-requires
 set_of-requires c =
-    let I = c.loop-i.invariant c.requires.members c.requires.before c.requires.rounding in
+    let Q = c.requires in
+    let I = c.loop-i.invariant in
     record {
-      members = c.requires.members;
-      pending = c.args.pending.now;
       count = c.args.n;
-      before = c.requires.before;
-      rounding = passes.pass_rounding c.args.sp.now c.args.nodes.now c.args.states.now c.requires.members c.args.transitions.now c.args.c c.requires.rounding I;
-      among = passes.pass_in c.args.sp.now c.args.nodes.now c.args.states.now c.requires.members c.args.transitions.now c.args.c c.requires.rounding I c.loop-i-test.true;
+      before = Q.before;
+      rounding = passes.pass_asks c.args.config c.args.aut.now Q.rounding (I.passed Q.before Q.rounding) I.pending;
+      among = rw I.pending (passes.pass_in c.args.config c.args.aut.now Q.rounding (I.passed Q.before Q.rounding) c.loop-i-test.true);
     }
 
-pub returns-in_default : goal.returns-in_default
-returns-in_default c =
-    λ mem before R. let I = c.loop-i.invariant mem before R in
-    passes.pass_stuck c.args.sp.now c.args.nodes.now c.args.states.now mem c.args.transitions.now c.args.c R I c.loop-i-test.true c.set_of.result c.set_of.new.sp c.set_of.new.scratch
-    (c.set_of.ensures mem c.args.pending.now c.args.n before (passes.pass_rounding c.args.sp.now c.args.nodes.now c.args.states.now mem c.args.transitions.now c.args.c R I) (passes.pass_in c.args.sp.now c.args.nodes.now c.args.states.now mem c.args.transitions.now c.args.c R I c.loop-i-test.true))
-    c.in_default.is
+pub returns-in_err-h-clause-gives : goal.returns-in_err-h-clause-gives
+returns-in_err-h-clause-gives c = record {
+  gives = λ before R.
+      let I = c.loop-i.invariant in
+      let v = I.passed before R in
+      let k = c.args.config in
+      let x = c.args.aut.now in
+      rw (passed c.from_residual.ensures)
+      (passes.pass_stuck k x R v c.loop-i-test.true (passes.pass_given k x R v c.loop-i-test.true I.pending c.in_err-h.ensures.gives));
+}
 
-pub overflow_add-states : goal.overflow_add-states
-overflow_add-states c =
-    let I = c.loop-i.invariant c.requires.members c.requires.before c.requires.rounding in
-    omega (
-      arith,
-      passes.pass_small c.args.sp.now c.args.nodes.now c.args.states.now c.requires.members c.args.transitions.now c.args.c c.requires.rounding I c.loop-i-test.true c.set_of.result c.set_of.new.sp c.set_of.new.scratch
-          (c.set_of.ensures c.requires.members c.args.pending.now c.args.n c.requires.before (passes.pass_rounding c.args.sp.now c.args.nodes.now c.args.states.now c.requires.members c.args.transitions.now c.args.c c.requires.rounding I) (passes.pass_in c.args.sp.now c.args.nodes.now c.args.states.now c.requires.members c.args.transitions.now c.args.c c.requires.rounding I c.loop-i-test.true))
-          c.in-Node.is,
-    )
+pub overflow_add-aut : goal.overflow_add-aut
+overflow_add-aut c =
+    let Q = c.requires in
+    let I = c.loop-i.invariant in
+    let v = I.passed Q.before Q.rounding in
+    let k = c.args.config in
+    let x = c.args.aut.now in
+    omega (arith, passes.pass_small k x Q.rounding v c.loop-i-test.true c.set_of.ensures.keeps (passes.pass_given k x Q.rounding v c.loop-i-test.true I.pending c.in_ok-h.ensures.gives))
 
-pub bounds-states-s : goal.bounds-states-s
-bounds-states-s c =
-    let I = c.loop-i.invariant c.requires.members c.requires.before c.requires.rounding in
-    omega (arith, passes.pass_there c.args.sp.now c.args.nodes.now c.args.states.now c.requires.members c.args.transitions.now c.args.c c.requires.rounding I c.loop-i-test.true)
+pub bounds-aut-s : goal.bounds-aut-s
+bounds-aut-s c =
+    let Q = c.requires in
+    let I = c.loop-i.invariant in
+    rw c.set_of.ensures.keeps.states (rw I.pending (omega (arith, passes.pass_there c.args.config c.args.aut.now Q.rounding (I.passed Q.before Q.rounding) c.loop-i-test.true)))
 
 pub loop-i-preserved : goal.loop-i-preserved
-loop-i-preserved c =
-    λ mem before R. let I = c.loop-i.invariant mem before R in
-    passes.pass_again c.args.sp.now c.args.nodes.now c.args.states.now mem c.args.transitions.now c.args.c R I c.loop-i-test.true c.set_of.result c.set_of.new.sp c.set_of.new.scratch
-    (c.set_of.ensures mem c.args.pending.now c.args.n before (passes.pass_rounding c.args.sp.now c.args.nodes.now c.args.states.now mem c.args.transitions.now c.args.c R I) (passes.pass_in c.args.sp.now c.args.nodes.now c.args.states.now mem c.args.transitions.now c.args.c R I c.loop-i-test.true))
-    c.in-Node.is
+loop-i-preserved c = record {
+  keeps = search rules;
+  pending = search rules;
+  passed = λ before R.
+      let I = c.loop-i.invariant in
+      let v = I.passed before R in
+      let k = c.args.config in
+      let x = c.args.aut.now in
+      passes.pass_again k x R v c.loop-i-test.true c.set_of.ensures.keeps (passes.pass_given k x R v c.loop-i-test.true I.pending c.in_ok-h.ensures.gives) _ (rw I.pending refl) refl;
+}
 
-pub returns : goal.returns
-returns c =
-    λ mem before R. passes.pass_end c.args.sp.now c.args.nodes.now c.args.states.now mem c.args.transitions.now c.args.c R (c.loop-i.invariant mem before R) c.loop-i-test.false
+pub returns-clause-gives : goal.returns-clause-gives
+returns-clause-gives c = record { gives = λ before R. let I = c.loop-i.invariant in passes.pass_end c.args.config c.args.aut.now R (I.passed before R) c.loop-i-test.false I.pending }

@@ -1,13 +1,11 @@
 use native.Mathlib.Omega.{arith}
+use Rattle.std.proofs.Common.{rules}
 use Rattle.aut_why_words.proofs.Loops as loops
 use Rattle.aut_why_words.proofs.clear.Goals as goal
 
-pub loop-i-init : goal.loop-i-init
-loop-i-init c = loops.clear_begin
-
 pub loop-i-preserved : goal.loop-i-preserved
 loop-i-preserved c =
-    loops.clear_again c.loop-i.invariant c.loop-i-test.true (omega (arith, c.requires.fits))
+    record { keeps = search rules; words = loops.clear_again c.loop-i.invariant.words c.loop-i-test.true (omega (arith, c.requires.fits, c.loop-i.invariant.keeps.entries)) }
 
-pub returns : goal.returns
-returns c = loops.clear_end c.loop-i.invariant c.loop-i.auto.i-end c.loop-i-test.false
+pub returns-clause-gives : goal.returns-clause-gives
+returns-clause-gives c = loops.clear_end c.loop-i.invariant.words c.loop-i.auto.i-end c.loop-i-test.false

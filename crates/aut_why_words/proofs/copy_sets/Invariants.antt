@@ -1,5 +1,11 @@
+use mathlib.Core.Path.{◌≡◌}
+use Rattle.aut_sets.specs.Lent.{OnlyMarks}
 use Rattle.aut_why_words.proofs.Loops.{Copying}
 use Rattle.aut_why_words.proofs.copy_sets.Given as goal
 
 abbrev pub invariant-loop-i : goal.invariant-loop-i
-invariant-loop-i l = Copying l.n l.from l.to l.initial.states l.pending l.states l.i
+invariant-loop-i l = record {
+  keeps : OnlyMarks l.initial.aut l.aut;
+  pending : l.aut.pending ≡ l.initial.aut.pending;
+  words : Copying l.n l.from l.to l.initial.aut.states.words.now l.initial.aut.pending.now l.aut.states.words.now l.i;
+}
