@@ -1,3 +1,2 @@
--- what the proofs of several functions use
 pub mod Join
 pub mod Why

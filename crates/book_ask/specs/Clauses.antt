@@ -1,49 +1,59 @@
 -- 01, "The book and its answers", the queries `empty`, `live` and `pruned`, 02 (i), `why`, and refusal 27, "output cannot hold the next answer's lines": what a query in code asks and promises. Its step is done, and its
 -- answer's lines stand in the output, or nothing was written.
-use Rattle.std.specs.Prelude.{◌≡◌, List, [], ◌∷◌, ◌++◌, ℕ, ◌/◌, ◌≤◌, length, get_or, take}
+use Rattle.std.specs.Prelude.{◌≡◌, List, [], ◌∷◌, ◌++◌, ℕ, ◌/◌, ◌≤◌, length, get_or, take, Result, Ok, Err}
 use Rattle.std.proofs.Math.Option.{Option, none}
 use Rattle.common.specs.Outcome.{Outcome, refused, given}
-use Rattle.aut_query_steps.specs.Tables.{Tables, ExtTables}
+use Rattle.refusal.specs.declared.Refusal.{Refusal}
+use Rattle.refusal.specs.Numbers.{number_of}
+use Rattle.aut_query_steps.specs.Tables.{ExtTables}
 use Rattle.book_steps.specs.Reader as Reader
 use Rattle.book_steps.specs.Run as Run
 use Rattle.book_steps.specs.Run.{RunState, place, query, after_asking}
-use Rattle.aut_states.specs.declared.Counts.{Counts}
-use Rattle.aut_query_stage.specs.Layer.{QueryReady, Zeroed, PreQuery}
-use Rattle.book_place.specs.declared.Setting.{Setting}
-use Rattle.book_place.specs.Clauses.{setting_of}
-use Rattle.book_ask.specs.declared.Asked.{Asked}
-use Rattle.book_ask.specs.declared.Asked.TheVariants as asked
+use Rattle.aut_relations.specs.declared.Aut.{Aut as Lent}
+use Rattle.aut_query_stage.specs.Layer.{QueryReady, Zeroed}
+use Rattle.aut_query_stage.specs.Lent.{tables_in, QueryAsked}
+use Rattle.book_writer.specs.declared.Output.{Output}
+use Rattle.book_writer.specs.Clauses.{Fits}
+use Rattle.book_memory.specs.declared.Setting.{Setting}
+use Rattle.book_memory.specs.Place.{setting_of}
 
--- ---- a query
+-- tables, scratch and pending entries as a query finds them, and what is written of the output is lent
+pub record PreAsk (S : Setting) (a : Lent) (o : Output) (x : ℕ) : Type 0 where
+  pub query : QueryAsked S.config a x
+  pub room : Fits o
 
--- tables, scratch and pending entries as a query finds them; the output is written up to `at`
-pub record PreAsk (S : Setting) (σ : Tables) (s p out : List ℕ) (at x : ℕ) : Type 0 where
-  pub query : PreQuery S.config.fields S.config.limits σ s p x
-  pub room : at ≤ length out
+-- the setting in the words of the steps
+abbrev pub setting_with : Setting → Lent → Output → Run.Setting
+setting_with S a o = setting_of S (length a.pending.now / 2) (length o.bytes.now)
 
--- the place behind the query, whatever the lines before it are; `at` is what the tables are then
-abbrev pub asked_of : Asked → List (Option ℕ) → (Counts → Tables) → List ℕ → Outcome RunState ℕ
-asked_of (asked.Told d e) lines at out = given (place (at d) (lines ++ none ∷ []) (take e out)) 0
-asked_of (asked.Refused n) lines at out = refused n
+-- a place in the words of the steps, for the lines that are there
+abbrev pub place_with : List (Option ℕ) → Lent → Output → RunState
+place_with lines a o = place (tables_in a) lines (take o.at o.bytes.now)
+
+-- the place behind the query, whatever the lines before it are; no line can name the query
+abbrev pub asked_of : Result Unit Refusal → List (Option ℕ) → Lent → Output → Outcome RunState ℕ
+asked_of (Ok u) lines a o = given (place_with (lines ++ none ∷ []) a o) 0
+asked_of (Err e) lines a o = refused (number_of e)
 
 -- The tables are in order again and have come further; of the output, only the answer's bytes were written.
-pub record Goes (S : Setting) (pos e : ℕ) (σ τ : Tables) (s' p' out out' : List ℕ) : Type 0 where
-  pub later : ExtTables σ τ
-  pub ready : QueryReady S.config.fields S.config.limits τ s'
-  pub pending : Zeroed p'
-  pub from : pos ≤ e
-  pub to : e ≤ length out
-  pub beyond : (i : ℕ) → e ≤ i → get_or out' i 0 ≡ get_or out i 0
+pub record Goes (S : Setting) (a b : Lent) (o o' : Output) : Type 0 where
+  pub later : ExtTables (tables_in a) (tables_in b)
+  pub ready : QueryReady S.config.fields S.config.limits (tables_in b) b.scratch.now
+  pub pending : Zeroed b.pending.now
+  pub from : o.at ≤ o'.at
+  pub to : o'.at ≤ length o.bytes.now
+  pub len : length o'.bytes.now ≡ length o.bytes.now
+  pub beyond : (i : ℕ) → o'.at ≤ i → get_or o'.bytes.now i 0 ≡ get_or o.bytes.now i 0
 
-abbrev pub GoesBy : Setting → ℕ → Asked → Tables → (Counts → Tables) → List ℕ → List ℕ → List ℕ → List ℕ → Type 0
-GoesBy S pos (asked.Told d e) σ at s' p' out out' = Goes S pos e σ (at d) s' p' out out'
-GoesBy S pos (asked.Refused n) σ at s' p' out out' = out' ≡ out
+abbrev pub GoesBy : Setting → Result Unit Refusal → (a b : Lent) → (o o' : Output) → Type 0
+GoesBy S (Ok u) a b o o' = Goes S a b o o'
+GoesBy S (Err e) a b o o' = o' ≡ o
 
 -- the query of the line that is named so, whose state is x, has been done
-pub record PostAsk (S : Setting) (q : Reader.Query) (pos : ℕ) (name : List ℕ) (x : ℕ) (σ : Tables) (r : Asked) (at : Counts → Tables) (s' p p' out out' : List ℕ) : Type 0 where
-  pub is : (lines : List (Option ℕ)) → after_asking (setting_of S (length p / 2) (length out)) (place σ lines (take pos out)) (query (setting_of S (length p / 2) (length out)) q name x σ) ≡ asked_of r lines at out'
-  pub then : GoesBy S pos r σ at s' p' out out'
+pub record PostAsk (S : Setting) (q : Reader.Query) (name : List ℕ) (x : ℕ) (r : Result Unit Refusal) (a b : Lent) (o o' : Output) : Type 0 where
+  pub is : (lines : List (Option ℕ)) → after_asking (setting_with S a o) (place_with lines a o) (query (setting_with S a o) q name x (tables_in a)) ≡ asked_of r lines b o'
+  pub then : GoesBy S r a b o o'
 
 -- of `why`, whose answer does not print the name
-abbrev pub PostWhy : Setting → ℕ → ℕ → Tables → Asked → (Counts → Tables) → List ℕ → List ℕ → List ℕ → List ℕ → List ℕ → Type 0
-PostWhy S pos x σ r at s' p p' out out' = (name : List ℕ) → PostAsk S Reader.why pos name x σ r at s' p p' out out'
+abbrev pub PostWhy : Setting → (x : ℕ) → Result Unit Refusal → (a b : Lent) → (o o' : Output) → Type 0
+PostWhy S x r a b o o' = (name : List ℕ) → PostAsk S Reader.why name x r a b o o'

@@ -4,7 +4,7 @@ use mathlib.Core.List.{List, [], ◌∷◌, ◌++◌, append_assoc, append-nil}
 use Prim.Native.Nat.{ℕ, suc, ◌+◌, ◌*◌, ◌-◌, ◌≤◌, ◌<◌}
 use native.Mathlib.Omega.{arith}
 use lib.ListN.{length, get_or, length-append}
-use Rattle.common.specs.Runs.{Table}
+use Rattle.common.specs.Runs.{Table, table}
 use Rattle.cache.specs.Cache.{Valid, OnlyCodes}
 use Rattle.cache.proofs.Cache.{notes_refl, notes_trans, sound_own}
 use Rattle.netkat_steps.specs.ListSteps.{Edge}
@@ -16,9 +16,16 @@ use Rattle.aut_st_steps.proofs.Places.{edges_on, edges_done, edges_same, edges_l
 use Rattle.aut_st_insert.specs.Clauses.{RESULT}
 use Rattle.book_steps.specs.Answers.{pair_lines, pruned_answer}
 use Rattle.aut_sets.specs.Clauses.{NotesBehind}
-use Rattle.book_writer.specs.Clauses.{Put, Answers, pair_line, pruned_head}
+use Rattle.refusal.specs.declared.Refusal.{Refusal}
+use Rattle.refusal.specs.declared.Refusal.TheVariants.{Output as OutputFull}
+use Rattle.aut_relations.specs.declared.Aut.{Aut as Lent}
+use Rattle.aut_relations.specs.Lent.{nodes_in}
+use Rattle.aut_sets.specs.Lent.{OnlyScratch}
+use Rattle.spp.specs.declared.SPPstore.{SPPstore}
+use Rattle.book_writer.specs.declared.Output.{Output}
+use Rattle.book_writer.specs.Clauses.{PutAt, Put, pair_line, pruned_head}
 use Rattle.book_writer.proofs.Contracts.{put_append, pairs_are}
-use Rattle.std.specs.Prelude.{Option, Some, None}
+use Rattle.std.specs.Prelude.{Result, Ok, Err}
 use Rattle.book_pruned.specs.Clauses.{told, PrePairs, PostNumber, PostLength, PrePut, PostPairs, PostPruned}
 
 pub notes_none : {P : Valid} {s : List ℕ} → NotesBehind P s s
@@ -99,21 +106,24 @@ module _ (N : ℕ) (t : Table) (m : ℕ) where
 
   -- ---- in the output
 
-  -- the lines of i transitions stand in the output, up to `end`
-  pub record Placed (s₀ out₀ : List ℕ) (at : ℕ) (s out : List ℕ) (end i : ℕ) : Type 0 where
+  -- the lines of i transitions stand in the output
+  pub record Placed (s₀ : List ℕ) (o₀ : Output) (s : List ℕ) (o : Output) (i : ℕ) : Type 0 where
     pub pairs : PrePairs N t s m
     pub left : noted s₀ s
     pub bytes : List ℕ
-    pub put : Put at bytes end out₀ out
+    pub put : Put bytes o₀ o
     pub is : all s₀ ≡ bytes ++ from s₀ i
 
-  put_none : (at : ℕ) (out : List ℕ) → at ≤ length out → Put at [] at out out
+  put_none : (at : ℕ) (out : List ℕ) → at ≤ length out → PutAt at [] at out out
   put_none at out l = record { behind = omega arith; room = l; wrote = record { len = refl; is = λ i k. absurd (omega arith); below = λ i k. refl; above = λ i k. refl } }
 
-  pub placed_begin : {s out : List ℕ} {at : ℕ} → PrePut N t s out at m → Placed s out at s out at 0
-  placed_begin {s} {out} {at} p = record { pairs = p.pairs; left = notes_none; bytes = []; put = put_none at out (omega (arith, p.fits)); is = sym (from_all s) }
+  pub placed_begin : {s : List ℕ} {o : Output} → PrePut N t s o m → Placed s o s o 0
+  placed_begin {s} {o} p = record { pairs = p.pairs; left = notes_none; bytes = []; put = put_none o.at o.bytes.now (omega (arith, p.fits)); is = sym (from_all s) }
 
-  module _ {s₀ out₀ : List ℕ} {at : ℕ} {s out : List ℕ} {end i : ℕ} (p : PrePut N t s₀ out₀ at m) (v : Placed s₀ out₀ at s out end i) where
+  module _ {s₀ : List ℕ} {o₀ : Output} {s : List ℕ} {o : Output} {i : ℕ} (p : PrePut N t s₀ o₀ m) (v : Placed s₀ o₀ s o i) where
+    pub line_fits : o.at ≤ length o.bytes.now
+    line_fits = omega (arith, v.put.room, v.put.wrote.len)
+
     module _ (l : i < m) {n : ℕ} {s' : List ℕ} (P : PostNumber N t i n s s') where
       abbrev row : List ℕ
       row = pair_line (get_or s (2 * (RESULT + i)) 0) n
@@ -125,31 +135,27 @@ module _ (N : ℕ) (t : Table) (m : ℕ) where
       whole : all s₀ ≡ (v.bytes ++ row) ++ from s₀ (i + 1)
       whole = v.is ∙ ap (λ (bs : List ℕ). v.bytes ++ bs) next ∙ sym (append_assoc v.bytes row (from s₀ (i + 1)))
 
-      fits : end + length row ≤ length out
-      fits = omega (arith, p.fits, ap length whole, length-append (v.bytes ++ row) (from s₀ (i + 1)), length-append v.bytes row, v.put.behind, v.put.wrote.len)
+      pub row_fits : o.at + length row ≤ length o.bytes.now
+      row_fits = omega (arith, p.fits, ap length whole, length-append (v.bytes ++ row) (from s₀ (i + 1)), length-append v.bytes row, v.put.behind, v.put.wrote.len)
 
-      module _ {r : Option ℕ} (out' : List ℕ) (A : Answers row end r out out') where
-        pub never_full : r ≡ None → ⊥
-        never_full f = let (a, b) = subst (λ (x : Option ℕ). Answers row end x out out') f A in omega (arith, fits)
+      pub placed_again : {o' : Output} → Put row o o' → length s' ≡ length s → Placed s₀ o₀ s' o' (i + 1)
+      placed_again w len = record {
+        pairs = pairs_later v.pairs P.left len;
+        left = notes_on v.left P.left;
+        bytes = v.bytes ++ row;
+        put = put_append v.put w;
+        is = whole;
+      }
 
-        pub placed_again : {e : ℕ} → r ≡ Some e → length s' ≡ length s → Placed s₀ out₀ at s' out' e (i + 1)
-        placed_again {e} f len = record {
-          pairs = pairs_later v.pairs P.left len;
-          left = notes_on v.left P.left;
-          bytes = v.bytes ++ row;
-          put = put_append v.put (subst (λ (x : Option ℕ). Answers row end x out out') f A);
-          is = whole;
-        }
-
-    pub placed_end : m ≤ i → PostPairs N t at m end s₀ s out₀ out
+    pub placed_end : m ≤ i → PostPairs N t m (Ok _) s₀ s o₀ o
     placed_end l = record {
-      put = subst (λ (bs : List ℕ). Put at bs end out₀ out) (sym (v.is ∙ ap (λ (bs : List ℕ). v.bytes ++ bs) (from_none s₀ i l) ∙ append-nil v.bytes)) v.put;
+      answers = subst (λ (bs : List ℕ). Put bs o₀ o) (sym (v.is ∙ ap (λ (bs : List ℕ). v.bytes ++ bs) (from_none s₀ i l) ∙ append-nil v.bytes)) v.put;
       left = v.left;
     }
 
 -- ---- the whole answer
 
-module _ (N : ℕ) (t : Table) (at : ℕ) (name : List ℕ) (m : ℕ) (s out : List ℕ) (p : PrePairs N t s m) where
+module _ (N : ℕ) (t : Table) (name : List ℕ) (m : ℕ) (s : List ℕ) (o : Output) (p : PrePairs N t s m) where
   told_length : length (told N t (edges s RESULT m)) ≡ m
   told_length = sized (edges s RESULT m) ∙ edges_length s RESULT m
     where
@@ -164,29 +170,42 @@ module _ (N : ℕ) (t : Table) (at : ℕ) (name : List ℕ) (m : ℕ) (s out : L
     whole_size : length (pruned_answer name (told N t (edges s RESULT m))) ≡ h + n
     whole_size = ap length head_is ∙ omega (arith, length-append (pruned_head name m) (pair_lines (told N t (edges s RESULT m))), H.0, L.is)
 
-    pub pruned_short : length out < at + (h + n) → PostPruned N t at name m None s s' out out
-    pruned_short l = record { answers = (omega (arith, whole_size), refl); left = L.left }
+    pub pruned_short : o.at ≤ length o.bytes.now → length o.bytes.now - o.at < h + n → PostPruned N t name m (Err OutputFull) s s' o o
+    pruned_short f l = record { answers = (refl, omega (arith, whole_size), refl); left = L.left }
 
-    module _ (room : at + (h + n) ≤ length out) {r : Option ℕ} (out' : List ℕ) (A : Answers (pruned_head name m) at r out out') where
-      pub head_fits_lem : r ≡ None → ⊥
-      head_fits_lem f = let (a, b) = subst (λ (x : Option ℕ). Answers (pruned_head name m) at x out out') f A in omega (arith, H.0)
+    module _ (f : o.at ≤ length o.bytes.now) (room : h + n ≤ length o.bytes.now - o.at) where
+      pub head_fits : length o.bytes.now < o.at + length (pruned_head name m) → ⊥
+      head_fits l = omega (arith, H.0)
 
-      module _ {e : ℕ} (f : r ≡ Some e) (len : length s' ≡ length s) where
-        head_put : Put at (pruned_head name m) e out out'
-        head_put = subst (λ (x : Option ℕ). Answers (pruned_head name m) at x out out') f A
+      same : edges s' RESULT m ≡ edges s RESULT m
+      same = edges_noted N t m p.most L.left
 
-        same : edges s' RESULT m ≡ edges s RESULT m
-        same = edges_noted N t m p.most L.left
-
-        pub pairs_fit : PrePut N t s' out' e m
+      module _ {o' : Output} (head_put : Put (pruned_head name m) o o') (len : length s' ≡ length s) where
+        pub pairs_fit : PrePut N t s' o' m
         pairs_fit = record {
           pairs = pairs_later N t m p L.left len;
           fits = omega (arith, ap (λ (es : List Edge). length (pair_lines (told N t es))) same, L.is, H.0, head_put.behind, head_put.wrote.len);
         }
 
-        pub pruned_whole : {e' : ℕ} {s'' out'' : List ℕ} → PostPairs N t e m e' s' s'' out' out'' → PostPruned N t at name m (Some e') s s'' out out''
-        pruned_whole {e'} {s''} {out''} Q = record {
-          answers = subst (λ (bs : List ℕ). Put at bs e' out out'') (sym head_is)
-              (put_append head_put (subst (λ (es : List Edge). Put e (pair_lines (told N t es)) e' out' out'') same Q.put));
+        pub pruned_whole : (r : Result Unit Refusal) {s'' : List ℕ} {o'' : Output} → PostPairs N t m r s' s'' o' o'' → PostPruned N t name m r s s'' o o''
+        pruned_whole (Ok u) {s''} {o''} Q = record {
+          answers = subst (λ (bs : List ℕ). Put bs o o'') (sym head_is)
+              (put_append head_put (subst (λ (es : List Edge). Put (pair_lines (told N t es)) o' o'') same Q.answers));
           left = notes_on L.left Q.left;
         }
+        pruned_whole (Err e) {s''} {o''} Q = absurd (omega (arith, Q.answers.1, pairs_fit.fits))
+
+-- ---- the relation nodes are those from before
+
+module _ {x y : Lent} (k : OnlyScratch x y) where
+  pub pairs_in : {N m : ℕ} {s : List ℕ} → PrePairs N (nodes_in x) s m → PrePairs N (nodes_in y) s m
+  pairs_in {N} {m} {s} p = subst (λ (t : SPPstore). PrePairs N (table t.nodes.now t.count) s m) (sym k.spp) p
+
+  pub put_in : {N m : ℕ} {s : List ℕ} {o : Output} → PrePut N (nodes_in x) s o m → PrePut N (nodes_in y) s o m
+  put_in {N} {m} {s} {o} p = subst (λ (t : SPPstore). PrePut N (table t.nodes.now t.count) s o m) (sym k.spp) p
+
+  pub number_in : {N i r : ℕ} {s s' : List ℕ} → PostNumber N (nodes_in y) i r s s' → PostNumber N (nodes_in x) i r s s'
+  number_in {N} {i} {r} {s} {s'} p = subst (λ (t : SPPstore). PostNumber N (table t.nodes.now t.count) i r s s') k.spp p
+
+  pub told_in : {N m : ℕ} {r : Result Unit Refusal} {s s' : List ℕ} {o o' : Output} → PostPairs N (nodes_in y) m r s s' o o' → PostPairs N (nodes_in x) m r s s' o o'
+  told_in {N} {m} {r} {s} {s'} {o} {o'} p = subst (λ (t : SPPstore). PostPairs N (table t.nodes.now t.count) m r s s' o o') k.spp p

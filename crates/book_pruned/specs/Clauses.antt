@@ -1,5 +1,5 @@
 -- 01, "The book and its answers", the query `pruned`: "line, number of transitions; each `pair`: target state number, packet pairs in the label": what writing its lines asks and promises.
-use Rattle.std.specs.Prelude.{◌≡◌, List, map, ℕ, ◌+◌, ◌*◌, ◌≤◌, ◌<◌, length, get_or}
+use Rattle.std.specs.Prelude.{◌≡◌, List, map, ℕ, ◌+◌, ◌*◌, ◌≤◌, ◌<◌, length, get_or, Result}
 use Rattle.common.specs.Runs.{Table}
 use Rattle.cache.specs.Cache.{OnCodes, OnlyCodes, Sound}
 use Rattle.netkat_steps.specs.ListSteps.{Edge}
@@ -11,8 +11,9 @@ use Rattle.aut_st_insert.specs.Clauses.{RESULT}
 use Rattle.book_steps.specs.Answers.{Pairs, pair_lines, pruned_answer}
 use Rattle.aut_relations.specs.Behind.{LISTS, cached}
 use Rattle.aut_sets.specs.Clauses.{NotesBehind}
-use Rattle.book_writer.specs.Clauses.{Put, Answers}
-use Rattle.std.specs.Prelude.{Option}
+use Rattle.refusal.specs.declared.Refusal.{Refusal}
+use Rattle.book_writer.specs.declared.Output.{Output}
+use Rattle.book_writer.specs.Clauses.{Room, Answers}
 
 -- what the lines of the transitions tell
 abbrev pub told : ℕ → Table → List Edge → List Pairs
@@ -36,14 +37,14 @@ pub record PostLength (N : ℕ) (t : Table) (m r : ℕ) (s s' : List ℕ) : Type
   pub most : r ≤ 47 * m
   pub left : NotesBehind (OnlyCodes 17 17 (Counted t)) s s'
 
-pub record PrePut (N : ℕ) (t : Table) (s out : List ℕ) (at m : ℕ) : Type 0 where
+pub record PrePut (N : ℕ) (t : Table) (s : List ℕ) (o : Output) (m : ℕ) : Type 0 where
   pub pairs : PrePairs N t s m
-  pub fits : at + length (pair_lines (told N t (edges s RESULT m))) ≤ length out
+  pub fits : Room (length (pair_lines (told N t (edges s RESULT m)))) o
 
-pub record PostPairs (N : ℕ) (t : Table) (at m r : ℕ) (s s' out out' : List ℕ) : Type 0 where
-  pub put : Put at (pair_lines (told N t (edges s RESULT m))) r out out'
+pub record PostPairs (N : ℕ) (t : Table) (m : ℕ) (r : Result Unit Refusal) (s s' : List ℕ) (o o' : Output) : Type 0 where
+  pub answers : Answers (pair_lines (told N t (edges s RESULT m))) o r o'
   pub left : NotesBehind (OnlyCodes 17 17 (Counted t)) s s'
 
-pub record PostPruned (N : ℕ) (t : Table) (at : ℕ) (name : List ℕ) (m : ℕ) (r : Option ℕ) (s s' out out' : List ℕ) : Type 0 where
-  pub answers : Answers (pruned_answer name (told N t (edges s RESULT m))) at r out out'
+pub record PostPruned (N : ℕ) (t : Table) (name : List ℕ) (m : ℕ) (r : Result Unit Refusal) (s s' : List ℕ) (o o' : Output) : Type 0 where
+  pub answers : Answers (pruned_answer name (told N t (edges s RESULT m))) o r o'
   pub left : NotesBehind (OnlyCodes 17 17 (Counted t)) s s'

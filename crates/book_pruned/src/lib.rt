@@ -1,84 +1,79 @@
 // The answer to `pruned`: the lines of the transitions that the step has left in scratch, written whole or not at all.
 #![tactic(auto)]
 
-ghost use Rattle.std.specs.Prelude.{◌≤◌, ◌<◌, length};
-ghost use Rattle.common.specs.Runs.{table};
+ghost use Rattle.std.specs.Prelude.{◌≡◌, ◌≤◌, ◌<◌, length};
+ghost use Rattle.aut_relations.specs.Lent.{nodes_in};
+ghost use Rattle.aut_sets.specs.Lent.{OnlyScratch};
+ghost use Rattle.book_writer.specs.Clauses.{Fits};
 ghost use Rattle.book_pruned.specs.Clauses.{PrePairs, PostNumber, PostLength, PrePut, PostPairs, PostPruned};
 
-use aut_states::Counts;
+use aut_relations::Aut;
+use aut_states::Config;
+use book_writer::Output;
+use refusal::Refusal;
 use spp::SPP;
 
 // the number of packet pairs in the label of transition i
-fn number_at(nodes: &[u32], scratch: &mut [u32], c: Counts, fields: u32, m: usize, i: usize) -> u64
-    requires { PrePairs fields (table nodes.now c.spp) scratch.old m × (i < m) }
-    ensures { PostNumber fields (table nodes.now c.spp) i result scratch.old
-        scratch.new }
+fn number_at(aut: &mut Aut, config: Config, m: usize, i: usize) -> u64
+    requires { PrePairs config.fields (nodes_in aut.old) aut.old.scratch.now m × (i < m) }
+    ensures keeps { OnlyScratch aut.old aut.new }
+    ensures is { PostNumber config.fields (nodes_in aut.old) i result aut.old.scratch.now
+        aut.new.scratch.now }
 {
-    let label = SPP(scratch[2 * (aut_st_insert::RESULT + i) + 1]);
-    aut_sets::pair_count(nodes, scratch, c, fields, label)
+    let label = SPP(aut.scratch[2 * (aut_st_insert::RESULT + i) + 1]);
+    aut_sets::pairs(aut, config, label)
 }
 
 // how long the lines of the m transitions are
-fn pairs_length(nodes: &[u32], scratch: &mut [u32], c: Counts, fields: u32, m: usize) -> usize
-    requires { PrePairs fields (table nodes.now c.spp) scratch.old m }
-    ensures { PostLength fields (table nodes.now c.spp) m result scratch.old
-        scratch.new }
+fn pairs_length(aut: &mut Aut, config: Config, m: usize) -> usize
+    requires { PrePairs config.fields (nodes_in aut.old) aut.old.scratch.now m }
+    ensures keeps { OnlyScratch aut.old aut.new }
+    ensures is { PostLength config.fields (nodes_in aut.old) m result aut.old.scratch.now
+        aut.new.scratch.now }
 {
     let mut total = 0;
     for i in 0..m {
-        let target = scratch[2 * (aut_st_insert::RESULT + i)];
-        let n = number_at(nodes, scratch, c, fields, m, i);
+        let target = aut.scratch[2 * (aut_st_insert::RESULT + i)];
+        let n = number_at(aut, config, m, i);
         total += book_writer::pair_length(target, n);
     }
     total
 }
 
 // the lines of the m transitions, for which there is room
-fn put_pairs(
-    nodes: &[u32],
-    scratch: &mut [u32],
-    output: &mut [u8],
-    c: Counts,
-    fields: u32,
-    at: usize,
-    m: usize,
-) -> usize
-    requires { PrePut fields (table nodes.now c.spp) scratch.old output.old at m }
-    ensures { PostPairs fields (table nodes.now c.spp) at m result scratch.old
-        scratch.new output.old output.new }
+fn put_pairs(aut: &mut Aut, config: Config, out: &mut Output, m: usize) -> Result<(), Refusal>
+    requires { PrePut config.fields (nodes_in aut.old) aut.old.scratch.now out.old m }
+    ensures keeps { OnlyScratch aut.old aut.new }
+    ensures bytes { out.new.bytes.ghost_name ≡ out.old.bytes.ghost_name }
+    ensures answers { PostPairs config.fields (nodes_in aut.old) m result aut.old.scratch.now
+        aut.new.scratch.now out.old out.new }
 {
-    let mut end = at;
     for i in 0..m {
-        let target = scratch[2 * (aut_st_insert::RESULT + i)];
-        let n = number_at(nodes, scratch, c, fields, m, i);
-        let Some(next) = book_writer::pair_line(output, end, target, n) else {
-            return end;
-        };
-        end = next;
+        let target = aut.scratch[2 * (aut_st_insert::RESULT + i)];
+        let n = number_at(aut, config, m, i);
+        out.pair_line(target, n)?;
     }
-    end
+    Ok(())
 }
 
 // the whole answer of `pruned`, for the m transitions at RESULT
 pub fn pruned_answer(
-    nodes: &[u32],
-    scratch: &mut [u32],
-    output: &mut [u8],
-    c: Counts,
-    fields: u32,
-    at: usize,
+    aut: &mut Aut,
+    config: Config,
+    out: &mut Output,
     name: &[u8],
     m: usize,
-) -> Option<usize>
-    requires { PrePairs fields (table nodes.now c.spp) scratch.old m × (at ≤ length output.old) }
-    ensures { PostPruned fields (table nodes.now c.spp) at name.now m result
-        scratch.old scratch.new output.old output.new }
+) -> Result<(), Refusal>
+    requires { PrePairs config.fields (nodes_in aut.old) aut.old.scratch.now m × Fits out.old }
+    ensures keeps { OnlyScratch aut.old aut.new }
+    ensures bytes { out.new.bytes.ghost_name ≡ out.old.bytes.ghost_name }
+    ensures answers { PostPruned config.fields (nodes_in aut.old) name.now m result
+        aut.old.scratch.now aut.new.scratch.now out.old out.new }
 {
-    let n = book_writer::head_length(name, m) + pairs_length(nodes, scratch, c, fields, m);
-    if output.len() - at < n {
-        return None;
+    let n = book_writer::head_length(name, m) + pairs_length(aut, config, m);
+    if out.bytes.len() - out.at < n {
+        return Err(Refusal::Output);
     }
-    let next = book_writer::pruned_head(output, at, name, m)?;
-    let end = put_pairs(nodes, scratch, output, c, fields, next, m);
-    Some(end)
+    out.pruned_head(name, m)?;
+    put_pairs(aut, config, out, m)
 }

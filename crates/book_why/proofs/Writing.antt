@@ -3,91 +3,93 @@ use mathlib.Core.Path.{◌≡◌, refl, sym, ◌∙◌, ap, subst}
 use mathlib.Core.Bool.{Bool, true, false}
 use mathlib.Core.List.{List, [], ◌∷◌, ◌++◌, append_assoc, append-nil}
 use mathlib.Core.Option.{Option, none, some}
-use Prim.Native.Nat.{ℕ, suc, ◌+◌, ◌-◌, ◌≤◌, ◌<◌}
+use Prim.Native.Nat.{ℕ, suc, ◌+◌, ◌-◌, ◌^◌, ◌≤◌, ◌<◌}
 use native.Mathlib.Omega.{arith}
 use lib.ListN.{length, length-append}
+use Rattle.std.specs.Prelude as code
 use Rattle.common.specs.Packets.{Packet}
 use Rattle.netkat.specs.Strings.{Str, str}
 use Rattle.netkat_paths.specs.Order.{value}
 use Rattle.netkat_paths.specs.Pick.{Way}
+use Rattle.refusal.specs.declared.Refusal.{Refusal}
+use Rattle.refusal.specs.declared.Refusal.TheVariants as refusals
 use Rattle.aut_query_steps.specs.Tables.{Tables}
 use Rattle.aut_query_steps.proofs.Tables.{both_wf}
-use Rattle.aut_query_stage.specs.Layer.{tables_of}
-use Rattle.aut_states.specs.declared.Counts.{Counts}
-use Rattle.aut_states.specs.declared.Limits.{Limits}
-use Rattle.aut_query_calls.specs.Working.{clear_of}
+use Rattle.aut_query_stage.specs.Lent.{tables_in}
+use Rattle.aut_states.specs.declared.Config.{Config}
+use Rattle.aut_relations.specs.declared.Aut.{Aut as Lent}
+use Rattle.aut_sets.specs.Lent.{OnlyScratch}
+use Rattle.aut_free.specs.Clear.{clear_tables}
+use Rattle.aut_query_calls.specs.Working.{clear_in}
 use Rattle.aut_why_steps.specs.Why.{Sets, fewest, pick_by}
-use Rattle.aut_why_rounds.specs.Clauses.{hops_word}
+use Rattle.aut_why_rounds.specs.Clauses.{hops_of}
 use Rattle.aut_why_least.specs.Clauses.{Forgotten}
 use Rattle.aut_why_least.proofs.Keeps.{least_zeroed, query_forgotten}
 use Rattle.book_steps.specs.Text.{bytes}
 use Rattle.book_steps.specs.Answers.{say, sentence, why_answer}
 use Rattle.book_steps.specs.Sentence.{word_length, hops_length, sentence_length}
 use Rattle.book_steps.proofs.Sentence.{sentence_length_lem}
-use Rattle.book_writer.specs.Clauses.{Put, Answers}
-use Rattle.std.specs.Prelude as code
+use Rattle.book_writer.specs.declared.Output.{Output}
+use Rattle.book_writer.specs.Clauses.{Room, Put, Answers}
 use Rattle.book_writer.proofs.Sentence.{begun, begun_length, put_begun, put_hop, put_end, hop_room}
-use Rattle.book_why.specs.Clauses.{Going, Picks, Unmade, PreStart, Started, PostStart, PreNext, Nexted, PostNext, PreLast, Lasted, PostLast, PreString, Stringed, PostString, Answering, WhyAnswered}
+use Rattle.book_why.specs.Clauses.{GoingIn, Picks, PicksIn, Unmade, PreStart, Started, PostStart, PreNext, Nexted, PostNext, PreLast, Lasted, PostLast, PreString, Stringed, PostString, AnsweringIn, WhyAnswered}
 use Rattle.book_why.specs.declared.Spot.{Spot}
+use Rattle.book_why.proofs.Picking.{scratch_tables}
 
-pub unmade_none : {sp st : List ℕ} → Unmade sp st sp st
-unmade_none = record { sets = refl; states = refl }
-
-pub unmade_on : {sp st sp' st' sp'' st'' : List ℕ} → Unmade sp st sp' st' → Unmade sp' st' sp'' st'' → Unmade sp st sp'' st''
-unmade_on u v = record { sets = v.sets ∙ u.sets; states = v.states ∙ u.states }
+-- what holds of the tables and the entries, where nothing but scratch was written
+pub over : {x y : Lent} → OnlyScratch x y → (P : Tables → List ℕ → Type 0) → P (tables_in x) x.pending.now → P (tables_in y) y.pending.now
+over {x} {y} K P h = rw K.pending (subst (λ (τ : Tables). P τ x.pending.now) (sym (scratch_tables K)) h)
 
 -- ---- the sentence of w, with k hops, up to a hop
 
--- the start and some hops are written, from `at` on; j hops more and the end follow. `out` is the output before
-pub record Written (N : ℕ) (l : Limits) (σ : Tables) (s p : List ℕ) (n : ℕ) (ws : List Sets) (k at : ℕ) (w : Str N) (j : ℕ) (first : Bool) (spot : Spot) (out out' : List ℕ) : Type 0 where
-  pub start : Packet N
-  pub hops : List (Packet N)
-  pub packet : Packet N
-  pub way : Way N
+-- the start and some hops are written; j hops more and the end follow. o is the output before
+pub record Written (g : Config) (n : ℕ) (ws : List Sets) (k : ℕ) (w : Str g.fields) (o : Output) (j : ℕ) (first : Bool) (spot : Spot) (x : Lent) (o' : Output) : Type 0 where
+  pub start : Packet g.fields
+  pub hops : List (Packet g.fields)
+  pub packet : Packet g.fields
+  pub way : Way g.fields
   pub number : value packet ≡ spot.packet
-  pub going : Going N l σ s p n ws j spot.mark spot.state packet way
+  pub going : GoingIn g x n ws j spot.mark spot.state packet way
   pub whole : w ≡ str start (hops ++ way.hops) way.end
   pub count : length hops + j ≡ k
   pub none : first ≡ true → length hops ≡ 0
   pub some : first ≡ false → 0 < length hops
-  pub put : Put at (begun N start hops) spot.end out out'
+  pub put : Put (begun g.fields start hops) o o'
 
 bool_clash : true ≡ false → ⊥
 bool_clash q = let o : ◌≡◌ {A = ℕ} 0 1 = cc in absurd (omega arith)
 
-module _ {N : ℕ} {l : Limits} {t mem tr p : List ℕ} {c : Counts} {n : ℕ} {ws : List Sets} {k at : ℕ} {w : Str N} where
-  pub written_begin : {sp st sp' st' s' out out' : List ℕ} {f : ℕ} {spot : Spot} → f ≡ k + 1 → Started N l sp t st mem tr c p n ws k at w spot sp' st' s' out out'
-      → Written N l (tables_of sp' t st' mem tr c) s' p n ws k at w (f - 1) true spot out out'
-  written_begin {sp' = sp'} {st' = st'} {s' = s'} {f = f} {spot = spot} e P = record {
+module _ {g : Config} {n : ℕ} {ws : List Sets} {k : ℕ} {w : Str g.fields} {o : Output} where
+  pub written_begin : {x y : Lent} {spot : Spot} {o' : Output} → Started g n ws k w x o spot y o' → Written g n ws k w o k true spot y o'
+  written_begin P = record {
     start = P.packet;
     hops = [];
     packet = P.packet;
     way = P.way;
     number = P.number;
-    going = subst (λ (j : ℕ). Going N l (tables_of sp' t st' mem tr c) s' p n ws j spot.mark spot.state P.packet P.way) {x = k} {y = f - 1} (omega (arith, e)) P.going;
+    going = P.going;
     whole = P.whole;
-    count = omega (arith, e);
+    count = omega arith;
     none = λ q. refl;
     some = λ q. absurd (bool_clash q);
-    put = put_begun N P.packet P.number P.put;
+    put = put_begun g.fields P.packet P.number P.put;
   }
 
-  module _ {sp st s out out' : List ℕ} {first : Bool} {spot : Spot} where
+  module _ {first : Bool} {spot : Spot} {x : Lent} {o' : Output} where
     -- one hop before
-    pub written_down : {j : ℕ} → 0 < j → Written N l (tables_of sp t st mem tr c) s p n ws k at w j first spot out out' → Written N l (tables_of sp t st mem tr c) s p n ws k at w (suc (j - 1)) first spot out out'
-    written_down {j} m I = subst (λ (j : ℕ). Written N l (tables_of sp t st mem tr c) s p n ws k at w j first spot out out') {x = j} {y = suc (j - 1)} (omega arith) I
+    pub written_down : {j : ℕ} → 0 < j → Written g n ws k w o j first spot x o' → Written g n ws k w o (suc (j - 1)) first spot x o'
+    written_down {j} m I = subst (λ (j : ℕ). Written g n ws k w o j first spot x o') {x = j} {y = suc (j - 1)} (omega arith) I
 
-    behind : {j : ℕ} (I : Written N l (tables_of sp t st mem tr c) s p n ws k at w j first spot out out') → spot.end ≡ at + (5 + word_length N + hops_length N (length I.hops))
-    behind I = I.put.behind ∙ ap (λ (m : ℕ). at + m) (begun_length N I.start I.hops)
+    behind : {j : ℕ} (I : Written g n ws k w o j first spot x o') → o'.at ≡ o.at + (5 + word_length g.fields + hops_length g.fields (length I.hops))
+    behind I = I.put.behind ∙ ap (λ (m : ℕ). o.at + m) (begun_length g.fields I.start I.hops)
 
-    pub next_room : {j : ℕ} → Written N l (tables_of sp t st mem tr c) s p n ws k at w (suc j) first spot out out' → at + sentence_length N k ≤ length out → spot.end + (4 + word_length N) ≤ length out'
-    next_room I m = omega (arith, behind I, hop_room N (length I.hops) k (omega (arith, I.count)), I.put.wrote.len)
+    pub next_room : {j : ℕ} → Written g n ws k w o (suc j) first spot x o' → Room (sentence_length g.fields k) o → Room (4 + word_length g.fields) o'
+    next_room I m = omega (arith, behind I, hop_room g.fields (length I.hops) k (omega (arith, I.count)), I.put.wrote.len)
 
-    pub last_room : Written N l (tables_of sp t st mem tr c) s p n ws k at w 0 first spot out out' → at + sentence_length N k ≤ length out → spot.end + (5 + word_length N) ≤ length out'
-    last_room I m = omega (arith, behind I, ap (hops_length N) {x = length I.hops} {y = k} (omega (arith, I.count)), I.put.wrote.len)
+    pub last_room : Written g n ws k w o 0 first spot x o' → Room (sentence_length g.fields k) o → Room (5 + word_length g.fields) o'
+    last_room I m = omega (arith, behind I, ap (hops_length g.fields) {x = length I.hops} {y = k} (omega (arith, I.count)), I.put.wrote.len)
 
-    pub written_next : {j : ℕ} (I : Written N l (tables_of sp t st mem tr c) s p n ws k at w (suc j) first spot out out') {r : Spot} {sp' st' s' out'' : List ℕ}
-        → Nexted N l sp t st mem tr c p n ws j first spot I.way r sp' st' s' out' out'' → Written N l (tables_of sp' t st' mem tr c) s' p n ws k at w j false r out out''
+    pub written_next : {j : ℕ} (I : Written g n ws k w o (suc j) first spot x o') {r : Spot} {y : Lent} {o'' : Output} → Nexted g n ws j first I.way x o' r y o'' → Written g n ws k w o j false r y o''
     written_next {j} I X = record {
       start = I.start;
       hops = I.hops ++ X.packet ∷ [];
@@ -95,132 +97,137 @@ module _ {N : ℕ} {l : Limits} {t mem tr p : List ℕ} {c : Counts} {n : ℕ} {
       way = X.way;
       number = X.number;
       going = X.going;
-      whole = I.whole ∙ ap (λ (v : Way N). str I.start (I.hops ++ v.hops) v.end) X.whole ∙ ap (λ (hs : List (Packet N)). str I.start hs X.way.end) (sym (append_assoc I.hops (X.packet ∷ []) X.way.hops));
+      whole = I.whole ∙ ap (λ (v : Way g.fields). str I.start (I.hops ++ v.hops) v.end) X.whole ∙ ap (λ (hs : List (Packet g.fields)). str I.start hs X.way.end) (sym (append_assoc I.hops (X.packet ∷ []) X.way.hops));
       count = omega (arith, I.count, length-append I.hops (X.packet ∷ []));
       none = λ q. absurd (bool_clash (sym q));
       some = λ q. omega (arith, length-append I.hops (X.packet ∷ []));
-      put = put_hop N I.start I.hops I.put X.packet X.number first I.none I.some X.put;
+      put = put_hop g.fields I.start I.hops I.put X.packet X.number first I.none I.some X.put;
     }
 
-    pub written_last : (I : Written N l (tables_of sp t st mem tr c) s p n ws k at w 0 first spot out out') {r : ℕ} {sp₀ st₀ s' out'' : List ℕ} → Unmade sp₀ st₀ sp st
-        → Lasted N l sp t st mem tr c p n ws spot I.way r s' out' out'' → Stringed N l sp₀ t st₀ mem tr c p n ws at w r sp st s' out out''
-    written_last I {r} {out'' = out''} u X = record {
-      unmade = u;
+    pub written_last : (I : Written g n ws k w o 0 first spot x o') {x₀ y : Lent} {o'' : Output} → Unmade x₀ x → OnlyScratch x y → Lasted g n ws I.way o' y o'' → Stringed g n ws w x₀ o y o''
+    written_last I {o'' = o''} u K X = record {
+      unmade = ap clear_tables (scratch_tables K) ∙ u;
       standing = X.standing;
-      put = subst (λ (w : Str N). Put at (sentence N w) r out out'') (sym is) (put_end N I.start I.hops I.put X.packet X.is X.put);
+      put = subst (λ (w : Str g.fields). Put (sentence g.fields w) o o'') (sym is) (put_end g.fields I.start I.hops I.put X.packet X.is X.put);
     }
       where
         is : w ≡ str I.start I.hops X.packet
-        is = I.whole ∙ ap (λ (v : Way N). str I.start (I.hops ++ v.hops) v.end) X.whole ∙ ap (λ (hs : List (Packet N)). str I.start hs X.packet) (append-nil I.hops)
+        is = I.whole ∙ ap (λ (v : Way g.fields). str I.start (I.hops ++ v.hops) v.end) X.whole ∙ ap (λ (hs : List (Packet g.fields)). str I.start hs X.packet) (append-nil I.hops)
 
 -- ---- the loop over the hops
 
 -- what was begun where the loop begins goes on, whatever was asked
-pub record Hopping (N : ℕ) (l : Limits) (t tr p : List ℕ) (c : Counts) (n at : ℕ) (sp₀ st₀ s₀ out₀ : List ℕ) (spot₀ : Spot) (first₀ : Bool) (j₀ : ℕ) (sp st s out : List ℕ) (spot : Spot) (first : Bool) (j : ℕ) : Type 0 where
-  pub writes : (mem : List ℕ) (ws : List Sets) (k : ℕ) (w : Str N) (out₁ : List ℕ) → Written N l (tables_of sp₀ t st₀ mem tr c) s₀ p n ws k at w j₀ first₀ spot₀ out₁ out₀
-      → Written N l (tables_of sp t st mem tr c) s p n ws k at w j first spot out₁ out × Unmade sp₀ st₀ sp st
+pub record Hopping (g : Config) (n k : ℕ) (x₀ : Lent) (o₀ : Output) (spot₀ : Spot) (first₀ : Bool) (j₀ : ℕ) (x : Lent) (o : Output) (spot : Spot) (first : Bool) (j : ℕ) : Type 0 where
+  pub writes : (ws : List Sets) (w : Str g.fields) (before : Output) → Written g n ws k w before j₀ first₀ spot₀ x₀ o₀ → Written g n ws k w before j first spot x o × Unmade x₀ x
 
-module _ {N : ℕ} {l : Limits} {t tr p : List ℕ} {c : Counts} {n at : ℕ} {sp₀ st₀ s₀ out₀ : List ℕ} {spot₀ : Spot} {first₀ : Bool} {j₀ : ℕ} where
-  pub hopping_begin : Hopping N l t tr p c n at sp₀ st₀ s₀ out₀ spot₀ first₀ j₀ sp₀ st₀ s₀ out₀ spot₀ first₀ j₀
-  hopping_begin = record { writes = λ mem ws k w out₁ B. (B, unmade_none) }
+module _ {g : Config} {n k : ℕ} {x₀ : Lent} {o₀ : Output} {spot₀ : Spot} {first₀ : Bool} {j₀ : ℕ} where
+  pub hopping_begin : Hopping g n k x₀ o₀ spot₀ first₀ j₀ x₀ o₀ spot₀ first₀ j₀
+  hopping_begin = record { writes = λ ws w before B. (B, refl) }
 
-  module _ {sp st s out : List ℕ} {spot : Spot} {first : Bool} {j : ℕ} (I : Hopping N l t tr p c n at sp₀ st₀ s₀ out₀ spot₀ first₀ j₀ sp st s out spot first j) where
-    pub hopping_next : 0 < j → {r : Spot} {sp' st' s' out' : List ℕ} → PostNext N l sp t st tr s p c n (j - 1) first spot r sp' st' s' out out'
-        → Hopping N l t tr p c n at sp₀ st₀ s₀ out₀ spot₀ first₀ j₀ sp' st' s' out' r false (j - 1)
-    hopping_next m E = record {
-      writes = λ mem ws k w out₁ B.
-          let (i, u) = I.writes mem ws k w out₁ B in
-          let i' = written_down m i in
-          let X = E mem ws i'.packet i'.way i'.number i'.going in
-          (written_next i' X, unmade_on u X.unmade);
-    }
+  pub hopping_next : {x : Lent} {o : Output} {spot : Spot} {first : Bool} {j : ℕ} → Hopping g n k x₀ o₀ spot₀ first₀ j₀ x o spot first j → 0 < j → {r : Spot} {y : Lent} {o' : Output} → PostNext g n (j - 1) first spot x o r y o'
+      → Hopping g n k x₀ o₀ spot₀ first₀ j₀ y o' r false (j - 1)
+  hopping_next I m E = record {
+    writes = λ ws w before B.
+        let (i, u) = I.writes ws w before B in
+        let i' = written_down m i in
+        let X = E.gives ws i'.packet i'.way i'.number i'.going in
+        (written_next i' X, X.unmade ∙ u);
+  }
 
-module _ {N : ℕ} {l : Limits} {t tr p : List ℕ} {c : Counts} {n at : ℕ} {sp₀ st₀ s₀ out₀ sp₁ st₁ s₁ out₁ : List ℕ} {f x : ℕ} {spot₁ : Spot} (E : PostStart N l sp₀ t st₀ tr s₀ p c n f x at spot₁ sp₁ st₁ s₁ out₀ out₁)
-    {sp st s out : List ℕ} {spot : Spot} {first : Bool} {j : ℕ} (I : Hopping N l t tr p c n at sp₁ st₁ s₁ out₁ spot₁ true (f - 1) sp st s out spot first j) where
-  going_on : {mem : List ℕ} {ws : List Sets} {k : ℕ} {w : Str N} → f ≡ k + 1 → Picks N l (tables_of sp₀ t st₀ mem tr c) s₀ p n ws k x w
-      → Written N l (tables_of sp t st mem tr c) s p n ws k at w j first spot out₀ out × Unmade sp₀ st₀ sp st
-  going_on {mem} {ws} {k} {w} e P =
-      let S = E mem ws k w e P in
-      let (i, u) = I.writes mem ws k w out₀ (written_begin e S) in
-      (i, unmade_on S.unmade u)
+module _ {g : Config} {n k i : ℕ} {x₀ y₀ : Lent} {o₀ p₀ : Output} {spot₀ : Spot} (E : PostStart g n k i x₀ o₀ spot₀ y₀ p₀) {x : Lent} {o : Output} {spot : Spot} {first : Bool} {j : ℕ}
+    (I : Hopping g n k y₀ p₀ spot₀ true k x o spot first j) where
+  going_on : {ws : List Sets} {w : Str g.fields} → PicksIn g x₀ n ws k i w → Written g n ws k w o₀ j first spot x o × Unmade x₀ x
+  going_on {ws} {w} P =
+      let S = E.gives ws w P in
+      let (i, u) = I.writes ws w o₀ (written_begin S) in
+      (i, u ∙ S.unmade)
 
-  pub string_next : {step : ℕ} → 0 < j → 0 < step → PreString N l sp₀ t st₀ tr s₀ p c n f x at out₀ → PreNext N l sp t st tr s p c n (j - 1) step spot out
+  pub string_next : {step : ℕ} → 0 < j → 0 < step → PreString g x₀ o₀ n k i → PreNext g x o n (j - 1) step spot
   string_next m z P =
-      let i = written_down m (going_on P.is P.picks).0 in
-      record { members = P.members; rounds = P.rounds; packet = i.packet; way = i.way; number = i.number; going = i.going; some = z; room = next_room i P.room }
+      let i = written_down m (going_on P.picks).0 in
+      record { rounds = P.rounds; packet = i.packet; way = i.way; number = i.number; going = i.going; some = z; room = next_room i P.room }
 
-  ended : j ≤ 0 → {mem : List ℕ} {ws : List Sets} {k : ℕ} {w : Str N} → Written N l (tables_of sp t st mem tr c) s p n ws k at w j first spot out₀ out → Written N l (tables_of sp t st mem tr c) s p n ws k at w 0 first spot out₀ out
-  ended m {mem} {ws} {k} {w} i = subst (λ (j : ℕ). Written N l (tables_of sp t st mem tr c) s p n ws k at w j first spot out₀ out) {x = j} {y = 0} (omega (arith, m)) i
+  ended : j ≤ 0 → {ws : List Sets} {w : Str g.fields} → Written g n ws k w o₀ j first spot x o → Written g n ws k w o₀ 0 first spot x o
+  ended m {ws} {w} i = subst (λ (j : ℕ). Written g n ws k w o₀ j first spot x o) {x = j} {y = 0} (omega (arith, m)) i
 
-  pub string_last : j ≤ 0 → PreString N l sp₀ t st₀ tr s₀ p c n f x at out₀ → PreLast N l sp t st s c spot out
+  pub string_last : j ≤ 0 → PreString g x₀ o₀ n k i → PreLast g x o spot
   string_last m P =
-      let i = ended m (going_on P.is P.picks).0 in
-      record { members = P.members; transitions = tr; pending = p; count = n; rounds = P.rounds; packet = i.packet; way = i.way; number = i.number; going = i.going; room = last_room i P.room }
+      let i = ended m (going_on P.picks).0 in
+      record { count = n; rounds = P.rounds; packet = i.packet; way = i.way; number = i.number; going = i.going; room = last_room i P.room }
 
-  pub string_done : j ≤ 0 → {r : ℕ} {s' out' : List ℕ} → PostLast N l sp t st s c spot r s' out out' → PostString N l sp₀ t st₀ tr s₀ p c n f x at r sp st s' out₀ out'
-  string_done m L = λ mem ws k w e P.
-      let (i₀, u) = going_on e P in
-      let i = ended m i₀ in
-      written_last i u (L mem tr p n ws i.packet i.way i.number i.going)
+  pub string_done : j ≤ 0 → {y : Lent} {o' : Output} → OnlyScratch x y → PostLast g spot x o y o' → PostString g n k i x₀ o₀ y o'
+  string_done m K L = record {
+    gives = λ ws w P.
+        let (i₀, u) = going_on P in
+        let i = ended m i₀ in
+        written_last i u K (L.gives n ws i.packet i.way i.number i.going);
+  }
 
-pub string_first : {N : ℕ} {l : Limits} {t tr p : List ℕ} {c : Counts} {n at : ℕ} {sp st s out : List ℕ} {f x step : ℕ} → 0 < step → PreString N l sp t st tr s p c n f x at out → PreStart N l sp t st tr s p c n f x step at out
-string_first z P = record { members = P.members; rounds = P.rounds; hops = P.hops; string = P.string; is = P.is; picks = P.picks; some = z; room = omega (arith, P.room) }
+pub string_first : {g : Config} {x : Lent} {o : Output} {n k i step : ℕ} → 0 < step → PreString g x o n k i → PreStart g x o n k i step
+string_first z P = record { rounds = P.rounds; string = P.string; picks = P.picks; most = P.most; some = z; room = omega (arith, P.room) }
 
 -- ---- the answer
 
-some_word : (o : Option ℕ) {f : ℕ} → f ≡ hops_word o → 0 < f → o ≡ some (f - 1)
-some_word none e m = absurd (omega (arith, e))
-some_word (some k) {f} e m = ap some {x = k} {y = f - 1} (omega (arith, e))
+some_of : (o : Option ℕ) {f : code.Option ℕ} {k : ℕ} → f ≡ hops_of o → f ≡ code.Some k → o ≡ some k
+some_of none e q = let z : ◌≡◌ {A = code.Option ℕ} code.None (code.Some _) = sym e ∙ q in cc
+some_of (some j) {k = k} e q = let z : ◌≡◌ {A = code.Option ℕ} (code.Some j) (code.Some k) = sym e ∙ q in ap some {x = j} {y = k} cc
 
-none_word : (o : Option ℕ) {f : ℕ} → f ≡ hops_word o → f ≡ 0 → o ≡ none
-none_word none e m = refl
-none_word (some k) e m = absurd (omega (arith, e))
+none_of : (o : Option ℕ) {f : code.Option ℕ} → f ≡ hops_of o → f ≡ code.None → o ≡ none
+none_of none e q = refl
+none_of (some j) e q = let z : ◌≡◌ {A = code.Option ℕ} (code.Some j) code.None = sym e ∙ q in cc
 
-module _ {N : ℕ} {l : Limits} {sp t st mem tr s p : List ℕ} {c : Counts} {n : ℕ} {ws : List Sets} {f x : ℕ} (A : Answering N l (tables_of sp t st mem tr c) s p n ws f x) where
+module _ (g : Config) (x : Lent) {n : ℕ} {ws : List Sets} {f : code.Option ℕ} {i : ℕ} (A : AnsweringIn g x n ws f i) where
+  abbrev N : ℕ
+  N = g.fields
+
   abbrev told : List ℕ
-  told = why_answer N (pick_by N (clear_of sp t st mem tr c) ws x (fewest N x 0 ws))
+  told = why_answer N (pick_by N (clear_in x) ws i (fewest N i 0 ws))
 
-  pub answer_none : {at : ℕ} {r : code.Option ℕ} {out out' : List ℕ} → f ≡ 0 → Answers (say (bytes "none" ∷ [])) at r out out' → WhyAnswered N l sp t st mem tr c p n ws x at r sp st s out out'
-  answer_none {at} {r} {out} {out'} z B = record {
-    unmade = unmade_none;
+  pub answer_none : {o o' : Output} {r : code.Result Unit Refusal} → f ≡ code.None → Answers (say (bytes "none" ∷ [])) o r o' → WhyAnswered g n ws i x o r x o'
+  answer_none {o} {o'} {r} z B = record {
+    unmade = refl;
     standing = A.standing;
-    answers = subst (λ (bs : List ℕ). Answers bs at r out out') (ap (λ (o : Option ℕ). why_answer N (pick_by N (clear_of sp t st mem tr c) ws x o)) (sym (none_word (fewest N x 0 ws) A.hops z))) B;
+    answers = subst (λ (bs : List ℕ). Answers bs o r o') (ap (λ (m : Option ℕ). why_answer N (pick_by N (clear_in x) ws i m)) (sym (none_of (fewest N i 0 ws) A.hops z))) B;
   }
 
-  module _ (m : 0 < f) where
-    pub fewest_is : fewest N x 0 ws ≡ some (f - 1)
-    fewest_is = some_word (fewest N x 0 ws) A.hops m
+  module _ {k : ℕ} (e : f ≡ code.Some k) where
+    pub fewest_is : fewest N i 0 ws ≡ some k
+    fewest_is = some_of (fewest N i 0 ws) A.hops e
+
+    pub most : k ≤ 2 ^ 55
+    most = rw e at A.most
 
     abbrev pub string : Str N
-    string = (A.known (f - 1) fewest_is).0
-
-    pub is_string : f ≡ f - 1 + 1
-    is_string = omega arith
+    string = (A.known k fewest_is).0
 
     told_is : told ≡ sentence N string
-    told_is = ap (λ (o : Option ℕ). why_answer N (pick_by N (clear_of sp t st mem tr c) ws x o)) fewest_is ∙ ap (why_answer N) (A.known (f - 1) fewest_is).1
+    told_is = ap (λ (m : Option ℕ). why_answer N (pick_by N (clear_in x) ws i m)) fewest_is ∙ ap (why_answer N) (A.known k fewest_is).1
 
-    told_long : length told ≡ sentence_length N (f - 1)
-    told_long = ap length told_is ∙ sentence_length_lem N string (f - 1) (A.known (f - 1) fewest_is).3
+    told_long : length told ≡ sentence_length N k
+    told_long = ap length told_is ∙ sentence_length_lem N string k (A.known k fewest_is).3
 
-    pub answer_full : {at : ℕ} {out : List ℕ} → length out < at + sentence_length N (f - 1) → WhyAnswered N l sp t st mem tr c p n ws x at code.None sp st s out out
-    answer_full z = record { unmade = unmade_none; standing = A.standing; answers = (omega (arith, told_long), refl) }
+    pub answer_full : {o : Output} → length o.bytes.now < o.at + sentence_length N k → WhyAnswered g n ws i x o (code.Err refusals.Output) x o
+    answer_full z = record { unmade = refl; standing = A.standing; answers = (refl, omega (arith, told_long), refl) }
 
-    module _ {s' : List ℕ} (F : Forgotten s s') (len : length s' ≡ length s) where
-      pub answer_picks : Picks N l (tables_of sp t st mem tr c) s' p n ws (f - 1) x string
+    module _ {y : Lent} (K : OnlyScratch x y) (F : Forgotten x.scratch.now y.scratch.now) where
+      pub answer_picks : PicksIn g y n ws k i string
       answer_picks =
           let W = A.standing.walk in
-          let R = query_forgotten W.working.ready F len in
-          record {
+          let R = query_forgotten W.working.ready F K.length in
+          over K (λ τ p. Picks N g.limits τ y.scratch.now p n ws k i string) (record {
             standing = record {
               walk = record { working = record { ready = R; fresh = W.working.fresh }; links = W.links; rest = W.rest; first = W.first; after = W.after; room = W.room };
               again = A.standing.again;
             };
             least = record { few = R.ready.few; wf = both_wf R.ordered; room = R.ready.room; sound = least_zeroed F };
-            inside = (A.known (f - 1) fewest_is).2;
+            inside = (A.known k fewest_is).2;
             among = A.among;
-            is = (A.known (f - 1) fewest_is).1;
-          }
+            is = (A.known k fewest_is).1;
+          })
 
-      pub answer_told : {at r : ℕ} {sp' st' s'' out out' : List ℕ} → Stringed N l sp t st mem tr c p n ws at string r sp' st' s'' out out' → WhyAnswered N l sp t st mem tr c p n ws x at (code.Some r) sp' st' s'' out out'
-      answer_told {at} {r} {out = out} {out' = out'} X = record { unmade = X.unmade; standing = X.standing; answers = subst (λ (bs : List ℕ). Put at bs r out out') (sym told_is) X.put }
+      pub answer_told : {o : Output} {z : Lent} {o' : Output} → Stringed g n ws string y o z o' → WhyAnswered g n ws i x o (code.Ok tt) z o'
+      answer_told {o} {z} {o'} X = record {
+        unmade = X.unmade ∙ ap clear_tables (scratch_tables K);
+        standing = X.standing;
+        answers = subst (λ (bs : List ℕ). Put bs o o') (sym told_is) X.put;
+      }

@@ -1,19 +1,22 @@
 // The answer to `why`: the string is picked from the rounds, hop by hop, and its sentence is written, whole or not at all.
 #![tactic(auto)]
 
-ghost use Rattle.std.specs.Prelude.{◌<◌};
+ghost use Rattle.std.specs.Prelude.{◌≡◌, ◌<◌};
+ghost use Rattle.aut_sets.specs.Lent.{OnlyScratch, OnlySearch};
 ghost use Rattle.book_why.specs.Clauses.{PreStart, PostStart, PreNext, PostNext, PreLast, PostLast, PreString, PostString, PreAnswer, PostAnswer};
 
-use aut_states::{Config, Counts};
+use aut_relations::Aut;
+use aut_states::{Config, STATE, word};
+use book_writer::Output;
+use refusal::Refusal;
 use sp::SP;
 
-// where the picking stands: the round in words 10, the state, the packet's number, and the place behind it in the output
+// where the picking stands: the round in words 10, the state, and the packet's number
 #[derive(Clone, Copy)]
 pub struct Spot {
     pub mark: usize,
     pub state: u32,
     pub packet: u32,
-    pub end: usize,
 }
 
 // about the square root
@@ -31,243 +34,115 @@ fn step_for(k: usize) -> usize
     step
 }
 
-// the least start of a string of x with f - 1 hops
+// the least start of a string of x with so many hops; there is one
 fn put_first(
-    sp: &mut [u32],
-    nodes: &[u32],
-    states: &mut [u32],
-    transitions: &[u32],
-    pending: &[u32],
-    scratch: &mut [u32],
-    output: &mut [u8],
-    c: Counts,
+    aut: &mut Aut,
     config: Config,
-    at: usize,
+    out: &mut Output,
     n: usize,
-    f: usize,
+    hops: usize,
     x: u32,
     step: usize,
 ) -> Spot
-    requires { PreStart config.fields config.limits sp.old nodes.now states.old transitions.now
-        scratch.old pending.now c n f x step at output.old }
-    ensures { PostStart config.fields config.limits sp.old nodes.now
-        states.old transitions.now scratch.old pending.now c n f x at result
-        sp.new states.new scratch.new output.old output.new }
+    requires { PreStart config aut.old out.old n hops x step }
+    ensures keeps { OnlySearch aut.old aut.new }
+    ensures pending { aut.new.pending ≡ aut.old.pending }
+    ensures bytes { out.new.bytes.ghost_name ≡ out.old.bytes.ghost_name }
+    ensures gives { PostStart config n hops x aut.old out.old result aut.new out.new }
 {
-    let mark = aut_why_again::sets_for(
-        sp,
-        nodes,
-        states,
-        transitions,
-        pending,
-        scratch,
-        c,
-        config,
-        n,
-        f - 1,
-        f,
-        step,
-    );
-    let i = aut_states::STATE * (x as usize) + aut_states::word::SEEN;
-    let starts = SP(states[i] - 1);
-    let packet = aut_why_least::first_of(sp, c, config.fields, starts) - 1;
-    let end = book_writer::put_start(output, at, config.fields, packet);
+    let mark = aut_why_again::sets_for(aut, config, n, hops, hops + 1, step);
+    let starts = SP(aut.states.words[STATE * (x as usize) + word::SEEN] - 1);
+    let packet = aut_why_least::first_of(aut, config, starts).unwrap_or(0);
+    out.put_start(config.fields, packet);
     Spot {
-        mark: mark,
+        mark,
         state: x,
-        packet: packet,
-        end: end,
+        packet,
     }
 }
 
-// the next hop, j hops before the end
+// the next hop, j hops before the end; there is one
 fn put_next(
-    sp: &mut [u32],
-    nodes: &[u32],
-    states: &mut [u32],
-    transitions: &[u32],
-    pending: &[u32],
-    scratch: &mut [u32],
-    output: &mut [u8],
-    c: Counts,
+    aut: &mut Aut,
     config: Config,
+    out: &mut Output,
     n: usize,
     j: usize,
     step: usize,
     first: bool,
     spot: Spot,
 ) -> Spot
-    requires { PreNext config.fields config.limits sp.old nodes.now states.old transitions.now
-        scratch.old pending.now c n j step spot output.old }
-    ensures { PostNext config.fields config.limits sp.old nodes.now
-        states.old transitions.now scratch.old pending.now c n j first spot
-        result sp.new states.new scratch.new output.old output.new }
+    requires { PreNext config aut.old out.old n j step spot }
+    ensures keeps { OnlySearch aut.old aut.new }
+    ensures pending { aut.new.pending ≡ aut.old.pending }
+    ensures bytes { out.new.bytes.ghost_name ≡ out.old.bytes.ghost_name }
+    ensures gives { PostNext config n j first spot aut.old out.old result aut.new out.new }
 {
-    let mark = aut_why_again::sets_for(
-        sp,
-        nodes,
-        states,
-        transitions,
-        pending,
-        scratch,
-        c,
-        config,
-        n,
-        j,
-        spot.mark,
-        step,
-    );
-    let Some((packet, target)) = aut_why_hop::hop(
-        sp,
-        nodes,
-        states,
-        transitions,
-        scratch,
-        c,
-        config.fields,
-        spot.state,
-        spot.packet,
-    ) else {
+    let mark = aut_why_again::sets_for(aut, config, n, j, spot.mark, step);
+    let Some((packet, target)) = aut_why_hop::hop(aut, config, spot.state, spot.packet) else {
         return spot;
     };
-    let end = book_writer::put_hop(output, spot.end, config.fields, first, packet);
+    out.put_hop(config.fields, first, packet);
     Spot {
-        mark: mark,
+        mark,
         state: target,
-        packet: packet,
-        end: end,
+        packet,
     }
 }
 
-// the least end
-fn put_last(
-    sp: &[u32],
-    nodes: &[u32],
-    states: &[u32],
-    scratch: &mut [u32],
-    output: &mut [u8],
-    c: Counts,
-    config: Config,
-    spot: Spot,
-) -> usize
-    requires { PreLast config.fields config.limits sp.now nodes.now states.now scratch.old c spot
-        output.old }
-    ensures { PostLast config.fields config.limits sp.now nodes.now
-        states.now scratch.old c spot result scratch.new output.old
-        output.new }
+// the least end; there is one
+fn put_last(aut: &mut Aut, config: Config, out: &mut Output, spot: Spot)
+    requires { PreLast config aut.old out.old spot }
+    ensures keeps { OnlyScratch aut.old aut.new }
+    ensures bytes { out.new.bytes.ghost_name ≡ out.old.bytes.ghost_name }
+    ensures gives { PostLast config spot aut.old out.old aut.new out.new }
 {
-    let epsilon = aut_why_words::epsilon_at(states, spot.state);
-    let packet = aut_why_least::end_of(nodes, sp, scratch, c, config.fields, spot.packet, epsilon)
-        - 1;
-    book_writer::put_end(output, spot.end, config.fields, packet)
+    let epsilon = aut_why_words::epsilon_at(aut, spot.state);
+    let packet = aut_why_least::end_of(aut, config, spot.packet, epsilon).unwrap_or(0);
+    out.put_end(config.fields, packet);
 }
 
-// the sentence of the string with f - 1 hops, for which there is room
-fn put_string(
-    sp: &mut [u32],
-    nodes: &[u32],
-    states: &mut [u32],
-    transitions: &[u32],
-    pending: &[u32],
-    scratch: &mut [u32],
-    output: &mut [u8],
-    c: Counts,
-    config: Config,
-    at: usize,
-    n: usize,
-    f: usize,
-    x: u32,
-) -> usize
-    requires { PreString config.fields config.limits sp.old nodes.now states.old transitions.now
-        scratch.old pending.now c n f x at output.old }
-    ensures { PostString config.fields config.limits sp.old nodes.now
-        states.old transitions.now scratch.old pending.now c n f x at result
-        sp.new states.new scratch.new output.old output.new }
+// the sentence of the string with so many hops, for which there is room
+fn put_string(aut: &mut Aut, config: Config, out: &mut Output, n: usize, hops: usize, x: u32)
+    requires { PreString config aut.old out.old n hops x }
+    ensures keeps { OnlySearch aut.old aut.new }
+    ensures pending { aut.new.pending ≡ aut.old.pending }
+    ensures bytes { out.new.bytes.ghost_name ≡ out.old.bytes.ghost_name }
+    ensures gives { PostString config n hops x aut.old out.old aut.new out.new }
 {
-    let step = step_for(f);
-    let mut spot = put_first(
-        sp,
-        nodes,
-        states,
-        transitions,
-        pending,
-        scratch,
-        output,
-        c,
-        config,
-        at,
-        n,
-        f,
-        x,
-        step,
-    );
+    let step = step_for(hops + 1);
+    let mut spot = put_first(aut, config, out, n, hops, x, step);
     let mut first = true;
-    for j in (0..f - 1).rev() {
-        spot = put_next(
-            sp,
-            nodes,
-            states,
-            transitions,
-            pending,
-            scratch,
-            output,
-            c,
-            config,
-            n,
-            j,
-            step,
-            first,
-            spot,
-        );
+    for j in (0..hops).rev() {
+        spot = put_next(aut, config, out, n, j, step, first, spot);
         first = false;
     }
-    put_last(sp, nodes, states, scratch, output, c, config, spot)
+    put_last(aut, config, out, spot);
 }
 
-// the answer for x, whose fewest hops + 1 are f, 0 for no string
+// the answer for x, with the fewest hops of its strings, if there is one
 pub fn why_answer(
-    sp: &mut [u32],
-    nodes: &[u32],
-    states: &mut [u32],
-    transitions: &[u32],
-    pending: &[u32],
-    scratch: &mut [u32],
-    output: &mut [u8],
-    c: Counts,
+    aut: &mut Aut,
     config: Config,
-    at: usize,
+    out: &mut Output,
     n: usize,
-    f: usize,
+    hops: Option<usize>,
     x: u32,
-) -> Option<usize>
-    requires { PreAnswer config.fields config.limits sp.old nodes.now states.old transitions.now
-        scratch.old pending.now c n f x at output.old }
-    ensures { PostAnswer config.fields config.limits sp.old nodes.now
-        states.old transitions.now scratch.old pending.now c n f x at result
-        sp.new states.new scratch.new output.old output.new }
+) -> Result<(), Refusal>
+    requires { PreAnswer config aut.old out.old n hops x }
+    ensures keeps { OnlySearch aut.old aut.new }
+    ensures pending { aut.new.pending ≡ aut.old.pending }
+    ensures bytes { out.new.bytes.ghost_name ≡ out.old.bytes.ghost_name }
+    ensures gives { PostAnswer config n hops x aut.old out.old result aut.new out.new }
 {
-    if f == 0 {
-        return book_writer::none_answer(output, at);
+    let Some(hops) = hops else {
+        return out.none_answer();
+    };
+    let long = book_writer::why_length(config.fields, hops);
+    if out.bytes.len() - out.at < long {
+        return Err(Refusal::Output);
     }
-    let long = book_writer::why_length(config.fields, f - 1);
-    if output.len() - at < long {
-        return None;
-    }
-    aut_why_least::forget(scratch);
-    let end = put_string(
-        sp,
-        nodes,
-        states,
-        transitions,
-        pending,
-        scratch,
-        output,
-        c,
-        config,
-        at,
-        n,
-        f,
-        x,
-    );
-    Some(end)
+    aut_why_least::forget(aut);
+    put_string(aut, config, out, n, hops, x);
+    Ok(())
 }

@@ -1,15 +1,15 @@
 -- What holds of the definitions of specs/Clauses.
 use mathlib.Core.Path.{◌≡◌, refl, sym, ◌∙◌, ap, subst}
 use mathlib.Core.Bool.{Bool, true, false}
-use mathlib.Core.List.{List, [], ◌∷◌, ◌++◌}
+use mathlib.Core.List.{List, ◌∷◌, ◌++◌}
 use Prim.Native.Nat.{ℕ, ◌+◌, ◌-◌, ◌≤◌, ◌<◌}
 use native.Mathlib.Omega.{arith}
 use lib.Dec.{ltb}
-use lib.ListN.{length, get_or, take, set, length-append, length-set, get_or-append}
-use lib.Seq.{length-take-le, get_or-take, ext_get_or, get_or-append-add, get_or-set_same, get_or-set_other}
+use lib.ListN.{length, get_or, take, length-append, get_or-append}
+use lib.Seq.{length-take-le, get_or-take, ext_get_or, get_or-append-add}
 use borrow.Author.Tests.{ltb-true, ltb-false}
 use Rattle.book_steps.specs.Answers.{Pairs, pair_lines, pruned_answer}
-use Rattle.book_writer.specs.Clauses.{Wrote, Put, pruned_head, pair_line}
+use Rattle.book_writer.specs.Clauses.{Wrote, PutAt, pruned_head, pair_line}
 
 pub pruned_is : (name : List ℕ) (pairs : List Pairs) → pruned_answer name pairs ≡ pruned_head name (length pairs) ++ pair_lines pairs
 pruned_is name pairs = refl
@@ -43,7 +43,7 @@ module _ {at : ℕ} {bs cs s s' s'' : List ℕ} (w : Wrote at bs s s') (v : Wrot
     above = λ i l. v.above i (omega (arith, length-append bs cs)) ∙ w.above i (omega (arith, length-append bs cs));
   }
 
-pub put_append : {at r r' : ℕ} {bs cs s s' s'' : List ℕ} → Put at bs r s s' → Put r cs r' s' s'' → Put at (bs ++ cs) r' s s''
+pub put_append : {at r r' : ℕ} {bs cs s s' s'' : List ℕ} → PutAt at bs r s s' → PutAt r cs r' s' s'' → PutAt at (bs ++ cs) r' s s''
 put_append {at} {r} {r'} {bs} {cs} {s} {s'} {s''} p q = record {
   behind = omega (arith, p.behind, q.behind, length-append bs cs);
   room = omega (arith, q.room, p.wrote.len);
@@ -51,25 +51,12 @@ put_append {at} {r} {r'} {bs} {cs} {s} {s'} {s''} p q = record {
 }
 
 -- the same bytes
-pub put_of : {at r : ℕ} {bs cs s s' : List ℕ} → bs ≡ cs → Put at bs r s s' → Put at cs r s s'
-put_of {at} {r} {bs} {cs} {s} {s'} e p = subst (λ (x : List ℕ). Put at x r s s') e p
-
--- one byte
-pub put_one : (at b : ℕ) (s : List ℕ) → at < length s → Put at (b ∷ []) (at + 1) s (set s at b)
-put_one at b s l = record {
-  behind = refl;
-  room = omega arith;
-  wrote = record {
-    len = length-set s at b;
-    is = λ i m. ap (λ (j : ℕ). get_or (set s at b) j 0) {x = at + i} {y = at} (omega arith) ∙ get_or-set_same s at b 0 l ∙ ap (λ (j : ℕ). get_or (b ∷ []) j 0) {x = 0} {y = i} (omega arith);
-    below = λ i m. get_or-set_other s at i b 0 (λ e. omega arith);
-    above = λ i m. get_or-set_other s at i b 0 (λ e. omega arith);
-  };
-}
+pub put_of : {at r : ℕ} {bs cs s s' : List ℕ} → bs ≡ cs → PutAt at bs r s s' → PutAt at cs r s s'
+put_of {at} {r} {bs} {cs} {s} {s'} e p = subst (λ (x : List ℕ). PutAt at x r s s') e p
 
 -- ---- the output up to a place
 
-module _ {at r : ℕ} {bs s s' : List ℕ} (p : Put at bs r s s') where
+module _ {at r : ℕ} {bs s s' : List ℕ} (p : PutAt at bs r s s') where
   start : length (take at s) ≡ at
   start = length-take-le at s (omega (arith, p.behind, p.room))
 

@@ -1,11 +1,11 @@
 -- A line: how long it is, and what stands in the output when its parts are written; and the share.
-use Rattle.std.specs.Prelude.{if◌then◌else◌}
+use Rattle.std.specs.Prelude.{if◌then◌else◌, Option, Some, None, SomeIff}
 use mathlib.Core.Path.{◌≡◌, refl, sym, ◌∙◌, ap}
 use mathlib.Core.Bool.{Bool, true, false}
 use mathlib.Core.List.{List, [], ◌∷◌, ◌++◌, map, append_assoc, append-nil}
-use Prim.Native.Nat.{ℕ, ◌+◌, ◌*◌, ◌/◌, ◌%◌, ◌^◌, ◌≤◌, ◌<◌}
+use Prim.Native.Nat.{ℕ, ◌+◌, ◌-◌, ◌*◌, ◌/◌, ◌%◌, ◌^◌, ◌≤◌, ◌<◌}
 use native.Mathlib.Omega.{arith}
-use lib.ListN.{length, get_or, drop, set, length-append, length-set}
+use lib.ListN.{length, get_or, drop, length-append}
 use Rattle.std.proofs.lemmas.List.{drop_more, drop_all}
 use lib.Pow.{pow_mono, pow_pos}
 use native.Mathlib.Nat.{mod-eq_of_lt}
@@ -13,8 +13,8 @@ use borrow.Author.Tests.{lt-ltb, le-ltb}
 use Rattle.book_steps.specs.Answers.{say, share}
 use Rattle.book_writer.specs.declared.Part.{Part}
 use Rattle.book_writer.specs.declared.Part.TheVariants.{Word}
-use Rattle.book_writer.specs.Clauses.{Put, part_bytes, with_spaces}
-use Rattle.book_writer.proofs.Contracts.{put_append, put_of, put_one}
+use Rattle.book_writer.specs.Clauses.{PutAt, part_bytes, with_spaces, Measures}
+use Rattle.book_writer.proofs.Contracts.{put_append, put_of}
 
 length_two : (v w : List ℕ) → length (say (v ∷ w ∷ [])) ≡ length v + length w + 2
 unfolding say
@@ -27,13 +27,6 @@ length_more v w ws = omega (arith, length-append v (32 ∷ say (w ∷ ws)))
 pub length_three : (u v w : List ℕ) → length (say (u ∷ v ∷ w ∷ [])) ≡ length u + length v + length w + 3
 length_three u v w = omega (arith, length_more u v (w ∷ []), length_two v w)
 
--- a space in front, a line's end behind
-pub spaced : {at r : ℕ} {bs s s' : List ℕ} → at < length s → Put (at + 1) bs r (set s at 32) s' → Put at (32 ∷ bs) r s s'
-spaced {at} {r} {bs} {s} l p = put_append (put_one at 32 s l) p
-
-pub ended : {at r : ℕ} {bs s s' : List ℕ} → r < length s → Put at bs r s s' → Put at (bs ++ 10 ∷ []) (r + 1) s (set s' r 10)
-ended {at} {r} {bs} {s} {s'} l p = put_append p (put_one r 10 s' (omega (arith, p.wrote.len)))
-
 -- ---- a word and the parts behind it
 
 pub say_is : (w : List ℕ) (ps : List Part) → say (w ∷ map part_bytes ps) ≡ (w ++ with_spaces ps) ++ 10 ∷ []
@@ -43,6 +36,15 @@ say_is w (p ∷ ps) = ap (λ (l : List ℕ). w ++ 32 ∷ l) (say_is (part_bytes 
 
 pub say_length : (w : List ℕ) (ps : List Part) → length (say (w ∷ map part_bytes ps)) ≡ length w + length (with_spaces ps) + 1
 say_length w ps = omega (arith, ap length (say_is w ps), length-append (w ++ with_spaces ps) (10 ∷ []), length-append w (with_spaces ps))
+
+-- .. counted, where the parts are n bytes
+pub measured_line : (w : List ℕ) (ps : List Part) {n : ℕ} (r : Option ℕ) → n ≡ length (with_spaces ps) → SomeIff r (n + (length w + 1) < 2 ^ 64) (n + (length w + 1)) → Measures (say (w ∷ map part_bytes ps)) r
+measured_line w ps (Some k) e h = omega (arith, h.1, say_length w ps)
+measured_line w ps None e h = omega (arith, h, say_length w ps)
+
+-- .. and there is room for n bytes
+pub line_room : (w : List ℕ) (ps : List Part) {at size n : ℕ} → at ≤ size → n ≤ size - at → n ≡ length (say (w ∷ map part_bytes ps)) → at + (length w + length (with_spaces ps) + 1) ≤ size
+line_room w ps f h e = omega (arith, say_length w ps)
 
 -- what the check puts for a part that is not there
 abbrev pub blank : Part
@@ -75,34 +77,34 @@ module _ {ps : List Part} {total i : ℕ} (M : Measured ps total i) where
 -- the word and i parts are written
 pub record Written (s₀ : List ℕ) (at : ℕ) (w : List ℕ) (ps : List Part) (s : List ℕ) (end i : ℕ) : Type 0 where
   pub front : List ℕ
-  pub put : Put at front end s₀ s
+  pub put : PutAt at front end s₀ s
   pub is : front ++ with_spaces (drop i ps) ≡ w ++ with_spaces ps
 
-pub begin_line : {s₀ s : List ℕ} {at end : ℕ} {w : List ℕ} (ps : List Part) → Put at w end s₀ s → Written s₀ at w ps s end 0
+pub begin_line : {s₀ s : List ℕ} {at end : ℕ} {w : List ℕ} (ps : List Part) → PutAt at w end s₀ s → Written s₀ at w ps s end 0
 begin_line {w = w} ps P = record { front = w; put = P; is = refl }
 
 module _ {s₀ s : List ℕ} {at end i : ℕ} {w : List ℕ} {ps : List Part} (room : at + (length w + length (with_spaces ps) + 1) ≤ length s₀) (W : Written s₀ at w ps s end i) where
   size : length W.front + length (with_spaces (drop i ps)) ≡ length w + length (with_spaces ps)
   size = omega (arith, ap length W.is, length-append W.front (with_spaces (drop i ps)), length-append w (with_spaces ps))
 
-  pub one_byte : end < length s
+  pub one_byte : end + 1 ≤ length s
   one_byte = omega (arith, size, W.put.behind, W.put.wrote.len)
 
   module _ (h : i < length ps) where
-    pub part_fits : end + 1 + length (part_at ps i) ≤ length (set s end 32)
-    part_fits = omega (arith, length-set s end 32, size, W.put.behind, W.put.wrote.len, ap length (next_part ps i h), length-append (part_at ps i) (with_spaces (drop (i + 1) ps)))
+    pub part_fits : {r : ℕ} {s' : List ℕ} → PutAt end (32 ∷ []) r s s' → r + length (part_at ps i) ≤ length s'
+    part_fits P = omega (arith, P.behind, P.wrote.len, size, W.put.behind, W.put.wrote.len, ap length (next_part ps i h), length-append (part_at ps i) (with_spaces (drop (i + 1) ps)))
 
-    pub part_more : {r : ℕ} {s' : List ℕ} → Put (end + 1) (part_at ps i) r (set s end 32) s' → Written s₀ at w ps s' r (i + 1)
-    part_more P = record {
+    pub part_more : {q r : ℕ} {s' s'' : List ℕ} → PutAt end (32 ∷ []) q s s' → PutAt q (part_at ps i) r s' s'' → Written s₀ at w ps s'' r (i + 1)
+    part_more P Q = record {
       front = W.front ++ 32 ∷ part_at ps i;
-      put = put_append W.put (spaced one_byte P);
+      put = put_append W.put (put_append P Q);
       is = append_assoc W.front (32 ∷ part_at ps i) (with_spaces (drop (i + 1) ps)) ∙ ap (λ (l : List ℕ). W.front ++ l) (sym (next_part ps i h)) ∙ W.is;
     }
 
-  pub line_done : length ps ≤ i → Put at (say (w ∷ map part_bytes ps)) (end + 1) s₀ (set s end 10)
-  line_done h =
+  pub line_done : length ps ≤ i → {r : ℕ} {s' : List ℕ} → PutAt end (10 ∷ []) r s s' → PutAt at (say (w ∷ map part_bytes ps)) r s₀ s'
+  line_done h P =
       let f : W.front ≡ w ++ with_spaces ps = sym (append-nil W.front) ∙ ap (λ (l : List ℕ). W.front ++ l) (sym (no_part ps i h)) ∙ W.is in
-      put_of (ap (λ (l : List ℕ). l ++ 10 ∷ []) f ∙ sym (say_is w ps)) (ended (omega (arith, one_byte, W.put.wrote.len)) W.put)
+      put_of (ap (λ (l : List ℕ). l ++ 10 ∷ []) f ∙ sym (say_is w ps)) (put_append W.put P)
 
 -- ---- the share, and the total that it is of
 

@@ -12,7 +12,7 @@ use borrow.Author.Tests.{ltb-true, ltb-false, lt-ltb, le-ltb}
 use Rattle.book_steps.specs.Text.{decimal_by, decimal}
 use Rattle.book_steps.specs.Sentence.{bit_bytes}
 use Rattle.book_steps.proofs.Sentence.{bits_last}
-use Rattle.book_writer.specs.Clauses.{Put, last_digits}
+use Rattle.book_writer.specs.Clauses.{PutAt, last_digits}
 
 -- ---- how many digits a number has
 
@@ -163,7 +163,7 @@ module _ (s₀ : List ℕ) (at base k n : ℕ) where
   pub drawn_again : at + k ≤ length s₀ → (s : List ℕ) (m i : ℕ) → Drawn s₀ at base k n s m i → 0 < i → Drawn s₀ at base k n (set s (at + (i - 1)) (48 + m % base)) (m / base) (i - 1)
   drawn_again room s m i v h = drawn_suc room s m (i - 1) (subst (λ (x : ℕ). Drawn s₀ at base k n s m x) {x = i} {y = suc (i - 1)} (omega arith) v)
 
-  pub drawn_end : at + k ≤ length s₀ → (s : List ℕ) (m i : ℕ) → Drawn s₀ at base k n s m i → i ≤ 0 → Put at (last_digits base k n) (at + k) s₀ s
+  pub drawn_end : at + k ≤ length s₀ → (s : List ℕ) (m i : ℕ) → Drawn s₀ at base k n s m i → i ≤ 0 → PutAt at (last_digits base k n) (at + k) s₀ s
   drawn_end room s m i v z = record {
     behind = omega (arith, last_digits_length base k n);
     room = room;

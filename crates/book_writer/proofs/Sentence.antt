@@ -13,7 +13,7 @@ use Rattle.book_steps.specs.Text.{bytes}
 use Rattle.book_steps.specs.Answers.{packet_word, sentence}
 use Rattle.book_steps.specs.Sentence.{word_bytes, word_length, start_bytes, hop_words, hop_bytes, end_bytes, hops_length, sentence_length}
 use Rattle.book_steps.proofs.Sentence.{packet_word_lem, start_length, hops_length_lem, sentence_pieces}
-use Rattle.book_writer.specs.Clauses.{Put, last_digits, start_part, hop_part, end_part}
+use Rattle.book_writer.specs.Clauses.{PutAt, last_digits, start_part, hop_part, end_part}
 use Rattle.book_writer.proofs.Contracts.{put_append, put_of}
 use Rattle.book_writer.proofs.Rights.{bits_are}
 
@@ -96,12 +96,12 @@ module _ (n : ℕ) (a : Packet n) where
   pub begun_length : (hs : List (Packet n)) → length (begun hs) ≡ 5 + word_length n + hops_length n (length hs)
   begun_length hs = omega (arith, length-append (start_bytes n a) (hop_bytes n hs), start_length n a, hops_length_lem n hs)
 
-  pub put_begun : {at r packet : ℕ} {s s' : List ℕ} → value a ≡ packet → Put at (start_part n packet) r s s' → Put at (begun []) r s s'
+  pub put_begun : {at r packet : ℕ} {s s' : List ℕ} → value a ≡ packet → PutAt at (start_part n packet) r s s' → PutAt at (begun []) r s s'
   put_begun e P = put_of (start_is n a e ∙ sym (append-nil (start_bytes n a))) P
 
-  module _ {at r r' packet : ℕ} {s s' s'' : List ℕ} (hs : List (Packet n)) (P : Put at (begun hs) r s s') (p : Packet n) (e : value p ≡ packet) where
+  module _ {at r r' packet : ℕ} {s s' s'' : List ℕ} (hs : List (Packet n)) (P : PutAt at (begun hs) r s s') (p : Packet n) (e : value p ≡ packet) where
     -- one more hop
-    pub put_hop : (first : Bool) → (first ≡ true → length hs ≡ 0) → (first ≡ false → 0 < length hs) → Put r (hop_part n first packet) r' s' s'' → Put at (begun (hs ++ p ∷ [])) r' s s''
+    pub put_hop : (first : Bool) → (first ≡ true → length hs ≡ 0) → (first ≡ false → 0 < length hs) → PutAt r (hop_part n first packet) r' s' s'' → PutAt at (begun (hs ++ p ∷ [])) r' s s''
     put_hop first none some Q =
         put_of
         (append_assoc (start_bytes n a) (hop_bytes n hs) (hop_part n first packet)
@@ -109,7 +109,7 @@ module _ (n : ℕ) (a : Packet n) where
         (put_append P Q)
 
     -- .. or the end
-    pub put_end : Put r (end_part n packet) r' s' s'' → Put at (sentence n (str a hs p)) r' s s''
+    pub put_end : PutAt r (end_part n packet) r' s' s'' → PutAt at (sentence n (str a hs p)) r' s s''
     put_end Q =
         put_of
         (append_assoc (start_bytes n a) (hop_bytes n hs) (end_part n packet)

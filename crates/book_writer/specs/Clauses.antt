@@ -1,9 +1,12 @@
 -- 01, "The book and its answers" and refusal 27, "output cannot hold the next answer's lines": what the functions that write an answer leave in the output. A whole answer stands in it, or the output is as it was.
-use Rattle.std.specs.Prelude.{◌≡◌, Bool, true, false, List, [], ◌∷◌, ◌++◌, ℕ, zero, suc, ◌+◌, ◌/◌, ◌%◌, ◌≤◌, ◌<◌, ◌^◌, length, get_or, Option, Some, None}
+use Rattle.std.specs.Prelude.{◌≡◌, Bool, true, false, List, [], ◌∷◌, ◌++◌, ℕ, zero, suc, ◌+◌, ◌/◌, ◌%◌, ◌≤◌, ◌<◌, ◌^◌, length, get_or, Option, Some, None, Result, Ok, Err}
 use Rattle.netkat.specs.Search as Search
 use Rattle.book_steps.specs.Text.{bytes, decimal}
 use Rattle.book_steps.specs.Answers.{say}
 use Rattle.book_steps.specs.Sentence.{word_bytes}
+use Rattle.refusal.specs.declared.Refusal.{Refusal}
+use Rattle.refusal.specs.declared.Refusal.TheVariants as refusals
+use Rattle.book_writer.specs.declared.Output.{Output}
 use Rattle.book_writer.specs.declared.Part.{Part}
 use Rattle.book_writer.specs.declared.Part.TheVariants.{Word, Number}
 use Rattle.book_writer.specs.declared.Verdict.{Verdict}
@@ -16,11 +19,23 @@ pub record Wrote (at : ℕ) (bs s s' : List ℕ) : Type 0 where
   pub below : (i : ℕ) → i < at → get_or s' i 0 ≡ get_or s i 0
   pub above : (i : ℕ) → at + length bs ≤ i → get_or s' i 0 ≡ get_or s i 0
 
--- the same, with the place behind, which is in the output or at its end
-pub record Put (at : ℕ) (bs : List ℕ) (r : ℕ) (s s' : List ℕ) : Type 0 where
+-- the same, with the place behind, which is in them or at their end
+pub record PutAt (at : ℕ) (bs : List ℕ) (r : ℕ) (s s' : List ℕ) : Type 0 where
   pub behind : r ≡ at + length bs
   pub room : r ≤ length s
   pub wrote : Wrote at bs s s'
+
+-- what is written is lent
+abbrev pub Fits : Output → Type 0
+Fits o = o.at ≤ length o.bytes.now
+
+-- .. and there is room for n bytes behind it
+abbrev pub Room : ℕ → Output → Type 0
+Room n o = o.at + n ≤ length o.bytes.now
+
+-- bs are written behind what was, with the output o before and o' after
+abbrev pub Put : List ℕ → Output → Output → Type 0
+Put bs o o' = PutAt o.at bs o'.at o.bytes.now o'.bytes.now
 
 abbrev pub part_bytes : Part → List ℕ
 part_bytes (Word w) = w.now
@@ -31,15 +46,15 @@ unfoldable pub with_spaces : List Part → List ℕ
 with_spaces [] = []
 with_spaces (p ∷ ps) = 32 ∷ part_bytes p ++ with_spaces ps
 
--- their length, unless no word holds it
-abbrev pub Measures : List Part → Option ℕ → Type 0
-Measures ps (Some n) = n ≡ length (with_spaces ps)
-Measures ps None = 2 ^ 64 ≤ length (with_spaces ps)
+-- how many they are, unless no word holds it
+abbrev pub Measures : List ℕ → Option ℕ → Type 0
+Measures bs (Some n) = n ≡ length bs
+Measures bs None = 2 ^ 64 ≤ length bs
 
 -- the whole answer, or the refusal 27 and nothing
-abbrev pub Answers : List ℕ → ℕ → Option ℕ → List ℕ → List ℕ → Type 0
-Answers bs at (Some r) s s' = Put at bs r s s'
-Answers bs at None s s' = (length s < at + length bs) × (s' ≡ s)
+abbrev pub Answers : List ℕ → Output → Result Unit Refusal → Output → Type 0
+Answers bs o (Ok u) o' = Put bs o o'
+Answers bs o (Err e) o' = (e ≡ refusals.Output) × (length o.bytes.now < o.at + length bs) × (o' ≡ o)
 
 abbrev pub verdict_of : Verdict → Search.Verdict
 verdict_of Yes = Search.yes

@@ -1,12 +1,13 @@
-// The lines of an answer, written into the output whole or not at all: the place behind it, or `None` where there is no room, which is
-// refusal 27.
+// The lines of an answer, written into the output whole or not at all: where there is no room, that is refusal 27.
 #![tactic(auto)]
 
 ghost use Rattle.std.specs.Prelude.{◌≡◌, [], ◌∷◌, ◌++◌, ◌+◌, ◌≤◌, ◌<◌, ◌^◌, length, map};
 ghost use Rattle.book_steps.specs.Text.{bytes, decimal};
 ghost use Rattle.book_steps.specs.Answers as Told;
 ghost use Rattle.book_steps.specs.Sentence.{word_bytes, word_length, sentence_length};
-ghost use Rattle.book_writer.specs.Clauses.{Put, Answers, verdict_of, part_bytes, Measures, last_digits, pair_line, pruned_head, start_part, hop_part, end_part};
+ghost use Rattle.book_writer.specs.Clauses.{Fits, Room, Put, Answers, verdict_of, part_bytes, with_spaces, Measures, last_digits, pair_line, pruned_head, start_part, hop_part, end_part};
+
+use refusal::Refusal;
 
 #[derive(Clone, Copy)]
 pub enum Verdict {
@@ -15,48 +16,27 @@ pub enum Verdict {
     Spent,
 }
 
-pub fn put(out: &mut [u8], at: usize, text: &[u8]) -> usize
-    requires { at + length text.now ≤ length out.old }
-    ensures { Put at text.now result out.old out.new }
-{
-    let end = at + text.len();
-    out[at..end].copy_from_slice(text);
-    end
+// a part of a line
+#[derive(Clone, Copy)]
+pub enum Part<'a> {
+    Word(&'a [u8]),
+    Number(u64),
 }
+
+// what is lent for the output, and how many of its bytes are written
+#[derive(Drop)]
+pub struct Output<'a> {
+    pub bytes: &'a mut [u8],
+    pub at: usize,
+}
+
+// ---- how long it is
 
 // how many digits a number has
 pub fn digits(n: u64) -> usize
     ensures { result ≡ length (decimal n) }
 {
     n.max(1).ilog10() as usize + 1
-}
-
-// the last k digits of a number, from the right
-fn put_digits(out: &mut [u8], at: usize, base: u64, k: usize, n: u64) -> usize
-    requires { (at + k ≤ length out.old) × (0 < base) × (base ≤ 10) }
-    ensures { Put at (last_digits base k n) result out.old out.new }
-{
-    let mut m = n;
-    for i in (0..k).rev() {
-        out[at + i] = b'0' + (m % base) as u8;
-        m /= base;
-    }
-    at + k
-}
-
-pub fn put_decimal(out: &mut [u8], at: usize, n: u64) -> usize
-    requires { at + length (decimal n) ≤ length out.old }
-    ensures { Put at (decimal n) result out.old out.new }
-{
-    let k = digits(n);
-    put_digits(out, at, 10, k, n)
-}
-
-// a part of a line
-#[derive(Clone, Copy)]
-pub enum Part<'a> {
-    Word(&'a [u8]),
-    Number(u64),
 }
 
 fn part_length(part: Part) -> usize
@@ -68,19 +48,9 @@ fn part_length(part: Part) -> usize
     }
 }
 
-fn put_part(out: &mut [u8], at: usize, part: Part) -> usize
-    requires { at + length (part_bytes part) ≤ length out.old }
-    ensures { Put at (part_bytes part.entry) result out.old out.new }
-{
-    match part {
-        Part::Word(word) => put(out, at, word),
-        Part::Number(n) => put_decimal(out, at, n),
-    }
-}
-
-// how long the parts are with a byte behind each, if a number says it
+// the parts with a byte before each, if a number says it
 fn parts_length(parts: &[Part]) -> Option<usize>
-    ensures { Measures parts.now result }
+    ensures { Measures (with_spaces parts.now) result }
 {
     let mut total: usize = 0;
     for part in parts {
@@ -90,22 +60,48 @@ fn parts_length(parts: &[Part]) -> Option<usize>
 }
 
 // a line of a word and other parts
-pub fn line(out: &mut [u8], at: usize, word: &[u8], parts: &[Part]) -> Option<usize>
-    requires { at ≤ length out.old }
-    ensures { Answers (Told.say (word.now ∷ map part_bytes parts.now)) at result out.old out.new }
+fn line_length(word: &[u8], parts: &[Part]) -> Option<usize>
+    ensures { Measures (Told.say (word.now ∷ map part_bytes parts.now)) result }
 {
-    let n = parts_length(parts)?.checked_add(word.len() + 1)?;
-    if out.len() - at < n {
-        return None;
-    }
-    let mut end = put(out, at, word);
-    for part in parts {
-        out[end] = b' ';
-        end = put_part(out, end + 1, *part);
-    }
-    out[end] = b'\n';
-    Some(end + 1)
+    let n = parts_length(parts)?;
+    n.checked_add(word.len() + 1)
 }
+
+// the lines of `pruned`: the whole of it has to fit before its first byte is written
+pub fn head_length(name: &[u8], k: usize) -> usize
+    ensures { (result ≡ length (pruned_head name.now k)) × (result ≤ length name.now + 29) }
+{
+    name.len() + digits(k as u64) + 9
+}
+
+pub fn pair_length(target: u32, number: u64) -> usize
+    ensures { (result ≡ length (pair_line target number)) × (result ≤ 47) }
+{
+    7 + digits(target as u64) + digits(number)
+}
+
+fn word_length(fields: u32) -> usize
+    ensures { result ≡ word_length fields }
+{
+    if fields == 0 {
+        return 1;
+    }
+    fields as usize
+}
+
+// the sentence of `why`: the whole of it has to fit before its first byte is written
+pub fn why_length(fields: u32, hops: usize) -> usize
+    requires { (fields ≤ 31) × (hops ≤ 2 ^ 55) }
+    ensures { result ≡ sentence_length fields hops }
+{
+    let n = word_length(fields);
+    if hops == 0 {
+        return 10 + 2 * n;
+    }
+    13 + 2 * n + hops * (n + 1)
+}
+
+// ---- a share
 
 // thousandths of a total, the nearest, the half to the even one; up to 2^53 nothing overflows
 pub fn share(count: u64, total: u64) -> u64
@@ -123,163 +119,205 @@ pub fn share(count: u64, total: u64) -> u64
     lower + lower % 2
 }
 
-pub fn fields_answer(out: &mut [u8], at: usize, fields: u32) -> Option<usize>
-    requires { at ≤ length out.old }
-    ensures { Answers (Told.fields_answer fields) at result out.old out.new }
-{
-    line(out, at, b"fields", &[Part::Number(fields as u64)])
-}
+// ---- into the output
 
-pub fn empty_answer(
-    out: &mut [u8],
-    at: usize,
-    name: &[u8],
-    verdict: Verdict,
-    count: u64,
-) -> Option<usize>
-    requires { at ≤ length out.old }
-    ensures { Answers (Told.empty_answer name.now (verdict_of verdict) count) at result out.old
-        out.new }
-{
-    let said: &[u8] = match verdict {
-        Verdict::Yes => b"yes",
-        Verdict::No => b"no",
-        Verdict::Spent => b"spent",
-    };
-    line(
-        out,
-        at,
-        b"empty",
-        &[Part::Word(name), Part::Word(said), Part::Number(count)],
-    )
-}
-
-pub fn live_answer(out: &mut [u8], at: usize, name: &[u8], count: u64, fields: u32) -> Option<usize>
-    requires { (at ≤ length out.old) × (fields ≤ 31) × (count ≤ 2 ^ fields) }
-    ensures { Answers (Told.live_answer fields name.now count) at result out.old
-        out.new }
-{
-    let part = share(count, 1u64 << fields);
-    line(
-        out,
-        at,
-        b"live",
-        &[Part::Word(name), Part::Number(count), Part::Number(part)],
-    )
-}
-
-// the first line of `pruned`, for k transitions
-pub fn pruned_head(out: &mut [u8], at: usize, name: &[u8], k: usize) -> Option<usize>
-    requires { at ≤ length out.old }
-    ensures { Answers (pruned_head name.now k) at result out.old out.new }
-{
-    line(
-        out,
-        at,
-        b"pruned",
-        &[Part::Word(name), Part::Number(k as u64)],
-    )
-}
-
-// the line of one transition
-pub fn pair_line(out: &mut [u8], at: usize, target: u32, number: u64) -> Option<usize>
-    requires { at ≤ length out.old }
-    ensures { Answers (pair_line target number) at result out.old out.new }
-{
-    line(
-        out,
-        at,
-        b"pair",
-        &[Part::Number(target as u64), Part::Number(number)],
-    )
-}
-
-// how long these lines are: the whole of `pruned` has to fit before its first byte is written
-pub fn head_length(name: &[u8], k: usize) -> usize
-    ensures { (result ≡ length (pruned_head name.now k)) × (result ≤ length name.now + 29) }
-{
-    name.len() + digits(k as u64) + 9
-}
-
-pub fn pair_length(target: u32, number: u64) -> usize
-    ensures { (result ≡ length (pair_line target number)) × (result ≤ 47) }
-{
-    7 + digits(target as u64) + digits(number)
-}
-
-// the answer to `why` for a state that is empty
-pub fn none_answer(out: &mut [u8], at: usize) -> Option<usize>
-    requires { at ≤ length out.old }
-    ensures { Answers (Told.say (bytes "none" ∷ [])) at result out.old out.new }
-{
-    line(out, at, b"none", &[])
-}
-
-// a packet's word; packets come as numbers, field 0 the highest bit
-fn put_packet(out: &mut [u8], at: usize, fields: u32, packet: u32) -> usize
-    requires { at + word_length fields ≤ length out.old }
-    ensures { Put at (word_bytes fields packet) result out.old out.new }
-{
-    if fields == 0 {
-        return put(out, at, b"-");
+impl Output<'_> {
+    pub fn put(&mut self, text: &[u8])
+        requires { Room (length text.now) self.old }
+        ensures keeps { self.new.bytes.ghost_name ≡ self.old.bytes.ghost_name }
+        ensures puts { Put text.now self.old self.new }
+    {
+        let at = self.at;
+        let end = at + text.len();
+        self.bytes[at..end].copy_from_slice(text);
+        self.at = end;
     }
-    put_digits(out, at, 2, fields as usize, packet as u64)
-}
 
-// some bytes and a packet's word
-fn put_behind(out: &mut [u8], at: usize, text: &[u8], fields: u32, packet: u32) -> usize
-    requires { at + (length text.now + word_length fields) ≤ length out.old }
-    ensures { Put at (text.now ++ word_bytes fields packet) result out.old out.new }
-{
-    let word = put(out, at, text);
-    put_packet(out, word, fields, packet)
-}
-
-// the parts of the sentence of `why`, in their order: the start, each hop, the end
-pub fn put_start(out: &mut [u8], at: usize, fields: u32, packet: u32) -> usize
-    requires { at + (5 + word_length fields) ≤ length out.old }
-    ensures { Put at (start_part fields packet) result out.old out.new }
-{
-    put_behind(out, at, b"from ", fields, packet)
-}
-
-// there is room as for the first hop: an end comes behind
-pub fn put_hop(out: &mut [u8], at: usize, fields: u32, first: bool, packet: u32) -> usize
-    requires { at + (4 + word_length fields) ≤ length out.old }
-    ensures { Put at (hop_part fields first packet) result out.old out.new }
-{
-    if first {
-        return put_behind(out, at, b" by ", fields, packet);
+    fn put_byte(&mut self, byte: u8)
+        requires { Room 1 self.old }
+        ensures keeps { self.new.bytes.ghost_name ≡ self.old.bytes.ghost_name }
+        ensures puts { Put (byte ∷ []) self.old self.new }
+    {
+        let at = self.at;
+        self.bytes[at] = byte;
+        self.at = at + 1;
     }
-    put_behind(out, at, b" ", fields, packet)
-}
 
-pub fn put_end(out: &mut [u8], at: usize, fields: u32, packet: u32) -> usize
-    requires { at + (5 + word_length fields) ≤ length out.old }
-    ensures { Put at (end_part fields packet) result out.old out.new }
-{
-    let end = put_behind(out, at, b" to ", fields, packet);
-    out[end] = 10;
-    end + 1
-}
-
-fn word_length(fields: u32) -> usize
-    ensures { result ≡ word_length fields }
-{
-    if fields == 0 {
-        return 1;
+    // the last k digits of a number, from the right
+    fn put_digits(&mut self, base: u64, k: usize, n: u64)
+        requires { Room k self.old × (0 < base) × (base ≤ 10) }
+        ensures keeps { self.new.bytes.ghost_name ≡ self.old.bytes.ghost_name }
+        ensures puts { Put (last_digits base k n) self.old self.new }
+    {
+        let at = self.at;
+        let mut m = n;
+        for i in (0..k).rev() {
+            self.bytes[at + i] = b'0' + (m % base) as u8;
+            m /= base;
+        }
+        self.at = at + k;
     }
-    fields as usize
-}
 
-// how long the sentence is: the whole of it has to fit before its first byte is written
-pub fn why_length(fields: u32, hops: usize) -> usize
-    requires { (fields ≤ 31) × (hops ≤ 2 ^ 55) }
-    ensures { result ≡ sentence_length fields hops }
-{
-    let n = word_length(fields);
-    if hops == 0 {
-        return 10 + 2 * n;
+    pub fn put_decimal(&mut self, n: u64)
+        requires { Room (length (decimal n)) self.old }
+        ensures keeps { self.new.bytes.ghost_name ≡ self.old.bytes.ghost_name }
+        ensures puts { Put (decimal n) self.old self.new }
+    {
+        let k = digits(n);
+        self.put_digits(10, k, n)
     }
-    13 + 2 * n + hops * (n + 1)
+
+    fn put_part(&mut self, part: Part)
+        requires { Room (length (part_bytes part)) self.old }
+        ensures keeps { self.new.bytes.ghost_name ≡ self.old.bytes.ghost_name }
+        ensures puts { Put (part_bytes part.entry) self.old self.new }
+    {
+        match part {
+            Part::Word(word) => self.put(word),
+            Part::Number(n) => self.put_decimal(n),
+        }
+    }
+
+    // a line of a word and other parts
+    pub fn line(&mut self, word: &[u8], parts: &[Part]) -> Result<(), Refusal>
+        requires { Fits self.old }
+        ensures keeps { self.new.bytes.ghost_name ≡ self.old.bytes.ghost_name }
+        ensures answers { Answers (Told.say (word.now ∷ map part_bytes parts.now)) self.old result
+            self.new }
+    {
+        let Some(n) = line_length(word, parts) else {
+            return Err(Refusal::Output);
+        };
+        if self.bytes.len() - self.at < n {
+            return Err(Refusal::Output);
+        }
+        self.put(word);
+        for part in parts {
+            self.put_byte(b' ');
+            self.put_part(*part);
+        }
+        self.put_byte(b'\n');
+        Ok(())
+    }
+
+    pub fn fields_answer(&mut self, fields: u32) -> Result<(), Refusal>
+        requires { Fits self.old }
+        ensures keeps { self.new.bytes.ghost_name ≡ self.old.bytes.ghost_name }
+        ensures answers { Answers (Told.fields_answer fields) self.old result self.new }
+    {
+        self.line(b"fields", &[Part::Number(fields as u64)])
+    }
+
+    pub fn empty_answer(&mut self, name: &[u8], verdict: Verdict, count: u64) -> Result<(), Refusal>
+        requires { Fits self.old }
+        ensures keeps { self.new.bytes.ghost_name ≡ self.old.bytes.ghost_name }
+        ensures answers { Answers (Told.empty_answer name.now (verdict_of verdict) count) self.old
+            result self.new }
+    {
+        let said: &[u8] = match verdict {
+            Verdict::Yes => b"yes",
+            Verdict::No => b"no",
+            Verdict::Spent => b"spent",
+        };
+        self.line(
+            b"empty",
+            &[Part::Word(name), Part::Word(said), Part::Number(count)],
+        )
+    }
+
+    pub fn live_answer(&mut self, name: &[u8], count: u64, fields: u32) -> Result<(), Refusal>
+        requires { Fits self.old × (fields ≤ 31) × (count ≤ 2 ^ fields) }
+        ensures keeps { self.new.bytes.ghost_name ≡ self.old.bytes.ghost_name }
+        ensures answers { Answers (Told.live_answer fields name.now count) self.old result self.new }
+    {
+        let part = share(count, 1u64 << fields);
+        self.line(
+            b"live",
+            &[Part::Word(name), Part::Number(count), Part::Number(part)],
+        )
+    }
+
+    // the first line of `pruned`, for k transitions
+    pub fn pruned_head(&mut self, name: &[u8], k: usize) -> Result<(), Refusal>
+        requires { Fits self.old }
+        ensures keeps { self.new.bytes.ghost_name ≡ self.old.bytes.ghost_name }
+        ensures answers { Answers (pruned_head name.now k) self.old result self.new }
+    {
+        self.line(b"pruned", &[Part::Word(name), Part::Number(k as u64)])
+    }
+
+    // the line of one transition
+    pub fn pair_line(&mut self, target: u32, number: u64) -> Result<(), Refusal>
+        requires { Fits self.old }
+        ensures keeps { self.new.bytes.ghost_name ≡ self.old.bytes.ghost_name }
+        ensures answers { Answers (pair_line target number) self.old result self.new }
+    {
+        self.line(
+            b"pair",
+            &[Part::Number(target as u64), Part::Number(number)],
+        )
+    }
+
+    // the answer to `why` for a state that is empty
+    pub fn none_answer(&mut self) -> Result<(), Refusal>
+        requires { Fits self.old }
+        ensures keeps { self.new.bytes.ghost_name ≡ self.old.bytes.ghost_name }
+        ensures answers { Answers (Told.say (bytes "none" ∷ [])) self.old result self.new }
+    {
+        self.line(b"none", &[])
+    }
+
+    // a packet's word; packets come as numbers, field 0 the highest bit
+    fn put_packet(&mut self, fields: u32, packet: u32)
+        requires { Room (word_length fields) self.old }
+        ensures keeps { self.new.bytes.ghost_name ≡ self.old.bytes.ghost_name }
+        ensures puts { Put (word_bytes fields packet) self.old self.new }
+    {
+        if fields == 0 {
+            self.put(b"-");
+            return;
+        }
+        self.put_digits(2, fields as usize, packet as u64)
+    }
+
+    // some bytes and a packet's word
+    fn put_behind(&mut self, text: &[u8], fields: u32, packet: u32)
+        requires { Room (length text.now + word_length fields) self.old }
+        ensures keeps { self.new.bytes.ghost_name ≡ self.old.bytes.ghost_name }
+        ensures puts { Put (text.now ++ word_bytes fields packet) self.old self.new }
+    {
+        self.put(text);
+        self.put_packet(fields, packet)
+    }
+
+    // the parts of the sentence of `why`, in their order: the start, each hop, the end
+    pub fn put_start(&mut self, fields: u32, packet: u32)
+        requires { Room (5 + word_length fields) self.old }
+        ensures keeps { self.new.bytes.ghost_name ≡ self.old.bytes.ghost_name }
+        ensures puts { Put (start_part fields packet) self.old self.new }
+    {
+        self.put_behind(b"from ", fields, packet)
+    }
+
+    // there is room as for the first hop: an end comes behind
+    pub fn put_hop(&mut self, fields: u32, first: bool, packet: u32)
+        requires { Room (4 + word_length fields) self.old }
+        ensures keeps { self.new.bytes.ghost_name ≡ self.old.bytes.ghost_name }
+        ensures puts { Put (hop_part fields first packet) self.old self.new }
+    {
+        if first {
+            self.put_behind(b" by ", fields, packet);
+            return;
+        }
+        self.put_behind(b" ", fields, packet)
+    }
+
+    pub fn put_end(&mut self, fields: u32, packet: u32)
+        requires { Room (5 + word_length fields) self.old }
+        ensures keeps { self.new.bytes.ghost_name ≡ self.old.bytes.ghost_name }
+        ensures puts { Put (end_part fields packet) self.old self.new }
+    {
+        self.put_behind(b" to ", fields, packet);
+        self.put_byte(10)
+    }
 }

@@ -1,12 +1,18 @@
+use Rattle.std.proofs.Common.{rules}
 use Rattle.book_pruned.proofs.Pairs as pairs
 use Rattle.book_pruned.proofs.pairs_length.Goals as goal
 
+pub number_at-n-requires : goal.number_at-n-requires
+number_at-n-requires c = (pairs.pairs_in c.loop-i.invariant.0 c.loop-i.invariant.1.pairs, c.loop-i-test.true)
+
 pub loop-i-init : goal.loop-i-init
-loop-i-init c = pairs.summed_begin _ _ _ c.requires
+loop-i-init c = (search rules, pairs.summed_begin _ _ _ c.requires)
 
 pub loop-i-preserved : goal.loop-i-preserved
-loop-i-preserved c =
-    pairs.summed_again _ _ _ c.loop-i.invariant c.loop-i-test.true c.number_at-n.auto.scratch c.number_at-n.ensures c.pair_length-total.ensures
+loop-i-preserved c = (
+  search rules,
+  pairs.summed_again _ _ _ c.loop-i.invariant.1 c.loop-i-test.true c.number_at-n.ensures.keeps.length (pairs.number_in c.loop-i.invariant.0 c.number_at-n.ensures.is) c.pair_length-total.ensures,
+)
 
-pub returns : goal.returns
-returns c = pairs.summed_end _ _ _ c.loop-i.invariant c.loop-i.auto.i-end c.loop-i-test.false
+pub returns-clause-is : goal.returns-clause-is
+returns-clause-is c = pairs.summed_end _ _ _ c.loop-i.invariant.1 c.loop-i.auto.i-end c.loop-i-test.false

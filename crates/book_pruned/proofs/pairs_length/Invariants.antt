@@ -1,6 +1,8 @@
-use Rattle.common.specs.Runs.{table}
+use Rattle.aut_relations.specs.Lent.{nodes_in}
+use Rattle.aut_sets.specs.Lent.{OnlyScratch}
 use Rattle.book_pruned.proofs.Pairs as pairs
 use Rattle.book_pruned.proofs.pairs_length.Given as goal
 
 abbrev pub invariant-loop-i : goal.invariant-loop-i
-invariant-loop-i l = pairs.Summed l.fields (table l.nodes l.c.spp) l.m l.initial.scratch l.scratch l.total l.i
+invariant-loop-i l =
+    OnlyScratch l.initial.aut l.aut × pairs.Summed l.config.fields (nodes_in l.initial.aut) l.m l.initial.aut.scratch.now l.aut.scratch.now l.total l.i

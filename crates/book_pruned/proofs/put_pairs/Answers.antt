@@ -1,16 +1,26 @@
+use Rattle.std.proofs.Common.{rules, arith}
 use Rattle.book_pruned.proofs.Pairs as pairs
 use Rattle.book_pruned.proofs.put_pairs.Goals as goal
 
-pub loop-i-init : goal.loop-i-init
-loop-i-init c = pairs.placed_begin _ _ _ c.requires
+pub number_at-n-requires : goal.number_at-n-requires
+number_at-n-requires c = (pairs.pairs_in c.loop-i.invariant.0 c.loop-i.invariant.2.pairs, c.loop-i-test.true)
 
-pub returns-in_default : goal.returns-in_default
-returns-in_default c =
-    absurd (pairs.never_full _ _ _ c.requires c.loop-i.invariant c.loop-i-test.true c.number_at-n.ensures _ c.pair_line.ensures c.in_default.is)
+pub pair_line-requires : goal.pair_line-requires
+pair_line-requires c = pairs.line_fits _ _ _ c.requires c.loop-i.invariant.2
+
+pub loop-i-init : goal.loop-i-init
+loop-i-init c = (search rules, search rules, pairs.placed_begin _ _ _ c.requires)
+
+pub returns-in_err-pair_line-clause-answers : goal.returns-in_err-pair_line-clause-answers
+returns-in_err-pair_line-clause-answers c =
+    absurd (omega (arith, c.in_err-pair_line.ensures.answers.1, pairs.row_fits _ _ _ c.requires c.loop-i.invariant.2 c.loop-i-test.true (pairs.number_in c.loop-i.invariant.0 c.number_at-n.ensures.is)))
 
 pub loop-i-preserved : goal.loop-i-preserved
-loop-i-preserved c =
-    pairs.placed_again _ _ _ c.requires c.loop-i.invariant c.loop-i-test.true c.number_at-n.ensures _ c.pair_line.ensures c.in-Some.is c.number_at-n.auto.scratch
+loop-i-preserved c = (
+  search rules,
+  search rules,
+  pairs.placed_again _ _ _ c.requires c.loop-i.invariant.2 c.loop-i-test.true (pairs.number_in c.loop-i.invariant.0 c.number_at-n.ensures.is) c.in_ok-pair_line.ensures.answers c.number_at-n.ensures.keeps.length,
+)
 
-pub returns : goal.returns
-returns c = pairs.placed_end _ _ _ c.requires c.loop-i.invariant c.loop-i-test.false
+pub returns-clause-answers : goal.returns-clause-answers
+returns-clause-answers c = pairs.placed_end _ _ _ c.requires c.loop-i.invariant.2 c.loop-i-test.false

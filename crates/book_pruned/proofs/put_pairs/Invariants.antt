@@ -1,7 +1,9 @@
-use Rattle.common.specs.Runs.{table}
+use mathlib.Core.Path.{◌≡◌}
+use Rattle.aut_relations.specs.Lent.{nodes_in}
+use Rattle.aut_sets.specs.Lent.{OnlyScratch}
 use Rattle.book_pruned.proofs.Pairs as pairs
 use Rattle.book_pruned.proofs.put_pairs.Given as goal
 
 abbrev pub invariant-loop-i : goal.invariant-loop-i
 invariant-loop-i l =
-    pairs.Placed l.fields (table l.nodes l.c.spp) l.m l.initial.scratch l.initial.output l.at l.scratch l.output l.end l.i
+    OnlyScratch l.initial.aut l.aut × (l.out.bytes.ghost_name ≡ l.initial.out.bytes.ghost_name) × pairs.Placed l.config.fields (nodes_in l.initial.aut) l.m l.initial.aut.scratch.now l.initial.out l.aut.scratch.now l.out l.i

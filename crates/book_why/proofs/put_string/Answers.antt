@@ -1,3 +1,5 @@
+use mathlib.Core.Path.{refl, ◌∙◌}
+use Rattle.std.proofs.Common.{rules}
 use Rattle.book_why.proofs.Writing as writing
 use Rattle.book_why.proofs.put_string.Goals as goal
 
@@ -5,18 +7,25 @@ pub put_first-spot-requires : goal.put_first-spot-requires
 put_first-spot-requires c = writing.string_first c.step_for-step.ensures c.requires
 
 pub loop-j-init : goal.loop-j-init
-loop-j-init c = writing.hopping_begin
+loop-j-init c = record { keeps = search rules; pending = refl; bytes = refl; hopping = writing.hopping_begin }
 
 pub put_next-spot-requires : goal.put_next-spot-requires
 put_next-spot-requires c =
-    writing.string_next c.put_first-spot.ensures c.loop-j.invariant c.loop-j-test.true c.step_for-step.ensures c.requires
+    writing.string_next c.put_first-spot.ensures.gives c.loop-j.invariant.hopping c.loop-j-test.true c.step_for-step.ensures c.requires
 
 pub loop-j-preserved : goal.loop-j-preserved
 loop-j-preserved c =
-    writing.hopping_next c.loop-j.invariant c.loop-j-test.true c.put_next-spot.ensures
+    let I = c.loop-j.invariant in
+    record {
+      keeps = search rules;
+      pending = c.put_next-spot.ensures.pending ∙ I.pending;
+      bytes = c.put_next-spot.ensures.bytes ∙ I.bytes;
+      hopping = writing.hopping_next I.hopping c.loop-j-test.true c.put_next-spot.ensures.gives;
+    }
 
 pub put_last-requires : goal.put_last-requires
-put_last-requires c = writing.string_last c.put_first-spot.ensures c.loop-j.invariant c.loop-j-test.false c.requires
+put_last-requires c = writing.string_last c.put_first-spot.ensures.gives c.loop-j.invariant.hopping c.loop-j-test.false c.requires
 
-pub returns : goal.returns
-returns c = writing.string_done c.put_first-spot.ensures c.loop-j.invariant c.loop-j-test.false c.put_last.ensures
+pub returns-clause-gives : goal.returns-clause-gives
+returns-clause-gives c =
+    writing.string_done c.put_first-spot.ensures.gives c.loop-j.invariant.hopping c.loop-j-test.false c.put_last.ensures.keeps c.put_last.ensures.gives

@@ -1,6 +1,12 @@
-use Rattle.book_why.proofs.Writing as writing
+use mathlib.Core.Path.{◌≡◌}
+use Rattle.aut_sets.specs.Lent.{OnlySearch}
+use Rattle.book_why.proofs.Writing.{Hopping}
 use Rattle.book_why.proofs.put_string.Given as goal
 
 abbrev pub invariant-loop-j : goal.invariant-loop-j
-invariant-loop-j l =
-    writing.Hopping l.config.fields l.config.limits l.nodes l.transitions l.pending l.c l.n l.at l.initial.sp l.initial.states l.initial.scratch l.initial.output l.initial.spot l.initial.first l.initial.j l.sp l.states l.scratch l.output l.spot l.first l.j
+invariant-loop-j l = record {
+  keeps : OnlySearch l.initial.aut l.aut;
+  pending : l.aut.pending ≡ l.initial.aut.pending;
+  bytes : l.out.bytes.ghost_name ≡ l.initial.out.bytes.ghost_name;
+  hopping : Hopping l.config l.n l.hops l.initial.aut l.initial.out l.initial.spot l.initial.first l.initial.j l.aut l.out l.spot l.first l.j;
+}

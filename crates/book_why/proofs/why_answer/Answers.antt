@@ -1,30 +1,33 @@
-use Prim.Native.Nat.{◌<◌}
 use native.Mathlib.Omega.{arith}
 use Rattle.book_why.proofs.Writing as writing
 use Rattle.book_why.proofs.why_answer.Goals as goal
 
-pub returns-then-f-eq0 : goal.returns-then-f-eq0
-returns-then-f-eq0 c = λ mem ws A. writing.answer_none A c.if-f-eq0.true c.none_answer.ensures
+pub returns-in_default-clause-gives : goal.returns-in_default-clause-gives
+returns-in_default-clause-gives c = record { gives = λ ws A. writing.answer_none c.args.config c.args.aut.now A c.in_default.is c.none_answer.ensures.answers }
 
-pub returns-then-output-at : goal.returns-then-output-at
-returns-then-output-at c =
-    λ mem ws A. writing.answer_full A (omega (arith, c.if-f-eq0.false)) (omega (arith, c.if-output-at.true, c.why_length-long.ensures, c.requires.room))
+pub why_length-long-requires : goal.why_length-long-requires
+why_length-long-requires c = (c.requires.answering.standing.walk.working.ready.ready.few, writing.most c.args.config c.args.aut.now c.requires.answering c.in-Some.is)
 
-pub put_string-end-requires : goal.put_string-end-requires
-put_string-end-requires c =
-    let m : 0 < c.args.f = omega (arith, c.if-f-eq0.false) in
+pub returns-then-out-long-clause-gives : goal.returns-then-out-long-clause-gives
+returns-then-out-long-clause-gives c = record {
+  gives = λ ws A. writing.answer_full c.args.config c.args.aut.now A c.in-Some.is (omega (arith, c.if-out-long.true, c.why_length-long.ensures, c.requires.room));
+}
+
+pub put_string-requires : goal.put_string-requires
+put_string-requires c =
+    let A = c.requires.answering in
     record {
-      members = c.requires.members;
       rounds = c.requires.rounds;
-      hops = _;
       string = _;
-      is = writing.is_string c.requires.answering m;
-      picks = writing.answer_picks c.requires.answering m c.forget.ensures c.forget.auto.scratch;
-      room = omega (arith, c.if-output-at.false, c.why_length-long.ensures, c.requires.room);
+      picks = writing.answer_picks c.args.config c.args.aut.now A c.in-Some.is c.forget.ensures.keeps c.forget.ensures.gives;
+      most = writing.most c.args.config c.args.aut.now A c.in-Some.is;
+      room = omega (arith, c.if-out-long.false, c.why_length-long.ensures, c.requires.room);
     }
 
-pub returns : goal.returns
-returns c =
-    λ mem ws A.
-    let m : 0 < c.args.f = omega (arith, c.if-f-eq0.false) in
-    writing.answer_told A m c.forget.ensures c.forget.auto.scratch (c.put_string-end.ensures mem ws _ _ (writing.is_string A m) (writing.answer_picks A m c.forget.ensures c.forget.auto.scratch))
+pub returns-clause-gives : goal.returns-clause-gives
+returns-clause-gives c =
+    let K = c.forget.ensures.keeps in
+    let F = c.forget.ensures.gives in
+    record {
+      gives = λ ws A. writing.answer_told c.args.config c.args.aut.now A c.in-Some.is K F (c.put_string.ensures.gives.gives ws _ (writing.answer_picks c.args.config c.args.aut.now A c.in-Some.is K F));
+    }
