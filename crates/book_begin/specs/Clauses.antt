@@ -1,30 +1,55 @@
 -- 01, "Lent tables" ("Every table is zeroed first") and "The book and its answers" (the first line), with the limits of "Who can cause a refusal": what zeroing and the beginning of a run ask and promise.
-use Rattle.std.specs.Prelude.{◌≡◌, List, ℕ, ◌+◌, ◌≤◌, length, get_or, Result, Ok, Err}
+use Rattle.std.specs.Prelude.{◌≡◌, ℕ, ◌≤◌, length, Result, Ok, Err}
 use Rattle.common.specs.Outcome.{Outcome, refused, given}
 use Rattle.refusal.specs.declared.Refusal.{Refusal}
 use Rattle.refusal.specs.Numbers.{number_of}
 use Rattle.book_steps.specs.Reader as Reader
 use Rattle.book_steps.specs.Run as Run
-use Rattle.book_steps.specs.Run.{Lent, zeroed}
+use Rattle.book_steps.specs.Run.{zeroed}
 use Rattle.aut_states.specs.declared.Limits.{Limits}
 use Rattle.aut_relations.specs.Behind.{LISTS}
-use Rattle.book_place.specs.declared.Setting.{Setting}
-use Rattle.book_place.specs.declared.Place.{Place}
-use Rattle.book_place.specs.Clauses.{WORK, Memory, memory, place_of, Standing}
+use Rattle.book_memory.specs.declared.Setting.{Setting}
+use Rattle.book_memory.specs.declared.Place.{Place}
+use Rattle.book_memory.specs.Place.{LINES, Empty, Standing, Onto, place_in, lengths_of}
 use Rattle.book_begin.specs.declared.Header.{Header}
 
 -- ---- zeroing
 
-pub record TablesZeroed (a b c d e a' b' c' d' e' : List ℕ) : Type 0 where
-  pub sp : a' ≡ zeroed (length a)
-  pub nodes : b' ≡ zeroed (length b)
-  pub states : c' ≡ zeroed (length c)
-  pub members : d' ≡ zeroed (length d)
-  pub transitions : e' ≡ zeroed (length e)
+pub record TablesZeroed (y : Place) : Type 0 where
+  pub sp : y.aut.sp.nodes.now ≡ zeroed (length y.aut.sp.nodes.now)
+  pub spp : y.aut.spp.nodes.now ≡ zeroed (length y.aut.spp.nodes.now)
+  pub states : y.aut.states.words.now ≡ zeroed (length y.aut.states.words.now)
+  pub members : y.aut.members.words.now ≡ zeroed (length y.aut.members.words.now)
+  pub transitions : y.aut.transitions.words.now ≡ zeroed (length y.aut.transitions.words.now)
+  pub no_sp : y.aut.sp.count ≡ 0
+  pub no_spp : y.aut.spp.count ≡ 0
+  pub no_states : y.aut.states.count ≡ 0
+  pub no_members : y.aut.members.count ≡ 0
+  pub no_transitions : y.aut.transitions.count ≡ 0
 
-pub record WorkZeroed (p s p' s' : List ℕ) : Type 0 where
-  pub pending : p' ≡ zeroed (length p)
-  pub scratch : s' ≡ zeroed (length s)
+pub record WorkZeroed (y : Place) : Type 0 where
+  pub pending : y.aut.pending.now ≡ zeroed (length y.aut.pending.now)
+  pub lines : y.lines.words.now ≡ zeroed (length y.lines.words.now)
+  pub scratch : y.aut.scratch.now ≡ zeroed (length y.aut.scratch.now)
+  pub no_lines : y.lines.count ≡ 0
+
+-- the rest is as it was, and the lengths are
+pub record TablesOnly (x y : Place) : Type 0 where
+  pub pending : y.aut.pending ≡ x.aut.pending
+  pub scratch : y.aut.scratch ≡ x.aut.scratch
+  pub lines : y.lines ≡ x.lines
+  pub output : y.output ≡ x.output
+  pub lengths : lengths_of y ≡ lengths_of x
+
+pub record WorkOnly (x y : Place) : Type 0 where
+  pub sp : y.aut.sp ≡ x.aut.sp
+  pub spp : y.aut.spp ≡ x.aut.spp
+  pub states : y.aut.states ≡ x.aut.states
+  pub members : y.aut.members ≡ x.aut.members
+  pub transitions : y.aut.transitions ≡ x.aut.transitions
+  pub output : y.output ≡ x.output
+  pub table : length y.lines.words.now ≡ length x.lines.words.now
+  pub lengths : lengths_of y ≡ lengths_of x
 
 -- ---- before the instructions
 
@@ -38,33 +63,26 @@ limits = record { nesting = 256; list = 64; products = 32; transitions = 64 }
 abbrev pub setting_for : Header → Setting
 setting_for h = record { config = record { fields = h.fields; limits = limits }; budget = h.budget }
 
-pub record PreBegin (a b : List ℕ) (h : Header) : Type 0 where
+pub record PreBegin (h : Header) (x : Place) : Type 0 where
   pub few : h.fields ≤ 31
-  pub sp : a ≡ zeroed (length a)
-  pub nodes : b ≡ zeroed (length b)
+  pub empty : Empty x
 
--- zeroed tables, but for the nodes; `lent` is lent
-abbrev pub fresh : Lent → (sp nodes output : List ℕ) → Memory
-fresh lent sp nodes output = memory sp nodes (zeroed lent.states) (zeroed lent.members) (zeroed lent.transitions) (zeroed lent.pending) (zeroed lent.scratch) output
+abbrev pub begun_of : Result Unit Refusal → Place → Outcome Run.RunState ℕ
+begun_of (Ok u) y = given (place_in y) 0
+begun_of (Err e) y = refused (number_of e)
 
-abbrev pub begun_of : Result Place Refusal → Memory → Outcome Run.RunState ℕ
-begun_of (Ok p) m = given (place_of m p) 0
-begun_of (Err e) m = refused (number_of e)
+-- where scratch is as a book needs it, the place is in order for any line
+pub record Begins (h : Header) (x y : Place) : Type 0 where
+  pub standing : length x.lines.words.now ≡ LINES → LISTS ≤ length x.aut.scratch.now → Standing (setting_for h) y
+  pub pending : y.aut.pending ≡ x.aut.pending
+  pub table : y.lines ≡ x.lines
+  pub bytes : length y.output.bytes.now ≡ length x.output.bytes.now
+  pub onto : Onto x y
 
--- of the output, only bytes up to n are written
-pub record Wrote (n : ℕ) (out out' : List ℕ) : Type 0 where
-  pub fits : n ≤ length out
-  pub beyond : (i : ℕ) → n ≤ i → get_or out' i 0 ≡ get_or out i 0
+abbrev pub BeginsBy : Header → Place → Result Unit Refusal → Place → Type 0
+BeginsBy h x (Ok u) y = Begins h x y
+BeginsBy h x (Err e) y = y.output ≡ x.output
 
-pub record Begins (h : Header) (p : Place) (lent : Lent) (sp' nodes' out out' : List ℕ) : Type 0 where
-  pub standing : WORK + LISTS ≤ lent.scratch → Standing (setting_for h) (fresh lent sp' nodes' out') p
-  pub lines : p.lines ≡ 0
-  pub wrote : Wrote p.output out out'
-
-abbrev pub BeginsBy : Header → Result Place Refusal → Lent → (sp' nodes' out out' : List ℕ) → Type 0
-BeginsBy h (Ok p) lent sp' nodes' out out' = Begins h p lent sp' nodes' out out'
-BeginsBy h (Err e) lent sp' nodes' out out' = out' ≡ out
-
-pub record PostBegin (h : Header) (r : Result Place Refusal) (sp nodes out sp' nodes' out' : List ℕ) : Type 0 where
-  pub is : (lent : Lent) → lent.sp ≡ length sp → lent.spp ≡ length nodes → lent.output ≡ length out → Run.begin lent (header_of h) ≡ begun_of r (fresh lent sp' nodes' out')
-  pub then : (lent : Lent) → BeginsBy h r lent sp' nodes' out out'
+pub record PostBegin (h : Header) (x : Place) (r : Result Unit Refusal) (y : Place) : Type 0 where
+  pub is : Run.begin (lengths_of x) (header_of h) ≡ begun_of r y
+  pub then : BeginsBy h x r y

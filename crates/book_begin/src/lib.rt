@@ -2,14 +2,12 @@
 #![tactic(auto)]
 
 ghost use Rattle.std.specs.Prelude.{◌≡◌, length};
-ghost use Rattle.book_steps.specs.Run.{zeroed};
+ghost use Rattle.book_memory.specs.Place.{SameSlices, Empty, lengths_of};
 ghost use Rattle.book_begin.specs.Clauses as Its;
 
-use aut_states::{Config, Counts, Limits};
-use book_place::{Place, Setting};
+use aut_states::{Config, Limits};
+use book_memory::{Place, Setting};
 use refusal::Refusal;
-use sp::SPstore;
-use spp::SPPstore;
 
 // everything that stands before the instructions
 #[derive(Clone, Copy)]
@@ -20,36 +18,47 @@ pub struct Header {
 
 // ---- zeroing
 
-fn clear(table: &mut [u32])
-    ensures { table.new ≡ zeroed (length table.old) }
+// the tables have no records
+pub fn clear_tables(place: &mut Place)
+    ensures keeps { SameSlices place.old place.new }
+    ensures beside { Its.TablesOnly place.old place.new }
+    ensures zeroed { Its.TablesZeroed place.new }
 {
-    table.fill(0);
+    place.aut.sp.nodes.fill(0);
+    place.aut.sp.count = 0;
+    place.aut.spp.nodes.fill(0);
+    place.aut.spp.count = 0;
+    place.aut.states.words.fill(0);
+    place.aut.states.count = 0;
+    place.aut.members.words.fill(0);
+    place.aut.members.count = 0;
+    place.aut.transitions.words.fill(0);
+    place.aut.transitions.count = 0;
 }
 
-pub fn clear_tables(
-    sp: &mut [u32],
-    nodes: &mut [u32],
-    states: &mut [u32],
-    members: &mut [u32],
-    transitions: &mut [u32],
-)
-    ensures { Its.TablesZeroed sp.old nodes.old states.old
-        members.old transitions.old sp.new nodes.new states.new
-        members.new transitions.new }
+// no entries, no lines, nothing in scratch
+pub fn clear_work(place: &mut Place)
+    ensures keeps { SameSlices place.old place.new }
+    ensures beside { Its.WorkOnly place.old place.new }
+    ensures zeroed { Its.WorkZeroed place.new }
 {
-    clear(sp);
-    clear(nodes);
-    clear(states);
-    clear(members);
-    clear(transitions);
+    place.aut.pending.fill(0);
+    place.lines.words.fill(0);
+    place.lines.count = 0;
+    place.aut.scratch.fill(0);
 }
 
-pub fn clear_work(pending: &mut [u32], scratch: &mut [u32])
-    ensures { Its.WorkZeroed pending.old scratch.old pending.new
-        scratch.new }
+// as a book finds it, whatever was there
+pub fn clear(place: &mut Place)
+    ensures keeps { SameSlices place.old place.new }
+    ensures lengths { lengths_of place.new ≡ lengths_of place.old }
+    ensures table { length place.new.lines.words.now ≡ length place.old.lines.words.now }
+    ensures output { place.new.output.bytes ≡ place.old.output.bytes }
+    ensures empty { Empty place.new }
 {
-    clear(pending);
-    clear(scratch);
+    clear_tables(place);
+    clear_work(place);
+    place.output.at = 0;
 }
 
 // ---- before the instructions
@@ -73,44 +82,13 @@ pub fn setting_of(h: Header) -> Setting
 }
 
 // the constants in zeroed tables, and the line `fields N`
-pub fn begin(
-    sp: &mut [u32],
-    nodes: &mut [u32],
-    output: &mut [u8],
-    h: Header,
-) -> Result<Place, Refusal>
-    requires { Its.PreBegin sp.old nodes.old h }
-    ensures { Its.PostBegin h result sp.old nodes.old output.old sp.new
-        nodes.new output.new }
+pub fn begin(place: &mut Place, h: Header) -> Result<(), Refusal>
+    requires { Its.PreBegin h place.old }
+    ensures keeps { SameSlices place.old place.new }
+    ensures gives { Its.PostBegin h place.old result place.new }
 {
-    let mut sets = SPstore {
-        nodes: sp,
-        count: 0,
-    };
-    let Ok(_) = sets.start(h.fields) else {
-        return Err(Refusal::Sp);
-    };
-    let mut relations = SPPstore {
-        nodes,
-        count: 0,
-        fields: h.fields,
-    };
-    let Ok(_) = relations.start() else {
-        return Err(Refusal::Spp);
-    };
-    let Some(end) = book_writer::fields_answer(output, 0, h.fields) else {
-        return Err(Refusal::Output);
-    };
-    let place = Place {
-        counts: Counts {
-            sp: sets.count,
-            spp: relations.count,
-            states: 0,
-            members: 0,
-            transitions: 0,
-        },
-        lines: 0,
-        output: end,
-    };
-    Ok(place)
+    place.aut.spp.fields = h.fields;
+    place.aut.sp.start(h.fields)?;
+    place.aut.spp.start()?;
+    place.output.fields_answer(h.fields)
 }

@@ -8,8 +8,7 @@ use native.Mathlib.Omega.{arith}
 use lib.Dec.{ltb}
 use borrow.Author.Tests.{ltb-true, ltb-false}
 use Rattle.spp_steps.proofs.Laws.{by_test}
-use lib.ListN.{length, get_or, set, length-append, length-drop}
-use lib.Seq.{drop-set-add}
+use lib.ListN.{length, get_or, set, length-append}
 use Rattle.aut_steps.specs.Tables.{words}
 use Rattle.aut_steps.specs.Ascending.{All}
 use Rattle.aut_steps.proofs.ListLaws.{all_append}
@@ -21,8 +20,10 @@ use Rattle.book_reader.specs.Clauses.{rest, behind, bad, taken, TakesNumber}
 use Rattle.std.specs.Prelude as code
 use Rattle.book_reader.specs.declared.Cursor.{Cursor}
 use Rattle.book_reader.proofs.Saying.{numbers_behind, numbers_bad, list_is}
-use Rattle.book_place.specs.Clauses.{WORK, work, lines_of, Below, PreOperand, Took, Missed, no_number, no_line, PreOperands, PostOperands}
-use Rattle.book_place.proofs.Scratch.{kept_lines}
+use Rattle.book_memory.specs.declared.Lines.{Lines as Table}
+use Rattle.book_memory.specs.declared.Place.{Place}
+use Rattle.book_memory.specs.Place.{lines_of, lines_in, Below}
+use Rattle.book_place.specs.Clauses.{OnlyWork, PreOperand, Took, Missed, no_number, no_line, PreOperands, PostOperands}
 
 -- ---- what follows of all names
 
@@ -76,10 +77,11 @@ none_left (a ∷ l) e = absurd (omega arith)
 
 -- ---- a list is read
 
--- i operands are read, and c is behind them; they stand for `states`
-pub record Reading (book : List ℕ) (k most : ℕ) (from : Cursor) (n : ℕ) (s₀ s : List ℕ) (c : Cursor) (i : ℕ) : Type 0 where
-  pub pre : PreOperand book s k most c i
-  pub kept : Kept WORK 64 s₀ s
+-- i operands are read, and c is behind them; they stand for `states`. x was before, y is there now
+pub record Reading (book : List ℕ) (most : ℕ) (from : Cursor) (n : ℕ) (x y : Place) (c : Cursor) (i : ℕ) : Type 0 where
+  pub keeps : OnlyWork x y
+  pub pre : PreOperand book most c y
+  pub kept : Kept 0 64 x.aut.scratch.now y.aut.scratch.now
   pub states : List ℕ
   pub size : length states ≡ i
   pub all : List ℕ
@@ -87,15 +89,16 @@ pub record Reading (book : List ℕ) (k most : ℕ) (from : Cursor) (n : ℕ) (s
   pub left : List ℕ
   pub left_is : numbers (rest book c) ≡ some left
   pub left_size : i + length left ≡ n
-  pub is : (N : ℕ) (K : Goal) → giving N (lines_of s₀ k) all K ≡ giving N (lines_of s₀ k) left (λ ys. K (states ++ ys))
-  pub words : i ≤ most → words (work s) 0 i ≡ states
-  pub below : (b : ℕ) → Below b (lines_of s₀ k) → All (λ x. x < b) states
+  pub is : (N : ℕ) (K : Goal) → giving N (lines_in x) all K ≡ giving N (lines_in x) left (λ ys. K (states ++ ys))
+  pub words : i ≤ most → words y.aut.scratch.now 0 i ≡ states
+  pub below : (b : ℕ) → Below b (lines_in x) → All (λ z. z < b) states
 
-pub reading_begin : {book : List ℕ} {k most : ℕ} {c : Cursor} {n : ℕ} {s : List ℕ} → PreOperands book s k most c n → Reading book k most c n s s c 0
+pub reading_begin : {book : List ℕ} {most : ℕ} {c : Cursor} {n : ℕ} {x : Place} → PreOperands book most c n x → OnlyWork x x → Reading book most c n x x c 0
 unfolding words
-reading_begin {s = s} p = let l = list_is p.counted in record {
+reading_begin {x = x} p o = let l = list_is p.counted in record {
+  keeps = o;
   pre = p.first;
-  kept = kept_refl WORK 64 s;
+  kept = kept_refl 0 64 x.aut.scratch.now;
   states = [];
   size = refl;
   all = l.list;
@@ -108,42 +111,54 @@ reading_begin {s = s} p = let l = list_is p.counted in record {
   below = λ b f. tt;
 }
 
-module _ {book : List ℕ} {k most : ℕ} {from : Cursor} {n : ℕ} {s₀ s : List ℕ} {c : Cursor} {i : ℕ} (v : Reading book k most from n s₀ s c i) where
-  lines_are : lines_of s k ≡ lines_of s₀ k
-  lines_are = kept_lines k v.pre.lines v.kept
+module _ {book : List ℕ} {most : ℕ} {from : Cursor} {n : ℕ} {x y : Place} {c : Cursor} {i : ℕ} (v : Reading book most from n x y c i) where
+  abbrev s : List ℕ
+  s = y.aut.scratch.now
 
-  module _ {d : Cursor} {s' : List ℕ} (T : Took book k most c d i s s') (len : length s' ≡ length s) where
-    named_is : get_or (lines_of s₀ k) T.number none ≡ some T.state
+  lines_are : lines_in y ≡ lines_in x
+  lines_are = ap (λ (t : Table). lines_of t.words.now t.count) v.keeps.lines
+
+  module _ {d : Cursor} {z : Place} (T : Took book (lines_in y) most c d i s z.aut.scratch.now) (o : OnlyWork y z) where
+    abbrev s' : List ℕ
+    s' = z.aut.scratch.now
+
+    named_is : get_or (lines_in x) T.number none ≡ some T.state
     named_is = ap (λ (ls : List (Option ℕ)). get_or ls T.number none) (sym lines_are) ∙ T.named
 
     next_front : Front (rest book c) (rest book d) T.number v.left
     next_front = front (rest book c) (rest book d) T.number v.left T.read v.left_is
 
-    kept_one : Kept WORK 64 s s'
+    kept_one : Kept 0 64 s s'
     kept_one = by_test (ltb i most)
         (λ e. let l : i < most = ltb-true i most e in
-        subst (Kept WORK 64 s) (sym (T.wrote l)) (kept_sets (T.state ∷ []) s WORK 64 (WORK + i) (omega arith) (omega (arith, v.pre.few))))
-        (λ e. subst (Kept WORK 64 s) (sym (T.left (ltb-false i most e))) (kept_refl WORK 64 s))
+        subst (Kept 0 64 s) (sym (T.wrote l)) (kept_sets (T.state ∷ []) s 0 64 i (omega arith) (omega (arith, v.pre.few))))
+        (λ e. subst (Kept 0 64 s) (sym (T.left (ltb-false i most e))) (kept_refl 0 64 s))
 
-    words_more : i + 1 ≤ most → words (work s') 0 (i + 1) ≡ v.states ++ T.state ∷ []
+    words_more : i + 1 ≤ most → words s' 0 (i + 1) ≡ v.states ++ T.state ∷ []
     words_more l =
-        ap (λ (z : List ℕ). words (work z) 0 (i + 1)) (T.wrote (omega arith))
-        ∙ ap (λ (z : List ℕ). words z 0 (i + 1)) (drop-set-add WORK s i T.state)
-        ∙ ap (λ (j : ℕ). words (set (work s) j T.state) 0 (i + 1)) {x = i} {y = 0 + i} (omega arith)
-        ∙ words_append (work s) (T.state ∷ []) 0 i 1 refl (omega (arith, length-drop WORK s, v.pre.room, v.pre.few))
+        ap (λ (z : List ℕ). words z 0 (i + 1)) (T.wrote (omega arith))
+        ∙ ap (λ (j : ℕ). words (set s j T.state) 0 (i + 1)) {x = i} {y = 0 + i} (omega arith)
+        ∙ words_append s (T.state ∷ []) 0 i 1 refl (omega (arith, v.pre.room, v.pre.few))
         ∙ ap (λ (z : List ℕ). z ++ T.state ∷ []) (v.words (omega arith))
 
-    given_more : (N : ℕ) (K : Goal) → giving N (lines_of s₀ k) v.all K ≡ giving N (lines_of s₀ k) next_front.others (λ ys. K ((v.states ++ T.state ∷ []) ++ ys))
+    given_more : (N : ℕ) (K : Goal) → giving N (lines_in x) v.all K ≡ giving N (lines_in x) next_front.others (λ ys. K ((v.states ++ T.state ∷ []) ++ ys))
     given_more N K =
         v.is N K
-        ∙ ap (λ (l : List ℕ). giving N (lines_of s₀ k) l (λ ys. K (v.states ++ ys))) next_front.is
-        ∙ giving_one N (lines_of s₀ k) T.number next_front.others (λ ys. K (v.states ++ ys)) named_is
-        ∙ giving_same N (lines_of s₀ k) next_front.others (λ xs. K (v.states ++ T.state ∷ xs)) (λ ys. K ((v.states ++ T.state ∷ []) ++ ys))
+        ∙ ap (λ (l : List ℕ). giving N (lines_in x) l (λ ys. K (v.states ++ ys))) next_front.is
+        ∙ giving_one N (lines_in x) T.number next_front.others (λ ys. K (v.states ++ ys)) named_is
+        ∙ giving_same N (lines_in x) next_front.others (λ xs. K (v.states ++ T.state ∷ xs)) (λ ys. K ((v.states ++ T.state ∷ []) ++ ys))
         (λ xs. ap K (sym (append_assoc v.states (T.state ∷ []) xs)))
 
-    pub reading_again : Reading book k most from n s₀ s' d (i + 1)
-    reading_again = record {
-      pre = record { within = T.within; lines = v.pre.lines; room = omega (arith, v.pre.room); few = v.pre.few };
+    same_count : z.lines.count ≡ y.lines.count
+    same_count = ap (λ (t : Table). t.count) o.lines
+
+    same_table : length z.lines.words.now ≡ length y.lines.words.now
+    same_table = ap (λ (t : Table). length t.words.now) o.lines
+
+    pub reading_again : OnlyWork x z → Reading book most from n x z d (i + 1)
+    reading_again w = record {
+      keeps = w;
+      pre = record { within = T.within; lines = omega (arith, v.pre.lines, same_count, same_table); room = omega (arith, v.pre.room, o.aut.length); few = v.pre.few };
       kept = kept_trans v.kept kept_one;
       states = v.states ++ T.state ∷ [];
       size = omega (arith, length-append v.states (T.state ∷ []), v.size);
@@ -154,32 +169,32 @@ module _ {book : List ℕ} {k most : ℕ} {from : Cursor} {n : ℕ} {s₀ s : Li
       left_size = omega (arith, v.left_size, ap length next_front.is);
       is = given_more;
       words = words_more;
-      below = λ b f. all_append (λ x. x < b) v.states (T.state ∷ []) (v.below b f) (f T.number T.state named_is, tt);
+      below = λ b f. all_append (λ z. z < b) v.states (T.state ∷ []) (v.below b f) (f T.number T.state named_is, tt);
     }
 
-  by_all : (N : ℕ) (l : List ℕ) → numbers (rest book from) ≡ some l → (K : Goal) → giving N (lines_of s₀ k) l K ≡ giving N (lines_of s₀ k) v.left (λ ys. K (v.states ++ ys))
-  by_all N l e K = ap (λ (m : List ℕ). giving N (lines_of s₀ k) m K) (some_same (sym e ∙ v.all_is)) ∙ v.is N K
+  by_all : (N : ℕ) (l : List ℕ) → numbers (rest book from) ≡ some l → (K : Goal) → giving N (lines_in x) l K ≡ giving N (lines_in x) v.left (λ ys. K (v.states ++ ys))
+  by_all N l e K = ap (λ (m : List ℕ). giving N (lines_in x) m K) (some_same (sym e ∙ v.all_is)) ∙ v.is N K
 
-  missed_is : i < n → Missed book k c s → (N : ℕ) (K : Goal) → giving N (lines_of s₀ k) v.left K ≡ refuses 4
+  missed_is : i < n → Missed book (lines_in y) c → (N : ℕ) (K : Goal) → giving N (lines_in x) v.left K ≡ refuses 4
   missed_is l (no_number t) N K = absurd (omega (arith, v.left_size, ap length (no_front (rest book c) v.left t v.left_is)))
   missed_is l (no_line {a} {vs} t q) N K =
       let f = front (rest book c) vs a v.left t v.left_is in
-      ap (λ (m : List ℕ). giving N (lines_of s₀ k) m K) f.is ∙ giving_one N (lines_of s₀ k) a f.others K (ap (λ (ls : List (Option ℕ)). get_or ls a none) (sym lines_are) ∙ q)
+      ap (λ (m : List ℕ). giving N (lines_in x) m K) f.is ∙ giving_one N (lines_in x) a f.others K (ap (λ (ls : List (Option ℕ)). get_or ls a none) (sym lines_are) ∙ q)
 
-  pub reading_missed : {s' : List ℕ} → i < n → Missed book k c s × (s' ≡ s) → PostOperands book k most from n false s₀ s'
-  reading_missed {s'} l (m, e) = record {
-    kept = subst (Kept WORK 64 s₀) (sym e) v.kept;
+  pub reading_missed : {z : Place} → i < n → Missed book (lines_in y) c × (z ≡ y) → PostOperands book most from n false x z
+  reading_missed {z} l (m, e) = record {
+    kept = subst (λ (p : Place). Kept 0 64 x.aut.scratch.now p.aut.scratch.now) (sym e) v.kept;
     is = λ N l₁ q K. by_all N l₁ q K ∙ missed_is l m N (λ ys. K (v.states ++ ys));
   }
 
-  pub reading_end : n ≤ i → PostOperands book k most from n true s₀ s
+  pub reading_end : n ≤ i → PostOperands book most from n true x y
   reading_end l = record {
     kept = v.kept;
     is = record {
       states = v.states;
-      is = λ N l₁ q K. by_all N l₁ q K ∙ ap (λ (m : List ℕ). giving N (lines_of s₀ k) m (λ ys. K (v.states ++ ys))) nothing ∙ giving_none N (lines_of s₀ k) (λ ys. K (v.states ++ ys)) ∙ ap K (append-nil v.states);
+      is = λ N l₁ q K. by_all N l₁ q K ∙ ap (λ (m : List ℕ). giving N (lines_in x) m (λ ys. K (v.states ++ ys))) nothing ∙ giving_none N (lines_in x) (λ ys. K (v.states ++ ys)) ∙ ap K (append-nil v.states);
       size = omega (arith, v.size, v.left_size);
-      words = λ h. ap (λ (j : ℕ). words (work s) 0 j) {x = n} {y = i} (omega (arith, v.left_size)) ∙ v.words (omega (arith, v.left_size));
+      words = λ h. ap (λ (j : ℕ). words s 0 j) {x = n} {y = i} (omega (arith, v.left_size)) ∙ v.words (omega (arith, v.left_size));
       below = v.below;
     };
   }
@@ -189,12 +204,12 @@ module _ {book : List ℕ} {k most : ℕ} {from : Cursor} {n : ℕ} {s₀ s : Li
 
 -- ---- one operand
 
-pub operand_no_line : {book : List ℕ} {k : ℕ} {c : Cursor} {s : List ℕ} {a : ℕ} {d : Cursor} → TakesNumber book c (code.Some (a, d)) → get_or (lines_of s k) a none ≡ none → Missed book k c s × (s ≡ s)
-operand_no_line T L = (no_line T.is L, refl)
+pub operand_no_line : {book : List ℕ} {lines : List (Option ℕ)} {c : Cursor} {a : ℕ} {d : Cursor} → TakesNumber book c (code.Some (a, d)) → get_or lines a none ≡ none → Missed book lines c
+operand_no_line T L = no_line T.is L
 
-module _ {book : List ℕ} {k most i : ℕ} {c : Cursor} {s : List ℕ} {a : ℕ} {d : Cursor} (T : TakesNumber book c (code.Some (a, d))) {x : ℕ} (L : get_or (lines_of s k) a none ≡ some x) where
-  pub operand_wrote : i < most → Took book k most c d i s (set s (WORK + i) x)
+module _ {book : List ℕ} {lines : List (Option ℕ)} {most i : ℕ} {c : Cursor} {s : List ℕ} {a : ℕ} {d : Cursor} (T : TakesNumber book c (code.Some (a, d))) {x : ℕ} (L : get_or lines a none ≡ some x) where
+  pub operand_wrote : i < most → Took book lines most c d i s (set s i x)
   operand_wrote l = record { number = a; state = x; read = T.is; within = T.within; named = L; wrote = λ h. refl; left = λ h. absurd (omega arith) }
 
-  pub operand_left : most ≤ i → Took book k most c d i s s
+  pub operand_left : most ≤ i → Took book lines most c d i s s
   operand_left l = record { number = a; state = x; read = T.is; within = T.within; named = L; wrote = λ h. absurd (omega arith); left = λ h. refl }

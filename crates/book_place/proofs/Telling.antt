@@ -1,10 +1,11 @@
 -- What a line is told to do, by what it says and by the lines before it.
-use Rattle.std.specs.Prelude.{if◌then◌else◌}
+use Rattle.std.specs.Prelude.{if◌then◌else◌, Result, Ok, Err}
+use Rattle.std.specs.Result.{IsErr, IsErrAnd}
 use mathlib.Core.Path.{◌≡◌, refl, sym, ◌∙◌, ap, ap₂, subst}
 use mathlib.Core.Bool.{Bool, true, false, ◌&&◌}
 use mathlib.Core.List.{List}
 use mathlib.Core.Option.{Option, none, some}
-use Prim.Native.Nat.{ℕ, ◌+◌, ◌-◌, ◌≤◌, ◌<◌}
+use Prim.Native.Nat.{ℕ, ◌-◌, ◌≤◌, ◌<◌}
 use native.Mathlib.Omega.{arith}
 use lib.Dec.{ltb, eqb}
 use lib.ListN.{length, get_or}
@@ -38,21 +39,30 @@ use Rattle.book_reader.specs.declared.Said.{Said}
 use Rattle.book_reader.specs.declared.Said.TheVariants as said
 use Rattle.std.specs.Prelude as code
 use Rattle.book_reader.proofs.Saying.{list_is}
+use Rattle.refusal.specs.declared.Refusal.{Refusal}
+use Rattle.refusal.specs.declared.Refusal.TheVariants as refusals
+use Rattle.refusal.proofs.Passed.{passed}
+use Rattle.book_memory.specs.declared.Lines.{Lines as Table}
+use Rattle.book_memory.specs.declared.Place.{Place}
+use Rattle.book_memory.specs.Place.{lines_of, lines_in, Below}
+use Rattle.book_memory.proofs.Table.{line_beyond, line_named, stands_zero, stands_some}
 use Rattle.book_place.specs.declared.Told.{Told}
 use Rattle.book_place.specs.declared.Told.TheVariants as told
-use Rattle.book_place.specs.Clauses.{LINES, WORK, work, lines_of, Below, NamedIs, Found, FoundBy, PreOperands, PostOperands, told_of, ToldReady, setting_by, Alike, TellsBit, TellsPair, TellsList, PreTold, PostTold}
-use Rattle.book_place.proofs.Scratch.{line_beyond, line_named, stands_zero, stands_some}
+use Rattle.book_place.specs.Clauses.{NamedIs, Found, FoundBy, PreOperands, PostOperands, told_of, ToldReady, setting_by, Alike, TellsBit, TellsPair, TellsList, PreTold, PostTold}
+
+-- ---- what `?` hands on, where the error that it met was one of another type
+
+pub passed_on : {A B : Type 0} {r : Result A Refusal} {e f : Refusal} → IsErr r × IsErrAnd r (λ x. x ≡ e) → ◌≡◌ {A = Result B Refusal} (Err e) (Err f) → r ≡ Err f
+passed_on {e = e} {f = f} p q = passed p ∙ ap Err (let z : e ≡ f = cc in z)
 
 -- ---- a name
 
-pub not_yet : (s : List ℕ) (k a : ℕ) → k ≤ a → NamedIs s k a code.None
-not_yet s k a l = line_beyond s k a l
+pub not_yet : (t : Table) (a : ℕ) → t.count ≤ a → NamedIs t a code.None
+not_yet t a l = line_beyond t.words.now t.count a l
 
-pub a_query : (s : List ℕ) (k a : ℕ) → a < k → get_or s (LINES + a) 0 ≡ 0 → NamedIs s k a code.None
-a_query s k a l e = line_named s k a l ∙ stands_zero (get_or s (LINES + a) 0) e
-
-pub a_state : (s : List ℕ) (k a : ℕ) → a < k → (get_or s (LINES + a) 0 ≡ 0 → ⊥) → NamedIs s k a (code.Some (get_or s (LINES + a) 0 - 1))
-a_state s k a l n = line_named s k a l ∙ stands_some (get_or s (LINES + a) 0) n
+pub named : (t : Table) (a : ℕ) (r : code.Option ℕ) → a < t.count → code.SomeIff r (1 ≤ get_or t.words.now a 0) (get_or t.words.now a 0 - 1) → NamedIs t a r
+named t a (code.Some w) l (h, e) = line_named t.words.now t.count a l ∙ stands_some (get_or t.words.now a 0) h ∙ ap some (sym e)
+named t a code.None l h = line_named t.words.now t.count a l ∙ stands_zero (get_or t.words.now a 0) (omega arith)
 
 -- ---- test, set
 
@@ -61,13 +71,13 @@ module _ (N : ℕ) (w : Bit) (f v : ℕ) where
   unfolding resolve
   bit_by e lines = ap (λ (b : Bool). if b then makes (Lines.bit (bit_of w) f (eqb v 1)) else refuses 5) e
 
-  pub bit_field : N ≤ f → TellsBit N w f v (told.Refuses 5)
+  pub bit_field : N ≤ f → TellsBit N w f v (Err refusals.Range)
   bit_field l = record { is = λ lines s. bit_by (ap (λ (b : Bool). b && ltb v 2) (le-ltb f N l)) lines; ready = λ n s. tt }
 
-  pub bit_value : f < N → 1 < v → TellsBit N w f v (told.Refuses 5)
+  pub bit_value : f < N → 1 < v → TellsBit N w f v (Err refusals.Range)
   bit_value l m = record { is = λ lines s. bit_by (ap₂ ◌&&◌ (lt-ltb f N l) (le-ltb v 2 (omega arith))) lines; ready = λ n s. tt }
 
-  pub bit_makes : f < N → v ≤ 1 → {b : Bool} → eqb v 1 ≡ b → TellsBit N w f v (told.Makes (line.Bit w f b))
+  pub bit_makes : f < N → v ≤ 1 → {b : Bool} → eqb v 1 ≡ b → TellsBit N w f v (Ok (told.Makes (line.Bit w f b)))
   bit_makes l m {b} e = record {
     is = λ lines s. bit_by (ap₂ ◌&&◌ (lt-ltb f N l) (lt-ltb v 2 (omega arith))) lines ∙ ap (λ (x : Bool). makes (Lines.bit (bit_of w) f x)) e;
     ready = λ n s. record { asked = record { states = tt; field = l }; short = tt };
@@ -75,23 +85,26 @@ module _ (N : ℕ) (w : Bit) (f v : ℕ) where
 
 -- ---- two
 
-module _ (s : List ℕ) (k : ℕ) (w : Pair) (a b : ℕ) where
-  pair_by : (N : ℕ) {o p : Option ℕ} → get_or (lines_of s k) a none ≡ o → get_or (lines_of s k) b none ≡ p
-      → resolve N (lines_of s k) (Reader.pair (pair_of w) a b) ≡ given N (lines_of s k) o (λ x. given N (lines_of s k) p (λ y. makes (Lines.pair (pair_of w) x y)))
+module _ (t : Table) (w : Pair) (a b : ℕ) where
+  abbrev lines : List (Option ℕ)
+  lines = lines_of t.words.now t.count
+
+  pair_by : (N : ℕ) {o p : Option ℕ} → get_or lines a none ≡ o → get_or lines b none ≡ p
+      → resolve N lines (Reader.pair (pair_of w) a b) ≡ given N lines o (λ x. given N lines p (λ y. makes (Lines.pair (pair_of w) x y)))
   unfolding resolve
-  pair_by N e f = ap₂ (λ (o p : Option ℕ). given N (lines_of s k) o (λ x. given N (lines_of s k) p (λ y. makes (Lines.pair (pair_of w) x y)))) e f
+  pair_by N e f = ap₂ (λ (o p : Option ℕ). given N lines o (λ x. given N lines p (λ y. makes (Lines.pair (pair_of w) x y)))) e f
 
-  pub pair_no_first : get_or (lines_of s k) a none ≡ none → TellsPair s k w a b (told.Refuses 4)
-  pair_no_first e = record { is = λ N s'. pair_by N e refl; ready = λ N n s' B. tt }
+  pub pair_no_first : get_or lines a none ≡ none → TellsPair t w a b (Err refusals.Name)
+  pair_no_first e = record { is = λ N s. pair_by N e refl; ready = λ N n s B. tt }
 
-  module _ {x : ℕ} (e : get_or (lines_of s k) a none ≡ some x) where
-    pub pair_no_second : get_or (lines_of s k) b none ≡ none → TellsPair s k w a b (told.Refuses 4)
-    pair_no_second f = record { is = λ N s'. pair_by N e f; ready = λ N n s' B. tt }
+  module _ {x : ℕ} (e : get_or lines a none ≡ some x) where
+    pub pair_no_second : get_or lines b none ≡ none → TellsPair t w a b (Err refusals.Name)
+    pair_no_second f = record { is = λ N s. pair_by N e f; ready = λ N n s B. tt }
 
-    pub pair_makes : {y : ℕ} → get_or (lines_of s k) b none ≡ some y → TellsPair s k w a b (told.Makes (line.Pair w x y))
+    pub pair_makes : {y : ℕ} → get_or lines b none ≡ some y → TellsPair t w a b (Ok (told.Makes (line.Pair w x y)))
     pair_makes {y} f = record {
-      is = λ N s'. pair_by N e f;
-      ready = λ N n s' B. record { asked = record { states = (B a x e, (B b y f, tt)); field = tt }; short = tt };
+      is = λ N s. pair_by N e f;
+      ready = λ N n s B. record { asked = record { states = (B a x e, (B b y f, tt)); field = tt }; short = tt };
     }
 
 -- ---- any number
@@ -101,110 +114,103 @@ unfolding mk_union_n mk_intersect_n
 list_long N L listed.Union xs σ l = simp (lt-ltb L.list (length xs) l)
 list_long N L listed.Inter xs σ l = simp (lt-ltb L.list (length xs) l)
 
-list_tell : (N : ℕ) (lines : List (Option ℕ)) (w : Listed) (l : List ℕ) → resolve N lines (Reader.listed (listed_of w) l) ≡ Reader.giving N lines l (λ xs. makes (Lines.listed (listed_of w) xs))
+list_tell : (N : ℕ) (ls : List (Option ℕ)) (w : Listed) (l : List ℕ) → resolve N ls (Reader.listed (listed_of w) l) ≡ Reader.giving N ls l (λ xs. makes (Lines.listed (listed_of w) xs))
 unfolding resolve
-list_tell N lines w l = refl
+list_tell N ls w l = refl
 
 pub alike : (N : ℕ) (L : Limits) (lines : List (Option ℕ)) {t u : Reader.Resolved ℕ} → t ≡ u → Alike N L lines t u
 alike N L lines e b i r τ out = ap (λ (t : Reader.Resolved ℕ). execute (setting_by N b L i r) t (place τ lines out)) e
 
-module _ (book : List ℕ) (k most : ℕ) (w : Listed) (c : Cursor) {n : ℕ} {r : Bool} {s s' : List ℕ} (P : PostOperands book k most c n r s s') where
-  pub list_bad : r ≡ false → TellsList book k most w c (told.Refuses 4) s s'
+module _ (book : List ℕ) (most : ℕ) (w : Listed) (c : Cursor) {n : ℕ} {r : Bool} {x y : Place} (P : PostOperands book most c n r x y) where
+  pub list_bad : r ≡ false → TellsList book most w c (Err refusals.Name) x y
   list_bad e = record {
     kept = P.kept;
-    is = λ N L l m q. alike N L (lines_of s k) (list_tell N (lines_of s k) w l ∙ subst (λ (b : Bool). FoundBy b book k most c n s s') e P.is N l q (λ xs. makes (Lines.listed (listed_of w) xs)));
+    is = λ N L l m q. alike N L (lines_in x) (list_tell N (lines_in x) w l ∙ subst (λ (b : Bool). FoundBy b book (lines_in x) most c n y.aut.scratch.now) e P.is N l q (λ xs. makes (Lines.listed (listed_of w) xs)));
     ready = λ N n B. tt;
   }
 
   module _ (e : r ≡ true) where
-    list_found : Found book k most c n s s'
-    list_found = subst (λ (b : Bool). FoundBy b book k most c n s s') e P.is
+    list_found : Found book (lines_in x) most c n y.aut.scratch.now
+    list_found = subst (λ (b : Bool). FoundBy b book (lines_in x) most c n y.aut.scratch.now) e P.is
 
-    list_is_told : (N : ℕ) (l : List ℕ) → numbers (rest book c) ≡ some l → resolve N (lines_of s k) (Reader.listed (listed_of w) l) ≡ makes (Lines.listed (listed_of w) list_found.states)
-    list_is_told N l q = list_tell N (lines_of s k) w l ∙ list_found.is N l q (λ xs. makes (Lines.listed (listed_of w) xs))
+    list_is_told : (N : ℕ) (l : List ℕ) → numbers (rest book c) ≡ some l → resolve N (lines_in x) (Reader.listed (listed_of w) l) ≡ makes (Lines.listed (listed_of w) list_found.states)
+    list_is_told N l q = list_tell N (lines_in x) w l ∙ list_found.is N l q (λ xs. makes (Lines.listed (listed_of w) xs))
 
-    pub list_too_long : most < n → TellsList book k most w c (told.Refuses 6) s s'
+    pub list_too_long : most < n → TellsList book most w c (Err refusals.List) x y
     list_too_long h = record {
       kept = P.kept;
       is = λ N L l m q b i r τ out.
-          alike N L (lines_of s k) (list_is_told N l q) b i r τ out
-          ∙ ap (λ (o : Outcome Aut ℕ). after_making (setting_by N b L i r) (place τ (lines_of s k) out) (placed put_base τ (placed put_aut τ.base o)))
+          alike N L (lines_in x) (list_is_told N l q) b i r τ out
+          ∙ ap (λ (o : Outcome Aut ℕ). after_making (setting_by N b L i r) (place τ (lines_in x) out) (placed put_base τ (placed put_aut τ.base o)))
           (list_long N L w list_found.states τ.base.aut (omega (arith, m, list_found.size)));
       ready = λ N n B. tt;
     }
 
-    pub list_makes : n ≤ most → most ≤ 64 → TellsList book k most w c (told.Makes (line.Listed w n)) s s'
+    pub list_makes : n ≤ most → most ≤ 64 → TellsList book most w c (Ok (told.Makes (line.Listed w n))) x y
     list_makes h few = record {
       kept = P.kept;
-      is = λ N L l m q. alike N L (lines_of s k) (list_is_told N l q ∙ ap (λ (xs : List ℕ). makes (Lines.listed (listed_of w) xs)) (sym (list_found.words h)));
-      ready = λ N b B. record { asked = record { states = subst (All (λ x. x < b)) (sym (list_found.words h)) (list_found.below b B); field = tt }; short = omega arith };
+      is = λ N L l m q. alike N L (lines_in x) (list_is_told N l q ∙ ap (λ (xs : List ℕ). makes (Lines.listed (listed_of w) xs)) (sym (list_found.words h)));
+      ready = λ N b B. record { asked = record { states = subst (All (λ z. z < b)) (sym (list_found.words h)) (list_found.below b B); field = tt }; short = omega arith };
     }
 
 -- ---- all of it
 
-module _ (book : List ℕ) (k : ℕ) (config : Config) (s : List ℕ) where
-  single_by : (w : Single) (a : ℕ) {o : Option ℕ} → get_or (lines_of s k) a none ≡ o → resolve config.fields (lines_of s k) (Reader.single (single_of w) a) ≡ given config.fields (lines_of s k) o (λ x. makes (Lines.single (single_of w) x))
+module _ (book : List ℕ) (config : Config) (x : Place) where
+  single_by : (w : Single) (a : ℕ) {o : Option ℕ} → get_or (lines_in x) a none ≡ o → resolve config.fields (lines_in x) (Reader.single (single_of w) a) ≡ given config.fields (lines_in x) o (λ x. makes (Lines.single (single_of w) x))
   unfolding resolve
-  single_by w a f = ap (λ (o : Option ℕ). given config.fields (lines_of s k) o (λ x. makes (Lines.single (single_of w) x))) f
+  single_by w a f = ap (λ (o : Option ℕ). given config.fields (lines_in x) o (λ x. makes (Lines.single (single_of w) x))) f
 
-  query_by : (q : Query) (a : ℕ) {o : Option ℕ} → get_or (lines_of s k) a none ≡ o → resolve config.fields (lines_of s k) (Reader.query (query_of q) a) ≡ given config.fields (lines_of s k) o (λ x. asks (query_of q) a x)
+  query_by : (q : Query) (a : ℕ) {o : Option ℕ} → get_or (lines_in x) a none ≡ o → resolve config.fields (lines_in x) (Reader.query (query_of q) a) ≡ given config.fields (lines_in x) o (λ x. asks (query_of q) a x)
   unfolding resolve
-  query_by q a f = ap (λ (o : Option ℕ). given config.fields (lines_of s k) o (λ x. asks (query_of q) a x)) f
+  query_by q a f = ap (λ (o : Option ℕ). given config.fields (lines_in x) o (λ x. asks (query_of q) a x)) f
 
   module _ {r : code.Option Said} where
     -- a line that writes no list
-    plain : {t : Told} (x : Reader.Instruction) → said_of book r ≡ some x → ((s' : List ℕ) → resolve config.fields (lines_of s k) x ≡ told_of s' t) → ((n : ℕ) → Below n (lines_of s k) → ToldReady config.fields n (work s) t)
-        → PostTold book k config r t s s
-    plain {t} x e f g = record {
-      kept = kept_refl WORK 64 s;
-      is = λ b i m τ out. ap (λ (o : Option Reader.Instruction). step (setting_by config.fields b (limits_of config.limits) i m) o (place τ (lines_of s k) out)) e
-          ∙ alike config.fields (limits_of config.limits) (lines_of s k) (f (work s)) b i m τ out;
+    plain : {t : Result Told Refusal} (I : Reader.Instruction) → said_of book r ≡ some I → ((s' : List ℕ) → resolve config.fields (lines_in x) I ≡ told_of s' t) → ((n : ℕ) → Below n (lines_in x) → ToldReady config.fields n x.aut.scratch.now t)
+        → PostTold book config r t x x
+    plain {t} I e f g = record {
+      kept = kept_refl 0 64 x.aut.scratch.now;
+      is = λ b i m τ out. ap (λ (o : Option Reader.Instruction). step (setting_by config.fields b (limits_of config.limits) i m) o (place τ (lines_in x) out)) e
+          ∙ alike config.fields (limits_of config.limits) (lines_in x) (f x.aut.scratch.now) b i m τ out;
       ready = g;
     }
 
-    pub told_constant : {w : Constant} → r ≡ code.Some (said.Constant w) → PostTold book k config r (told.Makes (line.Constant w)) s s
+    pub told_constant : {w : Constant} → r ≡ code.Some (said.Constant w) → PostTold book config r (Ok (told.Makes (line.Constant w))) x x
     unfolding resolve
     told_constant {w} e = plain (Reader.constant (constant_of w)) (ap (said_of book) e) (λ s'. refl) (λ n B. record { asked = record { states = tt; field = tt }; short = tt })
 
-    pub told_bit : {w : Bit} {f v : ℕ} {t : Told} → r ≡ code.Some (said.Bit w f v) → TellsBit config.fields w f v t → PostTold book k config r t s s
-    told_bit {w} {f} {v} e T = plain (Reader.bit (bit_of w) f v) (ap (said_of book) e) (T.is (lines_of s k)) (λ n B. T.ready n (work s))
+    pub told_bit : {w : Bit} {f v : ℕ} {t : Result Told Refusal} → r ≡ code.Some (said.Bit w f v) → TellsBit config.fields w f v t → PostTold book config r t x x
+    told_bit {w} {f} {v} e T = plain (Reader.bit (bit_of w) f v) (ap (said_of book) e) (T.is (lines_in x)) (λ n B. T.ready n x.aut.scratch.now)
 
-    pub told_pair : {w : Pair} {a b : ℕ} {t : Told} → r ≡ code.Some (said.Pair w a b) → TellsPair s k w a b t → PostTold book k config r t s s
-    told_pair {w} {a} {b} e T = plain (Reader.pair (pair_of w) a b) (ap (said_of book) e) (T.is config.fields) (λ n B. T.ready config.fields n (work s) B)
+    pub told_pair : {w : Pair} {a b : ℕ} {t : Result Told Refusal} → r ≡ code.Some (said.Pair w a b) → TellsPair x.lines w a b t → PostTold book config r t x x
+    told_pair {w} {a} {b} e T = plain (Reader.pair (pair_of w) a b) (ap (said_of book) e) (T.is config.fields) (λ n B. T.ready config.fields n x.aut.scratch.now B)
 
-    module _ {a : ℕ} {x : ℕ} (M : get_or (lines_of s k) a none ≡ some x) where
-      pub told_single : {w : Single} → r ≡ code.Some (said.Single w a) → PostTold book k config r (told.Makes (line.Single w x)) s s
+    module _ {a z : ℕ} (M : get_or (lines_in x) a none ≡ some z) where
+      pub told_single : {w : Single} → r ≡ code.Some (said.Single w a) → PostTold book config r (Ok (told.Makes (line.Single w z))) x x
       told_single {w} e = plain (Reader.single (single_of w) a) (ap (said_of book) e) (λ s'. single_by w a M)
-          (λ n B. record { asked = record { states = (B a x M, tt); field = tt }; short = tt })
+          (λ n B. record { asked = record { states = (B a z M, tt); field = tt }; short = tt })
 
-      pub told_query : {w : Query} → r ≡ code.Some (said.Query w a) → PostTold book k config r (told.Asks w a x) s s
-      told_query {w} e = plain (Reader.query (query_of w) a) (ap (said_of book) e) (λ s'. query_by w a M) (λ n B. B a x M)
+      pub told_query : {w : Query} → r ≡ code.Some (said.Query w a) → PostTold book config r (Ok (told.Asks w a z)) x x
+      told_query {w} e = plain (Reader.query (query_of w) a) (ap (said_of book) e) (λ s'. query_by w a M) (λ n B. B a z M)
 
-    module _ {a : ℕ} (M : get_or (lines_of s k) a none ≡ none) where
-      pub told_no_single : {w : Single} → r ≡ code.Some (said.Single w a) → PostTold book k config r (told.Refuses 4) s s
+    module _ {a : ℕ} (M : get_or (lines_in x) a none ≡ none) where
+      pub told_no_single : {w : Single} → r ≡ code.Some (said.Single w a) → PostTold book config r (Err refusals.Name) x x
       told_no_single {w} e = plain (Reader.single (single_of w) a) (ap (said_of book) e) (λ s'. single_by w a M) (λ n B. tt)
 
-      pub told_no_query : {w : Query} → r ≡ code.Some (said.Query w a) → PostTold book k config r (told.Refuses 4) s s
+      pub told_no_query : {w : Query} → r ≡ code.Some (said.Query w a) → PostTold book config r (Err refusals.Name) x x
       told_no_query {w} e = plain (Reader.query (query_of w) a) (ap (said_of book) e) (λ s'. query_by w a M) (λ n B. tt)
 
-    pub told_none : r ≡ code.None → PostTold book k config r (told.Refuses 3) s s
-    told_none e = record {
-      kept = kept_refl WORK 64 s;
-      is = λ b i m τ out. ap (λ (o : Option Reader.Instruction). step (setting_by config.fields b (limits_of config.limits) i m) o (place τ (lines_of s k) out)) (ap (said_of book) e);
-      ready = λ n B. tt;
-    }
-
     -- a list
-    module _ {w : Listed} {c : Cursor} {n : ℕ} (e : r ≡ code.Some (said.Listed w c n)) (p : PreTold book s k config r) where
-      pub list_ready : PreOperands book s k config.limits.list c n
+    module _ {w : Listed} {c : Cursor} {n : ℕ} (e : r ≡ code.Some (said.Listed w c n)) (p : PreTold book config r x) where
+      pub list_ready : PreOperands book config.limits.list c n x
       list_ready = let (a, b) = subst (SaidListed book) e p.listed in
           record { first = record { within = a; lines = p.lines; room = p.room; few = p.few }; counted = b }
 
-      pub told_listed : {t : Told} {s' : List ℕ} → TellsList book k config.limits.list w c t s s' → PostTold book k config r t s s'
+      pub told_listed : {t : Result Told Refusal} {y : Place} → TellsList book config.limits.list w c t x y → PostTold book config r t x y
       told_listed T = let m = list_is list_ready.counted in record {
         kept = T.kept;
         is = λ b i n τ out.
-            ap (λ (o : Option Reader.Instruction). step (setting_by config.fields b (limits_of config.limits) i n) o (place τ (lines_of s k) out)) (ap (said_of book) e ∙ ap (Reader.map (λ l. Reader.listed (listed_of w) l)) m.is)
+            ap (λ (o : Option Reader.Instruction). step (setting_by config.fields b (limits_of config.limits) i n) o (place τ (lines_in x) out)) (ap (said_of book) e ∙ ap (Reader.map (λ l. Reader.listed (listed_of w) l)) m.is)
             ∙ T.is config.fields (limits_of config.limits) m.list refl m.is b i n τ out;
         ready = T.ready config.fields;
       }

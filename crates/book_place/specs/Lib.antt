@@ -1,2 +1,2 @@
--- A place in a book that runs, and what a line is told: what is asked and promised.
+-- A line in a book that runs, and what it is told to do: what is asked and promised.
 pub mod Clauses

@@ -1,92 +1,60 @@
-// A place in a book that runs, and what a line there is told to do: the lines that it names are looked up, its constructor is done, and the state is kept in the table of lines.
+// A line in a book that runs, and what it is told to do: the lines that it names are looked up, its constructor is done, and the state is kept in the table of lines.
 #![tactic(auto)]
 
-ghost use Rattle.std.specs.Prelude.{◌+◌, ◌≤◌, ◌<◌, length};
-ghost use Rattle.aut_relations.specs.Clauses.{aut_of};
+ghost use Rattle.std.specs.Prelude.{◌≤◌, length};
 ghost use Rattle.book_place.specs.Clauses as Its;
-ghost use Rattle.book_place.specs.Clauses.{NamedIs, PreOperand, PostOperand, PreOperands, PostOperands, PostTold, PreMake, PostMake};
+ghost use Rattle.book_place.specs.Clauses.{NamedIs, OnlyWork, PreOperand, PostOperand, PreOperands, PostOperands, PostTold, OnlyMade, PreMake, PostMake};
 
-use aut_states::{Config, Counts, State};
+use aut_states::Config;
 use book_construct::Line;
+use book_memory::{Lines, Place};
 use book_reader::{Cursor, Query, Said};
 use book_words::{Bit, Listed, Pair};
+use refusal::Refusal;
 
-// Two places in scratch: the table of lines, a constructor line's state + 1, a query's 0; and behind it told is lent on as the scratch of the steps.
-pub const LINES: usize = 0;
-
-pub const WORK: usize = 2048;
-
-// what holds for the whole book
-#[derive(Clone, Copy)]
-pub struct Setting {
-    pub config: Config,
-    pub budget: u64,
-}
-
-// a place in a book that runs: the records in use, the lines so far, and the bytes of output so far
-#[derive(Clone, Copy)]
-pub struct Place {
-    pub counts: Counts,
-    pub lines: usize,
-    pub output: usize,
-}
-
-// a constructor line; a query, of the line named, with its state; or 01's number
+// a constructor line; or a query, of the line named, with its state
 #[derive(Clone, Copy)]
 pub enum Told {
     Makes(Line),
     Asks(Query, usize, u32),
-    Refuses(u32),
 }
 
 // ---- names
 
-// the state that line a stands for, of the first k lines
-fn look_up(scratch: &[u32], k: usize, a: u64) -> Option<u32>
-    requires { Its.LINES + k ≤ length scratch.now }
-    ensures { NamedIs scratch.now k a result }
+// the state that line a stands for
+fn look_up(lines: &Lines, a: u64) -> Option<u32>
+    requires { lines.now.count ≤ length lines.now.words.now }
+    ensures { NamedIs lines.now a result }
 {
-    if a >= k as u64 {
+    if a >= lines.count as u64 {
         return None;
     }
-    let i = LINES + a as usize;
-    let w = scratch[i];
-    if w == 0 {
-        return None;
-    }
-    Some(w - 1)
+    lines.words[a as usize].checked_sub(1)
 }
 
-// behind operand i of a list: its state is word i of the steps' scratch, as far as a list may be long; none if it is no earlier constructor line
-fn read_operand(
-    book: &[u8],
-    scratch: &mut [u32],
-    k: usize,
-    most: usize,
-    c: Cursor,
-    i: usize,
-) -> Option<Cursor>
-    requires { PreOperand book.now scratch.old k most c i }
-    ensures { PostOperand book.now k most c i result scratch.old scratch.new }
+// behind operand i of a list: its state is word i of scratch, as far as a list may be long; none if it is no earlier constructor line
+fn read_operand(book: &[u8], place: &mut Place, most: usize, c: Cursor, i: usize) -> Option<Cursor>
+    requires { PreOperand book.now most c place.old }
+    ensures keeps { OnlyWork place.old place.new }
+    ensures gives { PostOperand book.now most c i result place.old place.new }
 {
     let (a, next) = c.number(book)?;
-    let x = look_up(scratch, k, a)?;
+    let x = look_up(&place.lines, a)?;
     if i < most {
-        let at = WORK + i;
-        scratch[at] = x;
-        return Some(next);
+        place.aut.scratch[i] = x;
     }
     Some(next)
 }
 
 // whether all of a list's n operands are earlier constructor lines
-fn operands(book: &[u8], scratch: &mut [u32], k: usize, most: usize, from: Cursor, n: usize) -> bool
-    requires { PreOperands book.now scratch.old k most from n }
-    ensures { PostOperands book.now k most from n result scratch.old scratch.new }
+fn operands(book: &[u8], place: &mut Place, most: usize, from: Cursor, n: usize) -> bool
+    requires { PreOperands book.now most from n place.old }
+    ensures keeps { OnlyWork place.old place.new }
+    ensures gives { PostOperands book.now most from n result place.old place.new }
 {
     let mut c = from;
     for i in 0..n {
-        let Some(next) = read_operand(book, scratch, k, most, c, i) else {
+        let Some(next) = read_operand(book, place, most, c, i) else {
             return false;
         };
         c = next;
@@ -94,103 +62,87 @@ fn operands(book: &[u8], scratch: &mut [u32], k: usize, most: usize, from: Curso
     true
 }
 
-// ---- told a line is told to do
+// ---- what a line is told to do
 
-fn told_bit(fields: u32, w: Bit, f: u64, v: u64) -> Told
+fn told_bit(fields: u32, w: Bit, f: u64, v: u64) -> Result<Told, Refusal>
     ensures { Its.TellsBit fields w f v result }
 {
     if f >= fields as u64 {
-        return Told::Refuses(5);
+        return Err(Refusal::Range);
     }
     if v > 1 {
-        return Told::Refuses(5);
+        return Err(Refusal::Range);
     }
-    Told::Makes(Line::Bit(w, f as u32, v == 1))
+    Ok(Told::Makes(Line::Bit(w, f as u32, v == 1)))
 }
 
-fn told_pair(scratch: &[u32], k: usize, w: Pair, a: u64, b: u64) -> Told
-    requires { Its.LINES + k ≤ length scratch.now }
-    ensures { Its.TellsPair scratch.now k w a b result }
+fn told_pair(lines: &Lines, w: Pair, a: u64, b: u64) -> Result<Told, Refusal>
+    requires { lines.now.count ≤ length lines.now.words.now }
+    ensures { Its.TellsPair lines.now w a b result }
 {
-    let Some(x) = look_up(scratch, k, a) else {
-        return Told::Refuses(4);
-    };
-    let Some(y) = look_up(scratch, k, b) else {
-        return Told::Refuses(4);
-    };
-    Told::Makes(Line::Pair(w, x, y))
+    let x = look_up(lines, a).ok_or(Refusal::Name)?;
+    let y = look_up(lines, b).ok_or(Refusal::Name)?;
+    Ok(Told::Makes(Line::Pair(w, x, y)))
 }
 
 // every name of a list is looked at before its length
 fn told_list(
     book: &[u8],
-    scratch: &mut [u32],
-    k: usize,
+    place: &mut Place,
     most: usize,
     w: Listed,
     c: Cursor,
     n: usize,
-) -> Told
-    requires { PreOperands book.now scratch.old k most c n }
-    ensures { Its.TellsList book.now k most w c result scratch.old scratch.new }
+) -> Result<Told, Refusal>
+    requires { PreOperands book.now most c n place.old }
+    ensures keeps { OnlyWork place.old place.new }
+    ensures tells { Its.TellsList book.now most w c result place.old place.new }
 {
-    if !operands(book, scratch, k, most, c, n) {
-        return Told::Refuses(4);
+    if !operands(book, place, most, c, n) {
+        return Err(Refusal::Name);
     }
     if n > most {
-        return Told::Refuses(6);
+        return Err(Refusal::List);
     }
-    Told::Makes(Line::Listed(w, n))
+    Ok(Told::Makes(Line::Listed(w, n)))
 }
 
-pub fn tell(book: &[u8], scratch: &mut [u32], k: usize, config: Config, said: Option<Said>) -> Told
-    requires { Its.PreTold book.now scratch.old k config said }
-    ensures { PostTold book.now k config said result scratch.old scratch.new }
+pub fn tell(
+    book: &[u8],
+    place: &mut Place,
+    config: Config,
+    said: Option<Said>,
+) -> Result<Told, Refusal>
+    requires { Its.PreTold book.now config said place.old }
+    ensures keeps { OnlyWork place.old place.new }
+    ensures tells { PostTold book.now config said result place.old place.new }
 {
-    let Some(said) = said else {
-        return Told::Refuses(3);
-    };
+    let said = said.ok_or(Refusal::Form)?;
     match said {
-        Said::Constant(w) => Told::Makes(Line::Constant(w)),
+        Said::Constant(w) => Ok(Told::Makes(Line::Constant(w))),
         Said::Bit(w, f, v) => told_bit(config.fields, w, f, v),
-        Said::Single(w, a) => match look_up(scratch, k, a) {
-            Some(x) => Told::Makes(Line::Single(w, x)),
-            None => Told::Refuses(4),
-        },
-        Said::Pair(w, a, b) => told_pair(scratch, k, w, a, b),
-        Said::Listed(w, c, n) => told_list(book, scratch, k, config.limits.list, w, c, n),
-        Said::Query(q, a) => match look_up(scratch, k, a) {
-            Some(x) => Told::Asks(q, a as usize, x),
-            None => Told::Refuses(4),
-        },
+        Said::Single(w, a) => {
+            let x = look_up(&place.lines, a).ok_or(Refusal::Name)?;
+            Ok(Told::Makes(Line::Single(w, x)))
+        }
+        Said::Pair(w, a, b) => told_pair(&place.lines, w, a, b),
+        Said::Listed(w, c, n) => told_list(book, place, config.limits.list, w, c, n),
+        Said::Query(q, a) => {
+            let x = look_up(&place.lines, a).ok_or(Refusal::Name)?;
+            Ok(Told::Asks(q, a as usize, x))
+        }
     }
 }
 
 // ---- a constructor line
 
 // a constructor, and its state in the table of lines
-pub fn make_line(
-    nodes: &mut [u32],
-    states: &mut [u32],
-    members: &mut [u32],
-    scratch: &mut [u32],
-    c: Counts,
-    config: Config,
-    k: usize,
-    line: Line,
-) -> State
-    requires { PreMake config (aut_of nodes.old states.old members.old c) scratch.old k line }
-    ensures { PostMake config k line result c nodes.old states.old members.old
-        scratch.old nodes.new states.new members.new scratch.new }
+pub fn make_line(place: &mut Place, config: Config, line: Line) -> Result<(), Refusal>
+    requires { PreMake config line place.old }
+    ensures keeps { OnlyMade place.old place.new }
+    ensures gives { PostMake config line result place.old place.new }
 {
-    let at = WORK;
-    let made = book_construct::make_on(nodes, states, members, &mut scratch[at..], c, config, line);
-    match made {
-        State::Refused(e) => State::Refused(e),
-        State::Is(z, d) => {
-            let i = LINES + k;
-            scratch[i] = z + 1;
-            State::Is(z, d)
-        }
-    }
+    let z = book_construct::make(&mut place.aut, config, line)?;
+    place.lines.add(z + 1);
+    Ok(())
 }

@@ -1,87 +1,22 @@
 -- The lines of a book, one after the other.
-use mathlib.Core.Path.{◌≡◌, refl, sym, ◌∙◌, ap, subst}
+use Rattle.std.specs.Prelude as code
+use mathlib.Core.Path.{◌≡◌, refl, sym, ◌∙◌, ap, ap₂}
 use mathlib.Core.List.{List, [], ◌∷◌}
-use Prim.Native.Nat.{ℕ, zero, suc, ◌+◌, ◌-◌, ◌≤◌, ◌<◌}
+use Prim.Native.Nat.{ℕ, zero, suc, ◌+◌, ◌-◌, ◌/◌, ◌≤◌, ◌<◌}
 use native.Mathlib.Omega.{arith}
 use lib.ListN.{length, get_or, take, drop, length-drop}
-use Rattle.common.specs.Outcome.{Outcome}
+use Rattle.refusal.specs.declared.Refusal.{Refusal}
+use Rattle.refusal.specs.declared.Refusal.TheVariants as refusal
+use Rattle.refusal.specs.Numbers.{number_of}
 use Rattle.book_steps.specs.Text.{cut}
-use Rattle.book_steps.specs.Reader as Reader
 use Rattle.book_steps.specs.Run as Run
-use Rattle.book_steps.specs.Run.{with_line, onward, answered, stopped, step as obey}
-use Rattle.book_reader.specs.Clauses.{Begins, BeginsBy, Cuts, cut_of, rest}
-use Rattle.book_reader.specs.declared.Cursor.{Cursor}
-use Rattle.std.specs.Prelude as code
-use Rattle.book_place.specs.declared.Setting.{Setting}
-use Rattle.book_place.specs.declared.Place.{Place}
-use Rattle.book_line.specs.declared.Obeyed.{Obeyed}
-use Rattle.book_line.specs.declared.Obeyed.TheVariants as obeyed
-use Rattle.book_place.specs.Clauses.{LINES, WORK, Memory, place_of, setting_in, Standing}
-use Rattle.book_line.specs.Clauses.{PreObey, PostObey}
-use Rattle.book_run.specs.declared.Turned.{Turned}
-use Rattle.book_run.specs.declared.Turned.TheVariants as turned
-use Rattle.book_finish.specs.declared.Went.{Went}
-use Rattle.book_finish.specs.declared.Went.TheVariants as went
-use Rattle.book_begin.specs.Clauses.{Wrote}
-use Rattle.book_run.specs.Clauses.{lending, PreTurn, PostTurn, PreGo, went_of, PostGo}
-use Rattle.book_run.proofs.Contracts.{SameLengths}
-
--- ---- one line
-
--- for the lengths that are lent, whatever they are called
-general : (p o : ℕ) (C : ℕ → ℕ → Type 0) → C p o → (pending output : ℕ) → pending ≡ p → output ≡ o → C pending output
-general p o C x pending output e f = subst (λ (a : ℕ). C a output) (sym e) (subst (λ (b : ℕ). C p b) (sym f) x)
-
-module _ (book : List ℕ) (S : Setting) (m : Memory) (p : Place) (at : ℕ) (P : PreTurn book S m p at) {r : code.Option Cursor} (C : Cuts book at r) where
-  pub turn_unended : r ≡ code.None → PostTurn book S m p at (turned.Refused 3) m
-  turn_unended e = record {
-    is = general (length m.pending) (length m.output)
-        (λ (a b : ℕ). (k : ℕ) (go : List ℕ → ℕ → Run.RunState → Run.Ran (lending S a b)) → with_line (lending S a b) go k (place_of m p) (cut (drop at book)) ≡ stopped 3 k (take p.output m.output))
-        (λ k go. ap (with_line (lending S (length m.pending) (length m.output)) go k (place_of m p)) (C.is ∙ ap (cut_of book) e));
-    output = refl;
-  }
-
-  module _ {c : Cursor} (e : r ≡ code.Some c) where
-    begins : Begins book at c
-    begins = subst (BeginsBy book at) e C.begins
-
-    pub turn_end : c.end < length book
-    turn_end = begins.within.inside
-
-    pub turn_obey : PreObey book S m p c
-    turn_obey = record { within = begins.within; standing = P.standing; more = P.more }
-
-    line_by : (k : ℕ) (go : List ℕ → ℕ → Run.RunState → Run.Ran (setting_in S m)) {o : Outcome Run.RunState ℕ} → obey (setting_in S m) (Reader.parse (rest book c)) (place_of m p) ≡ o
-        → with_line (setting_in S m) go k (place_of m p) (cut (drop at book)) ≡ onward (setting_in S m) (go (drop (c.end + 1) book)) k (place_of m p) o
-    line_by k go f =
-        ap (with_line (setting_in S m) go k (place_of m p)) (C.is ∙ ap (cut_of book) e)
-        ∙ ap (λ (ws : List (List ℕ)). onward (setting_in S m) (go (drop (c.end + 1) book)) k (place_of m p) (obey (setting_in S m) (Reader.parse ws) (place_of m p))) (sym begins.all)
-        ∙ ap (onward (setting_in S m) (go (drop (c.end + 1) book)) k (place_of m p)) f
-
-    module _ (d : Obeyed) (m' : Memory) (D : PostObey book S m p c d m') where
-      by : {x : Obeyed} → d ≡ x → PostObey book S m p c x m'
-      by f = subst (λ (x : Obeyed). PostObey book S m p c x m') f D
-
-      pub turn_refused : {n : ℕ} → d ≡ obeyed.Refused n → PostTurn book S m p at (turned.Refused n) m'
-      turn_refused {n} f = record {
-        is = general (length m.pending) (length m.output)
-            (λ (a b : ℕ). (k : ℕ) (go : List ℕ → ℕ → Run.RunState → Run.Ran (lending S a b)) → with_line (lending S a b) go k (place_of m p) (cut (drop at book)) ≡ stopped n k (take p.output m.output))
-            (λ k go. line_by k go (by f).is);
-        output = (by f).output;
-      }
-
-      pub turn_next : {q : Place} → d ≡ obeyed.Next q → PostTurn book S m p at (turned.Next q (c.end + 1)) m'
-      turn_next {q} f = let g = by f in record {
-        is = general (length m.pending) (length m.output)
-            (λ (a b : ℕ). (k : ℕ) (go : List ℕ → ℕ → Run.RunState → Run.Ran (lending S a b)) → with_line (lending S a b) go k (place_of m p) (cut (drop at book)) ≡ go (drop (c.end + 1) book) (suc k) (place_of m' q))
-            (λ k go. line_by k go g.is);
-        standing = g.standing;
-        lines = g.lines;
-        further = omega (arith, begins.start, begins.within.ordered);
-        inside = omega (arith, begins.within.inside);
-        from = g.from;
-        beyond = g.beyond;
-      }
+use Rattle.book_steps.specs.Run.{Came, with_line, answered, stopped, came_of}
+use Rattle.book_memory.specs.declared.Setting.{Setting}
+use Rattle.book_memory.specs.declared.Place.{Place}
+use Rattle.book_writer.specs.declared.Output.{Output}
+use Rattle.book_memory.specs.Place.{LINES, place_in, setting_of, setting_in, SamePlace, Standing}
+use Rattle.book_finish.specs.Clauses.{Wrote}
+use Rattle.book_run.specs.Clauses.{PreTurn, PostTurn, PreGo, PostGo}
 
 -- ---- the lines
 
@@ -105,99 +40,118 @@ module _ (S : Run.Setting) where
   run_many zero [] k p e b = absurd (omega arith)
   run_many (suc left) text k p e b = absurd (omega arith)
 
--- the run has come to the place p, the text from `at` on, in text line `line`, with so many instructions left
-pub record Going (book : List ℕ) (S : Setting) (m₀ : Memory) (p₀ : Place) (from first all : ℕ) (m : Memory) (p : Place) (at line left : ℕ) : Type 0 where
-  pub is : Run.run (lending S (length m₀.pending) (length m₀.output)) all (drop from book) first (place_of m₀ p₀)
-      ≡ Run.run (lending S (length m₀.pending) (length m₀.output)) left (drop at book) line (place_of m p)
-  pub standing : Standing S m p
+-- what the lines left come to, from a place on
+abbrev lines_from : List ℕ → Setting → Place → (at line left : ℕ) → Came
+lines_from book S x at line left = came_of (setting_in S x) (Run.run (setting_in S x) left (drop at book) line (place_in x))
+
+-- the run from x has come to the place y, the text from `at` on, in text line `line`, with so many instructions left
+pub record Going (book : List ℕ) (S : Setting) (x : Place) (from first all : ℕ) (y : Place) (at line left : ℕ) : Type 0 where
+  pub is : lines_from book S x from first all ≡ lines_from book S y at line left
+  pub standing : Standing S y
   pub inside : at ≤ length book
-  pub more : LINES + (p.lines + left) ≤ WORK
+  pub more : y.lines.count + left ≤ LINES
   pub small : line + left < 4294967296
-  pub same : SameLengths m₀ m
-  pub on : p₀.output ≤ p.output
-  pub beyond : (i : ℕ) → p.output ≤ i → get_or m.output i 0 ≡ get_or m₀.output i 0
+  pub same : SamePlace x y
+  pub on : x.output.at ≤ y.output.at
+  pub beyond : (i : ℕ) → y.output.at ≤ i → get_or y.output.bytes.now i 0 ≡ get_or x.output.bytes.now i 0
 
-pub same_self : (m : Memory) → SameLengths m m
-same_self m = record { sp = refl; nodes = refl; states = refl; members = refl; transitions = refl; pending = refl; scratch = refl; output = refl }
-
-pub same_on_lem : {m m' m'' : Memory} → SameLengths m m' → SameLengths m' m'' → SameLengths m m''
-same_on_lem a b = record {
-  sp = b.sp ∙ a.sp;
-  nodes = b.nodes ∙ a.nodes;
-  states = b.states ∙ a.states;
-  members = b.members ∙ a.members;
-  transitions = b.transitions ∙ a.transitions;
-  pending = b.pending ∙ a.pending;
-  scratch = b.scratch ∙ a.scratch;
-  output = b.output ∙ a.output;
+pub same_refl : (x : Place) → SamePlace x x
+same_refl x = record {
+  aut = record { sp = refl; spp = record { lent = refl; fields = refl }; states = refl; members = refl; transitions = refl; pending = refl; entries = refl; scratch = refl; length = refl };
+  lines = refl;
+  table = refl;
+  output = refl;
+  bytes = refl;
 }
 
-module _ {book : List ℕ} {S : Setting} {m₀ : Memory} {p₀ : Place} {from first all : ℕ} where
-  pub going_begin : PreGo book S m₀ p₀ from first all → Going book S m₀ p₀ from first all m₀ p₀ from first all
-  going_begin P = record { is = refl; standing = P.standing; inside = P.inside; more = P.more; small = P.small; same = same_self m₀; on = omega arith; beyond = λ i l. refl }
+pub same_trans : {x y z : Place} → SamePlace x y → SamePlace y z → SamePlace x z
+same_trans a b = record {
+  aut = record {
+    sp = b.aut.sp ∙ a.aut.sp;
+    spp = record { lent = b.aut.spp.lent ∙ a.aut.spp.lent; fields = b.aut.spp.fields ∙ a.aut.spp.fields };
+    states = b.aut.states ∙ a.aut.states;
+    members = b.aut.members ∙ a.aut.members;
+    transitions = b.aut.transitions ∙ a.aut.transitions;
+    pending = b.aut.pending ∙ a.aut.pending;
+    entries = b.aut.entries ∙ a.aut.entries;
+    scratch = b.aut.scratch ∙ a.aut.scratch;
+    length = b.aut.length ∙ a.aut.length;
+  };
+  lines = b.lines ∙ a.lines;
+  table = b.table ∙ a.table;
+  output = b.output ∙ a.output;
+  bytes = b.bytes ∙ a.bytes;
+}
 
-  module _ {m : Memory} {p : Place} {at line left : ℕ} (v : Going book S m₀ p₀ from first all m p at line left) where
-    all_lent : (x : Went) (m' : Memory) → Run.run (lending S (length m₀.pending) (length m₀.output)) all (drop from book) first (place_of m₀ p₀) ≡ went_of x m'
-        → (pending output : ℕ) → pending ≡ length m₀.pending → output ≡ length m₀.output → Run.run (lending S pending output) all (drop from book) first (place_of m₀ p₀) ≡ went_of x m'
-    all_lent x m' e = general (length m₀.pending) (length m₀.output) (λ (a b : ℕ). Run.run (lending S a b) all (drop from book) first (place_of m₀ p₀) ≡ went_of x m') e
+-- the setting says of what is lent only how many entries and bytes there are
+pub setting_same : (S : Setting) (x y : Place) → length y.aut.pending.now ≡ length x.aut.pending.now → length y.output.bytes.now ≡ length x.output.bytes.now → setting_in S y ≡ setting_in S x
+setting_same S x y a b = ap₂ (λ (p o : ℕ). setting_of S (p / 2) o) a b
 
-    wrote : Wrote p.output m₀.output m.output
-    wrote = record { fits = omega (arith, v.standing.written, v.same.output); beyond = v.beyond }
+module _ {book : List ℕ} {S : Setting} {x : Place} {from first all : ℕ} where
+  pub going_begin : PreGo book S x from first all → Going book S x from first all x from first all
+  going_begin P = record { is = refl; standing = P.standing; inside = P.inside; more = P.more; small = P.small; same = same_refl x; on = omega arith; beyond = λ i l. refl }
 
-    pub going_end : length book ≤ at → PostGo book S m₀ p₀ from first all (went.End S p) m
+  module _ {y : Place} {at line left : ℕ} (v : Going book S x from first all y at line left) where
+    abbrev T : Run.Setting
+    T = setting_in S y
+
+    wrote : Wrote y.output.at x.output.bytes.now y.output.bytes.now
+    wrote = record { fits = omega (arith, v.standing.written, v.same.bytes); beyond = v.beyond }
+
+    pub going_end : {u : Unit {0}} → length book ≤ at → PostGo book S x from first all (code.Ok u) y
     going_end l = record {
-      is = all_lent (went.End S p) m (v.is ∙ run_end (lending S (length m₀.pending) (length m₀.output)) left (drop at book) line (place_of m p) (omega (arith, length-drop at book)));
-      setting = refl;
-      ends = v.standing;
+      comes = record {
+        is = v.is ∙ ap (came_of T) (run_end T left (drop at book) line (place_in y) (omega (arith, length-drop at book)));
+        ends = v.standing;
+        wrote = wrote;
+      };
       on = v.on;
-      wrote = wrote;
     }
 
     module _ (l : at < length book) where
       text_left : 0 < length (drop at book)
       text_left = omega (arith, length-drop at book)
 
-      pub going_many : left ≡ 0 → PostGo book S m₀ p₀ from first all (went.Stopped 3 line p.output) m
+      pub going_many : left ≡ 0 → PostGo book S x from first all (code.Err (record { refusal = refusal.Form; line = line; length = y.output.at })) y
       going_many e = record {
-        is = all_lent (went.Stopped 3 line p.output) m (v.is ∙ run_many (lending S (length m₀.pending) (length m₀.output)) left (drop at book) line (place_of m p) e text_left);
-        setting = tt;
-        ends = tt;
+        comes = record {
+          is = v.is ∙ ap (came_of T) (run_many T left (drop at book) line (place_in y) e text_left);
+          ends = tt;
+          wrote = wrote;
+        };
         on = v.on;
-        wrote = wrote;
       }
 
       module _ (n : 0 < left) where
-        pub going_turn : PreTurn book S m p at
+        pub going_turn : PreTurn book S y at
         going_turn = record { standing = v.standing; more = omega (arith, v.more); inside = l }
 
-        step : Run.run (lending S (length m₀.pending) (length m₀.output)) all (drop from book) first (place_of m₀ p₀)
-            ≡ with_line (lending S (length m₀.pending) (length m₀.output)) (Run.run (lending S (length m₀.pending) (length m₀.output)) (left - 1)) line (place_of m p) (cut (drop at book))
-        step = v.is ∙ run_step (lending S (length m₀.pending) (length m₀.output)) left (drop at book) line (place_of m p) n text_left
+        on_step : {o : Run.Ran T} → with_line T (Run.run T (left - 1)) line (place_in y) (cut (drop at book)) ≡ o → lines_from book S x from first all ≡ came_of T o
+        on_step e = v.is ∙ ap (came_of T) (run_step T left (drop at book) line (place_in y) n text_left ∙ e)
 
-        module _ (r : Turned) (m' : Memory) (T : PostTurn book S m p at r m') where
-          to : {x : Turned} → r ≡ x → PostTurn book S m p at x m'
-          to f = subst (λ (x : Turned). PostTurn book S m p at x m') f T
-
-          pub going_stopped : {e : ℕ} → r ≡ turned.Refused e → PostGo book S m₀ p₀ from first all (went.Stopped e line p.output) m'
-          going_stopped {e} f = let d = to f in record {
-            is = all_lent (went.Stopped e line p.output) m'
-                (step ∙ d.is (length m₀.pending) (length m₀.output) (sym v.same.pending) (sym v.same.output) line (Run.run (lending S (length m₀.pending) (length m₀.output)) (left - 1))
-                ∙ ap (λ (o : List ℕ). stopped e line (take p.output o)) (sym d.output));
-            setting = tt;
+        pub going_stopped : {f : Refusal} {z : Place} → PostTurn book S y at (code.Err f) z → PostGo book S x from first all (code.Err (record { refusal = f; line = line; length = y.output.at })) z
+        going_stopped {f} {z} d = record {
+          comes = record {
+            is = on_step (d.is line (Run.run T (left - 1)) ∙ ap (λ (o : List ℕ). stopped (number_of f) line (take y.output.at o)) (sym (ap (λ (o : Output). o.bytes.now) d.output)));
             ends = tt;
-            on = v.on;
-            wrote = subst (Wrote p.output m₀.output) (sym d.output) wrote;
-          }
+            wrote = rw d.output wrote;
+          };
+          on = v.on;
+        }
 
-          pub going_again : {q : Place} {next : ℕ} → r ≡ turned.Next q next → SameLengths m m' → Going book S m₀ p₀ from first all m' q next (line + 1) (left - 1)
-          going_again {q} {next} f s = let d = to f in record {
-            is = step ∙ d.is (length m₀.pending) (length m₀.output) (sym v.same.pending) (sym v.same.output) line (Run.run (lending S (length m₀.pending) (length m₀.output)) (left - 1))
-                ∙ ap (λ (k : ℕ). Run.run (lending S (length m₀.pending) (length m₀.output)) (left - 1) (drop next book) k (place_of m' q)) {x = suc line} {y = line + 1} (omega arith);
-            standing = d.standing;
-            inside = d.inside;
-            more = omega (arith, v.more, d.lines);
-            small = omega (arith, v.small);
-            same = same_on_lem v.same s;
-            on = omega (arith, v.on, d.from);
-            beyond = λ i k. d.beyond i k ∙ v.beyond i (omega (arith, d.from));
-          }
+        pub going_again : {z : Place} {next : ℕ} → PostTurn book S y at (code.Ok next) z → SamePlace y z → Going book S x from first all z next (line + 1) (left - 1)
+        going_again {z} {next} d s = record {
+          is = on_step (d.is line (Run.run T (left - 1)))
+              ∙ ap (λ (R : Run.Setting). came_of R (Run.run R (left - 1) (drop next book) (suc line) (place_in z))) (sym (setting_same S y z s.aut.entries s.bytes))
+              ∙ ap (lines_by z next) {x = suc line} {y = line + 1} (omega arith);
+          standing = d.standing;
+          inside = d.inside;
+          more = omega (arith, v.more, d.lines);
+          small = omega (arith, v.small);
+          same = same_trans v.same s;
+          on = omega (arith, v.on, d.onto.from);
+          beyond = λ i k. d.onto.beyond i k ∙ v.beyond i (omega (arith, d.onto.from));
+        }
+          where
+            lines_by : Place → ℕ → ℕ → Came
+            lines_by z next k = lines_from book S z next k (left - 1)

@@ -1,184 +1,139 @@
 -- A whole book: from zeroed tables to what is returned and left.
 use Rattle.std.specs.Prelude.{if◌then◌else◌}
+use Rattle.std.specs.Prelude as code
+use Rattle.std.specs.Result.{IsErr, IsErrAnd}
 use mathlib.Core.Path.{◌≡◌, refl, sym, ◌∙◌, ap, ap₂, subst}
 use mathlib.Core.Bool.{Bool}
-use mathlib.Core.List.{List, []}
-use mathlib.Core.Option.{Option}
+use mathlib.Core.List.{List, [], ◌++◌}
 use Prim.Native.Nat.{ℕ, ◌+◌, ◌≤◌, ◌<◌}
 use native.Mathlib.Omega.{arith}
 use lib.Dec.{ltb}
-use lib.ListN.{length, take, drop}
+use lib.ListN.{length, get_or, take, drop, length-append}
 use lib.Seq.{length-take-le, get_or-take}
 use borrow.Author.Tests.{lt-ltb, le-ltb}
+use Rattle.std.proofs.lemmas.List.{replicate-append-replicate}
 use Rattle.common.specs.Outcome.{refused}
 use Rattle.common.specs.Runs.{table}
 use Rattle.refusal.specs.declared.Refusal.{Refusal}
-use Rattle.refusal.specs.Numbers as refusal
+use Rattle.refusal.specs.declared.Refusal.TheVariants as refusals
+use Rattle.refusal.proofs.Passed.{passed}
 use Rattle.sp_steps.specs.Model as Sp
 use Rattle.spp_steps.specs.Model as Spp
 use Rattle.book_steps.specs.Text.{cut}
 use Rattle.book_steps.specs.Reader as Reader
 use Rattle.book_steps.specs.Run as Run
-use Rattle.book_steps.specs.Run.{Lent, zeroed, Result, outcome}
+use Rattle.book_steps.specs.Run.{Lent, zeroed, Result, outcome, Came, failed, came_of, headed_book, started_book, opened_book, ran_book, finished}
 use Rattle.book_steps.specs.Claim.{Slices, Lends, WritesOnly, Refines, EntrySpec}
 use Rattle.book_steps.proofs.Claim as Claim
-use Rattle.book_reader.specs.Clauses.{Begins, BeginsBy, Cuts, cut_of, Within, rest, heading_of}
-use Rattle.book_reader.specs.declared.Cursor.{Cursor}
-use Rattle.std.specs.Prelude as code
-use Rattle.book_place.specs.declared.Setting.{Setting}
-use Rattle.book_place.specs.declared.Place.{Place}
-use Rattle.book_place.specs.Clauses.{Memory, memory, place_of, Standing}
-use Rattle.book_begin.specs.declared.Header.{Header}
-use Rattle.book_begin.specs.Clauses.{TablesZeroed, WorkZeroed, header_of, setting_for, PreBegin, fresh, begun_of, Wrote, BeginsBy as StartedBy, PostBegin}
-use Rattle.book_begin.proofs.Zero.{zeroed_own}
-use Rattle.book_steps.specs.Run.{came, failed, came_of, started_book, headed_book, opened_book, ran_book, finished}
-use Rattle.book_finish.specs.declared.Went.{Went}
-use Rattle.book_finish.specs.declared.Went.TheVariants as went
-use Rattle.book_finish.specs.declared.Ran.{Ran}
-use Rattle.book_finish.specs.Clauses.{written_by, came_by, ran_of, SameTables, TablesBy, PostFinish, number_of, text_line_of, length_of}
-use Rattle.book_run.specs.Clauses.{lengths_of, lending, PreGo, went_of, EndsWith, PostGo, Empty, PreStarted, PostStarted, PostOpen, slices}
-use Rattle.book_run.proofs.Contracts.{SameLengths}
-use Rattle.book_run.proofs.Lines.{same_on_lem}
 use Rattle.book_steps.proofs.Finished.{book_finished}
+use Rattle.book_reader.specs.Clauses.{BeginsBy, Cuts, cut_of, rest, heading_of}
+use Rattle.book_reader.specs.declared.Cursor.{Cursor}
+use Rattle.book_memory.specs.declared.Setting.{Setting}
+use Rattle.book_memory.specs.declared.Place.{Place}
+use Rattle.book_memory.specs.declared.Memory.{Memory}
+use Rattle.book_memory.specs.Place.{lengths_of, Empty}
+use Rattle.book_writer.specs.declared.Output.{Output}
+use Rattle.book_finish.specs.declared.Stop.{Stop}
+use Rattle.book_finish.specs.Clauses.{Wrote, came_by, written_by, PostFinish, number_of, text_line_of, length_of}
+use Rattle.book_run.specs.Clauses.{ComesTo, went_of, PostGo, Starts, StartsNot, PreOpen, PostOpen, lent_of, slices, slices_in, Table, RunsIn}
 
--- ---- the constants, and the lines
-
-unwritten : (out : List ℕ) → Wrote 0 out out
-unwritten out = record { fits = omega arith; beyond = λ i l. refl }
-
--- the end of a run in the setting S, for the entries and bytes lent, and what it came to
-pub came_of_lem : (S : Setting) (pending output : ℕ) (x : Went) (m : Memory) → EndsWith S x → length m.pending ≡ pending → length m.output ≡ output
-    → came_of (lending S pending output) (went_of {S = lending S pending output} x m) ≡ came_by x m
-came_of_lem S pending output (went.End T q) m e a b = ap (λ (s : Setting). came (lending s pending output) (place_of m q)) (sym e) ∙ ap₂ (λ (c d : ℕ). came (lending T c d) (place_of m q)) (sym a) (sym b)
-came_of_lem S pending output (went.Stopped e k n) m u a b = refl
+-- ---- the header
 
 wide : (lent : Lent) (h : Reader.Header) → 31 < h.fields → Run.begin lent h ≡ refused 2
 unfolding Run.begin
 wide lent h l = ap (λ (b : Bool). if b then refused 2 else Run.begun lent h (Sp.constants h.fields (table (zeroed lent.sp) 0)) (Spp.constants h.fields (table (zeroed lent.spp) 0))) (lt-ltb 31 h.fields l)
 
-abbrev lent_by : (sp spp states members transitions pending scratch output : ℕ) → Lent
-lent_by a b c d e f g h = record { sp = a; spp = b; states = c; members = d; transitions = e; pending = f; scratch = g; output = h }
+pub started_wide : (book : List ℕ) (x : Place) {r : code.Option Cursor} {c : Cursor} {g : code.Option (ℕ × ℕ)} {n b : ℕ} → Cuts book 0 r → r ≡ code.Some c → Reader.header (rest book c) ≡ heading_of g → g ≡ code.Some (n, b) → 31 < n
+    → StartsNot book x refusals.Fields x
+started_wide book x {c = c} {n = n} {b = b} C e H f l = record {
+  is = ap (opened_book (lengths_of x)) (C.is ∙ ap (cut_of book) e)
+      ∙ ap (λ o. headed_book (lengths_of x) o (drop (c.end + 1) book)) (ap Reader.header (sym (subst (BeginsBy book 0) e C.begins).all) ∙ H ∙ ap heading_of f)
+      ∙ ap (started_book (lengths_of x) (record { fields = n; budget = b }) (drop (c.end + 1) book)) (wide (lengths_of x) (record { fields = n; budget = b }) l);
+  output = refl;
+}
 
-module _ (book : List ℕ) (m : Memory) (h : Header) (from : ℕ) (P : PreStarted book m h from) where
-  pub started_begin : PreBegin m.sp m.nodes h
-  started_begin = record { few = P.few; sp = P.empty.tables.sp; nodes = P.empty.tables.nodes }
-
-  module _ {r : code.Result Place Refusal} {sp' nodes' out' : List ℕ} (B : PostBegin h r m.sp m.nodes m.output sp' nodes' out') where
-    abbrev m₁ : Memory
-    m₁ = memory sp' nodes' m.states m.members m.transitions m.pending m.scratch out'
-
-    fresh_is : fresh (lengths_of m) sp' nodes' out' ≡ m₁
-    fresh_is =
-        ap₂ (λ (a b : List ℕ). memory sp' nodes' a b (zeroed (length m.transitions)) (zeroed (length m.pending)) (zeroed (length m.scratch)) out') (sym P.empty.tables.states) (sym P.empty.tables.members)
-        ∙ ap₂ (λ (a b : List ℕ). memory sp' nodes' m.states m.members a b (zeroed (length m.scratch)) out') (sym P.empty.tables.transitions) (sym P.empty.work.pending)
-        ∙ ap (λ (a : List ℕ). memory sp' nodes' m.states m.members m.transitions m.pending a out') (sym P.empty.work.scratch)
-
-    begin_is : {x : code.Result Place Refusal} → r ≡ x → Run.begin (lengths_of m) (header_of h) ≡ begun_of x m₁
-    begin_is e = B.is (lengths_of m) refl refl refl ∙ ap (begun_of r) fresh_is ∙ ap (λ (z : code.Result Place Refusal). begun_of z m₁) e
-
-    then_is : {x : code.Result Place Refusal} → r ≡ x → StartedBy h x (lengths_of m) sp' nodes' m.output out'
-    then_is e = subst (λ (z : code.Result Place Refusal). StartedBy h z (lengths_of m) sp' nodes' m.output out') e (B.then (lengths_of m))
-
-    pub started_refused : {e : Refusal} {n : ℕ} → r ≡ code.Err e → n ≡ refusal.number_of e → PostStarted book m h from (went.Stopped n 1 0) m₁
-    started_refused {e} q i = record {
-      is = ap (started_book (lengths_of m) (header_of h) (drop from book)) (begin_is q ∙ ap refused (sym i));
-      ends = tt;
-      wrote = subst (Wrote 0 m.output) (sym (then_is q)) (unwritten m.output);
-    }
-
-    module _ {p : Place} (q : r ≡ code.Ok p) (len : length out' ≡ length m.output) (S : Setting) (u : S ≡ setting_for h) where
-      begun_go : PreGo book (setting_for h) m₁ p from 2 2048
-      begun_go = record {
-        standing = subst (λ (n : Memory). Standing (setting_for h) n p) fresh_is ((then_is q).standing (omega (arith, P.room)));
-        inside = P.inside;
-        more = omega (arith, (then_is q).lines);
-        small = omega arith;
-      }
-
-      pub started_go : PreGo book S m₁ p from 2 2048
-      started_go = subst (λ (s : Setting). PreGo book s m₁ p from 2 2048) (sym u) begun_go
-
-      begun_went : {x : Went} {m' : Memory} → PostGo book (setting_for h) m₁ p from 2 2048 x m' → length m'.pending ≡ length m.pending → length m'.output ≡ length m.output → PostStarted book m h from x m'
-      begun_went {x} {m'} G a b = record {
-        is = ap (started_book (lengths_of m) (header_of h) (drop from book)) (begin_is q)
-            ∙ ap (came_of (Run.setting_of (lengths_of m) (header_of h))) (G.is (length m.pending) (length m.output) refl (sym len))
-            ∙ came_of_lem (setting_for h) (length m.pending) (length m.output) x m' G.setting a b;
-        ends = G.ends;
-        wrote = record {
-          fits = omega (arith, G.wrote.fits);
-          beyond = λ i l. G.wrote.beyond i l ∙ (then_is q).wrote.beyond i (omega (arith, G.on));
-        };
-      }
-
-      pub started_went : {x : Went} {m' : Memory} → PostGo book S m₁ p from 2 2048 x m' → length m'.pending ≡ length m.pending → length m'.output ≡ length out' → PostStarted book m h from x m'
-      started_went {x} {m'} G a b = begun_went (subst (λ (s : Setting). PostGo book s m₁ p from 2 2048 x m') u G) a (b ∙ len)
-
--- ---- the header
+-- ---- a run from zeroed tables
 
 by_scratch : (lent : Lent) (book : List ℕ) {b : Bool} → ltb lent.scratch 6144 ≡ b → ran_book lent book ≡ (if b then failed 26 0 [] else opened_book lent (cut book))
 unfolding ran_book
 by_scratch lent book e = ap (λ (b : Bool). if b then failed 26 0 [] else opened_book lent (cut book)) e
 
-module _ (book : List ℕ) (m : Memory) where
-  pub open_short : length m.scratch < 6144 → PostOpen book m (went.Stopped 26 0 0) m
-  open_short l = record { is = by_scratch (lengths_of m) book (lt-ltb (length m.scratch) 6144 l); ends = tt; wrote = unwritten m.output }
+unwritten : {out out' : List ℕ} → out' ≡ out → Wrote 0 out out'
+unwritten e = record { fits = omega arith; beyond = λ i l. ap (λ (o : List ℕ). get_or o i 0) e }
 
-  module _ (l : 6144 ≤ length m.scratch) {r : code.Option Cursor} (C : Cuts book 0 r) where
-    open_by : {x : code.Option Cursor} → r ≡ x → ran_book (lengths_of m) book ≡ opened_book (lengths_of m) (cut_of book x)
-    open_by e = by_scratch (lengths_of m) book (le-ltb (length m.scratch) 6144 l) ∙ ap (opened_book (lengths_of m)) (C.is ∙ ap (cut_of book) e)
+module _ (book : List ℕ) (x : Place) where
+  pub open_short : length x.lines.words.now + length x.aut.scratch.now < 6144 → PostOpen book x (code.Err (record { refusal = refusals.Scratch; line = 0; length = 0 })) x
+  open_short l = record { is = by_scratch (lengths_of x) book (lt-ltb (length x.lines.words.now + length x.aut.scratch.now) 6144 l); ends = tt; wrote = unwritten refl }
 
-    pub open_unended : r ≡ code.None → PostOpen book m (went.Stopped 1 1 0) m
-    open_unended e = record { is = open_by e; ends = tt; wrote = unwritten m.output }
+  module _ (l : 6144 ≤ length x.lines.words.now + length x.aut.scratch.now) where
+    open_by : ran_book (lengths_of x) book ≡ opened_book (lengths_of x) (cut book)
+    open_by = by_scratch (lengths_of x) book (le-ltb (length x.lines.words.now + length x.aut.scratch.now) 6144 l)
 
-    module _ {c : Cursor} (e : r ≡ code.Some c) where
-      begins : Begins book 0 c
-      begins = subst (BeginsBy book 0) e C.begins
+    pub open_not : {e : Refusal} {y : Place} → StartsNot book x e y → PostOpen book x (code.Err (record { refusal = e; line = 1; length = 0 })) y
+    open_not s = record { is = open_by ∙ s.is; ends = tt; wrote = unwritten (ap (λ (o : Output). o.bytes.now) s.output) }
 
-      pub header_within : Within book c
-      header_within = begins.within
+    module _ {S : Setting} {from : ℕ} {y : Place} (s : Starts book x S from y) where
+      pub open_went : {w : code.Result Setting Stop} {r : code.Result Unit Stop} {z : Place} → PostGo book S y from 2 Run.instructions r z → w ≡ went_of S r → PostOpen book x w z
+      open_went {w} {r} {z} g e = rw e (record {
+        is = open_by ∙ s.is ∙ g.comes.is;
+        ends = g.comes.ends;
+        wrote = record {
+          fits = omega (arith, g.comes.wrote.fits, s.bytes);
+          beyond = λ i k. g.comes.wrote.beyond i k ∙ s.onto.beyond i (omega (arith, g.on));
+        };
+      })
 
-      module _ (g : code.Option (ℕ × ℕ)) (H : Reader.header (rest book c) ≡ heading_of g) where
-        header_by : {x : code.Option (ℕ × ℕ)} → g ≡ x → ran_book (lengths_of m) book ≡ headed_book (lengths_of m) (heading_of x) (drop (c.end + 1) book)
-        header_by f = open_by e ∙ ap (λ (o : Option Reader.Header). headed_book (lengths_of m) o (drop (c.end + 1) book)) (ap Reader.header (sym begins.all) ∙ H ∙ ap heading_of f)
-
-        pub open_headless : g ≡ code.None → PostOpen book m (went.Stopped 1 1 0) m
-        open_headless f = record { is = header_by f; ends = tt; wrote = unwritten m.output }
-
-        module _ {n b : ℕ} (f : g ≡ code.Some (n, b)) where
-          pub open_wide : 31 < n → PostOpen book m (went.Stopped 2 1 0) m
-          open_wide k = record { is = header_by f ∙ ap (started_book (lengths_of m) (record { fields = n; budget = b }) (drop (c.end + 1) book)) (wide (lengths_of m) (record { fields = n; budget = b }) k); ends = tt; wrote = unwritten m.output }
-
-          module _ (k : n ≤ 31) (E : Empty m) where
-            pub open_ready : PreStarted book m (record { fields = n; budget = b }) (c.end + 1)
-            open_ready = record { empty = E; few = k; room = l; inside = omega (arith, begins.within.inside) }
-
-            pub open_started : {x : Went} {m' : Memory} → PostStarted book m (record { fields = n; budget = b }) (c.end + 1) x m' → PostOpen book m x m'
-            open_started S = record { is = header_by f ∙ S.is; ends = S.ends; wrote = S.wrote }
+      pub open_stopped : {e : Stop} {q : code.Result Setting Stop} {z : Place} → PostGo book S y from 2 Run.instructions (code.Err e) z → IsErr q × IsErrAnd q (λ a. a ≡ e) → PostOpen book x q z
+      open_stopped g by = open_went g (passed by)
 
 -- ---- what is left
 
--- zeroed tables are zeroed of their own lengths
-pub empty_of : {sp nodes states members transitions pending scratch sp' nodes' states' members' transitions' pending' scratch' : List ℕ} (out : List ℕ) → TablesZeroed sp nodes states members transitions sp' nodes' states' members' transitions'
-    → WorkZeroed pending scratch pending' scratch' → Empty (memory sp' nodes' states' members' transitions' pending' scratch' out)
-empty_of {sp} {nodes} {states} {members} {transitions} {pending} {scratch} out T W = record {
-  tables = record { sp = zeroed_own (length sp) T.sp; nodes = zeroed_own (length nodes) T.nodes; states = zeroed_own (length states) T.states; members = zeroed_own (length members) T.members; transitions = zeroed_own (length transitions) T.transitions };
-  work = record { pending = zeroed_own (length pending) W.pending; scratch = zeroed_own (length scratch) W.scratch };
-}
+-- the slices of a place
+abbrev pub slices_at : Place → Slices
+slices_at p = slices p.aut.sp.nodes.now p.aut.spp.nodes.now p.aut.states.words.now p.aut.members.words.now p.aut.transitions.words.now p.aut.pending.now (p.lines.words.now ++ p.aut.scratch.now) p.output.bytes.now
 
--- the lengths lent are those of the zeroed tables
-pub record Zeroes (m m₁ : Memory) : Type 0 where
-  pub tables : TablesZeroed m.sp m.nodes m.states m.members m.transitions m₁.sp m₁.nodes m₁.states m₁.members m₁.transitions
-  pub work : WorkZeroed m.pending m.scratch m₁.pending m₁.scratch
-  pub output : m₁.output ≡ m.output
+-- the slices of m are those of the place
+pub record Parts (m : Memory) (p : Place) : Type 0 where
+  pub sp : m.sp ≡ p.aut.sp.nodes
+  pub spp : m.spp ≡ p.aut.spp.nodes
+  pub states : m.states ≡ p.aut.states.words
+  pub members : m.members ≡ p.aut.members.words
+  pub transitions : m.transitions ≡ p.aut.transitions.words
+  pub pending : m.pending ≡ p.aut.pending
+  pub lines : m.lines ≡ p.lines.words
+  pub scratch : m.scratch ≡ p.aut.scratch
+  pub output : m.output ≡ p.output.bytes
 
-pub lent_same : {m m₁ : Memory} → SameLengths m m₁ → lengths_of m₁ ≡ lengths_of m
-lent_same {m} {m₁} s =
-    ap₂ (λ (a b : ℕ). lent_by a b (length m₁.states) (length m₁.members) (length m₁.transitions) (length m₁.pending) (length m₁.scratch) (length m₁.output)) s.sp s.nodes
-    ∙ ap₂ (λ (a b : ℕ). lent_by (length m.sp) (length m.nodes) a b (length m₁.transitions) (length m₁.pending) (length m₁.scratch) (length m₁.output)) s.states s.members
-    ∙ ap₂ (λ (a b : ℕ). lent_by (length m.sp) (length m.nodes) (length m.states) (length m.members) a b (length m₁.scratch) (length m₁.output)) s.transitions s.pending
-    ∙ ap₂ (λ (a b : ℕ). lent_by (length m.sp) (length m.nodes) (length m.states) (length m.members) (length m.transitions) (length m.pending) a b) s.scratch s.output
+pub slices_same : {m : Memory} {p : Place} → Parts m p → slices_in m ≡ slices_at p
+slices_same q = rw (q.sp, q.spp, q.states, q.members, q.transitions, q.pending, q.lines, q.scratch, q.output)
 
-written_is : {n : ℕ} {out out' : List ℕ} → length out' ≡ length out → Wrote n out out' → WritesOnly (take n out') out out'
+pub lends_own : (x : Place) → Lends (lengths_of x) (slices_at x)
+lends_own x = record { sp = refl; spp = refl; states = refl; members = refl; transitions = refl; pending = refl; scratch = length-append x.lines.words.now x.aut.scratch.now; output = refl }
+
+pub lent_own : (x : Place) → lent_of (slices_at x) ≡ lengths_of x
+lent_own x = ap (with_scratch x) (length-append x.lines.words.now x.aut.scratch.now)
+  where
+    with_scratch : Place → ℕ → Lent
+    with_scratch x n = record {
+      sp = length x.aut.sp.nodes.now;
+      spp = length x.aut.spp.nodes.now;
+      states = length x.aut.states.words.now;
+      members = length x.aut.members.words.now;
+      transitions = length x.aut.transitions.words.now;
+      pending = length x.aut.pending.now;
+      scratch = n;
+      output = length x.output.bytes.now;
+    }
+
+-- what is zeroed of the slices is as a book asks it
+pub open_ready : (m : Memory) (x : Place) {x₁ : Place} → Table m → Parts m x → lengths_of x₁ ≡ lengths_of x → length x₁.lines.words.now ≡ length x.lines.words.now → Empty x₁ → PreOpen x₁
+open_ready m x {x₁} t p s l e =
+    let a : length m.lines.now ≡ length x.lines.words.now = ap (λ b. length b.now) p.lines in
+    let b : length m.scratch.now ≡ length x.aut.scratch.now = ap (λ b. length b.now) p.scratch in
+    let c : length x₁.lines.words.now + length x₁.aut.scratch.now ≡ length x.lines.words.now + length x.aut.scratch.now = ap (λ (k : Lent). k.scratch) s in
+    record { empty = e; table = omega (arith, t) }
+
+pub written_is : {n : ℕ} {out out' : List ℕ} → length out' ≡ length out → Wrote n out out' → WritesOnly (take n out') out out'
 written_is {n} {out} {out'} len w =
     let e : length (take n out') ≡ n = length-take-le n out' (omega (arith, w.fits)) in
     record {
@@ -188,69 +143,77 @@ written_is {n} {out} {out'} len w =
       untouched = λ i l. w.beyond i (omega arith);
     }
 
-taken_length : {n : ℕ} {out out' : List ℕ} → length out' ≡ length out → Wrote n out out' → n ≡ length (take n out')
+pub taken_length : {n : ℕ} {out out' : List ℕ} → length out' ≡ length out → Wrote n out out' → n ≡ length (take n out')
 taken_length {n} {out} {out'} len w = sym (length-take-le n out' (omega (arith, w.fits)))
 
-abbrev pub slices_of : Memory → Slices
-slices_of m = slices m.sp m.nodes m.states m.members m.transitions m.pending m.scratch m.output
+-- A run that came to y, finished: x is what was lent, z what is left.
+module _ (x y z : Place) (L : Lends (lengths_of x) (slices_at z)) where
+  zero_scratch : z.lines.words.now ≡ zeroed (length z.lines.words.now) → z.aut.scratch.now ≡ zeroed (length z.aut.scratch.now) → z.lines.words.now ++ z.aut.scratch.now ≡ zeroed (lengths_of x).scratch
+  zero_scratch a b =
+      ap₂ (λ (s t : List ℕ). s ++ t) a b
+      ∙ replicate-append-replicate (length z.lines.words.now) (length z.aut.scratch.now) 0
+      ∙ ap zeroed (sym (length-append z.lines.words.now z.aut.scratch.now) ∙ L.scratch)
 
--- without the output
-abbrev pub bare : Memory → Memory
-bare m = memory m.sp m.nodes m.states m.members m.transitions m.pending m.scratch []
-
--- A run that came to w, finished: m is what was lent, m₂ where the run ended, m₃ what is left.
-module _ (m m₂ m₃ : Memory) {w : Went} {r : Ran} (W : Wrote (written_by w) m.output m₃.output) (s : SameLengths m m₂) (F : PostFinish w r (bare m₂) (bare m₃)) (o : m₃.output ≡ m₂.output) where
-  size : length m₃.output ≡ length m.output
-  size = ap length o ∙ s.output
-
-  comes : (v : Went) → w ≡ v → Refines (finished (lengths_of m) (came_by v m₂)) (number_of (ran_of v)) (text_line_of (ran_of v)) (length_of (ran_of v)) m.output m₃.output m₃.sp m₃.nodes m₃.states m₃.members m₃.transitions m₃.pending m₃.scratch
-  comes (went.End S q) e =
-      let b : Wrote q.output m.output m₃.output = subst (λ (v : Went). Wrote (written_by v) m.output m₃.output) e W in
-      let t : SameTables (bare m₂) (bare m₃) = subst (λ (v : Went). TablesBy v (bare m₂) (bare m₃)) e F.tables in
-      record {
+  pub left_is : (w : code.Result Setting Stop) {r : code.Result ℕ Stop} → Wrote (written_by w y) x.output.bytes.now y.output.bytes.now → PostFinish w y r z
+      → Refines (finished (lengths_of x) (came_by w y)) (number_of r) (text_line_of r) (length_of r) x.output.bytes.now z.output.bytes.now z.aut.sp.nodes.now z.aut.spp.nodes.now z.aut.states.words.now z.aut.members.words.now z.aut.transitions.words.now z.aut.pending.now (z.lines.words.now ++ z.aut.scratch.now)
+  left_is (code.Ok S) W F =
+      let o : y.output.bytes.now ≡ z.output.bytes.now = ap (λ (o : Output). o.bytes.now) (sym F.output) in
+      let b : Wrote y.output.at x.output.bytes.now z.output.bytes.now = subst (Wrote y.output.at x.output.bytes.now) o W in
+      rw (F.is, o) (record {
         number_is = refl;
         line_is = refl;
-        length_is = taken_length size b ∙ ap (λ (x : List ℕ). length (take q.output x)) o;
-        output_is = subst (λ (x : List ℕ). WritesOnly (take q.output x) m.output m₃.output) o (written_is size b);
-        sp_is = t.sp;
-        spp_is = t.nodes;
-        states_are = t.states;
-        members_are = t.members;
-        transitions_are = t.transitions;
-        pending_is = F.work.pending ∙ ap zeroed s.pending;
-        scratch_is = F.work.scratch ∙ ap zeroed s.scratch;
-      }
-  comes (went.Stopped x k n) e =
-      let b : Wrote n m.output m₃.output = subst (λ (v : Went). Wrote (written_by v) m.output m₃.output) e W in
-      let t : TablesZeroed m₂.sp m₂.nodes m₂.states m₂.members m₂.transitions m₃.sp m₃.nodes m₃.states m₃.members m₃.transitions = subst (λ (v : Went). TablesBy v (bare m₂) (bare m₃)) e F.tables in
-      record {
+        length_is = taken_length L.output b;
+        output_is = written_is L.output b;
+        sp_is = ap (λ s. s.nodes.now) F.tables.sp;
+        spp_is = ap (λ s. s.nodes.now) F.tables.spp;
+        states_are = ap (λ s. s.words.now) F.tables.states;
+        members_are = ap (λ s. s.words.now) F.tables.members;
+        transitions_are = ap (λ s. s.words.now) F.tables.transitions;
+        pending_is = F.work.pending ∙ ap zeroed L.pending;
+        scratch_is = zero_scratch F.work.lines F.work.scratch;
+      })
+  left_is (code.Err s) W F =
+      let o : y.output.bytes.now ≡ z.output.bytes.now = ap (λ (o : Output). o.bytes.now) (sym F.output) in
+      let b : Wrote s.length x.output.bytes.now z.output.bytes.now = subst (Wrote s.length x.output.bytes.now) o W in
+      rw (F.is, o) (record {
         number_is = refl;
         line_is = refl;
-        length_is = taken_length size b ∙ ap (λ (z : List ℕ). length (take n z)) o;
-        output_is = subst (λ (z : List ℕ). WritesOnly (take n z) m.output m₃.output) o (written_is size b);
-        sp_is = t.sp ∙ ap zeroed s.sp;
-        spp_is = t.nodes ∙ ap zeroed s.nodes;
-        states_are = t.states ∙ ap zeroed s.states;
-        members_are = t.members ∙ ap zeroed s.members;
-        transitions_are = t.transitions ∙ ap zeroed s.transitions;
-        pending_is = F.work.pending ∙ ap zeroed s.pending;
-        scratch_is = F.work.scratch ∙ ap zeroed s.scratch;
-      }
+        length_is = taken_length L.output b;
+        output_is = written_is L.output b;
+        sp_is = F.tables.sp ∙ ap zeroed L.sp;
+        spp_is = F.tables.spp ∙ ap zeroed L.spp;
+        states_are = F.tables.states ∙ ap zeroed L.states;
+        members_are = F.tables.members ∙ ap zeroed L.members;
+        transitions_are = F.tables.transitions ∙ ap zeroed L.transitions;
+        pending_is = F.work.pending ∙ ap zeroed L.pending;
+        scratch_is = zero_scratch F.work.lines F.work.scratch;
+      })
 
-  pub left_is : {x : Result} → x ≡ finished (lengths_of m) (came_by w m₂) → Refines x (number_of r) (text_line_of r) (length_of r) m.output m₃.output m₃.sp m₃.nodes m₃.states m₃.members m₃.transitions m₃.pending m₃.scratch
-  left_is e =
-      subst (λ (x : Result). Refines x (number_of r) (text_line_of r) (length_of r) m.output m₃.output m₃.sp m₃.nodes m₃.states m₃.members m₃.transitions m₃.pending m₃.scratch) (sym e)
-      (subst (λ (y : Ran). Refines (finished (lengths_of m) (came_by w m₂)) (number_of y) (text_line_of y) (length_of y) m.output m₃.output m₃.sp m₃.nodes m₃.states m₃.members m₃.transitions m₃.pending m₃.scratch) (sym F.is) (comes w refl))
+-- x is what was lent, x₁ zeroed, y where the run c ended and z what is left
+module _ (x x₁ y z : Place) (s : lengths_of x₁ ≡ lengths_of x) (o : x₁.output.bytes ≡ x.output.bytes) (c : Lent → Came) {w : code.Result Setting Stop} (O : ComesTo (c (lengths_of x₁)) x₁ w y) where
+  pub came_is : c (lengths_of x) ≡ came_by w y
+  came_is = ap c (sym s) ∙ O.is
 
-pub lends_own : (m : Memory) → Lends (lengths_of m) (slices_of m)
-lends_own m = record { sp = refl; spp = refl; states = refl; members = refl; transitions = refl; pending = refl; scratch = refl; output = refl }
+  pub wrote_is : Wrote (written_by w y) x.output.bytes.now y.output.bytes.now
+  wrote_is = subst (λ (b : List ℕ). Wrote (written_by w y) b y.output.bytes.now) (ap (λ b. b.now) o) O.wrote
 
-module _ {book : List ℕ} (m m₁ m₂ m₃ : Memory) {w : Went} {r : Ran} (Z : Zeroes m m₁) (O : PostOpen book m₁ w m₂) (s₁ : SameLengths m m₁) (s₂ : SameLengths m₁ m₂) (F : PostFinish w r (bare m₂) (bare m₃)) (o : m₃.output ≡ m₂.output) where
-  outcome_is : outcome (lengths_of m) book ≡ finished (lengths_of m) (came_by w m₂)
-  outcome_is = sym (book_finished (lengths_of m) book) ∙ ap (finished (lengths_of m)) (ap (λ (l : Lent). ran_book l book) (sym (lent_same s₁)) ∙ O.is)
+  module _ {r : code.Result ℕ Stop} (F : PostFinish w y r z) where
+    -- the run's own end is the outcome of c
+    pub comes_to : {e : Result} → e ≡ finished (lengths_of x) (c (lengths_of x)) → Lends (lengths_of x) (slices_at z)
+        → Refines e (number_of r) (text_line_of r) (length_of r) x.output.bytes.now z.output.bytes.now z.aut.sp.nodes.now z.aut.spp.nodes.now z.aut.states.words.now z.aut.members.words.now z.aut.transitions.words.now z.aut.pending.now (z.lines.words.now ++ z.aut.scratch.now)
+    comes_to {e} q L =
+        subst (λ (e : Result). Refines e (number_of r) (text_line_of r) (length_of r) x.output.bytes.now z.output.bytes.now z.aut.sp.nodes.now z.aut.spp.nodes.now z.aut.states.words.now z.aut.members.words.now z.aut.transitions.words.now z.aut.pending.now (z.lines.words.now ++ z.aut.scratch.now))
+        (sym (q ∙ ap (finished (lengths_of x)) came_is)) (left_is x y z L w wrote_is F)
 
-  bytes : Wrote (written_by w) m.output m₃.output
-  bytes = subst (λ (b : List ℕ). Wrote (written_by w) b m₃.output) Z.output (subst (Wrote (written_by w) m₁.output) (sym o) O.wrote)
+-- what holds of the slices of places, of their own lengths, holds of those of what was lent
+pub of_slices : (E : Lent → Slices → Slices → Type 0) {m n : Memory} {x z : Place} → Parts m x → Parts n z → E (lengths_of x) (slices_at x) (slices_at z) → E (lent_of (slices_in m)) (slices_in m) (slices_in n)
+of_slices E {m} {n} {x} {z} p q e =
+    let u : slices_in m ≡ slices_at x = slices_same p in
+    subst (λ (k : Lent). E k (slices_in m) (slices_in n)) (sym (ap lent_of u ∙ lent_own x))
+    (subst (λ (a : Slices). E (lengths_of x) a (slices_in n)) (sym u) (subst (λ (b : Slices). E (lengths_of x) (slices_at x) b) (sym (slices_same q)) e))
 
-  pub runs : EntrySpec (lengths_of m) book (slices_of m) (number_of r) (text_line_of r) (length_of r) (slices_of m₃)
-  runs = Claim.entry (lends_own m) (left_is m m₂ m₃ bytes (same_on_lem s₁ s₂) F o outcome_is)
+pub runs : (book : List ℕ) (x x₁ y z : Place) {m n : Memory} {w : code.Result Setting Stop} {r : code.Result ℕ Stop} → lengths_of x₁ ≡ lengths_of x → x₁.output.bytes ≡ x.output.bytes → PostOpen book x₁ w y → PostFinish w y r z → Parts m x → Parts n z → RunsIn book m r n
+runs book x x₁ y z {m} {n} {w} {r} s o O F p q = record {
+  is = of_slices (λ (k : Lent) (a b : Slices). Lends k b → EntrySpec k book a (number_of r) (text_line_of r) (length_of r) b) p q
+      (λ (L : Lends (lengths_of x) (slices_at z)). Claim.entry (lends_own x) (comes_to x x₁ y z s o (λ (l : Lent). ran_book l book) O F (sym (book_finished (lengths_of x) book)) L));
+}

@@ -1,116 +1,99 @@
 -- 01, promise 1, in code: a book and what is lent come to the defined outcome (book_steps, `outcome`). What each part of a run asks and promises: a line, the lines from any place in order, and a whole book that is not yet finished (its beginning: book_begin, its end: book_finish).
-use Rattle.std.specs.Prelude.{◌≡◌, List, ℕ, suc, ◌+◌, ◌/◌, ◌≤◌, ◌<◌, length, get_or, take, drop}
+use Rattle.std.specs.Prelude.{◌≡◌, List, [], ◌++◌, ℕ, suc, ◌+◌, ◌≤◌, ◌<◌, min, length, drop, Result, Ok, Err}
+use Rattle.refusal.specs.declared.Refusal.{Refusal}
+use Rattle.refusal.specs.Numbers as refusal
 use Rattle.book_steps.specs.Text.{cut}
 use Rattle.book_steps.specs.Run as Run
-use Rattle.book_steps.specs.Run.{Lent, with_line, answered, stopped}
-use Rattle.book_steps.specs.Claim.{Slices}
-use Rattle.book_place.specs.Clauses.{setting_of}
-use Rattle.book_place.specs.declared.Setting.{Setting}
-use Rattle.book_place.specs.declared.Place.{Place}
-use Rattle.book_place.specs.Clauses.{LINES, WORK, Memory, place_of, Standing}
-use Rattle.book_begin.specs.declared.Header.{Header}
-use Rattle.book_begin.specs.Clauses.{TablesZeroed, WorkZeroed, header_of, Wrote}
-use Rattle.book_steps.specs.Run.{started_book, ran_book}
-use Rattle.book_finish.specs.Clauses.{came_by, written_by, EndsBy}
-use Rattle.book_run.specs.declared.Turned.{Turned}
-use Rattle.book_run.specs.declared.Turned.TheVariants as turned
-use Rattle.book_finish.specs.declared.Went.{Went}
-use Rattle.book_finish.specs.declared.Went.TheVariants as went
-
--- ---- what is lent
-
-abbrev pub lengths_of : Memory → Lent
-lengths_of m = record {
-  sp = length m.sp;
-  spp = length m.nodes;
-  states = length m.states;
-  members = length m.members;
-  transitions = length m.transitions;
-  pending = length m.pending;
-  scratch = length m.scratch;
-  output = length m.output;
-}
+use Rattle.book_steps.specs.Run.{Lent, with_line, stopped, Came, failed, came_of, opened_book, ran_book}
+use Rattle.book_steps.specs.Claim.{Slices, Lends, EntrySpec}
+use Rattle.aut_relations.specs.Behind.{LISTS}
+use Rattle.book_memory.specs.declared.Setting.{Setting}
+use Rattle.book_memory.specs.declared.Place.{Place}
+use Rattle.book_memory.specs.declared.Memory.{Memory}
+use Rattle.book_memory.specs.Place.{LINES, place_in, written_in, setting_in, lengths_of, Onto, Standing, Empty}
+use Rattle.book_finish.specs.declared.Stop.{Stop}
+use Rattle.book_finish.specs.Clauses.{came_by, written_by, EndsBy, Wrote, number_of, text_line_of, length_of}
 
 -- ---- a line
 
-pub record PreTurn (book : List ℕ) (S : Setting) (m : Memory) (p : Place) (at : ℕ) : Type 0 where
-  pub standing : Standing S m p
-  pub more : LINES + p.lines < WORK
+pub record PreTurn (book : List ℕ) (S : Setting) (x : Place) (at : ℕ) : Type 0 where
+  pub standing : Standing S x
+  pub more : x.lines.count < LINES
   pub inside : at < length book
 
--- the setting for the entries and bytes lent
-abbrev pub lending : Setting → ℕ → ℕ → Run.Setting
-lending S pending output = setting_of S (pending / 2) output
-
-pub record TurnsTo (book : List ℕ) (S : Setting) (m m' : Memory) (p q : Place) (at next : ℕ) : Type 0 where
-  pub is : (pending output : ℕ) → pending ≡ length m.pending → output ≡ length m.output → (k : ℕ) (go : List ℕ → ℕ → Run.RunState → Run.Ran (lending S pending output))
-      → with_line (lending S pending output) go k (place_of m p) (cut (drop at book)) ≡ go (drop next book) (suc k) (place_of m' q)
-  pub standing : Standing S m' q
-  pub lines : q.lines ≡ p.lines + 1
-  pub further : at < next
+pub record TurnsTo (book : List ℕ) (S : Setting) (x y : Place) (at next : ℕ) : Type 0 where
+  pub is : (k : ℕ) (go : List ℕ → ℕ → Run.RunState → Run.Ran (setting_in S x)) → with_line (setting_in S x) go k (place_in x) (cut (drop at book)) ≡ go (drop next book) (suc k) (place_in y)
+  pub standing : Standing S y
+  pub lines : y.lines.count ≡ x.lines.count + 1
   pub inside : next ≤ length book
-  pub from : p.output ≤ q.output
-  pub beyond : (i : ℕ) → q.output ≤ i → get_or m'.output i 0 ≡ get_or m.output i 0
+  pub onto : Onto x y
 
-pub record TurnsDown (book : List ℕ) (S : Setting) (m m' : Memory) (p : Place) (at e : ℕ) : Type 0 where
-  pub is : (pending output : ℕ) → pending ≡ length m.pending → output ≡ length m.output → (k : ℕ) (go : List ℕ → ℕ → Run.RunState → Run.Ran (lending S pending output))
-      → with_line (lending S pending output) go k (place_of m p) (cut (drop at book)) ≡ stopped e k (take p.output m.output)
-  pub output : m'.output ≡ m.output
+pub record TurnsDown (book : List ℕ) (S : Setting) (x y : Place) (at : ℕ) (e : Refusal) : Type 0 where
+  pub is : (k : ℕ) (go : List ℕ → ℕ → Run.RunState → Run.Ran (setting_in S x)) → with_line (setting_in S x) go k (place_in x) (cut (drop at book)) ≡ stopped (refusal.number_of e) k (written_in x)
+  pub output : y.output ≡ x.output
 
-abbrev pub PostTurn : List ℕ → Setting → Memory → Place → ℕ → Turned → Memory → Type 0
-PostTurn book S m p at (turned.Next q next) m' = TurnsTo book S m m' p q at next
-PostTurn book S m p at (turned.Refused e) m' = TurnsDown book S m m' p at e
+abbrev pub PostTurn : List ℕ → Setting → Place → ℕ → Result ℕ Refusal → Place → Type 0
+PostTurn book S x at (Ok next) y = TurnsTo book S x y at next
+PostTurn book S x at (Err e) y = TurnsDown book S x y at e
+
+-- ---- a run that is not yet finished
+
+-- from x it has come to c: w says where to, and y is left
+pub record ComesTo (c : Came) (x : Place) (w : Result Setting Stop) (y : Place) : Type 0 where
+  pub is : c ≡ came_by w y
+  pub ends : EndsBy w y
+  pub wrote : Wrote (written_by w y) x.output.bytes.now y.output.bytes.now
 
 -- ---- the lines from a place on
 
 -- the lines left fit into the table of lines
-pub record PreGo (book : List ℕ) (S : Setting) (m : Memory) (p : Place) (from first left : ℕ) : Type 0 where
-  pub standing : Standing S m p
+pub record PreGo (book : List ℕ) (S : Setting) (x : Place) (from first left : ℕ) : Type 0 where
+  pub standing : Standing S x
   pub inside : from ≤ length book
-  pub more : LINES + (p.lines + left) ≤ WORK
+  pub more : x.lines.count + left ≤ LINES
   pub small : first + left < 4294967296
 
-abbrev pub went_of : {S : Run.Setting} → Went → Memory → Run.Ran S
-went_of (went.End S q) m = answered (place_of m q)
-went_of (went.Stopped e k n) m = stopped e k (take n m.output)
+-- the setting is S
+abbrev pub went_of : Setting → Result Unit Stop → Result Setting Stop
+went_of S (Ok u) = Ok S
+went_of S (Err s) = Err s
 
--- its setting is S
-abbrev pub EndsWith : Setting → Went → Type 0
-EndsWith S (went.End T q) = T ≡ S
-EndsWith S (went.Stopped e k n) = Unit
-
-pub record PostGo (book : List ℕ) (S : Setting) (m : Memory) (p : Place) (from first left : ℕ) (r : Went) (m' : Memory) : Type 0 where
-  pub is : (pending output : ℕ) → pending ≡ length m.pending → output ≡ length m.output → Run.run (lending S pending output) left (drop from book) first (place_of m p) ≡ went_of r m'
-  pub setting : EndsWith S r
-  pub ends : EndsBy r m'
-  pub on : p.output ≤ written_by r
-  pub wrote : Wrote (written_by r) m.output m'.output
+pub record PostGo (book : List ℕ) (S : Setting) (x : Place) (from first left : ℕ) (r : Result Unit Stop) (y : Place) : Type 0 where
+  pub comes : ComesTo (came_of (setting_in S x) (Run.run (setting_in S x) left (drop from book) first (place_in x))) x (went_of S r) y
+  pub on : x.output.at ≤ written_by (went_of S r) y
 
 -- ---- a whole book
 
--- every table is zeroed
-pub record Empty (m : Memory) : Type 0 where
-  pub tables : TablesZeroed m.sp m.nodes m.states m.members m.transitions m.sp m.nodes m.states m.members m.transitions
-  pub work : WorkZeroed m.pending m.scratch m.pending m.scratch
+-- every table is zeroed, and scratch long enough
+pub record PreStarted (x : Place) : Type 0 where
+  pub empty : Empty x
+  pub table : length x.lines.words.now ≡ LINES
+  pub room : LISTS ≤ length x.aut.scratch.now
 
-pub record PreStarted (book : List ℕ) (m : Memory) (h : Header) (from : ℕ) : Type 0 where
-  pub empty : Empty m
-  pub few : h.fields ≤ 31
-  pub room : 6144 ≤ length m.scratch
+-- it is left to obey the instructions from a byte of the text on
+pub record Starts (book : List ℕ) (x : Place) (S : Setting) (from : ℕ) (y : Place) : Type 0 where
+  pub is : opened_book (lengths_of x) (cut book) ≡ came_of (setting_in S y) (Run.run (setting_in S y) Run.instructions (drop from book) 2 (place_in y))
+  pub standing : Standing S y
   pub inside : from ≤ length book
+  pub lines : y.lines.count ≡ 0
+  pub onto : Onto x y
+  pub bytes : length y.output.bytes.now ≡ length x.output.bytes.now
 
-pub record PostStarted (book : List ℕ) (m : Memory) (h : Header) (from : ℕ) (r : Went) (m' : Memory) : Type 0 where
-  pub is : started_book (lengths_of m) (header_of h) (drop from book) (Run.begin (lengths_of m) (header_of h)) ≡ came_by r m'
-  pub ends : EndsBy r m'
-  pub wrote : Wrote (written_by r) m.output m'.output
+pub record StartsNot (book : List ℕ) (x : Place) (e : Refusal) (y : Place) : Type 0 where
+  pub is : opened_book (lengths_of x) (cut book) ≡ failed (refusal.number_of e) 1 []
+  pub output : y.output ≡ x.output
 
-abbrev pub PreOpen : Memory → Type 0
-PreOpen m = Empty m
+abbrev pub PostStarted : List ℕ → Place → Result (Setting × ℕ) Refusal → Place → Type 0
+PostStarted book x (Ok (S, from)) y = Starts book x S from y
+PostStarted book x (Err e) y = StartsNot book x e y
 
-pub record PostOpen (book : List ℕ) (m : Memory) (r : Went) (m' : Memory) : Type 0 where
-  pub is : ran_book (lengths_of m) book ≡ came_by r m'
-  pub ends : EndsBy r m'
-  pub wrote : Wrote (written_by r) m.output m'.output
+-- scratch is lent in two: the table of lines is all of it, if it is shorter than that
+pub record PreOpen (x : Place) : Type 0 where
+  pub empty : Empty x
+  pub table : length x.lines.words.now ≡ min LINES (length x.lines.words.now + length x.aut.scratch.now)
+
+abbrev pub PostOpen : List ℕ → Place → Result Setting Stop → Place → Type 0
+PostOpen book x r y = ComesTo (ran_book (lengths_of x) book) x r y
 
 -- ---- the public entry
 
@@ -129,3 +112,27 @@ lent_of m = record {
   scratch = length m.scratch;
   output = length m.output;
 }
+
+-- what is lent for a book as one list for each table; of scratch both parts
+abbrev pub slices_in : Memory → Slices
+slices_in m = slices m.sp.now m.spp.now m.states.now m.members.now m.transitions.now m.pending.now (m.lines.now ++ m.scratch.now) m.output.now
+
+-- the table of lines is as long as a book needs, or all of scratch
+abbrev pub Table : Memory → Type 0
+Table m = length m.lines.now ≡ min LINES (length m.lines.now + length m.scratch.now)
+
+-- the same words and bytes are lent
+pub record SameMemory (m n : Memory) : Type 0 where
+  pub sp : n.sp.ghost_name ≡ m.sp.ghost_name
+  pub spp : n.spp.ghost_name ≡ m.spp.ghost_name
+  pub states : n.states.ghost_name ≡ m.states.ghost_name
+  pub members : n.members.ghost_name ≡ m.members.ghost_name
+  pub transitions : n.transitions.ghost_name ≡ m.transitions.ghost_name
+  pub pending : n.pending.ghost_name ≡ m.pending.ghost_name
+  pub lines : n.lines.ghost_name ≡ m.lines.ghost_name
+  pub scratch : n.scratch.ghost_name ≡ m.scratch.ghost_name
+  pub output : n.output.ghost_name ≡ m.output.ghost_name
+
+-- where the slices keep their lengths, the entry's promise
+pub record RunsIn (book : List ℕ) (m : Memory) (r : Result ℕ Stop) (n : Memory) : Type 0 where
+  pub is : Lends (lent_of (slices_in m)) (slices_in n) → EntrySpec (lent_of (slices_in m)) book (slices_in m) (number_of r) (text_line_of r) (length_of r) (slices_in n)

@@ -1,16 +1,16 @@
 // A book: its header, the constants, then line by line; and the public entry over what is lent.
 #![tactic(auto)]
 
-ghost use Rattle.book_place.specs.Clauses.{memory};
+ghost use Rattle.book_memory.specs.Place.{SamePlace, SameSlices};
 ghost use Rattle.book_steps.specs.Claim.{EntrySpec};
 ghost use Rattle.book_run.specs.Clauses as Its;
 ghost use Rattle.book_finish.specs.Clauses.{number_of, text_line_of, length_of};
 ghost use Rattle.book_run.specs.Clauses.{slices, lent_of};
 
 use book_begin::Header;
-use book_finish::{Ran, Went};
-use book_line::Obeyed;
-use book_place::{Place, Setting};
+use book_finish::Stop;
+use book_memory::{LINES, Memory, Place, Setting};
+use refusal::Refusal;
 
 // the words of scratch that a book needs
 pub const SCRATCH: usize = 6144;
@@ -18,222 +18,125 @@ pub const SCRATCH: usize = 6144;
 // the most instructions of a book
 pub const INSTRUCTIONS: usize = 2048;
 
-// the next place, and the text behind the line; or 01's number
-#[derive(Clone, Copy)]
-pub enum Turned {
-    Next(Place, usize),
-    Refused(u32),
-}
-
 // ---- the instructions
 
-// the line that begins at a place of the text
-fn turn(
-    book: &[u8],
-    sp: &mut [u32],
-    nodes: &mut [u32],
-    states: &mut [u32],
-    members: &mut [u32],
-    transitions: &mut [u32],
-    pending: &mut [u32],
-    scratch: &mut [u32],
-    output: &mut [u8],
-    setting: Setting,
-    place: Place,
-    at: usize,
-) -> Turned
-    requires { Its.PreTurn book.now setting
-        (memory sp.old nodes.old states.old members.old transitions.old pending.old scratch.old
-        output.old) place at }
-    ensures { Its.PostTurn book.now setting
-        (memory sp.old nodes.old states.old members.old
-        transitions.old pending.old scratch.old output.old) place at result
-        (memory sp.new nodes.new states.new members.new
-        transitions.new pending.new scratch.new output.new) }
+// the line that begins at a place of the text: the text behind it
+fn turn(book: &[u8], place: &mut Place, setting: Setting, at: usize) -> Result<usize, Refusal>
+    requires { Its.PreTurn book.now setting place.old at }
+    ensures keeps { SamePlace place.old place.new }
+    ensures gives { Its.PostTurn book.now setting place.old at result place.new }
 {
     let Some(c) = book_reader::line_at(book, at) else {
-        return Turned::Refused(3);
+        return Err(Refusal::Form);
     };
-    let done = book_line::obey(
-        book,
-        sp,
-        nodes,
-        states,
-        members,
-        transitions,
-        pending,
-        scratch,
-        output,
-        setting,
-        place,
-        c,
-    );
-    match done {
-        Obeyed::Refused(e) => Turned::Refused(e),
-        Obeyed::Next(q) => Turned::Next(q, c.end + 1),
-    }
+    book_line::obey(book, place, setting, c)?;
+    Ok(c.end + 1)
 }
 
 // From any place in order: the text from a byte on, its text line, and the instructions left. Tables, lines and output are left as the lines made them.
 pub fn go_on(
     book: &[u8],
-    sp: &mut [u32],
-    nodes: &mut [u32],
-    states: &mut [u32],
-    members: &mut [u32],
-    transitions: &mut [u32],
-    pending: &mut [u32],
-    scratch: &mut [u32],
-    output: &mut [u8],
+    place: &mut Place,
     setting: Setting,
-    start: Place,
     from: usize,
     first: usize,
     instructions: usize,
-) -> Went
-    requires { Its.PreGo book.now setting
-        (memory sp.old nodes.old states.old members.old transitions.old pending.old scratch.old
-        output.old) start from first instructions }
-    ensures { Its.PostGo book.now setting
-        (memory sp.old nodes.old states.old members.old
-        transitions.old pending.old scratch.old output.old) start from
-        first instructions result
-        (memory sp.new nodes.new states.new members.new
-        transitions.new pending.new scratch.new output.new) }
+) -> Result<(), Stop>
+    requires { Its.PreGo book.now setting place.old from first instructions }
+    ensures keeps { SamePlace place.old place.new }
+    ensures gives { Its.PostGo book.now setting place.old from first instructions result place.new }
 {
-    let mut place = start;
     let mut at = from;
     let mut line = first;
     let mut left = instructions;
     while at < book.len() {
+        let length = place.output.at;
         if left == 0 {
-            return Went::Stopped(3, line, place.output);
+            return Err(Stop {
+                refusal: Refusal::Form,
+                line,
+                length,
+            });
         }
-        let turned = turn(
-            book,
-            sp,
-            nodes,
-            states,
-            members,
-            transitions,
-            pending,
-            scratch,
-            output,
-            setting,
-            place,
-            at,
-        );
-        match turned {
-            Turned::Refused(e) => {
-                return Went::Stopped(e, line, place.output);
+        match turn(book, place, setting, at) {
+            Err(refusal) => {
+                return Err(Stop {
+                    refusal,
+                    line,
+                    length,
+                });
             }
-            Turned::Next(q, next) => {
-                place = q;
-                at = next;
-                line += 1;
-                left -= 1;
-            }
+            Ok(next) => at = next,
         }
+        line += 1;
+        left -= 1;
     }
-    Went::End(setting, place)
+    Ok(())
 }
 
 // ---- a whole book
 
-// the header is read: the instructions begin at a place of the text, in text line 2
-fn started(
-    book: &[u8],
-    sp: &mut [u32],
-    nodes: &mut [u32],
-    states: &mut [u32],
-    members: &mut [u32],
-    transitions: &mut [u32],
-    pending: &mut [u32],
-    scratch: &mut [u32],
-    output: &mut [u8],
-    h: Header,
-    from: usize,
-) -> Went
-    requires { Its.PreStarted book.now
-        (memory sp.old nodes.old states.old members.old transitions.old pending.old scratch.old
-        output.old) h from }
-    ensures { Its.PostStarted book.now
-        (memory sp.old nodes.old states.old members.old
-        transitions.old pending.old scratch.old output.old) h from result
-        (memory sp.new nodes.new states.new members.new
-        transitions.new pending.new scratch.new output.new) }
+// the header is read, and the tables are begun: the setting, and where in the text the instructions begin
+fn started(book: &[u8], place: &mut Place) -> Result<(Setting, usize), Refusal>
+    requires { Its.PreStarted place.old }
+    ensures keeps { SameSlices place.old place.new }
+    ensures gives { Its.PostStarted book.now place.old result place.new }
 {
-    let begun = book_begin::begin(sp, nodes, output, h);
-    match begun {
-        Err(e) => Went::Stopped(e.number(), 1, 0),
-        Ok(place) => go_on(
-            book,
-            sp,
-            nodes,
-            states,
-            members,
-            transitions,
-            pending,
-            scratch,
-            output,
-            book_begin::setting_of(h),
-            place,
-            from,
-            2,
-            INSTRUCTIONS,
-        ),
+    let Some(c) = book_reader::line_at(book, 0) else {
+        return Err(Refusal::Header);
+    };
+    let Some((n, budget)) = book_reader::header(book, c) else {
+        return Err(Refusal::Header);
+    };
+    if n > 31 {
+        return Err(Refusal::Fields);
     }
+    let h = Header {
+        fields: n as u32,
+        budget,
+    };
+    book_begin::begin(place, h)?;
+    Ok((book_begin::setting_of(h), c.end + 1))
 }
 
 // From zeroed tables to the last line. Tables, lines and output are left as the lines made them.
-pub fn open(
-    book: &[u8],
-    sp: &mut [u32],
-    nodes: &mut [u32],
-    states: &mut [u32],
-    members: &mut [u32],
-    transitions: &mut [u32],
-    pending: &mut [u32],
-    scratch: &mut [u32],
-    output: &mut [u8],
-) -> Went
-    requires { Its.PreOpen
-        (memory sp.old nodes.old states.old members.old transitions.old pending.old scratch.old
-        output.old) }
-    ensures { Its.PostOpen book.now
-        (memory sp.old nodes.old states.old members.old
-        transitions.old pending.old scratch.old output.old) result
-        (memory sp.new nodes.new states.new members.new
-        transitions.new pending.new scratch.new output.new) }
+pub fn open(book: &[u8], place: &mut Place) -> Result<Setting, Stop>
+    requires { Its.PreOpen place.old }
+    ensures keeps { SameSlices place.old place.new }
+    ensures gives { Its.PostOpen book.now place.old result place.new }
 {
-    if scratch.len() < SCRATCH {
-        return Went::Stopped(26, 0, 0);
+    if place.lines.words.len() + place.aut.scratch.len() < SCRATCH {
+        return Err(Stop {
+            refusal: Refusal::Scratch,
+            line: 0,
+            length: 0,
+        });
     }
-    let Some(c) = book_reader::line_at(book, 0) else {
-        return Went::Stopped(1, 1, 0);
-    };
-    let Some((n, budget)) = book_reader::header(book, c) else {
-        return Went::Stopped(1, 1, 0);
-    };
-    if n > 31 {
-        return Went::Stopped(2, 1, 0);
+    match started(book, place) {
+        Err(refusal) => Err(Stop {
+            refusal,
+            line: 1,
+            length: 0,
+        }),
+        Ok((setting, from)) => {
+            go_on(book, place, setting, from, 2, INSTRUCTIONS)?;
+            Ok(setting)
+        }
     }
-    started(
-        book,
-        sp,
-        nodes,
-        states,
-        members,
-        transitions,
-        pending,
-        scratch,
-        output,
-        Header {
-            fields: n as u32,
-            budget,
-        },
-        c.end + 1,
-    )
+}
+
+// the same of a struct, with scratch in two
+fn run_in(memory: &mut Memory, book: &[u8]) -> Result<usize, Stop>
+    requires { Its.Table memory.old }
+    ensures keeps { Its.SameMemory memory.old memory.new }
+    ensures gives { Its.RunsIn book.now memory.old result memory.new }
+{
+    let mut place = memory.place();
+    book_begin::clear(&mut place);
+    let went = open(book, &mut place);
+    let ran = book_finish::finish(&mut place, went);
+    memory.put_back(&mut place);
+    ran
 }
 
 // One book with one set of lent lengths has one outcome. It asks nothing of what is in the slices.
@@ -247,7 +150,7 @@ pub fn run(
     pending: &mut [u32],
     scratch: &mut [u32],
     output: &mut [u8],
-) -> Ran
+) -> Result<usize, Stop>
     ensures { EntrySpec
         (lent_of
         (slices sp.old spp.old states.old members.old
@@ -259,27 +162,18 @@ pub fn run(
         (slices sp.new spp.new states.new members.new
         transitions.new pending.new scratch.new output.new) }
 {
-    book_begin::clear_tables(sp, spp, states, members, transitions);
-    book_begin::clear_work(pending, scratch);
-    let went = open(
-        book,
+    let at = LINES.min(scratch.len());
+    let (lines, scratch) = scratch.split_at_mut(at);
+    let mut memory = Memory {
         sp,
         spp,
         states,
         members,
         transitions,
         pending,
+        lines,
         scratch,
         output,
-    );
-    book_finish::finish(
-        sp,
-        spp,
-        states,
-        members,
-        transitions,
-        pending,
-        scratch,
-        went,
-    )
+    };
+    run_in(&mut memory, book)
 }

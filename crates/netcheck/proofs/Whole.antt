@@ -14,7 +14,9 @@ use Rattle.book_steps.specs.Claim.{Slices, Lends}
 use Rattle.book_steps.specs.Run.{Lent, Result, outcome}
 use Rattle.book_steps.specs.Text.{bytes, decimal}
 use Rattle.book_steps.specs.Answers.{say}
-use Rattle.book_writer.specs.Clauses.{Put, Answers}
+use Rattle.refusal.specs.declared.Refusal.{Refusal}
+use Rattle.book_writer.specs.Clauses.{Room, Put, Answers}
+use Rattle.book_writer.specs.declared.Output.{Output}
 use Rattle.book_writer.proofs.Contracts.{put_take}
 use Rattle.std.specs.Prelude as code
 use Rattle.book_writer.proofs.Rights.{most_digits}
@@ -31,24 +33,27 @@ counts n s l = (l, sym (length-take-le n s l))
 -- ---- the closing line
 
 -- 64 bytes hold it
-pub line_whole : (number line : ℕ) (s s' : List ℕ) (r : code.Option ℕ) → Answers (refused_line number line) 0 r s s' → 64 ≤ length s → Put 0 (refused_line number line) (code.unwrap_or r 0) s s'
-line_whole number line s s' (code.Some e) A l = A
-line_whole number line s s' code.None A l =
-    absurd (omega (arith, A.0, length_three (bytes "refused") (decimal number) (decimal line), most_digits number, most_digits line))
+pub line_whole : (number line : ℕ) (o o' : Output) (r : code.Result Unit Refusal) → Answers (refused_line number line) o r o' → Room 64 o → Put (refused_line number line) o o'
+line_whole number line o o' (code.Ok u) A l = A
+line_whole number line o o' (code.Err e) A l =
+    absurd (omega (arith, A.1, length_three (bytes "refused") (decimal number) (decimal line), most_digits number, most_digits line))
 
-pub stands_put : {bs s s' : List ℕ} {r : ℕ} → Put 0 bs r s s' → Stands bs r s'
-stands_put {bs} {s} {s'} {r} p = record { counts = counts r s' (omega (arith, p.room, p.wrote.len)); is = put_take p }
+pub stands_put : {bs : List ℕ} (o o' : Output) → o.at ≡ 0 → Put bs o o' → Stands bs o'.at o'.bytes.now
+stands_put {bs} o o' z p = record {
+  counts = counts o'.at o'.bytes.now (omega (arith, p.room, p.wrote.len));
+  is = put_take p ∙ ap (λ (n : ℕ). take n o.bytes.now ++ bs) z;
+}
 
-pub stands_none : (number line : ℕ) (s : List ℕ) → number ≡ 0 → Stands (closing number line) 0 s
-stands_none number line s e = record { counts = counts 0 s (omega arith); is = simp (eq-eqb number 0 e) }
+pub stands_none : (number line : ℕ) (o : Output) → o.at ≡ 0 → number ≡ 0 → Stands (closing number line) o.at o.bytes.now
+stands_none number line o z e = rw z (record { counts = counts 0 o.bytes.now (omega arith); is = simp (eq-eqb number 0 e) })
 
-pub stands_refused : (number line : ℕ) {r : ℕ} {s s' : List ℕ} → (number ≡ 0 → ⊥) → Put 0 (refused_line number line) r s s' → Stands (closing number line) r s'
-stands_refused number line n p = record { counts = (stands_put p).counts; is = (stands_put p).is ∙ simp (ne_eqb number 0 n) }
+pub stands_refused : (number line : ℕ) (o o' : Output) → (number ≡ 0 → ⊥) → o.at ≡ 0 → Put (refused_line number line) o o' → Stands (closing number line) o'.at o'.bytes.now
+stands_refused number line o o' n z p = record { counts = (stands_put o o' z p).counts; is = (stands_put o o' z p).is ∙ simp (ne_eqb number 0 n) }
 
 -- the bytes of the code
-pub stands_long : {s s' : List ℕ} {r : ℕ} → Put 0 (bytes "too long\n") r s s' → Stands too_long r s'
+pub stands_long : (o o' : Output) → o.at ≡ 0 → Put (bytes "too long\n") o o' → Stands too_long o'.at o'.bytes.now
 unfolding say
-stands_long p = stands_put p
+stands_long o o' z p = stands_put o o' z p
 
 -- ---- the output
 
@@ -73,13 +78,14 @@ report_is r = report_by (eqb r.number 0) r.output (refused_line r.number r.line)
 pub writes_over : {over : Bool} {book output s : List ℕ} {n : ℕ} → over ≡ true → Stands too_long n s → Prepared over book (record { output = 0; closing = n }) output s
 writes_over {output = output} e t = record { output_counts = counts 0 output (omega arith); closing_counts = t.counts; is = t.is ∙ simp e }
 
-pub writes_told : {over : Bool} {book s : List ℕ} {m m' : Slices} (r : Outcome) {n : ℕ} → over ≡ false → Lends netcheck_lent m → Entered book m r m' → Stands (closing r.number r.line) n s
-    → Prepared over book (record { output = r.length; closing = n }) m'.output s
-writes_told {over} {book} {s} {m} {m'} r {n} o l e t = record {
+-- the closing line is lent as `last`
+pub writes_told : {over : Bool} {book last : List ℕ} {m m' : Slices} (r : Outcome) (s : List ℕ) {n : ℕ} → over ≡ false → Lends netcheck_lent m → Entered book m r m' → Stands (closing r.number r.line) n s → last ≡ s
+    → Prepared over book (record { output = r.length; closing = n }) m'.output last
+writes_told {over} {book} {last} {m} {m'} r s {n} o l e t same = rw same (record {
   output_counts = counts r.length m'.output (omega (arith, e.refines.length_is, e.refines.output_is.fits, e.refines.output_is.len));
   closing_counts = t.counts;
   is = both ∙ ap (λ (k : Lent). report (outcome k book)) (lent_is l) ∙ simp o;
-}
+})
   where
     start : take r.length m'.output ≡ (outcome (lent_of m) book).output
     start = ap (λ (k : ℕ). take k m'.output) e.refines.length_is ∙ written_take e.refines.output_is

@@ -2,13 +2,13 @@
 // bytes it writes only `too long`.
 #![tactic(auto)]
 
-ghost use Rattle.std.specs.Prelude.{◌≤◌, length};
+ghost use Rattle.std.specs.Prelude.{◌≡◌, ◌≤◌, length};
 ghost use Rattle.book_steps.specs.Claim.{Lends, netcheck_lent};
-ghost use Rattle.book_writer.specs.Clauses.{Put};
+ghost use Rattle.book_writer.specs.Clauses.{Room, Put};
 ghost use Rattle.book_run.specs.Clauses.{slices};
 ghost use Rattle.netcheck.specs.Output.{refused_line, closing as Output·closing, too_long, Stands, Prepared};
 
-use book_writer::Part;
+use book_writer::{Output, Part};
 use std::io;
 use std::io::Read;
 
@@ -21,29 +21,33 @@ pub struct Written {
 
 // ---- the closing line
 
-fn refused_line(out: &mut [u8], number: u32, line: u32) -> usize
-    requires { 64 ≤ length out.old }
-    ensures { Put 0 (refused_line number line) result out.old out.new }
+fn refused_line(line: &mut Output, number: u32, text_line: u32)
+    requires { Room 64 line.old }
+    ensures keeps { line.new.bytes.ghost_name ≡ line.old.bytes.ghost_name }
+    ensures puts { Put (refused_line number text_line) line.old line.new }
 {
-    let parts = [Part::Number(number as u64), Part::Number(line as u64)];
-    book_writer::line(out, 0, b"refused", &parts).unwrap_or(0)
+    let parts = [Part::Number(number as u64), Part::Number(text_line as u64)];
+    // 64 bytes hold it
+    let _ = line.line(b"refused", &parts);
 }
 
-fn closing_line(out: &mut [u8], number: u32, line: u32) -> usize
-    requires { 64 ≤ length out.old }
-    ensures { Stands (Output·closing number line) result out.new }
+fn closing_line(line: &mut Output, number: u32, text_line: u32)
+    requires { Room 64 line.old × (line.old.at ≡ 0) }
+    ensures keeps { line.new.bytes.ghost_name ≡ line.old.bytes.ghost_name }
+    ensures stands { Stands (Output·closing number text_line) line.new.at line.new.bytes.now }
 {
     if number == 0 {
-        return 0;
+        return;
     }
-    refused_line(out, number, line)
+    refused_line(line, number, text_line);
 }
 
-fn too_long(out: &mut [u8]) -> usize
-    requires { 64 ≤ length out.old }
-    ensures { Stands too_long result out.new }
+fn too_long(line: &mut Output)
+    requires { Room 64 line.old × (line.old.at ≡ 0) }
+    ensures keeps { line.new.bytes.ghost_name ≡ line.old.bytes.ghost_name }
+    ensures stands { Stands too_long line.new.at line.new.bytes.now }
 {
-    book_writer::put(out, 0, b"too long\n")
+    line.put(b"too long\n");
 }
 
 // ---- a book
@@ -67,11 +71,15 @@ fn answer(
         output.old) × (64 ≤ length closing.old) }
     ensures { Prepared over book.now result output.new closing.new }
 {
+    let mut line = Output {
+        bytes: closing,
+        at: 0,
+    };
     if over {
-        let n = too_long(closing);
+        too_long(&mut line);
         return Written {
             output: 0,
-            closing: n,
+            closing: line.at,
         };
     }
     let r = netcheck_entry::netcheck_run(
@@ -85,10 +93,10 @@ fn answer(
         scratch,
         output,
     );
-    let n = closing_line(closing, r.number, r.line);
+    closing_line(&mut line, r.number, r.line);
     Written {
         output: r.length,
-        closing: n,
+        closing: line.at,
     }
 }
 

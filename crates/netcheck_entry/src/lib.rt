@@ -6,7 +6,7 @@ ghost use Rattle.book_finish.specs.Clauses.{text_line_of};
 ghost use Rattle.book_run.specs.Clauses.{slices};
 ghost use Rattle.netcheck_entry.specs.Outcome.{outcome_of, Entered};
 
-use book_finish::Ran;
+use book_finish::Stop;
 
 // 01's number (0: answered), the text line, and how many bytes of the output are written
 #[repr(C)]
@@ -17,20 +17,20 @@ pub struct Outcome {
     pub length: usize,
 }
 
-pub fn outcome_of(ran: Ran) -> Outcome
+pub fn outcome_of(ran: Result<usize, Stop>) -> Outcome
     requires { text_line_of ran ≤ 2050 }
     ensures { result ≡ outcome_of ran }
 {
     match ran {
-        Ran::Answered(length) => Outcome {
+        Ok(length) => Outcome {
             number: 0,
             line: 0,
             length,
         },
-        Ran::Refused(number, line, length) => Outcome {
-            number,
-            line: line as u32,
-            length,
+        Err(stop) => Outcome {
+            number: stop.refusal.number(),
+            line: stop.line as u32,
+            length: stop.length,
         },
     }
 }

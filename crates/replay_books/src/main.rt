@@ -6,7 +6,7 @@
 
 ghost use Rattle.std.specs.Prelude.{◌≤◌, length};
 
-use book_finish::Ran;
+use book_finish::Stop;
 use std::io;
 
 #[derive(Clone, Copy)]
@@ -105,17 +105,17 @@ fn print_table(rt: &impl Print, name: &[u8], table: &[u32]) -> io::Result<()> {
     rt.write_all(b"\n")
 }
 
-fn as_told(ran: Ran) -> Told {
+fn as_told(ran: Result<usize, Stop>) -> Told {
     match ran {
-        Ran::Answered(length) => Told {
+        Ok(length) => Told {
             number: 0,
             line: 0,
             length,
         },
-        Ran::Refused(number, line, length) => Told {
-            number,
-            line,
-            length,
+        Err(stop) => Told {
+            number: stop.refusal.number(),
+            line: stop.line,
+            length: stop.length,
         },
     }
 }

@@ -1,19 +1,14 @@
-use mathlib.Core.Path.{◌∙◌}
-use Rattle.std.proofs.Common.{rules}
+use mathlib.Core.Path.{refl}
 use Rattle.book_begin.proofs.Beginning as beginning
 use Rattle.book_begin.proofs.begin.Goals as goal
 
-pub returns-in_default : goal.returns-in_default
-returns-in_default c = beginning.begin_no_sets _ _ _ _ c.requires c.in_default.ensures.gives
+pub returns-in_err-start-clause-gives : goal.returns-in_err-start-clause-gives
+returns-in_err-start-clause-gives c = beginning.begin_no_sets c.args.h c.args.place.now c.requires c.in_err-start.ensures.gives c.from_residual.ensures refl
 
-pub returns-in_default-start : goal.returns-in_default-start
-returns-in_default-start c =
-    beginning.begin_no_relations _ _ _ _ c.requires {x = c.in-Ok.field-0.0} {a = c.start.new.self.count} _ (c.in-Ok.ensures.gives ∙ search rules) c.in_default-start.ensures.gives
+pub returns-in_err-start-2-clause-gives : goal.returns-in_err-start-2-clause-gives
+returns-in_err-start-2-clause-gives c =
+    beginning.begin_no_relations c.args.h c.args.place.now c.requires c.start.new.self c.in_ok-start.ensures.gives c.in_err-start-2.ensures.gives c.from_residual-in_err-start-2.ensures refl
 
-pub returns-in_default-fields_answer : goal.returns-in_default-fields_answer
-returns-in_default-fields_answer c =
-    beginning.begin_full _ _ _ _ c.requires {x = c.in-Ok.field-0.0} {a = c.start.new.self.count} _ (c.in-Ok.ensures.gives ∙ search rules) {y = record { zero = c.in-Ok-start.field-0.zero.0; one = c.in-Ok-start.field-0.one.0; top = c.in-Ok-start.field-0.top.0 }} {b = c.start-2.new.self.count} _ (c.in-Ok-start.ensures.gives ∙ search rules) _ c.fields_answer.ensures c.in_default-fields_answer.is
-
-pub returns : goal.returns
-returns c =
-    beginning.begin_given _ _ _ _ c.requires {x = c.in-Ok.field-0.0} {a = c.start.new.self.count} _ (c.in-Ok.ensures.gives ∙ search rules) {y = record { zero = c.in-Ok-start.field-0.zero.0; one = c.in-Ok-start.field-0.one.0; top = c.in-Ok-start.field-0.top.0 }} {b = c.start-2.new.self.count} _ (c.in-Ok-start.ensures.gives ∙ search rules) _ c.fields_answer.ensures c.in-Some.is
+pub returns-clause-gives : goal.returns-clause-gives
+returns-clause-gives c =
+    beginning.begin_said c.args.h c.args.place.now c.requires c.start.new.self c.in_ok-start.ensures.gives c.start-2.new.self c.in_ok-start-2.ensures.gives c.in_ok-start-2.ensures.same_store.fields c.fields_answer.new.self c.fields_answer.result c.fields_answer.ensures.answers

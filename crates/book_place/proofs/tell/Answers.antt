@@ -6,32 +6,30 @@ use Rattle.book_place.proofs.tell.Goals as goal
 by : {A : Type 0} {o : Option A} {a b : A} → o ≡ Some a → a ≡ b → o ≡ Some b
 by e f = e ∙ ap Some f
 
-pub told_list-requires : goal.told_list-requires
-told_list-requires c = telling.list_ready _ _ _ _ (by c.in-Some.is c.in-Listed.is) c.requires
+pub returns-in_err-x-in-Single-clause-tells : goal.returns-in_err-x-in-Single-clause-tells
+returns-in_err-x-in-Single-clause-tells c =
+    let o = c.in_err-x-in-Single.ensures in
+    rw (telling.passed_on c.from_residual-in_err-x-in-Single.ensures (rw o.ok_part at o.value)) (telling.told_no_single _ _ _ (rw o.ok_part at c.look_up.ensures) (by c.in_ok-said.ensures.ok_part c.in-Single.is))
 
-pub returns-in-Constant : goal.returns-in-Constant
-returns-in-Constant c = telling.told_constant _ _ _ _ (by c.in-Some.is c.in-Constant.is)
+pub returns-in_err-x-in-Query-clause-tells : goal.returns-in_err-x-in-Query-clause-tells
+returns-in_err-x-in-Query-clause-tells c =
+    let o = c.in_err-x-in-Query.ensures in
+    rw (telling.passed_on c.from_residual-in_err-x-in-Query.ensures (rw o.ok_part at o.value)) (telling.told_no_query _ _ _ (rw o.ok_part at c.look_up-in-Query.ensures) (by c.in_ok-said.ensures.ok_part c.in-Query.is))
 
-pub returns-in-Bit : goal.returns-in-Bit
-returns-in-Bit c = telling.told_bit _ _ _ _ (by c.in-Some.is c.in-Bit.is) c.told_bit.ensures
+pub returns-in-Constant-clause-tells : goal.returns-in-Constant-clause-tells
+returns-in-Constant-clause-tells c = telling.told_constant _ _ _ (by c.in_ok-said.ensures.ok_part c.in-Constant.is)
 
-pub returns-in-Some-look_up : goal.returns-in-Some-look_up
-returns-in-Some-look_up c = telling.told_single _ _ _ _ c.in-Some-look_up.ensures (by c.in-Some.is c.in-Single.is)
+pub returns-in-Bit-clause-tells : goal.returns-in-Bit-clause-tells
+returns-in-Bit-clause-tells c = telling.told_bit _ _ _ (by c.in_ok-said.ensures.ok_part c.in-Bit.is) c.told_bit.ensures
 
-pub returns-in-None : goal.returns-in-None
-returns-in-None c = telling.told_no_single _ _ _ _ c.in-None.ensures (by c.in-Some.is c.in-Single.is)
+pub returns-in_ok-x-in-Single-clause-tells : goal.returns-in_ok-x-in-Single-clause-tells
+returns-in_ok-x-in-Single-clause-tells c = telling.told_single _ _ _ (rw c.in_ok-x-in-Single.ensures.ok_part at c.look_up.ensures) (by c.in_ok-said.ensures.ok_part c.in-Single.is)
 
-pub returns-in-Pair : goal.returns-in-Pair
-returns-in-Pair c = telling.told_pair _ _ _ _ (by c.in-Some.is c.in-Pair.is) c.told_pair.ensures
+pub returns-in-Pair-clause-tells : goal.returns-in-Pair-clause-tells
+returns-in-Pair-clause-tells c = telling.told_pair _ _ _ (by c.in_ok-said.ensures.ok_part c.in-Pair.is) c.told_pair.ensures
 
-pub returns-in-Listed : goal.returns-in-Listed
-returns-in-Listed c = telling.told_listed _ _ _ _ (by c.in-Some.is c.in-Listed.is) c.requires c.told_list.ensures
+pub returns-in-Listed-clause-tells : goal.returns-in-Listed-clause-tells
+returns-in-Listed-clause-tells c = telling.told_listed _ _ _ (by c.in_ok-said.ensures.ok_part c.in-Listed.is) c.requires c.told_list.ensures.tells
 
-pub returns-in-Some-look_up-2 : goal.returns-in-Some-look_up-2
-returns-in-Some-look_up-2 c = telling.told_query _ _ _ _ c.in-Some-look_up-2.ensures (by c.in-Some.is c.in-Query.is)
-
-pub returns-in-None-look_up : goal.returns-in-None-look_up
-returns-in-None-look_up c = telling.told_no_query _ _ _ _ c.in-None-look_up.ensures (by c.in-Some.is c.in-Query.is)
-
-pub returns-in_default : goal.returns-in_default
-returns-in_default c = telling.told_none _ _ _ _ c.in_default.is
+pub returns-in_ok-x-in-Query-clause-tells : goal.returns-in_ok-x-in-Query-clause-tells
+returns-in_ok-x-in-Query-clause-tells c = telling.told_query _ _ _ (rw c.in_ok-x-in-Query.ensures.ok_part at c.look_up-in-Query.ensures) (by c.in_ok-said.ensures.ok_part c.in-Query.is)

@@ -1,9 +1,5 @@
-use Rattle.std.proofs.Common.{ℕ, sym, subst}
-use Rattle.book_writer.specs.Clauses.{Put}
-use Rattle.netcheck.specs.Output.{refused_line}
 use Rattle.netcheck.proofs.Whole.{line_whole}
 use Rattle.netcheck.proofs.refused_line.Goals as goal
 
-pub returns : goal.returns
-returns c =
-    subst (λ (r : ℕ). Put 0 (refused_line c.args.number c.args.line) r c.args.out.now c.line.new.out) (sym c.unwrap_or.ensures) (line_whole c.args.number c.args.line c.args.out.now c.line.new.out c.line.result c.line.ensures c.requires)
+pub returns-clause-puts : goal.returns-clause-puts
+returns-clause-puts c = line_whole c.args.number c.args.text_line _ _ c.line.result c.line.ensures.answers c.requires

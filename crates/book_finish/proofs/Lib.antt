@@ -1,2 +1,0 @@
--- The two ends of a run.
-pub mod Finishing

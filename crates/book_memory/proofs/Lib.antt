@@ -1,0 +1,2 @@
+-- The table of lines.
+pub mod Table

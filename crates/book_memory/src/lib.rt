@@ -1,0 +1,144 @@
+// All that is lent for a book: the tables, the lines so far, the output; and a place of a book that runs, which has the counts with them.
+#![tactic(auto)]
+
+ghost use Rattle.std.specs.Prelude.{◌≡◌, ◌+◌, ◌<◌, length, set};
+
+use aut_relations::{Aut, Transitions};
+use aut_states::{Config, Members, States};
+use book_writer::Output;
+use sp::SPstore;
+use spp::SPPstore;
+
+// The most lines of a book, and the words at the front of scratch that are lent for them. Behind them lies what the steps work in.
+pub const LINES: usize = 2048;
+
+// what holds for the whole book
+#[derive(Clone, Copy)]
+pub struct Setting {
+    pub config: Config,
+    pub budget: u64,
+}
+
+// the table of lines, a constructor line's state + 1, a query's 0; and how many lines there are so far
+#[derive(Drop)]
+pub struct Lines<'a> {
+    pub words: &'a mut [u32],
+    pub count: usize,
+}
+
+impl Lines<'_> {
+    // a line more
+    pub fn add(&mut self, word: u32)
+        requires { self.old.count < length self.old.words.now }
+        ensures keeps { self.new.words.ghost_name ≡ self.old.words.ghost_name }
+        ensures words { self.new.words.now ≡ set self.old.words.now self.old.count word }
+        ensures count { self.new.count ≡ self.old.count + 1 }
+    {
+        self.words[self.count] = word;
+        self.count += 1;
+    }
+}
+
+// a place in a book that runs
+#[derive(Drop)]
+pub struct Place<'a> {
+    pub aut: Aut<'a>,
+    pub lines: Lines<'a>,
+    pub output: Output<'a>,
+}
+
+// the slices lent, scratch in two
+#[derive(Drop)]
+pub struct Memory<'a> {
+    pub sp: &'a mut [u32],
+    pub spp: &'a mut [u32],
+    pub states: &'a mut [u32],
+    pub members: &'a mut [u32],
+    pub transitions: &'a mut [u32],
+    pub pending: &'a mut [u32],
+    pub lines: &'a mut [u32],
+    pub scratch: &'a mut [u32],
+    pub output: &'a mut [u8],
+}
+
+impl<'a> Memory<'a> {
+    // the slices as a place with no records, lines or output; until they are put back there are none here
+    pub fn place(&mut self) -> Place<'a>
+        ensures sp { result.aut.sp.nodes ≡ self.old.sp }
+        ensures spp { result.aut.spp.nodes ≡ self.old.spp }
+        ensures states { result.aut.states.words ≡ self.old.states }
+        ensures members { result.aut.members.words ≡ self.old.members }
+        ensures transitions { result.aut.transitions.words ≡ self.old.transitions }
+        ensures pending { result.aut.pending ≡ self.old.pending }
+        ensures lines { result.lines.words ≡ self.old.lines }
+        ensures scratch { result.aut.scratch ≡ self.old.scratch }
+        ensures output { result.output.bytes ≡ self.old.output }
+    {
+        Place {
+            aut: Aut {
+                sp: SPstore {
+                    nodes: std::mem::take(&mut self.sp),
+                    count: 0,
+                },
+                spp: SPPstore {
+                    nodes: std::mem::take(&mut self.spp),
+                    count: 0,
+                    fields: 0,
+                },
+                states: States {
+                    words: std::mem::take(&mut self.states),
+                    count: 0,
+                },
+                members: Members {
+                    words: std::mem::take(&mut self.members),
+                    count: 0,
+                },
+                transitions: Transitions {
+                    words: std::mem::take(&mut self.transitions),
+                    count: 0,
+                },
+                pending: std::mem::take(&mut self.pending),
+                scratch: std::mem::take(&mut self.scratch),
+            },
+            lines: Lines {
+                words: std::mem::take(&mut self.lines),
+                count: 0,
+            },
+            output: Output {
+                bytes: std::mem::take(&mut self.output),
+                at: 0,
+            },
+        }
+    }
+
+    pub fn put_back(&mut self, place: &mut Place<'a>)
+        ensures sp { self.new.sp ≡ place.old.aut.sp.nodes }
+        ensures spp { self.new.spp ≡ place.old.aut.spp.nodes }
+        ensures states { self.new.states ≡ place.old.aut.states.words }
+        ensures members { self.new.members ≡ place.old.aut.members.words }
+        ensures transitions { self.new.transitions ≡ place.old.aut.transitions.words }
+        ensures pending { self.new.pending ≡ place.old.aut.pending }
+        ensures lines { self.new.lines ≡ place.old.lines.words }
+        ensures scratch { self.new.scratch ≡ place.old.aut.scratch }
+        ensures output { self.new.output ≡ place.old.output.bytes }
+    {
+        let sp = std::mem::take(&mut place.aut.sp.nodes);
+        let spp = std::mem::take(&mut place.aut.spp.nodes);
+        let states = std::mem::take(&mut place.aut.states.words);
+        let members = std::mem::take(&mut place.aut.members.words);
+        let transitions = std::mem::take(&mut place.aut.transitions.words);
+        let pending = std::mem::take(&mut place.aut.pending);
+        let lines = std::mem::take(&mut place.lines.words);
+        let scratch = std::mem::take(&mut place.aut.scratch);
+        let output = std::mem::take(&mut place.output.bytes);
+        self.sp = sp;
+        self.spp = spp;
+        self.states = states;
+        self.members = members;
+        self.transitions = transitions;
+        self.pending = pending;
+        self.lines = lines;
+        self.scratch = scratch;
+        self.output = output;
+    }
+}
