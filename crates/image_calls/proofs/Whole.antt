@@ -1,47 +1,46 @@
 -- 02 (ii), the calls: a book that goes on from an image, and from zeroed tables to what each call returns and leaves, with what is claimed of it.
-use Rattle.std.specs.Prelude.{if◌then◌else◌, Result as StdResult, Ok, Err}
-use mathlib.Core.Path.{◌≡◌, refl, sym, ◌∙◌, ap, subst}
+use Rattle.std.specs.Prelude.{if◌then◌else◌, Result, Ok, Err}
+use Rattle.std.specs.Prelude as code
+use Rattle.std.specs.Result.{IsErr, IsErrAnd}
+use mathlib.Core.Path.{◌≡◌, refl, sym, ◌∙◌, ap, ap₂, subst}
 use mathlib.Core.Bool.{Bool}
-use mathlib.Core.List.{List, []}
-use Prim.Native.Nat.{ℕ, ◌+◌, ◌-◌, ◌≤◌, ◌<◌}
+use mathlib.Core.List.{List, [], ◌++◌}
+use Prim.Native.Nat.{ℕ, ◌+◌, ◌-◌, ◌/◌, ◌≤◌, ◌<◌}
 use native.Mathlib.Omega.{arith}
 use lib.Dec.{ltb}
-use lib.ListN.{length}
+use lib.ListN.{length, get_or}
 use borrow.Author.Tests.{lt-ltb, le-ltb}
 use Rattle.aut_steps.specs.Tables.{limits01}
+use Rattle.refusal.specs.declared.Refusal.{Refusal}
+use Rattle.refusal.specs.declared.Refusal.TheVariants.{Scratch}
+use Rattle.refusal.specs.Numbers.{outcome}
+use Rattle.refusal.proofs.Passed.{passed}
 use Rattle.book_steps.specs.Run as Run
-use Rattle.book_steps.specs.Run.{Lent, zeroed, Result, Came, failed, came_of, ran_book, finished}
-use Rattle.book_steps.specs.Claim.{Lends, WritesOnly, Refines}
-use Rattle.book_place.specs.declared.Setting.{Setting}
-use Rattle.book_place.specs.declared.Place.{Place}
-use Rattle.book_place.specs.Clauses.{Memory, memory, place_of, Standing}
-use Rattle.book_place.proofs.Scratch.{lines_length}
-use Rattle.book_begin.specs.Clauses.{Wrote}
-use Rattle.book_finish.specs.declared.Went.{Went}
-use Rattle.book_finish.specs.declared.Went.TheVariants as went
-use Rattle.book_finish.specs.declared.Ran.{Ran}
-use Rattle.book_finish.specs.declared.Ran.TheVariants as ran
+use Rattle.book_steps.specs.Run.{Lent, Came, failed, came_of, finished}
+use Rattle.book_steps.specs.Claim.{Slices, Lends, Refines}
+use Rattle.book_steps.proofs.Claim.{claim as claim-of}
+use Rattle.book_memory.specs.declared.Setting.{Setting}
+use Rattle.book_memory.specs.declared.Place.{Place}
+use Rattle.book_memory.specs.declared.Memory.{Memory}
+use Rattle.book_memory.specs.Place.{setting_of, setting_in, place_in, lengths_of}
+use Rattle.book_memory.proofs.Table.{lines_length}
+use Rattle.book_finish.specs.declared.Stop.{Stop}
 use Rattle.book_finish.specs.Clauses as Book
-use Rattle.book_finish.specs.Clauses.{written_by, came_by, ran_of, PostFinish}
-use Rattle.book_run.specs.Clauses.{lengths_of, PreGo, PostGo, Empty, PostOpen}
-use Rattle.book_run.proofs.Contracts.{SameLengths}
-use Rattle.book_run.proofs.Lines.{same_on_lem}
-use Rattle.book_run.proofs.Whole.{came_of_lem, lent_same, slices_of, bare, left_is, lends_own}
+use Rattle.book_finish.specs.Clauses.{Wrote, written_by, came_by, ran_of, PostFinish}
+use Rattle.book_run.specs.Clauses.{ComesTo, went_of, PostGo}
+use Rattle.book_run.proofs.Whole.{slices_at, Parts, lends_own, left_is, came_is, wrote_is, comes_to, of_slices}
 use Rattle.image_form.specs.Damage.{Bytes}
 use Rattle.image_steps.specs.Read.{read}
 use Rattle.image_steps.specs.Calls as Calls
-use Rattle.image_steps.specs.Calls.{saving, goes_on, ran_on}
+use Rattle.image_steps.specs.Calls.{Saved, saving, goes_on, ran_on}
 use Rattle.image_steps.specs.Claims as Claims
 use Rattle.image_steps.proofs.Claims.{reads_right, unread, damage_refused, resume_claim, save_claim, resume_save_claim, own_read}
 use Rattle.image_continued.proofs.Answers.{answers_kept}
-use Rattle.book_steps.proofs.Claim.{claim as claim-of}
+use Rattle.image_read.specs.Clauses.{Beside, PostRead}
+use Rattle.image_read.specs.Clauses as Image
+use Rattle.image_keep.specs.Clauses.{with_image, image_length, Keeps, sealed_of, PostSeal, number_of, text_line_of, length_of, image_length_of}
 use Rattle.image_calls.specs.Entries.{ImagesSpec, LinesSpec, ResumeEntry, SavedAs, SaveEntry, ResumeSaveEntry}
-use Rattle.refusal.specs.declared.Refusal.{Refusal}
-use Rattle.refusal.specs.Numbers as numbers
-use Rattle.image_read.specs.Clauses.{setting_at, read_by, PreRead, Reads, ReadsBy, PostRead}
-use Rattle.image_keep.specs.declared.Saved.{Saved}
-use Rattle.image_keep.specs.Clauses.{ImageBy, Keeps, saved_of, PostSeal, number_of, text_line_of, length_of, image_length_of}
-use Rattle.image_calls.specs.Clauses.{PostOn}
+use Rattle.image_calls.specs.Clauses.{PostOn, came_from, PostFrom, SavesIn, RefinesBy, ResumesIn}
 
 -- what holds of all images
 images : ImagesSpec
@@ -53,151 +52,113 @@ lines_spec lent book = record { reads = (claim-of lent book).reads; printed = (c
 
 -- ---- going on
 
-unwritten : (out : List ℕ) → Wrote 0 out out
-unwritten out = record { fits = omega arith; beyond = λ i l. refl }
+unwritten : {out out' : List ℕ} → out' ≡ out → Wrote 0 out out'
+unwritten e = record { fits = omega arith; beyond = λ i l. ap (λ (o : List ℕ). get_or o i 0) e }
 
 by_scratch : (lent : Lent) (image book : List ℕ) {b : Bool} → ltb lent.scratch 6144 ≡ b
     → ran_on lent image book ≡ (if b then failed 26 0 [] else goes_on lent (Claims.setting_at lent image) book (read lent limits01 image))
 unfolding ran_on
 by_scratch lent image book e = ap (λ (b : Bool). if b then failed 26 0 [] else goes_on lent (Claims.setting_at lent image) book (read lent limits01 image)) e
 
-module _ (image book : List ℕ) (m : Memory) where
-  pub on_short : length m.scratch < 6144 → PostOn image book m (went.Stopped 26 0 0) m
-  on_short l = record { is = by_scratch (lengths_of m) image book (lt-ltb (length m.scratch) 6144 l); ends = tt; wrote = unwritten m.output }
+module _ (image book : List ℕ) (x : Place) where
+  pub on_short : length x.lines.words.now + length x.aut.scratch.now < 6144 → PostOn image book x (Err (record { refusal = Scratch; line = 0; length = 0 })) x
+  on_short l = record { is = by_scratch (lengths_of x) image book (lt-ltb (length x.lines.words.now + length x.aut.scratch.now) 6144 l); ends = tt; wrote = unwritten refl }
 
-  module _ (l : 6144 ≤ length m.scratch) (E : Empty m) where
-    pub on_ready : PreRead m.sp m.nodes m.states m.members m.scratch
-    on_ready = record { sp = E.tables.sp; nodes = E.tables.nodes; states = E.tables.states; members = E.tables.members; scratch = E.work.scratch; room = l }
+  module _ (l : 6144 ≤ length x.lines.words.now + length x.aut.scratch.now) {y : Place} (B : Beside x y) where
+    bytes_same : y.output.bytes.now ≡ x.output.bytes.now
+    bytes_same = ap (λ o. o.bytes.now) B.output
 
-    module _ {r : StdResult Place Refusal} {sp' nodes' states' members' scratch' : List ℕ} (R : PostRead image r m.sp m.nodes m.states m.members m.scratch sp' nodes' states' members' scratch') where
-      abbrev m₁ : Memory
-      m₁ = memory sp' nodes' states' members' m.transitions m.pending scratch' m.output
+    on_is : {r : Result Unit Refusal} → PostRead image x r y → ran_on (lengths_of x) image book ≡ goes_on (lengths_of x) (Claims.setting_at (lengths_of x) image) book (outcome (λ u. 0) r (place_in y))
+    on_is R =
+        by_scratch (lengths_of x) image book (le-ltb (length x.lines.words.now + length x.aut.scratch.now) 6144 l)
+        ∙ ap (goes_on (lengths_of x) (Claims.setting_at (lengths_of x) image) book) R.is
 
-      read_is : {x : StdResult Place Refusal} → r ≡ x → read (lengths_of m) limits01 image ≡ read_by x m₁
-      read_is e =
-          R.is (lengths_of m) refl refl refl refl m.pending m.output
-          ∙ ap (λ (t : List ℕ). read_by r (memory sp' nodes' states' members' t m.pending scratch' m.output)) (sym E.tables.transitions)
-          ∙ ap (λ (y : StdResult Place Refusal). read_by y m₁) e
+    pub on_refused : {e : Refusal} → PostRead image x (Err e) y → PostOn image book x (Err (record { refusal = e; line = 0; length = 0 })) y
+    on_refused R = record { is = on_is R; ends = tt; wrote = unwritten bytes_same }
 
-      on_is : {x : StdResult Place Refusal} → r ≡ x → ran_on (lengths_of m) image book ≡ goes_on (lengths_of m) (Claims.setting_at (lengths_of m) image) book (read_by x m₁)
-      on_is e = by_scratch (lengths_of m) image book (le-ltb (length m.scratch) 6144 l) ∙ ap (goes_on (lengths_of m) (Claims.setting_at (lengths_of m) image) book) (read_is e)
+    -- entries and bytes are lent as before
+    setting_is : setting_in (Image.setting_at image) y ≡ Claims.setting_at (lengths_of x) image
+    setting_is = ap₂ (λ (p o : List ℕ). setting_of (Image.setting_at image) (length p / 2) (length o)) (ap (λ b. b.now) B.pending) bytes_same
 
-      pub on_refused : {e : Refusal} → r ≡ Err e → PostOn image book m (went.Stopped (numbers.number_of e) 0 0) m₁
-      on_refused q = record { is = on_is q; ends = tt; wrote = unwritten m.output }
+    module _ {u : Unit {0}} (R : PostRead image x (Ok u) y) {S : Setting} (s : S ≡ Image.setting_at image) where
+      pub on_went : {w : Result Setting Stop} {r : Result Unit Stop} {z : Place} → PostGo book S y 0 1 (2048 - y.lines.count) r z → w ≡ went_of S r → PostOn image book x w z
+      on_went {w} {r} {z} G e = rw e (record {
+        is = on_is R
+            ∙ ap₂ (λ (T : Run.Setting) (k : ℕ). came_of T (Run.run T (2048 - k) book 1 (place_in y))) (sym (ap (λ (q : Setting). setting_in q y) s ∙ setting_is)) (lines_length y.lines.words.now y.lines.count)
+            ∙ G.comes.is;
+        ends = G.comes.ends;
+        wrote = subst (λ (o : List ℕ). Wrote (written_by (went_of S r) z) o z.output.bytes.now) bytes_same G.comes.wrote;
+      })
 
-      module _ {p : Place} (q : r ≡ Ok p) where
-        reads : Reads image p sp' nodes' states' members' scratch'
-        reads = subst (λ (x : StdResult Place Refusal). ReadsBy image x sp' nodes' states' members' scratch') q R.then
-
-        pub on_some : 512 ≤ length image
-        on_some = reads.some
-
-        standing : Standing (setting_at image) m₁ p
-        standing =
-            subst (λ (t : List ℕ). Standing (setting_at image) (memory sp' nodes' states' members' t m.pending scratch' m.output) p) (sym E.tables.transitions)
-            (subst (λ (t : List ℕ). Standing (setting_at image) (memory sp' nodes' states' members' (zeroed (length m.transitions)) t scratch' m.output) p) (sym E.work.pending)
-            (reads.standing (length m.transitions) (length m.pending) m.output))
-
-        pub on_lines : p.lines ≤ 2048
-        on_lines = omega (arith, standing.lines)
-
-        module _ (S : Setting) (u : S ≡ setting_at image) where
-          pub on_go : {first left : ℕ} → p.lines + left ≤ 2048 → first + left < 4294967296 → PreGo book S m₁ p 0 first left
-          on_go more small = record {
-            standing = subst (λ (s : Setting). Standing s m₁ p) (sym u) standing;
-            inside = omega arith;
-            more = omega arith;
-            small = small;
-          }
-
-          went_on : {x : Went} {m' : Memory} → PostGo book (setting_at image) m₁ p 0 1 (2048 - p.lines) x m' → length m'.pending ≡ length m.pending → length m'.output ≡ length m.output → PostOn image book m x m'
-          went_on {x} {m'} G a b = record {
-            is = on_is q
-                ∙ ap (λ (k : ℕ). came_of (Claims.setting_at (lengths_of m) image) (Run.run (Claims.setting_at (lengths_of m) image) (2048 - k) book 1 (place_of m₁ p))) (lines_length scratch' p.lines)
-                ∙ ap (came_of (Claims.setting_at (lengths_of m) image)) (G.is (length m.pending) (length m.output) refl refl)
-                ∙ came_of_lem (setting_at image) (length m.pending) (length m.output) x m' G.setting a b;
-            ends = G.ends;
-            wrote = G.wrote;
-          }
-
-          pub on_went : {x : Went} {m' : Memory} → PostGo book S m₁ p 0 1 (2048 - p.lines) x m' → length m'.pending ≡ length m.pending → length m'.output ≡ length m.output → PostOn image book m x m'
-          on_went {x} {m'} G a b = went_on (subst (λ (s : Setting). PostGo book s m₁ p 0 1 (2048 - p.lines) x m') u G) a b
+      pub on_stopped : {e : Stop} {q : Result Setting Stop} {z : Place} → PostGo book S y 0 1 (2048 - y.lines.count) (Err e) z → IsErr q × IsErrAnd q (λ a. a ≡ e) → PostOn image book x q z
+      on_stopped g by = on_went g (passed by)
 
 -- ---- what is left
 
+-- r is what is returned, x what was lent and z what is left
+abbrev Left : Run.Result → (number line len : ℕ) → (x z : Place) → Type 0
+Left r number line len x z = Refines r number line len x.output.bytes.now z.output.bytes.now z.aut.sp.nodes.now z.aut.spp.nodes.now z.aut.states.words.now z.aut.members.words.now z.aut.transitions.words.now z.aut.pending.now (z.lines.words.now ++ z.aut.scratch.now)
+
 -- what is returned of a run with its image, and of one without
-refines_saved : {x : Result} {out out' a b c d e f g : List ℕ} (y : Ran) (i : ℕ) → Refines x (Book.number_of y) (Book.text_line_of y) (Book.length_of y) out out' a b c d e f g
-    → Refines x (number_of (saved_of y i)) (text_line_of (saved_of y i)) (length_of (saved_of y i)) out out' a b c d e f g
-refines_saved (ran.Answered n) i h = h
-refines_saved (ran.Refused e k n) i h = h
+sealed_left : (v : Run.Result) (x z : Place) (w : Result Setting Stop) (y : Place) (k : Result ℕ Stop)
+    → Left v (Book.number_of (ran_of (with_image k w) y)) (Book.text_line_of (ran_of (with_image k w) y)) (Book.length_of (ran_of (with_image k w) y)) x z
+    → let r : Result (ℕ × ℕ) Stop = sealed_of (ran_of (with_image k w) y) k in Left v (number_of r) (text_line_of r) (length_of r) x z
+sealed_left v x z (Ok S) y (Ok i) h = h
+sealed_left v x z (Err s) y (Ok i) h = h
+sealed_left v x z w y (Err s) h = h
 
-image_of_lem : (v : Went) (i : ℕ) → ImageBy v i → image_length_of (saved_of (ran_of v) i) ≡ i
-image_of_lem (went.End S q) i u = refl
-image_of_lem (went.Stopped e k n) i u = sym u
+sealed_length : (lent : Lent) (size : ℕ) (w : Result Setting Stop) (y : Place) (k : Result ℕ Stop)
+    → image_length k ≡ length (saving lent size (came_by w y)).image → image_length_of (sealed_of (ran_of (with_image k w) y) k) ≡ length (saving lent size (came_by w y)).image
+sealed_length lent size (Ok S) y (Ok i) h = h
+sealed_length lent size (Err s) y (Ok i) h = refl
+sealed_length lent size w y (Err s) h = h
 
--- A call that runs to c from the zeroed tables m₁, which ends in m₂ and leaves m₃; m is what was lent.
-module _ (c : Lent → Came) (m m₁ m₂ m₃ : Memory) (w : Went) (u : m₁.output ≡ m.output) (is : c (lengths_of m₁) ≡ came_by w m₂) (W : Wrote (written_by w) m₁.output m₂.output) (s₁ : SameLengths m m₁) (s₂ : SameLengths m₁ m₂) (s₃ : SameLengths m₂ m₃) (o : m₃.output ≡ m₂.output) where
-  came_is : c (lengths_of m) ≡ came_by w m₂
-  came_is = ap c (sym (lent_same s₁)) ∙ is
+-- A call that runs to c from the zeroed place x₁, which ends in y and leaves z; x is what was lent.
+module _ (x x₁ y z : Place) (s : lengths_of x₁ ≡ lengths_of x) (o : x₁.output.bytes ≡ x.output.bytes) (c : Lent → Came) {w : Result Setting Stop} (C : ComesTo (c (lengths_of x₁)) x₁ w y) where
+  seals : {r : Result (ℕ × ℕ) Stop} {image image' : List ℕ} → PostSeal w y r z image image' → Lends (lengths_of x) (slices_at z)
+      → SavedAs (lengths_of x) (saving (lengths_of x) (length image) (c (lengths_of x))) (slices_at x) image (number_of r) (text_line_of r) (length_of r) (image_length_of r) (slices_at z) image'
+  seals {r} {image} {image'} P L =
+      let v : Result Setting Stop = with_image P.kept w in
+      let K : Keeps (lengths_of x) w y P.kept image image' = P.keeps.keeps (lengths_of x) in
+      let e : saving (lengths_of x) (length image) (c (lengths_of x)) ≡ saving (lengths_of x) (length image) (came_by w y) = ap (saving (lengths_of x) (length image)) (came_is x x₁ y z s o c C) in
+      let F : PostFinish v y P.ran z = P.finishes in
+      let q : r ≡ sealed_of (ran_of v y) P.kept = P.is ∙ ap (λ (a : Result ℕ Stop). sealed_of a P.kept) F.is in
+      let W : Wrote (written_by v y) x.output.bytes.now y.output.bytes.now = subst (λ (n : ℕ). Wrote n x.output.bytes.now y.output.bytes.now) (sym P.keeps.bytes) (wrote_is x x₁ y z s o c C) in
+      rw (e, q) (record {
+        lends = lends_own x;
+        refines = sealed_left (saving (lengths_of x) (length image) (came_by w y)).result x z w y P.kept
+            (subst (λ (f : Run.Result). Left f (Book.number_of (ran_of v y)) (Book.text_line_of (ran_of v y)) (Book.length_of (ran_of v y)) x z) (sym K.result)
+            (subst (λ (a : Result ℕ Stop). Left (finished (lengths_of x) (came_by v y)) (Book.number_of a) (Book.text_line_of a) (Book.length_of a) x z) F.is (left_is x y z L v W F)));
+        leaves = L;
+        image_length = sealed_length (lengths_of x) (length image) w y P.kept K.len;
+        image_is = K.is;
+      })
 
-  wrote : (v : Went) → written_by v ≡ written_by w → Wrote (written_by v) m.output m₃.output
-  wrote v e = subst (λ (n : ℕ). Wrote n m.output m₃.output) (sym e) (subst (λ (b : List ℕ). Wrote (written_by w) b m₃.output) u (subst (Wrote (written_by w) m₁.output) (sym o) W))
-
-  leaves : Lends (lengths_of m) (slices_of m₃)
-  leaves = let s : SameLengths m m₃ = same_on_lem s₁ (same_on_lem s₂ s₃) in
-      record { sp = s.sp; spp = s.nodes; states = s.states; members = s.members; transitions = s.transitions; pending = s.pending; scratch = s.scratch; output = s.output }
-
-  finishes : {r : Ran} → PostFinish w r (bare m₂) (bare m₃)
-      → Refines (finished (lengths_of m) (c (lengths_of m))) (Book.number_of r) (Book.text_line_of r) (Book.length_of r) m.output m₃.output m₃.sp m₃.nodes m₃.states m₃.members m₃.transitions m₃.pending m₃.scratch
-  finishes F = left_is m m₂ m₃ (wrote w refl) (same_on_lem s₁ s₂) F o (ap (finished (lengths_of m)) came_is)
-
-  seals : {r : Saved} {image image' : List ℕ} → PostSeal w r image image' (bare m₂) (bare m₃)
-      → SavedAs (lengths_of m) (saving (lengths_of m) (length image) (c (lengths_of m))) (slices_of m) image (number_of r) (text_line_of r) (length_of r) (image_length_of r) (slices_of m₃) image'
-  seals {r} {image} {image'} P =
-      let K : Keeps (lengths_of m) w m₂ P.kept_as.went P.kept_as.image image image' = P.keeps.keeps (lengths_of m) m₂.transitions m₂.pending m₂.output in
-      let e : saving (lengths_of m) (length image) (c (lengths_of m)) ≡ saving (lengths_of m) (length image) (came_by w m₂) = ap (saving (lengths_of m) (length image)) came_is in
-      record {
-        lends = lends_own m;
-        refines = subst (λ (y : Saved). Refines (saving (lengths_of m) (length image) (c (lengths_of m))).result (number_of y) (text_line_of y) (length_of y) m.output m₃.output m₃.sp m₃.nodes m₃.states m₃.members m₃.transitions m₃.pending m₃.scratch) (sym P.is)
-            (refines_saved P.ran P.kept_as.image (left_is m m₂ m₃ (wrote P.kept_as.went P.keeps.bytes) (same_on_lem s₁ s₂) P.finishes o (ap (λ (z : Calls.Saved (lengths_of m)). z.result) e ∙ K.result)));
-        leaves = leaves;
-        image_length = ap image_length_of (P.is ∙ ap (λ (y : Ran). saved_of y P.kept_as.image) P.finishes.is) ∙ image_of_lem P.kept_as.went P.kept_as.image P.keeps.none ∙ K.len ∙ ap (λ (z : Calls.Saved (lengths_of m)). length z.image) (sym e);
-        image_is = subst (λ (z : Calls.Saved (lengths_of m)). WritesOnly z.image image image') (sym e) K.is;
-      }
-
--- ---- the calls
-
-module _ (m m₁ m₂ m₃ : Memory) (w : Went) (u : m₁.output ≡ m.output) (s₁ : SameLengths m m₁) (s₂ : SameLengths m₁ m₂) (s₃ : SameLengths m₂ m₃) (o : m₃.output ≡ m₂.output) where
-  pub saves : {book image image' : List ℕ} {r : Saved} → PostOpen book m₁ w m₂ → PostSeal w r image image' (bare m₂) (bare m₃)
-      → SaveEntry (lengths_of m) book (slices_of m) image (number_of r) (text_line_of r) (length_of r) (image_length_of r) (slices_of m₃) image'
-  unfolding Calls.save
-  saves {book} {image} O P = record {
-    saved = seals (λ (l : Lent). ran_book l book) m m₁ m₂ m₃ w u O.is O.wrote s₁ s₂ s₃ o P;
-    claim = save_claim (lengths_of m) (length image) book;
-    book_claim = claim-of (lengths_of m) book;
-    images = images;
+module _ (x x₁ y z : Place) (s : lengths_of x₁ ≡ lengths_of x) (o : x₁.output.bytes ≡ x.output.bytes) {w : Result Setting Stop} {m n : Memory} (p : Parts m x) (q : Parts n z) where
+  pub saves : (from : code.Option (List ℕ)) (book : List ℕ) → PostFrom from book x₁ w y → {r : Result (ℕ × ℕ) Stop} {before after : List ℕ} → PostSeal w y r z before after → SavesIn from book m before r n after
+  saves from book C {r} {before} {after} P = record {
+    is = of_slices
+        (λ (lent : Lent) (a b : Slices). Lends lent b
+        → SavedAs lent (saving lent (length before) (came_from from book lent)) a before (number_of r) (text_line_of r) (length_of r) (image_length_of r) b after) p q
+        (seals x x₁ y z s o (came_from from book) C P);
   }
 
-  module _ {image book : List ℕ} (b : Bytes image) (O : PostOn image book m₁ w m₂) where
-    pub resumes : {r : Ran} → PostFinish w r (bare m₂) (bare m₃)
-        → ResumeEntry (lengths_of m) image book (slices_of m) (Book.number_of r) (Book.text_line_of r) (Book.length_of r) (slices_of m₃)
-    unfolding Calls.resume
-    resumes F = record {
-      lends = lends_own m;
-      refines = finishes (λ (l : Lent). ran_on l image book) m m₁ m₂ m₃ w u O.is O.wrote s₁ s₂ s₃ o F;
-      leaves = leaves (λ (l : Lent). ran_on l image book) m m₁ m₂ m₃ w u O.is O.wrote s₁ s₂ s₃ o;
-      claim = resume_claim (lengths_of m) image book b;
-      lines = lines_spec (lengths_of m) book;
-      images = images;
-    }
+  pub resumes : (image book : List ℕ) → PostOn image book x₁ w y → {r : Result ℕ Stop} → PostFinish w y r z → ResumesIn image book m r n
+  unfolding Calls.resume
+  resumes image book C {r} F = record {
+    is = of_slices (λ (lent : Lent) (a b : Slices). Lends lent b → RefinesBy lent image book a r b) p q (comes_to x x₁ y z s o (λ (lent : Lent). ran_on lent image book) C F refl);
+  }
 
-    pub resume_saves : {next next' : List ℕ} {r : Saved} → PostSeal w r next next' (bare m₂) (bare m₃)
-        → ResumeSaveEntry (lengths_of m) image book (slices_of m) next (number_of r) (text_line_of r) (length_of r) (image_length_of r) (slices_of m₃) next'
-    unfolding Calls.resume_save
-    resume_saves {next} P = record {
-      saved = seals (λ (l : Lent). ran_on l image book) m m₁ m₂ m₃ w u O.is O.wrote s₁ s₂ s₃ o P;
-      claim = resume_save_claim (lengths_of m) (length next) image book b;
-      resume_claim = resume_claim (lengths_of m) image book b;
-      lines = lines_spec (lengths_of m) book;
-      images = images;
-    }
+-- ---- the calls, with what is claimed of each
+
+pub save_entry : (lent : Lent) {book before after : List ℕ} {m n : Slices} {number line len size : ℕ} → SavedAs lent (saving lent (length before) (came_from code.None book lent)) m before number line len size n after → SaveEntry lent book m before number line len size n after
+unfolding Calls.save
+save_entry lent {book} {before} S = record { saved = S; claim = save_claim lent (length before) book; book_claim = claim-of lent book; images = images }
+
+module _ (lent : Lent) {image book : List ℕ} {m n : Slices} {number line len : ℕ} (b : Bytes image) where
+  pub resume_entry : Lends lent m → Lends lent n → Refines (Calls.resume lent image book) number line len m.output n.output n.sp n.spp n.states n.members n.transitions n.pending n.scratch → ResumeEntry lent image book m number line len n
+  resume_entry l k R = record { lends = l; refines = R; leaves = k; claim = resume_claim lent image book b; lines = lines_spec lent book; images = images }
+
+  pub resume_save_entry : {before after : List ℕ} {size : ℕ} → SavedAs lent (saving lent (length before) (came_from (code.Some image) book lent)) m before number line len size n after → ResumeSaveEntry lent image book m before number line len size n after
+  unfolding Calls.resume_save
+  resume_save_entry {before} S = record { saved = S; claim = resume_save_claim lent (length before) image book b; resume_claim = resume_claim lent image book b; lines = lines_spec lent book; images = images }

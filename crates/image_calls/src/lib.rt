@@ -1,7 +1,8 @@
 // Images of a book's tables: a book is run and its image written; an image is read, and a book goes on from it.
 #![tactic(auto)]
 
-ghost use Rattle.book_place.specs.Clauses.{memory};
+ghost use Rattle.std.specs.Prelude.{option_copied};
+ghost use Rattle.book_memory.specs.Place.{SameSlices};
 ghost use Rattle.book_finish.specs.Clauses as End;
 ghost use Rattle.book_run.specs.Clauses as Run;
 ghost use Rattle.book_run.specs.Clauses.{slices, lent_of};
@@ -9,59 +10,85 @@ ghost use Rattle.image_keep.specs.Clauses.{number_of, text_line_of, length_of, i
 ghost use Rattle.image_calls.specs.Clauses as Its;
 ghost use Rattle.image_calls.specs.Entries.{SaveEntry, ResumeEntry, ResumeSaveEntry};
 
-use book_finish::{Ran, Went};
-use image_keep::Saved;
+use book_finish::Stop;
+use book_memory::{LINES, Memory, Place, Setting};
 use refusal::Refusal;
 
 // ---- going on
 
 // from an image: its place, then the book's lines
-fn go_on_from(
-    image: &[u8],
-    book: &[u8],
-    sp: &mut [u32],
-    nodes: &mut [u32],
-    states: &mut [u32],
-    members: &mut [u32],
-    transitions: &mut [u32],
-    pending: &mut [u32],
-    scratch: &mut [u32],
-    output: &mut [u8],
-) -> Went
-    requires { Run.PreOpen
-        (memory sp.old nodes.old states.old members.old transitions.old pending.old scratch.old
-        output.old) }
-    ensures { Its.PostOn image.now book.now
-        (memory sp.old nodes.old states.old members.old
-        transitions.old pending.old scratch.old output.old) result
-        (memory sp.new nodes.new states.new members.new
-        transitions.new pending.new scratch.new output.new) }
+fn go_on_from(image: &[u8], book: &[u8], place: &mut Place) -> Result<Setting, Stop>
+    requires { Run.PreOpen place.old }
+    ensures keeps { SameSlices place.old place.new }
+    ensures gives { Its.PostOn image.now book.now place.old result place.new }
 {
-    if scratch.len() < book_run::SCRATCH {
-        return Went::Stopped(Refusal::Scratch.number(), 0, 0);
+    if place.lines.words.len() + place.aut.scratch.len() < book_run::SCRATCH {
+        return Err(Stop {
+            refusal: Refusal::Scratch,
+            line: 0,
+            length: 0,
+        });
     }
-    match image_read::read(image, sp, nodes, states, members, scratch) {
-        Err(e) => Went::Stopped(e.number(), 0, 0),
-        Ok(place) => {
-            let left = book_run::INSTRUCTIONS - place.lines;
-            book_run::go_on(
-                book,
-                sp,
-                nodes,
-                states,
-                members,
-                transitions,
-                pending,
-                scratch,
-                output,
-                image_read::setting_at(image),
-                place,
-                0,
-                1,
-                left,
-            )
+    match image_read::read(image, place) {
+        Err(refusal) => Err(Stop {
+            refusal,
+            line: 0,
+            length: 0,
+        }),
+        Ok(()) => {
+            let setting = image_read::setting_at(image);
+            let left = book_run::INSTRUCTIONS - place.lines.count;
+            book_run::go_on(book, place, setting, 0, 1, left)?;
+            Ok(setting)
         }
     }
+}
+
+// from an image if there is one, else a whole book
+fn run_from(from: Option<&[u8]>, book: &[u8], place: &mut Place) -> Result<Setting, Stop>
+    requires { Run.PreOpen place.old }
+    ensures keeps { SameSlices place.old place.new }
+    ensures gives { Its.PostFrom (option_copied from.entry) book.now place.old result place.new }
+{
+    match from {
+        None => book_run::open(book, place),
+        Some(image) => go_on_from(image, book, place),
+    }
+}
+
+// ---- the calls over what is lent, scratch in two
+
+// .. and its last place is kept as an image
+fn save_in(
+    memory: &mut Memory,
+    from: Option<&[u8]>,
+    book: &[u8],
+    image: &mut [u8],
+) -> Result<(usize, usize), Stop>
+    requires { Run.Table memory.old }
+    ensures keeps { Run.SameMemory memory.old memory.new }
+    ensures gives { Its.SavesIn (option_copied from.entry) book.now memory.old image.old result
+        memory.new image.new }
+{
+    let mut place = memory.place();
+    book_begin::clear(&mut place);
+    let went = run_from(from, book, &mut place);
+    let sealed = image_keep::seal(image, &mut place, went);
+    memory.put_back(&mut place);
+    sealed
+}
+
+fn resume_in(memory: &mut Memory, image: &[u8], book: &[u8]) -> Result<usize, Stop>
+    requires { Run.Table memory.old }
+    ensures keeps { Run.SameMemory memory.old memory.new }
+    ensures gives { Its.ResumesIn image.now book.now memory.old result memory.new }
+{
+    let mut place = memory.place();
+    book_begin::clear(&mut place);
+    let went = go_on_from(image, book, &mut place);
+    let ran = book_finish::finish(&mut place, went);
+    memory.put_back(&mut place);
+    ran
 }
 
 // ---- the calls
@@ -78,7 +105,7 @@ pub fn save(
     pending: &mut [u32],
     scratch: &mut [u32],
     output: &mut [u8],
-) -> Saved
+) -> Result<(usize, usize), Stop>
     ensures { SaveEntry
         (lent_of
         (slices sp.old spp.old states.old members.old
@@ -91,30 +118,20 @@ pub fn save(
         transitions.new pending.new scratch.new output.new)
         image.new }
 {
-    book_begin::clear_tables(sp, spp, states, members, transitions);
-    book_begin::clear_work(pending, scratch);
-    let went = book_run::open(
-        book,
+    let at = LINES.min(scratch.len());
+    let (lines, scratch) = scratch.split_at_mut(at);
+    let mut memory = Memory {
         sp,
         spp,
         states,
         members,
         transitions,
         pending,
+        lines,
         scratch,
         output,
-    );
-    image_keep::seal(
-        image,
-        sp,
-        spp,
-        states,
-        members,
-        transitions,
-        pending,
-        scratch,
-        went,
-    )
+    };
+    save_in(&mut memory, None, book, image)
 }
 
 // An image is read, and a book goes on from it.
@@ -129,7 +146,7 @@ pub fn resume(
     pending: &mut [u32],
     scratch: &mut [u32],
     output: &mut [u8],
-) -> Ran
+) -> Result<usize, Stop>
     ensures { ResumeEntry
         (lent_of
         (slices sp.old spp.old states.old members.old
@@ -141,30 +158,20 @@ pub fn resume(
         (slices sp.new spp.new states.new members.new
         transitions.new pending.new scratch.new output.new) }
 {
-    book_begin::clear_tables(sp, spp, states, members, transitions);
-    book_begin::clear_work(pending, scratch);
-    let went = go_on_from(
-        image,
-        book,
+    let at = LINES.min(scratch.len());
+    let (lines, scratch) = scratch.split_at_mut(at);
+    let mut memory = Memory {
         sp,
         spp,
         states,
         members,
         transitions,
         pending,
+        lines,
         scratch,
         output,
-    );
-    book_finish::finish(
-        sp,
-        spp,
-        states,
-        members,
-        transitions,
-        pending,
-        scratch,
-        went,
-    )
+    };
+    resume_in(&mut memory, image, book)
 }
 
 // An image is read, a book goes on from it, and the next image is written.
@@ -180,7 +187,7 @@ pub fn resume_save(
     pending: &mut [u32],
     scratch: &mut [u32],
     output: &mut [u8],
-) -> Saved
+) -> Result<(usize, usize), Stop>
     ensures { ResumeSaveEntry
         (lent_of
         (slices sp.old spp.old states.old members.old
@@ -193,29 +200,18 @@ pub fn resume_save(
         transitions.new pending.new scratch.new output.new)
         next.new }
 {
-    book_begin::clear_tables(sp, spp, states, members, transitions);
-    book_begin::clear_work(pending, scratch);
-    let went = go_on_from(
-        image,
-        book,
+    let at = LINES.min(scratch.len());
+    let (lines, scratch) = scratch.split_at_mut(at);
+    let mut memory = Memory {
         sp,
         spp,
         states,
         members,
         transitions,
         pending,
+        lines,
         scratch,
         output,
-    );
-    image_keep::seal(
-        next,
-        sp,
-        spp,
-        states,
-        members,
-        transitions,
-        pending,
-        scratch,
-        went,
-    )
+    };
+    save_in(&mut memory, Some(image), book, next)
 }

@@ -1,9 +1,10 @@
 -- The text line of a refusal fits into the struct for the calls of images too, since their instructions count on; and what holds of the numbers that a call returns holds of the struct's.
-use Rattle.std.specs.Prelude.{if◌then◌else◌}
+use Rattle.std.specs.Prelude.{if◌then◌else◌, Ok, Err}
+use Rattle.std.specs.Prelude as code
 use mathlib.Core.Path.{◌≡◌, sym, subst}
 use mathlib.Core.Bool.{Bool, true, false, ◌||◌}
 use mathlib.Core.List.{List, []}
-use Prim.Native.Nat.{ℕ, ◌+◌, ◌*◌, ◌-◌, ◌≤◌}
+use Prim.Native.Nat.{ℕ, ◌*◌, ◌-◌, ◌≤◌}
 use native.Mathlib.Omega.{arith}
 use lib.Dec.{ltb}
 use lib.ListN.{length}
@@ -14,8 +15,8 @@ use Rattle.book_steps.specs.Claim.{Slices}
 use Rattle.book_steps.proofs.Finished.{finished_run, book_finished}
 use Rattle.book_steps.proofs.LineNumbers.{run_line, outcome_line}
 use Rattle.book_finish.specs.Clauses as Run
+use Rattle.book_finish.specs.declared.Stop.{Stop}
 use Rattle.book_run.specs.Clauses.{lent_of}
-use Rattle.book_finish.specs.declared.Ran.{Ran}
 use Rattle.netcheck_entry.specs.Outcome.{outcome_of}
 use Rattle.netcheck_entry.specs.declared.Outcome as Struct
 use Rattle.netcheck_entry.proofs.Lines.{of_fields}
@@ -25,8 +26,6 @@ use Rattle.image_steps.specs.Calls as Calls
 use Rattle.image_steps.specs.Calls.{has_next, header_at, goes_on, ran_on, saving}
 use Rattle.image_keep.specs.Clauses.{number_of, text_line_of, length_of, image_length_of}
 use Rattle.image_calls.specs.Entries.{SaveEntry, ResumeEntry, ResumeSaveEntry}
-use Rattle.image_keep.specs.declared.Saved.{Saved}
-use Rattle.image_keep.specs.declared.Saved.TheVariants.{Answered, Refused}
 use Rattle.image_entry.specs.declared.SavedOutcome.{SavedOutcome}
 use Rattle.image_entry.specs.Outcome.{saved_outcome_of, SavedBy, Resumed, ResumeSavedBy}
 
@@ -73,14 +72,14 @@ module _ (lent : Lent) where
 -- ---- what the entries hand on
 
 module _ (P : (number line len image : ℕ) → Type 0) where
-  by_case : (s : Saved) → P (number_of s) (text_line_of s) (length_of s) (image_length_of s) → P (saved_outcome_of s).number (saved_outcome_of s).line (saved_outcome_of s).length (saved_outcome_of s).image
-  by_case (Answered n i) h = h
-  by_case (Refused e k n) h = h
+  by_case : (s : code.Result (ℕ × ℕ) Stop) → P (number_of s) (text_line_of s) (length_of s) (image_length_of s) → P (saved_outcome_of s).number (saved_outcome_of s).line (saved_outcome_of s).length (saved_outcome_of s).image
+  by_case (Ok (n, i)) h = h
+  by_case (Err s) h = h
 
-  of_saved : (s : Saved) {r : SavedOutcome} → r ≡ saved_outcome_of s → P (number_of s) (text_line_of s) (length_of s) (image_length_of s) → P r.number r.line r.length r.image
+  of_saved : (s : code.Result (ℕ × ℕ) Stop) {r : SavedOutcome} → r ≡ saved_outcome_of s → P (number_of s) (text_line_of s) (length_of s) (image_length_of s) → P r.number r.line r.length r.image
   of_saved s q h = subst (λ (o : SavedOutcome). P o.number o.line o.length o.image) (sym q) (by_case s h)
 
-module _ {m n : Slices} {book before after : List ℕ} (s : Saved) where
+module _ {m n : Slices} {book before after : List ℕ} (s : code.Result (ℕ × ℕ) Stop) where
   pub save_fits : SaveEntry (lent_of m) book m before (number_of s) (text_line_of s) (length_of s) (image_length_of s) n after → text_line_of s ≤ 2050
   save_fits e = omega (arith, e.saved.refines.line_is, save_line (lent_of m) (length before) book)
 
@@ -95,7 +94,7 @@ module _ {m n : Slices} {book before after : List ℕ} (s : Saved) where
         → ResumeSavedBy image book m before r n after
     resume_saved_by = of_saved (λ (number line len size : ℕ). ResumeSaveEntry (lent_of m) image book m before number line len size n after) s
 
-module _ {m n : Slices} {image book : List ℕ} (ran : Ran) where
+module _ {m n : Slices} {image book : List ℕ} (ran : code.Result ℕ Stop) where
   pub resume_fits : ResumeEntry (lent_of m) image book m (Run.number_of ran) (Run.text_line_of ran) (Run.length_of ran) n → Run.text_line_of ran ≤ 2050
   resume_fits e = omega (arith, e.refines.line_is, resume_line (lent_of m) image book)
 

@@ -1,17 +1,17 @@
 -- 02 (ii), the calls as C gets them: the number (0: answered), the text line and the output's length as for a run, and where an image is written its length, 0 where it is refused.
-use Rattle.std.specs.Prelude.{List, ℕ}
+use Rattle.std.specs.Prelude.{List, ℕ, Result, Ok, Err}
+use Rattle.refusal.specs.Numbers.{number_of}
 use Rattle.book_steps.specs.Claim.{Slices}
 use Rattle.book_run.specs.Clauses.{lent_of}
 use Rattle.netcheck_entry.specs.declared.Outcome.{Outcome}
 use Rattle.image_calls.specs.Entries.{SaveEntry, ResumeEntry, ResumeSaveEntry}
-use Rattle.image_keep.specs.declared.Saved.{Saved}
-use Rattle.image_keep.specs.declared.Saved.TheVariants.{Answered, Refused}
+use Rattle.book_finish.specs.declared.Stop.{Stop}
 use Rattle.image_entry.specs.declared.SavedOutcome.{SavedOutcome}
 
 -- the answer for each case
-abbrev pub saved_outcome_of : Saved → SavedOutcome
-saved_outcome_of (Answered n i) = record { number = 0; line = 0; length = n; image = i }
-saved_outcome_of (Refused e k n) = record { number = e; line = k; length = n; image = 0 }
+abbrev pub saved_outcome_of : Result (ℕ × ℕ) Stop → SavedOutcome
+saved_outcome_of (Ok (n, i)) = record { number = 0; line = 0; length = n; image = i }
+saved_outcome_of (Err s) = record { number = number_of s.refusal; line = s.line; length = s.length; image = 0 }
 
 -- ---- the entries' promises, of the structs' fields; m, n are the lent slices before and after, `before`, `after` the bytes lent for an image
 

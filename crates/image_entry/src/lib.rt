@@ -6,7 +6,7 @@ ghost use Rattle.book_run.specs.Clauses.{slices};
 ghost use Rattle.image_keep.specs.Clauses.{text_line_of};
 ghost use Rattle.image_entry.specs.Outcome.{saved_outcome_of, SavedBy, Resumed, ResumeSavedBy};
 
-use image_keep::Saved;
+use book_finish::Stop;
 use netcheck_entry::Outcome;
 
 // as Outcome, and how many bytes of the image are written
@@ -19,21 +19,21 @@ pub struct SavedOutcome {
     pub image: usize,
 }
 
-fn saved_outcome_of(saved: Saved) -> SavedOutcome
+fn saved_outcome_of(saved: Result<(usize, usize), Stop>) -> SavedOutcome
     requires { text_line_of saved ≤ 2050 }
     ensures { result ≡ saved_outcome_of saved }
 {
     match saved {
-        Saved::Answered(length, image) => SavedOutcome {
+        Ok((length, image)) => SavedOutcome {
             number: 0,
             line: 0,
             length,
             image,
         },
-        Saved::Refused(number, line, length) => SavedOutcome {
-            number,
-            line: line as u32,
-            length,
+        Err(stop) => SavedOutcome {
+            number: stop.refusal.number(),
+            line: stop.line as u32,
+            length: stop.length,
             image: 0,
         },
     }

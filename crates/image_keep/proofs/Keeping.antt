@@ -1,25 +1,26 @@
 -- 02 (ii): "An image above 65,536 blocks, or longer than its output, meets 27, line 0, before any byte"; 02 (iv): 33 before it. The last place of a run is kept as its image, or the run is refused.
 use Rattle.std.specs.Prelude.{if◌then◌else◌}
+use Rattle.std.proofs.Common.{Result, Ok, Err}
 use mathlib.Core.Path.{◌≡◌, refl, sym, ◌∙◌, ap, ap₂, subst}
-use mathlib.Core.Bool.{Bool, true, false, ◌||◌}
+use mathlib.Core.Bool.{Bool, false, ◌||◌}
 use mathlib.Core.List.{List, [], ◌++◌}
-use Prim.Native.Nat.{ℕ, ◌+◌, ◌*◌, ◌-◌, ◌/◌, ◌≤◌, ◌<◌}
+use Prim.Native.Nat.{ℕ, ◌+◌, ◌*◌, ◌-◌, ◌≤◌, ◌<◌}
 use native.Mathlib.Omega.{arith}
 use lib.Dec.{ltb}
 use lib.ListN.{length, get_or, drop, get_or-append}
 use lib.Seq.{sets, sets-eq, length-sets, get_or-append-add, get_or-drop}
 use borrow.Author.Tests.{lt-ltb, le-ltb}
+use Rattle.refusal.specs.declared.Refusal.TheVariants.{Output}
 use Rattle.book_steps.specs.Run as Run
 use Rattle.book_steps.specs.Run.{Lent, RunState, came, refusal, success}
 use Rattle.book_steps.specs.Claim.{WritesOnly}
-use Rattle.book_place.specs.declared.Setting.{Setting}
-use Rattle.book_place.specs.declared.Place.{Place}
-use Rattle.book_place.specs.Clauses.{Memory, memory, setting_in, place_of}
-use Rattle.book_finish.specs.declared.Went.{Went}
-use Rattle.book_finish.specs.declared.Went.TheVariants as went
+use Rattle.book_memory.specs.declared.Setting.{Setting}
+use Rattle.book_memory.specs.declared.Place.{Place}
+use Rattle.book_memory.specs.Place.{place_in, setting_in}
+use Rattle.book_finish.specs.declared.Stop.{Stop}
 use Rattle.book_finish.specs.Clauses.{EndsBy}
-use Rattle.image_save.specs.Clauses.{kept, Present, BlocksAre, PreWrite, PostWrite}
-use Rattle.image_save.proofs.Whole as saves
+use Rattle.image_save.specs.Clauses.{BlocksAre, PostWrite}
+use Rattle.image_save.proofs.Whole.{standing_present}
 use Rattle.image_steps.specs.Image.{head_of, blocks_of, saved}
 use Rattle.image_steps.specs.Calls.{has_next, Saved, saving}
 use Rattle.image_steps.proofs.Calls.{saved_length}
@@ -66,9 +67,6 @@ module _ (lent : Lent) (size : ℕ) (S : Run.Setting) (p : RunState) where
   by_tests : {a b : Bool} → marked ≡ false → ltb 65536 count ≡ a → ltb size (512 * count) ≡ b → saving lent size (came S p) ≡ (if a || b then none 27 else whole)
   by_tests k e f = by_kinds k ∙ ap₂ (λ (x y : Bool). if x || y then none 27 else whole) e f
 
-  saving_unknown : marked ≡ true → saving lent size (came S p) ≡ none 33
-  saving_unknown k = by_kinds k
-
   saving_many : marked ≡ false → 65536 < count → saving lent size (came S p) ≡ none 27
   saving_many k l = by_tests {b = ltb size (512 * count)} k (lt-ltb 65536 count l) refl
 
@@ -81,81 +79,49 @@ module _ (lent : Lent) (size : ℕ) (S : Run.Setting) (p : RunState) where
 -- ---- what is kept
 
 -- a run in order can be kept
-pub ends_kept : (w : Went) (m : Memory) → EndsBy w m → PreKeep w (kept m.sp m.nodes m.states m.members m.scratch)
-ends_kept (went.End S q) m z = saves.standing_present z
-ends_kept (went.Stopped e k n) m z = tt
+pub ends_kept : (w : Result Setting Stop) (x : Place) → EndsBy w x → PreKeep w x
+ends_kept (Ok S) x z = standing_present z
+ends_kept (Err s) x z = tt
 
-module _ (m : Memory) (image : List ℕ) where
-  abbrev whole_of : (transitions pending output : List ℕ) → Memory
-  whole_of t p o = memory m.sp m.nodes m.states m.members t p m.scratch o
+module _ (x : Place) (image : List ℕ) where
+  abbrev no_room : Stop
+  no_room = record { refusal = Output; line = 0; length = x.output.at }
 
-  stopped : (e k n : ℕ) → PostKeep (went.Stopped e k n) m (record { went = went.Stopped e k n; image = 0 }) image image
-  stopped e k n = record {
-    keeps = λ lent t p o. record { result = refl; len = refl; is = unwritten image };
-    bytes = refl;
-    none = refl;
-  }
-
-  pub keep_stopped : (w : Went) {e k n : ℕ} → w ≡ went.Stopped e k n → PostKeep w m (record { went = w; image = 0 }) image image
-  keep_stopped w {e} {k} {n} f = subst (λ (v : Went). PostKeep v m (record { went = v; image = 0 }) image image) (sym f) (stopped e k n)
-
-  module _ (w : Went) {S : Setting} {q : Place} (f : w ≡ went.End S q) where
-    abbrev last_setting : (t p o : List ℕ) → Run.Setting
-    last_setting t p o = setting_in S (whole_of t p o)
-
-    abbrev last_place : (t p o : List ℕ) → RunState
-    last_place t p o = place_of (whole_of t p o) q
-
-    pub keep_present : PreKeep w m → Present m q.counts q.lines
-    keep_present P = subst (λ (v : Went). PreKeep v m) f P
-
-    refused : (number : ℕ) → ((lent : Lent) (t p o : List ℕ) → saving lent (length image) (came (last_setting t p o) (last_place t p o)) ≡ none lent (length image) (last_setting t p o) (last_place t p o) number)
-        → PostKeep w m (record { went = went.Stopped number 0 q.output; image = 0 }) image image
-    refused number g = subst (λ (v : Went). PostKeep v m (record { went = went.Stopped number 0 q.output; image = 0 }) image image) (sym f) (record {
-      keeps = λ lent t p o. record {
-        result = ap (λ (s : Saved lent). s.result) (g lent t p o);
-        len = ap (λ (s : Saved lent). length s.image) (sym (g lent t p o));
-        is = subst (λ (s : Saved lent). WritesOnly s.image image image) (sym (g lent t p o)) (unwritten image);
+  module _ (S : Setting) where
+    refused : ((lent : Lent) → saving lent (length image) (came (setting_in S x) (place_in x)) ≡ none lent (length image) (setting_in S x) (place_in x) 27)
+        → PostKeep (Ok S) x (Err no_room) image image
+    refused g = record {
+      keeps = λ lent. record {
+        result = ap (λ (s : Saved lent). s.result) (g lent);
+        len = ap (λ (s : Saved lent). length s.image) (sym (g lent));
+        is = subst (λ (s : Saved lent). WritesOnly s.image image image) (sym (g lent)) (unwritten image);
       };
       bytes = refl;
-      none = refl;
-    })
+    }
 
-    pub keep_unknown : {b : Bool} → has_next m.states q.counts.states ≡ b → b ≡ true → PostKeep w m (record { went = went.Stopped 33 0 q.output; image = 0 }) image image
-    keep_unknown e k = refused 33 (λ lent t p o. saving_unknown lent (length image) (last_setting t p o) (last_place t p o) (e ∙ k))
+    module _ {b : Bool} (kinds : has_next x.aut.states.words.now x.aut.states.count ≡ b) (known : b ≡ false) {n : ℕ} (blocks_are : BlocksAre x n) where
+      count_is : n ≡ blocks_of (head_of (setting_in S x) (place_in x))
+      count_is = blocks_are (setting_in S x)
 
-    module _ {b : Bool} (kinds : has_next m.states q.counts.states ≡ b) (known : b ≡ false) (n : ℕ) (blocks_are : BlocksAre q.counts q.lines n) where
-      count_is : (t p o : List ℕ) → n ≡ blocks_of (head_of (last_setting t p o) (last_place t p o))
-      count_is t p o = blocks_are (last_setting t p o) (whole_of t p o) q.output
-
-      pub keep_many : 65536 < n → PostKeep w m (record { went = went.Stopped 27 0 q.output; image = 0 }) image image
-      keep_many l = refused 27 (λ lent t p o. saving_many lent (length image) (last_setting t p o) (last_place t p o) (kinds ∙ known) (omega (arith, count_is t p o)))
+      pub keep_many : 65536 < n → PostKeep (Ok S) x (Err no_room) image image
+      keep_many l = refused (λ lent. saving_many lent (length image) (setting_in S x) (place_in x) (kinds ∙ known) (omega (arith, count_is)))
 
       module _ (few : n ≤ 65536) where
-        pub keep_long : length image < 512 * n → PostKeep w m (record { went = went.Stopped 27 0 q.output; image = 0 }) image image
-        keep_long l = refused 27 (λ lent t p o. saving_long lent (length image) (last_setting t p o) (last_place t p o) (kinds ∙ known) (omega (arith, count_is t p o)) (omega (arith, count_is t p o)))
+        pub keep_long : length image < 512 * n → PostKeep (Ok S) x (Err no_room) image image
+        keep_long l = refused (λ lent. saving_long lent (length image) (setting_in S x) (place_in x) (kinds ∙ known) (omega (arith, count_is)) (omega (arith, count_is)))
 
-        module _ (room : 512 * n ≤ length image) where
-          pub keep_writes : Present m q.counts q.lines → PreWrite m q image
-          keep_writes P = record {
-            present = P;
-            few = λ T. omega (arith, blocks_are T m q.output);
-            room = λ T. omega (arith, blocks_are T m q.output);
-          }
-
-          pub keep_written : {image' : List ℕ} → PostWrite S m q image image' → PostKeep w m (record { went = went.End S q; image = 512 * n }) image image'
-          keep_written {image'} W = subst (λ (v : Went). PostKeep v m (record { went = went.End S q; image = 512 * n }) image image') (sym f) (record {
-            keeps = λ lent t p o.
-                let g : saving lent (length image) (came (last_setting t p o) (last_place t p o)) ≡ whole lent (length image) (last_setting t p o) (last_place t p o)
-                = saving_fits lent (length image) (last_setting t p o) (last_place t p o) (kinds ∙ known) (omega (arith, count_is t p o)) (omega (arith, count_is t p o)) in
-                let k : length (saved (last_setting t p o) (last_place t p o)) ≡ 512 * n = saved_length (last_setting t p o) (last_place t p o) ∙ ap (λ (b : ℕ). 512 * b) (sym (count_is t p o)) in
-                record {
-                  result = ap (λ (s : Saved lent). s.result) g;
-                  len = sym k ∙ ap (λ (s : Saved lent). length s.image) (sym g);
-                  is = subst (λ (s : Saved lent). WritesOnly s.image image image') (sym g)
-                      (subst (WritesOnly (saved (last_setting t p o) (last_place t p o)) image) (sym (W (length p / 2) (length o) t p o))
-                      (sets_only (saved (last_setting t p o) (last_place t p o)) image (omega (arith, k))));
-                };
-            bytes = refl;
-            none = tt;
-          })
+        pub keep_written : {image' : List ℕ} → 512 * n ≤ length image → PostWrite S x image image' → PostKeep (Ok S) x (Ok (512 * n)) image image'
+        keep_written {image'} room W =
+            let k : length (saved (setting_in S x) (place_in x)) ≡ 512 * n = saved_length (setting_in S x) (place_in x) ∙ ap (λ (b : ℕ). 512 * b) (sym count_is) in
+            record {
+              keeps = λ lent.
+                  let g : saving lent (length image) (came (setting_in S x) (place_in x)) ≡ whole lent (length image) (setting_in S x) (place_in x)
+                  = saving_fits lent (length image) (setting_in S x) (place_in x) (kinds ∙ known) (omega (arith, count_is)) (omega (arith, count_is)) in
+                  record {
+                    result = ap (λ (s : Saved lent). s.result) g;
+                    len = sym k ∙ ap (λ (s : Saved lent). length s.image) (sym g);
+                    is = subst (λ (s : Saved lent). WritesOnly s.image image image') (sym g)
+                        (subst (WritesOnly (saved (setting_in S x) (place_in x)) image) (sym W) (sets_only (saved (setting_in S x) (place_in x)) image (omega (arith, k))));
+                  };
+              bytes = refl;
+            }

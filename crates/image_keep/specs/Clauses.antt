@@ -1,69 +1,68 @@
 -- 02 (ii), saving in code: "An image above 65,536 blocks, or longer than its output, meets 27, line 0, before any byte"; 02 (iv): "33, line 0, before 27, when one is wanted of tables that hold this kind". A run that came to its last place is kept as an image, or refused (image_steps, `saving`), and then finished; and the number, line and lengths of what is returned.
-use Rattle.std.specs.Prelude.{◌≡◌, List, ℕ, length}
+use Rattle.std.specs.Prelude.{◌≡◌, List, ℕ, length, Result, Ok, Err}
+use Rattle.refusal.specs.Numbers as refusal
 use Rattle.book_steps.specs.Run.{Lent, finished}
 use Rattle.book_steps.specs.Claim.{WritesOnly}
-use Rattle.book_place.specs.Clauses.{Memory, memory}
+use Rattle.book_memory.specs.declared.Setting.{Setting}
+use Rattle.book_memory.specs.declared.Place.{Place}
+use Rattle.book_finish.specs.declared.Stop.{Stop}
 use Rattle.book_finish.specs.Clauses.{written_by, came_by, PostFinish}
-use Rattle.book_finish.specs.declared.Went.{Went}
-use Rattle.book_finish.specs.declared.Went.TheVariants as went
-use Rattle.book_finish.specs.declared.Ran.{Ran}
-use Rattle.book_finish.specs.declared.Ran.TheVariants as ran
-use Rattle.image_save.specs.Clauses.{kept, Present}
+use Rattle.image_save.specs.Clauses.{Present}
 use Rattle.image_steps.specs.Calls.{saving}
-use Rattle.image_keep.specs.declared.Kept.{Kept}
-use Rattle.image_keep.specs.declared.Saved.{Saved}
-use Rattle.image_keep.specs.declared.Saved.TheVariants as saved
 
 -- all records of the last place stand in the tables
-abbrev pub PreKeep : Went → Memory → Type 0
-PreKeep (went.End S q) m = Present m q.counts q.lines
-PreKeep (went.Stopped e k n) m = Unit
+abbrev pub PreKeep : Result Setting Stop → Place → Type 0
+PreKeep (Ok S) x = Present x
+PreKeep (Err s) x = Unit
 
--- a stopped run has no image
-abbrev pub ImageBy : Went → ℕ → Type 0
-ImageBy (went.End S q) n = Unit
-ImageBy (went.Stopped e k n) i = i ≡ 0
+-- what a run that came to w comes to with its image
+abbrev pub with_image : Result ℕ Stop → Result Setting Stop → Result Setting Stop
+with_image (Ok n) w = w
+with_image (Err s) w = Err s
 
--- the run w, which came to m, is saved: v is what it comes to with its image, of n bytes
-pub record Keeps (lent : Lent) (w : Went) (m : Memory) (v : Went) (n : ℕ) (image image' : List ℕ) : Type 0 where
-  pub result : (saving lent (length image) (came_by w m)).result ≡ finished lent (came_by v m)
-  pub len : n ≡ length (saving lent (length image) (came_by w m)).image
-  pub is : WritesOnly (saving lent (length image) (came_by w m)).image image image'
+-- a refused one has none
+abbrev pub image_length : Result ℕ Stop → ℕ
+image_length (Ok n) = n
+image_length (Err s) = 0
 
--- m has the tables of which an image is made; whatever the others are
-pub record PostKeep (w : Went) (m : Memory) (r : Kept) (image image' : List ℕ) : Type 0 where
-  pub keeps : (lent : Lent) (transitions pending output : List ℕ)
-      → Keeps lent w (memory m.sp m.nodes m.states m.members transitions pending m.scratch output) r.went r.image image image'
-  pub bytes : written_by r.went ≡ written_by w
-  pub none : ImageBy r.went r.image
+pub record Keeps (lent : Lent) (w : Result Setting Stop) (x : Place) (r : Result ℕ Stop) (image image' : List ℕ) : Type 0 where
+  pub result : (saving lent (length image) (came_by w x)).result ≡ finished lent (came_by (with_image r w) x)
+  pub len : image_length r ≡ length (saving lent (length image) (came_by w x)).image
+  pub is : WritesOnly (saving lent (length image) (came_by w x)).image image image'
 
-abbrev pub saved_of : Ran → ℕ → Saved
-saved_of (ran.Answered n) i = saved.Answered n i
-saved_of (ran.Refused e k n) i = saved.Refused e k n
+-- the run w, which came to x, is saved; whatever was lent
+pub record PostKeep (w : Result Setting Stop) (x : Place) (r : Result ℕ Stop) (image image' : List ℕ) : Type 0 where
+  pub keeps : (lent : Lent) → Keeps lent w x r image image'
+  pub bytes : written_by (with_image r w) x ≡ written_by w x
+
+abbrev pub sealed_of : Result ℕ Stop → Result ℕ Stop → Result (ℕ × ℕ) Stop
+sealed_of (Ok n) (Ok i) = Ok (n, i)
+sealed_of (Ok n) (Err s) = Err s
+sealed_of (Err s) k = Err s
 
 -- kept, and finished
-pub record PostSeal (w : Went) (r : Saved) (image image' : List ℕ) (m m' : Memory) : Type 0 where
-  pub kept_as : Kept
-  pub keeps : PostKeep w (kept m.sp m.nodes m.states m.members m.scratch) kept_as image image'
-  pub ran : Ran
-  pub finishes : PostFinish kept_as.went ran m m'
-  pub is : r ≡ saved_of ran kept_as.image
+pub record PostSeal (w : Result Setting Stop) (x : Place) (r : Result (ℕ × ℕ) Stop) (y : Place) (image image' : List ℕ) : Type 0 where
+  pub kept : Result ℕ Stop
+  pub keeps : PostKeep w x kept image image'
+  pub ran : Result ℕ Stop
+  pub finishes : PostFinish (with_image kept w) x ran y
+  pub is : r ≡ sealed_of ran kept
 
 -- ---- what is returned
 
 -- success returns 0 and line 0
-abbrev pub number_of : Saved → ℕ
-number_of (saved.Answered n i) = 0
-number_of (saved.Refused e k n) = e
+abbrev pub number_of : Result (ℕ × ℕ) Stop → ℕ
+number_of (Ok (n, i)) = 0
+number_of (Err s) = refusal.number_of s.refusal
 
-abbrev pub text_line_of : Saved → ℕ
-text_line_of (saved.Answered n i) = 0
-text_line_of (saved.Refused e k n) = k
+abbrev pub text_line_of : Result (ℕ × ℕ) Stop → ℕ
+text_line_of (Ok (n, i)) = 0
+text_line_of (Err s) = s.line
 
-abbrev pub length_of : Saved → ℕ
-length_of (saved.Answered n i) = n
-length_of (saved.Refused e k n) = n
+abbrev pub length_of : Result (ℕ × ℕ) Stop → ℕ
+length_of (Ok (n, i)) = n
+length_of (Err s) = s.length
 
-abbrev pub image_length_of : Saved → ℕ
-image_length_of (saved.Answered n i) = i
-image_length_of (saved.Refused e k n) = 0
+abbrev pub image_length_of : Result (ℕ × ℕ) Stop → ℕ
+image_length_of (Ok (n, i)) = i
+image_length_of (Err s) = 0

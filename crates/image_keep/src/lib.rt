@@ -1,129 +1,71 @@
 // The last place of a run is kept as its image, or meets 33 or 27.
 #![tactic(auto)]
 
-ghost use Rattle.std.specs.Prelude.{◌≡◌, [], ◌*◌, ◌≤◌, length};
-ghost use Rattle.book_place.specs.Clauses.{memory};
+ghost use Rattle.std.specs.Prelude.{◌≡◌};
+ghost use Rattle.aut_states.specs.Clauses.{Fits};
+ghost use Rattle.book_memory.specs.Place.{SameSlices};
 ghost use Rattle.image_steps.specs.Calls.{has_next};
-ghost use Rattle.image_save.specs.Clauses.{kept};
 ghost use Rattle.image_keep.specs.Clauses as Its;
 
-use book_finish::{Ran, Went};
+use aut_states::{States, kind};
+use book_finish::Stop;
+use book_memory::{Place, Setting};
 use image_block::BLOCK;
 use refusal::Refusal;
 
 // the most blocks of an image: a block's number has two bytes
 pub const BLOCKS: usize = 65536;
 
-// the lengths of the output and of the image; or a number, the text line, and the output's length of the lines before
-#[derive(Clone, Copy)]
-pub enum Saved {
-    Answered(usize, usize),
-    Refused(u32, usize, usize),
-}
-
-// where a run has come to, and the length of its image; 33 where that does not know a state's kind, 27 where it has no room
-#[derive(Clone, Copy)]
-pub struct Kept {
-    pub went: Went,
-    pub image: usize,
-}
-
-// one of the first n states is of kind 10, which images do not know
-fn has_next(states: &[u32], n: usize) -> bool
-    requires { 12 * n ≤ length states.now }
-    ensures { has_next states.now n ≡ result }
+// one of the states is of kind 10, which images do not know
+fn has_next(states: &States) -> bool
+    requires { Fits states.now.words.now states.now.count }
+    ensures { has_next states.now.words.now states.now.count ≡ result }
 {
-    for i in 0..n {
-        if states[aut_states::STATE * i + aut_states::word::KIND] == aut_states::kind::NEXT {
+    for i in 0..states.count {
+        if states.kind(i as u32) == kind::NEXT {
             return true;
         }
     }
     false
 }
 
-// the image of the last place of a run, unless it was stopped
-fn keep(
-    image: &mut [u8],
-    sp: &[u32],
-    nodes: &[u32],
-    states: &[u32],
-    members: &[u32],
-    scratch: &[u32],
-    went: Went,
-) -> Kept
-    requires { Its.PreKeep went (kept sp.now nodes.now states.now members.now scratch.now) }
-    ensures { Its.PostKeep went (kept sp.now nodes.now states.now
-        members.now scratch.now) result image.old image.new }
+// The image of a run's last place, if it has not stopped: the image's length. 33 where an image does not know a state's kind, 27 where it has no room.
+fn keep(image: &mut [u8], place: &Place, went: Result<Setting, Stop>) -> Result<usize, Stop>
+    requires { Its.PreKeep went place.now }
+    ensures { Its.PostKeep went place.now result image.old image.new }
 {
-    let Went::End(setting, place) = went else {
-        return Kept { went, image: 0 };
-    };
-    let c = place.counts;
-    if has_next(states, c.states) {
-        return Kept {
-            went: Went::Stopped(Refusal::Next.number(), 0, place.output),
-            image: 0,
-        };
+    let setting = went?;
+    let length = place.output.at;
+    if has_next(&place.aut.states) {
+        return Err(Stop {
+            refusal: Refusal::Next,
+            line: 0,
+            length,
+        });
     }
-    let n = image_save::blocks_of(place.counts, place.lines);
-    if n > BLOCKS {
-        return Kept {
-            went: Went::Stopped(Refusal::Output.number(), 0, place.output),
-            image: 0,
-        };
+    let n = image_save::blocks_of(place);
+    if n > BLOCKS || BLOCK * n > image.len() {
+        return Err(Stop {
+            refusal: Refusal::Output,
+            line: 0,
+            length,
+        });
     }
-    if BLOCK * n > image.len() {
-        return Kept {
-            went: Went::Stopped(Refusal::Output.number(), 0, place.output),
-            image: 0,
-        };
-    }
-    image_save::write(image, sp, nodes, states, members, scratch, setting, place);
-    Kept {
-        went,
-        image: BLOCK * n,
-    }
+    image_save::write(image, place, setting);
+    Ok(BLOCK * n)
 }
 
-fn saved_of(ran: Ran, image: usize) -> Saved
-    ensures { result ≡ Its.saved_of ran image }
-{
-    match ran {
-        Ran::Answered(n) => Saved::Answered(n, image),
-        Ran::Refused(number, line, n) => Saved::Refused(number, line, n),
-    }
-}
-
-// the image is written, and the run finished
+// The image is written, and the run finished. An answer is the lengths of the output and of the image.
 pub fn seal(
     image: &mut [u8],
-    sp: &mut [u32],
-    nodes: &mut [u32],
-    states: &mut [u32],
-    members: &mut [u32],
-    transitions: &mut [u32],
-    pending: &mut [u32],
-    scratch: &mut [u32],
-    went: Went,
-) -> Saved
-    requires { Its.PreKeep went (kept sp.old nodes.old states.old members.old scratch.old) }
-    ensures { Its.PostSeal went result image.old image.new
-        (memory sp.old nodes.old states.old members.old
-        transitions.old pending.old scratch.old [])
-        (memory sp.new nodes.new states.new members.new
-        transitions.new pending.new scratch.new []) }
+    place: &mut Place,
+    went: Result<Setting, Stop>,
+) -> Result<(usize, usize), Stop>
+    requires { Its.PreKeep went place.old }
+    ensures keeps { SameSlices place.old place.new }
+    ensures gives { Its.PostSeal went place.old result place.new image.old image.new }
 {
-    let kept = keep(image, sp, nodes, states, members, scratch, went);
-    let came = kept.went;
-    let ran = book_finish::finish(
-        sp,
-        nodes,
-        states,
-        members,
-        transitions,
-        pending,
-        scratch,
-        came,
-    );
-    saved_of(ran, kept.image)
+    let kept = keep(image, place, went);
+    let ran = book_finish::finish(place, kept.and(went));
+    Ok((ran?, kept?))
 }

@@ -1,4 +1,3 @@
--- What each way through the tests of a state's record comes to. Read in this order.
-pub mod Operands  -- a relation, one or two states
+-- What the tests of a state's record need beside the definitions of the steps, and what a record that fits says.
+pub mod Lists  -- a list whose members are in the table
 pub mod Whole  -- the whole test, by kinds
-pub mod Lists  -- a list in scratch

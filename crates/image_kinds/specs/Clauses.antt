@@ -1,12 +1,8 @@
 -- 02 (ii): "a record .. that cannot be made of those before it". What the tests promise in the words of image_steps/specs/Records, and what they ask.
-use Rattle.std.specs.Prelude.{◌≡◌, Bool, false, ◌||◌, List, ◌⊎◌, Option, Some, None, ℕ, ◌+◌, ◌<◌}
+use Rattle.std.specs.Prelude.{◌≡◌, Bool, false, List, ◌⊎◌, Option, Some, None, ℕ}
 use Rattle.common.specs.Runs.{Table, table}
-use Rattle.spp_steps.specs.Wf.{Nodes}
-use Rattle.aut_steps.specs.Relations as Rel
-use Rattle.aut_steps.specs.Tables.{SPP, UNION, INTERSECT, XOR, DIFFERENCE, COMPLEMENT, SEQUENCE, STAR, DUP, UNTIL, TOP, words, Limits, Aut, aut}
-use Rattle.aut_steps.specs.Constructors.{is_relation}
+use Rattle.aut_steps.specs.Tables.{SPP, UNION, INTERSECT, XOR, DIFFERENCE, COMPLEMENT, SEQUENCE, STAR, DUP, UNTIL, TOP, Limits, Aut, aut}
 use Rattle.aut_states.specs.Clauses.{limits_of}
-use Rattle.aut_states.specs.declared.Counts.{Counts}
 use Rattle.aut_states.specs.declared.Limits.{Limits as Bounds}
 use Rattle.image_steps.specs.Records as Records
 use Rattle.image_kinds.specs.declared.Shape.{Shape}
@@ -26,23 +22,6 @@ ShapeOf k shape.Pair = ((k ≡ XOR) ⊎ (k ≡ DIFFERENCE)) ⊎ ((k ≡ SEQUENCE
 ShapeOf k shape.List = (k ≡ UNION) ⊎ (k ≡ INTERSECT)
 ShapeOf k shape.Unknown = NoKind k
 
-abbrev pub shape_single : Shape
-shape_single = shape.Single
-
-abbrev pub shape_pair : Shape
-shape_pair = shape.Pair
-
-abbrev pub shape_list : Shape
-shape_list = shape.List
-
--- ---- what is asked
-
--- h is a handle of so many nodes, each of which has earlier ones as children
-pub record Walks (t : List ℕ) (h : ℕ) : Type 0 where
-  pub count : ℕ
-  pub nodes : Nodes (table t count)
-  pub has : h < count + 2
-
 -- ---- what is promised
 
 -- the member is no good, or the list goes on
@@ -55,10 +34,6 @@ abbrev pub met_of : Option Bool → Bool → Bool
 met_of (Some b) go = b
 met_of None go = go
 
--- x is the identity or the empty relation
-pub record Fixed (N : ℕ) (st : List ℕ) (x : ℕ) (r : Bool) : Type 0 where
-  pub is : (is_relation st x (Rel.one_at N) || is_relation st x (Rel.zero_at N)) ≡ r
-
 -- the whole test, for the kinds of each shape; tables that are not read are any, and so is a list that is not there
 pub record SingleFits (l : Bounds) (st : List ℕ) (n k x y e : ℕ) (r : Bool) : Type 0 where
   pub is : (N : ℕ) (t m : Table) (xs : List ℕ) → Records.state_fits N (limits_of l) (aut t (table st n) m) xs k x y e ≡ r
@@ -66,8 +41,6 @@ pub record SingleFits (l : Bounds) (st : List ℕ) (n k x y e : ℕ) (r : Bool) 
 pub record PairFits (N : ℕ) (l : Bounds) (st : List ℕ) (n k x y e : ℕ) (r : Bool) : Type 0 where
   pub is : (t m : Table) (xs : List ℕ) → Records.state_fits N (limits_of l) (aut t (table st n) m) xs k x y e ≡ r
 
-pub record ManyFits (l : Bounds) (st s : List ℕ) (c : Counts) (base x y e : ℕ) (r : Bool) : Type 0 where
-  pub is : (N : ℕ) (t : Table) (m : List ℕ) → Records.many_fits N (limits_of l) (aut t (table st c.states) (table m c.members)) (words s base y) x y e ≡ r
-
-pub record ListFits (N : ℕ) (l : Bounds) (st s : List ℕ) (c : Counts) (base k x y e : ℕ) (r : Bool) : Type 0 where
-  pub is : (t : Table) (m : List ℕ) → Records.state_fits N (limits_of l) (aut t (table st c.states) (table m c.members)) (words s base y) k x y e ≡ r
+-- .. where the members so far end at `members`
+pub record ListFits (N : ℕ) (l : Bounds) (st : List ℕ) (n : ℕ) (xs : List ℕ) (members k x y e : ℕ) (r : Bool) : Type 0 where
+  pub is : (t : Table) (m : List ℕ) → Records.state_fits N (limits_of l) (aut t (table st n) (table m members)) xs k x y e ≡ r

@@ -1,4 +1,4 @@
--- Nodes of an image, a step at a time.
-pub mod Depth  -- depths, and children of one depth
-pub mod Node  -- a record made by `mk`
-pub mod Rows  -- one record after the other
+-- Nodes read from an image. Read in this order.
+pub mod Depth  -- the depth of a handle
+pub mod Node  -- what comes of a record
+pub mod Rows  -- a record with its block, and one after the other

@@ -1,13 +1,15 @@
 -- 02 (ii), "block by block": a record with the block that it reaches, and one record after the other.
-use Rattle.std.specs.Prelude.{Result, Ok, Err}
-use mathlib.Core.Path.{◌≡◌, refl, sym, ◌∙◌, ap, subst}
+use Rattle.std.specs.Prelude.{Result, Ok, Err, OnOk}
+use mathlib.Core.Path.{◌≡◌, refl, sym, ◌∙◌, ap, ap₂}
 use mathlib.Core.List.{List}
 use Prim.Native.Nat.{ℕ, zero, suc, ◌+◌, ◌*◌, ◌-◌, ◌≤◌, ◌<◌, max}
 use native.Mathlib.Omega.{arith}
 use Rattle.common.specs.Outcome.{Outcome, refused, given, Step, after, ◌>>=◌}
-use Rattle.common.specs.Runs.{Table, table}
+use Rattle.common.specs.Runs.{Table}
+use Rattle.sp_steps.specs.Wf as SpWf
 use Rattle.sp_steps.proofs.Laws as SpLaws
 use Rattle.spp_steps.specs.Model as Spp
+use Rattle.spp_steps.specs.Wf as SppWf
 use Rattle.spp_steps.proofs.Laws as SppLaws
 use Rattle.aut_steps.specs.Tables.{Limits, on_nodes}
 use Rattle.aut_delta_steps.specs.Delta.{on_aut}
@@ -17,11 +19,11 @@ use Rattle.image_steps.specs.Image as Image
 use Rattle.image_steps.specs.Records as Records
 use Rattle.image_steps.specs.Read as Read
 use Rattle.image_steps.specs.Read.{records, on_tables}
-use Rattle.image_words.specs.Clauses.{word_of, entered_by, Entered}
+use Rattle.image_steps.proofs.Nodes.{NodeMade, node_goes, RelationMade, relation_goes}
+use Rattle.image_words.specs.Clauses.{word_of, Entered, entered_by}
 use Rattle.refusal.specs.declared.Refusal.{Refusal}
-use Rattle.refusal.specs.Numbers.{number_of}
-use Rattle.image_nodes.specs.Clauses.{made_by, with_sets, with_nodes, read_by, Unless, PreNode, Grown, PostNode, PostNodes, PreRelation, GrownR, PostRelation, PostRelations}
-use Rattle.image_nodes.proofs.Node.{node_leaves, relation_leaves}
+use Rattle.refusal.specs.Numbers.{number_of, outcome}
+use Rattle.image_nodes.specs.Clauses.{Kind, packets, relations, PreNode, Grown, PostNode, PostNodes}
 
 -- ---- any records
 
@@ -56,165 +58,122 @@ module _ (image : List ℕ) (h : Image.Head) (L : Limits) (make : ℕ → ℕ �
   unfolding records
   records_end i s k p l = ap (λ (m : ℕ). records image h L make size i s m p) {x = k - i} {y = zero} (omega arith)
 
--- ---- a step on one table as one on the place
+-- ---- nodes of either kind
 
-made_sets : (x : ℕ) (r : Result ℕ Refusal) (t : List ℕ) (p : RunState) → on_tables (on_sets (λ _. made_by x r t)) p ≡ read_by with_sets x r t p
-made_sets x (Ok n) t p = refl
-made_sets x (Err e) t p = refl
+-- what both kinds have: a table that is put in a place stands there, and later tables are ordered
+pub record Lawful (k : Kind) : Type 0 where
+  pub at_put : (τ : Table) (p : RunState) → k.at (k.put τ p) ≡ τ
+  pub put_at : (p : RunState) → k.put (k.at p) p ≡ p
+  pub put_put : (σ τ : Table) (p : RunState) → k.put τ (k.put σ p) ≡ k.put τ p
+  pub ext_refl : (σ : Table) → k.Ext σ σ
+  pub ext_trans : {σ τ υ : Table} → k.Ext σ τ → k.Ext τ υ → k.Ext σ υ
 
-made_nodes : (x : ℕ) (r : Result ℕ Refusal) (t : List ℕ) (p : RunState) → on_tables (on_base (on_aut (on_nodes (λ _. made_by x r t)))) p ≡ read_by with_nodes x r t p
-made_nodes x (Ok n) t p = refl
-made_nodes x (Err e) t p = refl
+pub packets_lawful : Lawful packets
+packets_lawful = record { at_put = λ τ p. refl; put_at = λ p. refl; put_put = λ σ τ p. refl; ext_refl = SpLaws.ext_refl; ext_trans = SpLaws.ext_trans }
 
--- the outcome on the table is known
-on_sets_lem : (c : Step Table ℕ) {t : List ℕ} {n : ℕ} (x : ℕ) (r : Result ℕ Refusal) (t' : List ℕ) (p : RunState) → p.tables.sets ≡ table t n → c (table t n) ≡ made_by x r t' → on_tables (on_sets c) p ≡ read_by with_sets x r t' p
-on_sets_lem c x r t' p e q =
-    ap (λ (o : Outcome Table ℕ). on_tables (on_sets (λ _. o)) p) (ap c e ∙ q) ∙ made_sets x r t' p
+pub relations_lawful : Lawful relations
+relations_lawful = record { at_put = λ τ p. refl; put_at = λ p. refl; put_put = λ σ τ p. refl; ext_refl = SppLaws.ext_refl; ext_trans = SppLaws.ext_trans }
 
-on_nodes_lem : (c : Step Table ℕ) {t : List ℕ} {n : ℕ} (x : ℕ) (r : Result ℕ Refusal) (t' : List ℕ) (p : RunState) → p.tables.base.aut.nodes ≡ table t n → c (table t n) ≡ made_by x r t'
-    → on_tables (on_base (on_aut (on_nodes c))) p ≡ read_by with_nodes x r t' p
-on_nodes_lem c x r t' p e q =
-    ap (λ (o : Outcome Table ℕ). on_tables (on_base (on_aut (on_nodes (λ _. o)))) p) (ap c e ∙ q) ∙ made_nodes x r t' p
+-- the step for record i at word s comes to r and τ, on a place too
+abbrev pub Makes : (k : Kind) (image : List ℕ) (N i s : ℕ) (σ : Table) (r : Result Unit Refusal) (τ : Table) → Type 0
+Makes k image N i s σ r τ =
+    (h : Image.Head) (L : Limits) (p : RunState) → h.fields ≡ N → k.at p ≡ σ → k.make image h L i s p ≡ outcome (λ _. k.handle i) r (k.put τ p)
+
+-- the record with its block
+pub node_read : (k : Kind) (image : List ℕ) (N i s : ℕ) (σ : Table) (r : Result Unit Refusal) (τ : Table) {l : Result Unit Refusal} → Entered image s k.size l → l ≡ Ok tt
+    → Makes k image N i s σ r τ → OnOk r (Grown k N σ (max σ.count (i + 1)) τ) → PostNode k image N i s σ r τ
+node_read k image N i s σ r τ e q m g = record {
+  is = λ h L p f y.
+      ap (λ (o : Outcome RunState ℕ). after o (λ _. k.make image h L i s)) (e h L p ∙ ap (λ (l : Result Unit Refusal). entered_by l p) q)
+      ∙ m h L p f y;
+  then = g;
+}
+
+-- i of n records are read, and the next is at word s
+pub record NodesAt (k : Kind) (image : List ℕ) (N start n : ℕ) (σ₀ : Table) (i s : ℕ) (σ : Table) : Type 0 where
+  pub is : (h : Image.Head) (L : Limits) (p : RunState) → h.fields ≡ N → k.at p ≡ σ₀
+      → records image h L (k.make image h L) k.size 0 start n p ≡ records image h L (k.make image h L) k.size i s (n - i) (k.put σ p)
+  pub grown : Grown k N σ₀ (max σ₀.count i) σ
+
+module _ {k : Kind} (w : Lawful k) (image : List ℕ) (N start n : ℕ) (σ₀ : Table) where
+  pub nodes_begin : {s : ℕ} → start ≡ s → PreNode k N σ₀ 0 → NodesAt k image N start n σ₀ 0 s σ₀
+  nodes_begin {s} e v = record {
+    is = λ h L p f y.
+        ap (λ (s : ℕ). records image h L (k.make image h L) k.size 0 s n p) e
+        ∙ ap (λ (m : ℕ). records image h L (k.make image h L) k.size 0 s m p) {x = n} {y = n - 0} (omega arith)
+        ∙ ap (records image h L (k.make image h L) k.size 0 s (n - 0)) (sym (w.put_at p) ∙ ap (λ (σ : Table). k.put σ p) y);
+    grown = record { wf = v.wf; ext = w.ext_refl σ₀; count = omega arith };
+  }
+
+  module _ {i s : ℕ} {σ : Table} (v : NodesAt k image N start n σ₀ i s σ) where
+    module _ (l : i < n) where
+      pub nodes_again : {s' : ℕ} {τ : Table} → s + k.size ≡ s' → PostNode k image N i s σ (Ok tt) τ → NodesAt k image N start n σ₀ (i + 1) s' τ
+      nodes_again {s'} {τ} e post = record {
+        is = λ h L p f y.
+            v.is h L p f y
+            ∙ records_more image h L (k.make image h L) k.size i s s' n (k.put σ p) (k.put τ p) (k.handle i) l e
+            (post.is h L (k.put σ p) f (w.at_put σ p) ∙ ap (λ (q : RunState). given q (k.handle i)) (w.put_put σ τ p));
+        grown = record { wf = post.then.wf; ext = w.ext_trans v.grown.ext post.then.ext; count = omega (arith, post.then.count, v.grown.count) };
+      }
+
+      pub nodes_stop : {τ : Table} {e : Refusal} → PostNode k image N i s σ (Err e) τ → PostNodes k image N start n σ₀ (Err e) τ
+      nodes_stop {τ} {e} post = record {
+        is = λ h L p f y.
+            v.is h L p f y
+            ∙ records_stop image h L (k.make image h L) k.size i s n (k.put σ p) (number_of e) l (post.is h L (k.put σ p) f (w.at_put σ p));
+        then = tt;
+      }
+
+    pub nodes_end : i ≤ n → n ≤ i → PostNodes k image N start n σ₀ (Ok tt) σ
+    nodes_end l m = record {
+      is = λ h L p f y. v.is h L p f y ∙ records_end image h L (k.make image h L) k.size i s n (k.put σ p) m;
+      then = record { wf = v.grown.wf; ext = v.grown.ext; count = v.grown.count ∙ ap (max σ₀.count) {x = i} {y = n} (omega arith) };
+    }
 
 -- ---- packet nodes
 
-module _ (image : List ℕ) (N i s : ℕ) (t : List ℕ) (n : ℕ) where
-  -- its block is refused
-  pub node_blocked : {l : Result Unit Refusal} {e : Refusal} → Entered image s 2 l → l ≡ Err e → PostNode image N i s t n (Err e) t
-  node_blocked {l} {e} v q = record {
-    is = λ h L p f y. ap (λ (o : Outcome RunState ℕ). after o (λ _. Read.node image h L i s)) (v h L p ∙ ap (λ (l : Result Unit Refusal). entered_by l p) q);
-    then = tt;
-  }
+module _ (image : List ℕ) (N i s : ℕ) (σ : Table) where
+  packets_at : (c : Step Table ℕ) (r : Result Unit Refusal) (τ : Table) (p : RunState) → p.tables.sets ≡ σ → c σ ≡ outcome (λ _. 2 * i + 2) r τ
+      → on_tables (on_sets c) p ≡ outcome (λ _. 2 * i + 2) r (packets.put τ p)
+  packets_at c (Ok u) τ p y e = ap (λ (o : Outcome Table ℕ). on_tables (on_sets (λ _. o)) p) (ap c y ∙ e)
+  packets_at c (Err x) τ p y e = ap (λ (o : Outcome Table ℕ). on_tables (on_sets (λ _. o)) p) (ap c y ∙ e)
 
-  pub node_read : {l : Result Unit Refusal} {x0 x1 : ℕ} (r : Result ℕ Refusal) (t' : List ℕ) → PreNode N t n i → Entered image s 2 l → l ≡ Ok tt → x0 ≡ word_of image s → x1 ≡ word_of image (s + 1)
-      → Records.node N i x0 x1 (table t n) ≡ made_by (2 * i + 2) r t' → PostNode image N i s t n r t'
-  node_read {l} {x0} {x1} r t' v e q a b m = record {
-    is = λ h L p f y.
-        ap (λ (o : Outcome RunState ℕ). after o (λ _. Read.node image h L i s)) (e h L p ∙ ap (λ (l : Result Unit Refusal). entered_by l p) q)
-        ∙ ap (λ (M : ℕ). on_tables (on_sets (Records.node M i (word_of image s) (word_of image (s + 1)))) p) f
-        ∙ on_sets_lem (Records.node N i (word_of image s) (word_of image (s + 1))) (2 * i + 2) r t' p y words;
-    then = node_leaves N t n i (word_of image s) (word_of image (s + 1)) r t' v.wf words;
-  }
-    where
-      words : Records.node N i (word_of image s) (word_of image (s + 1)) (table t n) ≡ made_by (2 * i + 2) r t'
-      words = ap (λ (x : ℕ). Records.node N i x (word_of image (s + 1)) (table t n)) (sym a) ∙ ap (λ (x : ℕ). Records.node N i x0 x (table t n)) (sym b) ∙ m
+  node_grown : (x0 x1 : ℕ) (r : Result Unit Refusal) (τ : Table) → SpWf.Wf N σ → Records.node N i x0 x1 σ ≡ outcome (λ _. 2 * i + 2) r τ → OnOk r (Grown packets N σ (max σ.count (i + 1)) τ)
+  node_grown x0 x1 (Ok u) τ w e = let g : NodeMade N i x0 x1 σ τ (2 * i + 2) = node_goes N i x0 x1 σ w e in record { wf = g.wf; ext = g.ext; count = g.count }
+  node_grown x0 x1 (Err x) τ w e = tt
 
--- i of k packet nodes are read
-pub record NodesAt (image : List ℕ) (N k : ℕ) (t₀ : List ℕ) (n₀ : ℕ) (t : List ℕ) (n i : ℕ) : Type 0 where
-  pub is : (h : Image.Head) (L : Limits) (p : RunState) → h.fields ≡ N → p.tables.sets ≡ table t₀ n₀
-      → records image h L (Read.node image h L) 2 0 0 k p ≡ records image h L (Read.node image h L) 2 i (2 * i) (k - i) (with_sets (table t n) p)
-  pub grown : Grown N (table t₀ n₀) (max n₀ i) (table t n)
-
-module _ (image : List ℕ) (N k : ℕ) (t₀ : List ℕ) (n₀ : ℕ) where
-  pub nodes_begin : PreNode N t₀ n₀ 0 → NodesAt image N k t₀ n₀ t₀ n₀ 0
-  nodes_begin v = record {
-    is = λ h L p f y.
-        ap (λ (m : ℕ). records image h L (Read.node image h L) 2 0 0 m p) {x = k} {y = k - 0} (omega arith)
-        ∙ ap (λ (m : ℕ). records image h L (Read.node image h L) 2 0 m (k - 0) p) {x = 0} {y = 2 * 0} (omega arith)
-        ∙ ap (λ (τ : Table). records image h L (Read.node image h L) 2 0 (2 * 0) (k - 0) (with_sets τ p)) y;
-    grown = record { wf = v.wf; ext = SpLaws.ext_refl (table t₀ n₀); count = omega arith };
-  }
-
-  module _ (t : List ℕ) (n i : ℕ) (w : NodesAt image N k t₀ n₀ t n i) where
-    pub nodes_pre : PreNode N t n i
-    nodes_pre = record { wf = w.grown.wf; near = omega (arith, w.grown.count) }
-
-    module _ (l : i < k) where
-      pub nodes_again : {r : Result ℕ Refusal} {t' : List ℕ} {m : ℕ} → PostNode image N i (2 * i) t n r t' → r ≡ Ok m → NodesAt image N k t₀ n₀ t' m (i + 1)
-      nodes_again {r} {t'} {m} post e =
-          let g : Grown N (table t n) (max n (i + 1)) (table t' m) = subst (λ (r : Result ℕ Refusal). Unless (Grown N (table t n) (max n (i + 1))) r t') e post.then in
-          record {
-            is = λ h L p f y.
-                w.is h L p f y
-                ∙ records_more image h L (Read.node image h L) 2 i (2 * i) (2 * (i + 1)) k (with_sets (table t n) p) (with_sets (table t' m) p) (2 * i + 2) l (omega arith)
-                (post.is h L (with_sets (table t n) p) f refl ∙ ap (λ (r : Result ℕ Refusal). read_by with_sets (2 * i + 2) r t' (with_sets (table t n) p)) e);
-            grown = record { wf = g.wf; ext = SpLaws.ext_trans w.grown.ext g.ext; count = omega (arith, g.count, w.grown.count) };
-          }
-
-      pub nodes_stop : {r : Result ℕ Refusal} {t' : List ℕ} {e : Refusal} → PostNode image N i (2 * i) t n r t' → r ≡ Err e → PostNodes image N k t₀ n₀ (Err e) t'
-      nodes_stop {r} {t'} {e} post q = record {
-        is = λ h L p f y.
-            w.is h L p f y
-            ∙ records_stop image h L (Read.node image h L) 2 i (2 * i) k (with_sets (table t n) p) (number_of e) l
-            (post.is h L (with_sets (table t n) p) f refl ∙ ap (λ (r : Result ℕ Refusal). read_by with_sets (2 * i + 2) r t' (with_sets (table t n) p)) q);
-        then = tt;
-      }
-
-    pub nodes_end : i ≡ k → PostNodes image N k t₀ n₀ (Ok n) t
-    nodes_end l = record {
-      is = λ h L p f y. w.is h L p f y ∙ records_end image h L (Read.node image h L) 2 i (2 * i) k (with_sets (table t n) p) (omega arith);
-      then = record { wf = w.grown.wf; ext = w.grown.ext; count = w.grown.count ∙ ap (max n₀) {x = i} {y = k} l };
-    }
+  pub packet_read : {l r : Result Unit Refusal} {τ : Table} {x0 x1 : ℕ} → PreNode packets N σ i → Entered image s 2 l → l ≡ Ok tt → x0 ≡ word_of image s → x1 ≡ word_of image (s + 1)
+      → Records.node N i x0 x1 σ ≡ outcome (λ _. 2 * i + 2) r τ → PostNode packets image N i s σ r τ
+  packet_read {r = r} {τ = τ} v e q a b m =
+      let words : Records.node N i (word_of image s) (word_of image (s + 1)) σ ≡ outcome (λ _. 2 * i + 2) r τ = ap₂ (λ (x y : ℕ). Records.node N i x y σ) (sym a) (sym b) ∙ m in
+      node_read packets image N i s σ r τ e q
+      (λ h L p f y.
+      ap (λ (M : ℕ). on_tables (on_sets (Records.node M i (word_of image s) (word_of image (s + 1)))) p) f
+      ∙ packets_at (Records.node N i (word_of image s) (word_of image (s + 1))) r τ p y words)
+      (node_grown (word_of image s) (word_of image (s + 1)) r τ v.wf words)
 
 -- ---- relation nodes
 
-module _ (image : List ℕ) (N i s : ℕ) (t : List ℕ) (n : ℕ) where
+module _ (image : List ℕ) (N i s : ℕ) (σ : Table) where
   abbrev X : Spp.Quad
   X = Spp.quad (word_of image s) (word_of image (s + 1)) (word_of image (s + 2)) (word_of image (s + 3))
 
-  pub relation_blocked : {l : Result Unit Refusal} {e : Refusal} → Entered image s 4 l → l ≡ Err e → PostRelation image N i s t n (Err e) t
-  relation_blocked {l} {e} v q = record {
-    is = λ h L p f y. ap (λ (o : Outcome RunState ℕ). after o (λ _. Read.relation image h L i s)) (v h L p ∙ ap (λ (l : Result Unit Refusal). entered_by l p) q);
-    then = tt;
-  }
+  relations_at : (c : Step Table ℕ) (r : Result Unit Refusal) (τ : Table) (p : RunState) → p.tables.base.aut.nodes ≡ σ → c σ ≡ outcome (λ _. i + 2) r τ
+      → on_tables (on_base (on_aut (on_nodes c))) p ≡ outcome (λ _. i + 2) r (relations.put τ p)
+  relations_at c (Ok u) τ p y e = ap (λ (o : Outcome Table ℕ). on_tables (on_base (on_aut (on_nodes (λ _. o)))) p) (ap c y ∙ e)
+  relations_at c (Err x) τ p y e = ap (λ (o : Outcome Table ℕ). on_tables (on_base (on_aut (on_nodes (λ _. o)))) p) (ap c y ∙ e)
 
-  pub relation_read : {l : Result Unit Refusal} {Y : Spp.Quad} (r : Result ℕ Refusal) (t' : List ℕ) → PreRelation N t n i → Entered image s 4 l → l ≡ Ok tt
+  relation_grown : (Y : Spp.Quad) (r : Result Unit Refusal) (τ : Table) → SppWf.Wf N σ → Records.relation N i Y σ ≡ outcome (λ _. i + 2) r τ → OnOk r (Grown relations N σ (max σ.count (i + 1)) τ)
+  relation_grown Y (Ok u) τ w e = let g : RelationMade N i Y σ τ (i + 2) = relation_goes N i Y σ w e in record { wf = g.wf; ext = g.ext; count = g.count }
+  relation_grown Y (Err x) τ w e = tt
+
+  pub relation_read : {l r : Result Unit Refusal} {τ : Table} {Y : Spp.Quad} → PreNode relations N σ i → Entered image s 4 l → l ≡ Ok tt
       → Y ≡ Spp.quad (word_of image s) (word_of image (s + 1)) (word_of image (s + 2)) (word_of image (s + 3))
-      → Records.relation N i Y (table t n) ≡ made_by (i + 2) r t' → PostRelation image N i s t n r t'
-  relation_read {l} {Y} r t' v e q a m = record {
-    is = λ h L p f y.
-        ap (λ (o : Outcome RunState ℕ). after o (λ _. Read.relation image h L i s)) (e h L p ∙ ap (λ (l : Result Unit Refusal). entered_by l p) q)
-        ∙ ap (λ (M : ℕ). on_tables (on_base (on_aut (on_nodes (Records.relation M i X)))) p) f
-        ∙ on_nodes_lem (Records.relation N i X) (i + 2) r t' p y words;
-    then = relation_leaves N t n i X r t' v.wf words;
-  }
-    where
-      words : Records.relation N i X (table t n) ≡ made_by (i + 2) r t'
-      words = ap (λ (Z : Spp.Quad). Records.relation N i Z (table t n)) (sym a) ∙ m
-
--- i of k relation nodes are read
-pub record RelationsAt (image : List ℕ) (N start k : ℕ) (t₀ : List ℕ) (n₀ : ℕ) (t : List ℕ) (n i : ℕ) : Type 0 where
-  pub is : (h : Image.Head) (L : Limits) (p : RunState) → h.fields ≡ N → p.tables.base.aut.nodes ≡ table t₀ n₀
-      → records image h L (Read.relation image h L) 4 0 start k p ≡ records image h L (Read.relation image h L) 4 i (start + 4 * i) (k - i) (with_nodes (table t n) p)
-  pub grown : GrownR N (table t₀ n₀) (max n₀ i) (table t n)
-
-module _ (image : List ℕ) (N start k : ℕ) (t₀ : List ℕ) (n₀ : ℕ) where
-  pub relations_begin : PreRelation N t₀ n₀ 0 → RelationsAt image N start k t₀ n₀ t₀ n₀ 0
-  relations_begin v = record {
-    is = λ h L p f y.
-        ap (λ (m : ℕ). records image h L (Read.relation image h L) 4 0 start m p) {x = k} {y = k - 0} (omega arith)
-        ∙ ap (λ (m : ℕ). records image h L (Read.relation image h L) 4 0 m (k - 0) p) {x = start} {y = start + 4 * 0} (omega arith)
-        ∙ ap (λ (τ : Table). records image h L (Read.relation image h L) 4 0 (start + 4 * 0) (k - 0) (with_nodes τ p)) y;
-    grown = record { wf = v.wf; ext = SppLaws.ext_refl (table t₀ n₀); count = omega arith };
-  }
-
-  module _ (t : List ℕ) (n i : ℕ) (w : RelationsAt image N start k t₀ n₀ t n i) where
-    pub relations_pre : PreRelation N t n i
-    relations_pre = record { wf = w.grown.wf; near = omega (arith, w.grown.count) }
-
-    module _ (l : i < k) where
-      pub relations_again : {r : Result ℕ Refusal} {t' : List ℕ} {m : ℕ} → PostRelation image N i (start + 4 * i) t n r t' → r ≡ Ok m → RelationsAt image N start k t₀ n₀ t' m (i + 1)
-      relations_again {r} {t'} {m} post e =
-          let g : GrownR N (table t n) (max n (i + 1)) (table t' m) = subst (λ (r : Result ℕ Refusal). Unless (GrownR N (table t n) (max n (i + 1))) r t') e post.then in
-          record {
-            is = λ h L p f y.
-                w.is h L p f y
-                ∙ records_more image h L (Read.relation image h L) 4 i (start + 4 * i) (start + 4 * (i + 1)) k (with_nodes (table t n) p) (with_nodes (table t' m) p) (i + 2) l (omega arith)
-                (post.is h L (with_nodes (table t n) p) f refl ∙ ap (λ (r : Result ℕ Refusal). read_by with_nodes (i + 2) r t' (with_nodes (table t n) p)) e);
-            grown = record { wf = g.wf; ext = SppLaws.ext_trans w.grown.ext g.ext; count = omega (arith, g.count, w.grown.count) };
-          }
-
-      pub relations_stop : {r : Result ℕ Refusal} {t' : List ℕ} {e : Refusal} → PostRelation image N i (start + 4 * i) t n r t' → r ≡ Err e → PostRelations image N start k t₀ n₀ (Err e) t'
-      relations_stop {r} {t'} {e} post q = record {
-        is = λ h L p f y.
-            w.is h L p f y
-            ∙ records_stop image h L (Read.relation image h L) 4 i (start + 4 * i) k (with_nodes (table t n) p) (number_of e) l
-            (post.is h L (with_nodes (table t n) p) f refl ∙ ap (λ (r : Result ℕ Refusal). read_by with_nodes (i + 2) r t' (with_nodes (table t n) p)) q);
-        then = tt;
-      }
-
-    pub relations_end : i ≡ k → PostRelations image N start k t₀ n₀ (Ok n) t
-    relations_end l = record {
-      is = λ h L p f y. w.is h L p f y ∙ records_end image h L (Read.relation image h L) 4 i (start + 4 * i) k (with_nodes (table t n) p) (omega arith);
-      then = record { wf = w.grown.wf; ext = w.grown.ext; count = w.grown.count ∙ ap (max n₀) {x = i} {y = k} l };
-    }
+      → Records.relation N i Y σ ≡ outcome (λ _. i + 2) r τ → PostNode relations image N i s σ r τ
+  relation_read {r = r} {τ = τ} v e q a m =
+      let words : Records.relation N i X σ ≡ outcome (λ _. i + 2) r τ = ap (λ (Z : Spp.Quad). Records.relation N i Z σ) (sym a) ∙ m in
+      node_read relations image N i s σ r τ e q
+      (λ h L p f y.
+      ap (λ (M : ℕ). on_tables (on_base (on_aut (on_nodes (Records.relation M i X)))) p) f
+      ∙ relations_at (Records.relation N i X) r τ p y words)
+      (relation_grown X r τ v.wf words)

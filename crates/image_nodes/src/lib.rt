@@ -1,12 +1,15 @@
 // 02 (ii), "each record again by its constructor .. and wants the same number": packet nodes and relation nodes read from an image.
 #![tactic(auto)]
 
-ghost use Rattle.std.specs.Prelude.{◌≡◌, ◌+◌, ◌*◌};
-ghost use Rattle.common.specs.Runs.{table};
-ghost use Rattle.spp.specs.Clauses.{quad_of};
+ghost use Rattle.std.specs.Prelude.{◌≡◌, ◌+◌, ◌*◌, ◌/◌, ◌≤◌, ◌<◌, length};
+ghost use Rattle.sp.specs.Clauses as Sp;
+ghost use Rattle.sp_steps.specs.Wf as SpWf;
+ghost use Rattle.spp.specs.Clauses as Spp;
+ghost use Rattle.spp_steps.specs.Wf as SppWf;
 ghost use Rattle.image_steps.specs.Records as Records;
 ghost use Rattle.image_words.specs.Clauses.{Reaches};
 ghost use Rattle.image_nodes.specs.Clauses as Its;
+ghost use Rattle.refusal.specs.Numbers.{outcome};
 
 use refusal::Refusal;
 use sp::{SP, SPstore};
@@ -15,198 +18,142 @@ use spp::{SPP, SPPnode, SPPstore};
 // ---- packet nodes
 
 // the depth of a handle, by first children, as far as n
-pub fn depth_of(sp: &[u32], n: u32, h: u32) -> u32
-    requires { Its.Inside sp.now h }
-    ensures { result ≡ Records.depth_of sp.now n h }
+pub fn depth_of(sets: &SPstore, n: u32, h: u32) -> u32
+    requires fits { 2 * sets.now.count ≤ length sets.now.nodes.now }
+    requires rising { SpWf.Rising sets.now.nodes.now sets.now.count }
+    requires within { h / 2 ≤ sets.now.count }
+    ensures { result ≡ Records.depth_of sets.now.nodes.now n h }
 {
     let mut x = h;
     for d in 0..n {
         if x < 2 {
             return d;
         }
-        let i = (x / 2 - 1) as usize;
-        x = sp[2 * i];
+        x = sets.nodes[2 * (x / 2 - 1) as usize];
     }
     n
 }
 
 // children of nodes before i (or 0, 1), of one depth below the fields, the left one even
-fn children_fit(sp: &[u32], fields: u32, i: usize, x0: u32, x1: u32) -> bool
-    requires { Its.Held fields sp.now i }
-    ensures { Its.children_fit fields sp.now i x0 x1 ≡ result }
+fn children_fit(sets: &SPstore, fields: u32, i: usize, x0: u32, x1: u32) -> bool
+    requires { Its.PreNode Its.packets fields (Sp.store_of sets.now) i }
+    ensures { Its.children_fit fields sets.now.nodes.now i x0 x1 ≡ result }
 {
-    if i < (x0 / 2) as usize {
+    if i < (x0 / 2) as usize || i < (x1 / 2) as usize || x0 % 2 != 0 {
         return false;
     }
-    if i < (x1 / 2) as usize {
-        return false;
-    }
-    if x0 % 2 != 0 {
-        return false;
-    }
-    let d = depth_of(sp, fields, x0);
-    let e = depth_of(sp, fields, x1);
-    if fields <= d {
-        return false;
-    }
-    if d != e {
-        return false;
-    }
-    true
+    let d = depth_of(sets, fields, x0);
+    let e = depth_of(sets, fields, x1);
+    d < fields && d == e
 }
 
 // packet node i with these children: found there, or made
-fn make_node(
-    sp: &mut [u32],
-    fields: u32,
-    count: usize,
-    i: usize,
-    x0: u32,
-    x1: u32,
-) -> Result<usize, Refusal>
-    requires { Its.PreNode fields sp.old count i }
-    ensures { Records.node fields i x0 x1 (table sp.old count) ≡ Its.made_by (2 * i + 2) result
-        sp.new }
+fn make_node(sets: &mut SPstore, fields: u32, i: usize, x0: u32, x1: u32) -> Result<(), Refusal>
+    requires { Its.PreNode Its.packets fields (Sp.store_of sets.old) i }
+    ensures same_table { sets.new.nodes.ghost_name ≡ sets.old.nodes.ghost_name }
+    ensures gives { Records.node fields i x0 x1 (Sp.store_of sets.old) ≡ outcome (λ _. 2 * i + 2) result
+        (Sp.store_of sets.new) }
 {
-    if !children_fit(sp, fields, i, x0, x1) {
+    if !children_fit(sets, fields, i, x0, x1) {
         return Err(Refusal::Record);
     }
-    let mut sets = SPstore { nodes: sp, count };
-    let Ok(h) = sets.mk(SP(x0), SP(x1)) else {
-        if i < count {
-            return Err(Refusal::Record);
-        }
-        return Err(Refusal::Sp);
-    };
-    if h.0 as usize != 2 * i + 2 {
-        return Err(Refusal::Record);
+    // only for the next node there may be no room
+    let next = i >= sets.count;
+    match sets.mk(SP(x0), SP(x1)) {
+        Ok(h) if h.0 as usize == 2 * i + 2 => Ok(()),
+        Err(_) if next => Err(Refusal::Sp),
+        _ => Err(Refusal::Record),
     }
-    Ok(sets.count)
 }
 
 // the record of packet node i, from word s on; first the block that it reaches
 pub fn read_node(
     image: &[u8],
-    sp: &mut [u32],
+    sets: &mut SPstore,
     fields: u32,
-    count: usize,
     i: usize,
     s: usize,
-) -> Result<usize, Refusal>
-    requires { Its.PreNode fields sp.old count i × Reaches image.now (s + 2) }
-    ensures { Its.PostNode image.now fields i s sp.old count result sp.new }
+) -> Result<(), Refusal>
+    requires { Its.PreNode Its.packets fields (Sp.store_of sets.old) i × Reaches image.now (s + 2) }
+    ensures same_table { sets.new.nodes.ghost_name ≡ sets.old.nodes.ghost_name }
+    ensures gives { Its.PostNode Its.packets image.now fields i s (Sp.store_of sets.old) result (Sp.store_of sets.new) }
 {
     image_words::enter(image, s, 2)?;
     let x0 = image_words::word(image, s);
     let x1 = image_words::word(image, s + 1);
-    make_node(sp, fields, count, i, x0, x1)
+    make_node(sets, fields, i, x0, x1)
 }
 
-// k packet nodes, from word 0 on; how many nodes there are then
-pub fn read_nodes(
-    image: &[u8],
-    sp: &mut [u32],
-    fields: u32,
-    count: usize,
-    k: usize,
-) -> Result<usize, Refusal>
-    requires { Its.PreNode fields sp.old count 0 × Reaches image.now (2 * k) }
-    ensures { Its.PostNodes image.now fields k sp.old count result sp.new }
+// k packet nodes, from word 0 on
+pub fn read_nodes(image: &[u8], sets: &mut SPstore, fields: u32, k: usize) -> Result<(), Refusal>
+    requires { Its.PreNode Its.packets fields (Sp.store_of sets.old) 0 × Reaches image.now (2 * k) }
+    ensures same_table { sets.new.nodes.ghost_name ≡ sets.old.nodes.ghost_name }
+    ensures gives { Its.PostNodes Its.packets image.now fields 0 k (Sp.store_of sets.old) result (Sp.store_of sets.new) }
 {
-    let mut n = count;
     for i in 0..k {
-        n = read_node(image, sp, fields, n, i, 2 * i)?;
+        read_node(image, sets, fields, i, 2 * i)?;
     }
-    Ok(n)
+    Ok(())
 }
 
 // ---- relation nodes
 
-pub fn relation_depth(nodes: &[u32], n: u32, h: u32) -> u32
-    requires { Its.InsideR nodes.now h }
-    ensures { result ≡ Records.depth_of_r nodes.now n h }
+pub fn relation_depth(relations: &SPPstore, n: u32, h: u32) -> u32
+    requires fits { 4 * relations.now.count ≤ length relations.now.nodes.now }
+    requires rising { SppWf.Rising relations.now.nodes.now relations.now.count }
+    requires within { h < relations.now.count + 2 }
+    ensures { result ≡ Records.depth_of_r relations.now.nodes.now n h }
 {
     let mut x = h;
     for d in 0..n {
         if x < 2 {
             return d;
         }
-        let i = (x - 2) as usize;
-        x = nodes[4 * i];
+        x = relations.nodes[4 * (x - 2) as usize];
     }
     n
 }
 
 // a handle of a node before i, or 0 or 1, of depth d
-fn kid_fits(nodes: &[u32], fields: u32, i: usize, d: u32, x: u32) -> bool
-    requires { Its.HeldR fields nodes.now i }
-    ensures { Records.kid_fits fields nodes.now i d x ≡ result }
+fn kid_fits(relations: &SPPstore, i: usize, d: u32, x: SPP) -> bool
+    requires { Its.PreNode Its.relations relations.now.fields (Spp.store_of relations.now) i }
+    ensures { Records.kid_fits relations.now.fields relations.now.nodes.now i d x.0 ≡ result }
 {
-    if i + 2 <= x as usize {
-        return false;
-    }
-    let e = relation_depth(nodes, fields, x);
-    if e != d {
-        return false;
-    }
-    true
+    (x.0 as usize) < i + 2 && relation_depth(relations, relations.fields, x.0) == d
 }
 
 // children of nodes before i (or 0, 1), of one depth below the fields
-fn quad_fits(nodes: &[u32], fields: u32, i: usize, x: SPPnode) -> bool
-    requires { Its.HeldR fields nodes.now i }
-    ensures { Its.quad_fits fields nodes.now i (quad_of x) ≡ result }
+fn quad_fits(relations: &SPPstore, i: usize, x: SPPnode) -> bool
+    requires { Its.PreNode Its.relations relations.now.fields (Spp.store_of relations.now) i }
+    ensures { Its.quad_fits relations.now.fields relations.now.nodes.now i (Spp.quad_of x) ≡ result }
 {
-    let first = x.x00.0;
-    if i + 2 <= first as usize {
+    if x.x00.0 as usize >= i + 2 {
         return false;
     }
-    let d = relation_depth(nodes, fields, first);
-    if fields <= d {
-        return false;
-    }
-    if !kid_fits(nodes, fields, i, d, x.x01.0) {
-        return false;
-    }
-    if !kid_fits(nodes, fields, i, d, x.x10.0) {
-        return false;
-    }
-    if !kid_fits(nodes, fields, i, d, x.x11.0) {
-        return false;
-    }
-    true
+    let d = relation_depth(relations, relations.fields, x.x00.0);
+    d < relations.fields
+        && kid_fits(relations, i, d, x.x01)
+        && kid_fits(relations, i, d, x.x10)
+        && kid_fits(relations, i, d, x.x11)
 }
 
 // relation node i with these children: found there, or made
-fn make_relation(
-    nodes: &mut [u32],
-    fields: u32,
-    count: usize,
-    i: usize,
-    x: SPPnode,
-) -> Result<usize, Refusal>
-    requires { Its.PreRelation fields nodes.old count i }
-    ensures { Records.relation fields i (quad_of x) (table nodes.old count) ≡ Its.made_by (i + 2) result
-        nodes.new }
+fn make_relation(relations: &mut SPPstore, i: usize, x: SPPnode) -> Result<(), Refusal>
+    requires { Its.PreNode Its.relations relations.old.fields (Spp.store_of relations.old) i }
+    ensures same_store { Spp.SameStore relations.old relations.new }
+    ensures gives { Records.relation relations.old.fields i (Spp.quad_of x) (Spp.store_of relations.old) ≡ outcome (λ _. i + 2) result
+        (Spp.store_of relations.new) }
 {
-    if !quad_fits(nodes, fields, i, x) {
+    if !quad_fits(relations, i, x) {
         return Err(Refusal::Record);
     }
-    let mut relations = SPPstore {
-        nodes,
-        count,
-        fields,
-    };
-    let Ok(h) = relations.mk(x) else {
-        if i < count {
-            return Err(Refusal::Record);
-        }
-        return Err(Refusal::Spp);
-    };
-    if h.0 as usize != i + 2 {
-        return Err(Refusal::Record);
+    // only for the next node there may be no room
+    let next = i >= relations.count;
+    match relations.mk(x) {
+        Ok(h) if h.0 as usize == i + 2 => Ok(()),
+        Err(_) if next => Err(Refusal::Spp),
+        _ => Err(Refusal::Record),
     }
-    Ok(relations.count)
 }
 
 // the children of the record from word s on
@@ -225,37 +172,34 @@ fn quad_at(image: &[u8], s: usize) -> SPPnode
 // the record of relation node i, from word s on; first the block that it reaches
 pub fn read_relation(
     image: &[u8],
-    nodes: &mut [u32],
-    fields: u32,
-    count: usize,
+    relations: &mut SPPstore,
     i: usize,
     s: usize,
-) -> Result<usize, Refusal>
-    requires { Its.PreRelation fields nodes.old count i × Reaches image.now (s + 4) }
-    ensures { Its.PostRelation image.now fields i s nodes.old count result
-        nodes.new }
+) -> Result<(), Refusal>
+    requires { Its.PreNode Its.relations relations.old.fields (Spp.store_of relations.old) i × Reaches image.now (s + 4) }
+    ensures same_store { Spp.SameStore relations.old relations.new }
+    ensures gives { Its.PostNode Its.relations image.now relations.old.fields i s (Spp.store_of relations.old) result
+        (Spp.store_of relations.new) }
 {
     image_words::enter(image, s, 4)?;
     let x = quad_at(image, s);
-    make_relation(nodes, fields, count, i, x)
+    make_relation(relations, i, x)
 }
 
-// k relation nodes, from word `start` on; how many nodes there are then
+// k relation nodes, from word `start` on
 pub fn read_relations(
     image: &[u8],
-    nodes: &mut [u32],
-    fields: u32,
-    count: usize,
+    relations: &mut SPPstore,
     start: usize,
     k: usize,
-) -> Result<usize, Refusal>
-    requires { Its.PreRelation fields nodes.old count 0 × Reaches image.now (start + 4 * k) }
-    ensures { Its.PostRelations image.now fields start k nodes.old count result
-        nodes.new }
+) -> Result<(), Refusal>
+    requires { Its.PreNode Its.relations relations.old.fields (Spp.store_of relations.old) 0 × Reaches image.now (start + 4 * k) }
+    ensures same_store { Spp.SameStore relations.old relations.new }
+    ensures gives { Its.PostNodes Its.relations image.now relations.old.fields start k (Spp.store_of relations.old) result
+        (Spp.store_of relations.new) }
 {
-    let mut n = count;
     for i in 0..k {
-        n = read_relation(image, nodes, fields, n, i, start + 4 * i)?;
+        read_relation(image, relations, i, start + 4 * i)?;
     }
-    Ok(n)
+    Ok(())
 }

@@ -1,14 +1,13 @@
 -- Members and lines, one record after the other, block by block.
 use Rattle.std.specs.Prelude.{if◌then◌else◌, Result, Ok, Err}
-use mathlib.Core.Path.{◌≡◌, refl, sym, ◌∙◌, ap, subst}
+use mathlib.Core.Path.{◌≡◌, refl, sym, ◌∙◌, ap, ap₂, subst}
 use mathlib.Core.Bool.{Bool}
 use mathlib.Core.List.{List, [], ◌∷◌, ◌++◌}
-use mathlib.Core.Option.{Option, some}
+use mathlib.Core.Option.{Option, none, some}
 use Prim.Native.Nat.{ℕ, zero, suc, ◌+◌, ◌-◌, ◌≤◌, ◌<◌}
 use native.Mathlib.Omega.{arith}
 use lib.Dec.{leb}
-use lib.ListN.{length, get_or, set, length-set}
-use lib.Seq.{get_or-set_other}
+use lib.ListN.{length, get_or, set}
 use borrow.Author.Tests.{le-leb, lt-leb}
 use Rattle.common.specs.Outcome.{Outcome, refused, given, Step, after, ◌>>=◌}
 use Rattle.aut_steps.specs.Tables.{Limits}
@@ -21,9 +20,11 @@ use Rattle.image_steps.specs.Read as Read
 use Rattle.image_steps.specs.Read.{records, line_of}
 use Rattle.image_words.specs.Clauses.{word_of, entered_by, Entered}
 use Rattle.image_nodes.proofs.Rows.{turn_at, records_more, records_stop, records_end}
-use Rattle.book_place.specs.Clauses.{LINES, stands_for, lines_of, Below}
-use Rattle.book_place.proofs.Scratch.{lines_set, below_more, line_beyond}
-use Rattle.image_read.specs.Clauses.{PostMembers, lined_by, WithinBy, PostLine, PreLines, PostLines}
+use Rattle.book_memory.specs.declared.Lines.{Lines}
+use Rattle.book_memory.specs.Place.{stands_for, lines_of, Below}
+use Rattle.book_memory.proofs.Table.{lines_set, below_more}
+use Rattle.image_read.specs.Clauses.{PostMembers, PostLine, PreLines, lines_at, PostLines}
+use Rattle.image_read.proofs.Constants.{no_lines}
 
 -- a step more, behind two
 pub after_both : (o : Outcome RunState ℕ) (f k : Step RunState ℕ) → after o (λ _ p. after (f p) (λ _. k)) ≡ after (after o (λ _. f)) (λ _. k)
@@ -90,65 +91,54 @@ stands_below : (w n x : ℕ) → w ≤ n → stands_for w ≡ some x → x < n
 stands_below zero n x l e = absurd (let z : ◌≡◌ {A = ℕ} 0 1 = cc in omega arith)
 stands_below (suc y) n x l e = let z : y ≡ x = cc in omega arith
 
-no_lines : (s : List ℕ) → lines_of s 0 ≡ []
-unfolding lines_of
-no_lines s = refl
-
 -- i of k lines are read
-pub record LinesAt (image : List ℕ) (s k states : ℕ) (t₀ t : List ℕ) (i : ℕ) : Type 0 where
-  pub len : length t ≡ length t₀
+pub record LinesAt (image : List ℕ) (s k states : ℕ) (x : Lines) (i : ℕ) (y : Lines) : Type 0 where
+  pub count : y.count ≡ i
   pub is : (h : Image.Head) (L : Limits) (p : RunState) → p.tables.base.aut.states.count ≡ states → p.lines ≡ []
-      → records image h L (Read.line image h L) 1 0 s k p ≡ records image h L (Read.line image h L) 1 i (s + i) (k - i) (place p.tables (lines_of t i) p.output)
-  pub kept : (j : ℕ) → LINES + i ≤ j → get_or t j 0 ≡ get_or t₀ j 0
-  pub named : Below states (lines_of t i)
+      → records image h L (Read.line image h L) 1 0 s k p ≡ records image h L (Read.line image h L) 1 i (s + i) (k - i) (place p.tables (lines_at y) p.output)
+  pub named : Below states (lines_at y)
 
-module _ (image : List ℕ) (s k states : ℕ) (t₀ : List ℕ) where
-  pub lines_begin : LinesAt image s k states t₀ t₀ 0
+module _ (image : List ℕ) (s k states : ℕ) (x : Lines) (P : PreLines image x s k) where
+  pub lines_begin : LinesAt image s k states x 0 x
   lines_begin = record {
-    len = refl;
+    count = P.none;
     is = λ h L p y z.
         ap (λ (m : ℕ). records image h L (Read.line image h L) 1 0 s m p) {x = k} {y = k - 0} (omega arith)
         ∙ ap (λ (m : ℕ). records image h L (Read.line image h L) 1 0 m (k - 0) p) {x = s} {y = s + 0} (omega arith)
-        ∙ ap (λ (ls : List (Option ℕ)). records image h L (Read.line image h L) 1 0 (s + 0) (k - 0) (place p.tables ls p.output)) (z ∙ sym (no_lines t₀));
-    kept = λ j l. refl;
-    named = λ a x e. absurd (let q = sym (line_beyond t₀ 0 a (omega arith)) ∙ e in let z : ◌≡◌ {A = ℕ} 0 1 = cc in omega arith);
+        ∙ ap (λ (ls : List (Option ℕ)). records image h L (Read.line image h L) 1 0 (s + 0) (k - 0) (place p.tables ls p.output)) (z ∙ sym (no_lines x.words.now P.none));
+    named = λ a x' e. absurd (let q = sym (ap (λ (ls : List (Option ℕ)). get_or ls a none) (no_lines x.words.now P.none)) ∙ e in let z : ◌≡◌ {A = ℕ} 0 1 = cc in omega arith);
   }
 
-  module _ (t : List ℕ) (i : ℕ) (v : LinesAt image s k states t₀ t i) where
-    module _ (l : i < k) {r : Result ℕ Refusal} (post : PostLine image (s + i) states r) where
-      at : (p : RunState) → RunState
-      at p = place p.tables (lines_of t i) p.output
+  module _ (y : Lines) (i : ℕ) (v : LinesAt image s k states x i y) where
+    at : (p : RunState) → RunState
+    at p = place p.tables (lines_at y) p.output
 
-      pub lines_stop : {e : Refusal} → r ≡ Err e → PostLines image s k states (Err e) t₀ t
+    module _ (l : i < k) where
+      pub lines_stop : {e : Refusal} → PostLine image (s + i) states (Err e) → PostLines image s k states (Err e) y
       unfolding at
-      lines_stop {e} q = record {
-        is = λ h L p y z. v.is h L p y z
-            ∙ records_stop image h L (Read.line image h L) 1 i (s + i) k (at p) (number_of e) l (post.is h L i (at p) y ∙ ap (λ (x : Result ℕ Refusal). lined_by x (at p)) q);
-        kept = λ j m. v.kept j (omega arith);
-        named = tt;
+      lines_stop {e} post = record {
+        is = λ h L p u z. v.is h L p u z ∙ records_stop image h L (Read.line image h L) 1 i (s + i) k (at p) (number_of e) l (post.is h L i (at p) u);
+        then = tt;
       }
 
-      pub lines_again : {w : ℕ} → PreLines image t₀ s k → r ≡ Ok w → LinesAt image s k states t₀ (set t (LINES + i) w) (i + 1)
+      pub lines_again : {w : ℕ} → PostLine image (s + i) states (Ok w) → length y.words.now ≡ length x.words.now
+          → {z : Lines} → z.words.now ≡ set y.words.now y.count w → z.count ≡ y.count + 1 → LinesAt image s k states x (i + 1) z
       unfolding at
-      lines_again {w} P q =
-          let room : LINES + i < length t = omega (arith, v.len, P.few, P.room) in
-          let more : lines_of (set t (LINES + i) w) (i + 1) ≡ lines_of t i ++ stands_for w ∷ [] = ap (lines_of (set t (LINES + i) w)) {x = i + 1} {y = suc i} (omega arith) ∙ lines_set t i w room in
-          let low : w ≤ states = subst (WithinBy states) q post.within in
+      lines_again {w} post len {z} e f =
+          let more : lines_at z ≡ lines_at y ++ stands_for w ∷ []
+          = ap₂ lines_of e f ∙ ap (lines_of (set y.words.now y.count w)) {x = y.count + 1} {y = suc y.count} (omega arith) ∙ lines_set y.words.now y.count w (omega (arith, len, P.room, v.count)) in
+          let low : w ≤ states = post.within in
           record {
-            len = length-set t (LINES + i) w ∙ v.len;
-            is = λ h L p y z. v.is h L p y z
-                ∙ records_more image h L (Read.line image h L) 1 i (s + i) (s + (i + 1)) k (at p) (place p.tables (lines_of t i ++ line_of w ∷ []) p.output) 0 l (omega arith)
-                (post.is h L i (at p) y ∙ ap (λ (x : Result ℕ Refusal). lined_by x (at p)) q)
+            count = omega (arith, f, v.count);
+            is = λ h L p u t. v.is h L p u t
+                ∙ records_more image h L (Read.line image h L) 1 i (s + i) (s + (i + 1)) k (at p) (place p.tables (lines_at y ++ line_of w ∷ []) p.output) 0 l (omega arith) (post.is h L i (at p) u)
                 ∙ ap (λ (ls : List (Option ℕ)). records image h L (Read.line image h L) 1 (i + 1) (s + (i + 1)) (k - (i + 1)) (place p.tables ls p.output))
-                (ap (λ (o : Option ℕ). lines_of t i ++ o ∷ []) (line_stands w) ∙ sym more);
-            kept = λ j m. get_or-set_other t (LINES + i) j w 0 (λ e. omega arith) ∙ v.kept j (omega arith);
-            named = subst (Below states) (sym more) (below_more (lines_of t i) v.named (omega arith) (stands_for w) (λ x e. stands_below w states x low e));
+                (ap (λ (o : Option ℕ). lines_at y ++ o ∷ []) (line_stands w) ∙ sym more);
+            named = subst (Below states) (sym more) (below_more (lines_at y) v.named (omega arith) (stands_for w) (λ x e. stands_below w states x low e));
           }
 
-    pub lines_end : i ≡ k → PostLines image s k states (Ok tt) t₀ t
-    lines_end e =
-        record {
-          is = λ h L p y z. v.is h L p y z ∙ records_end image h L (Read.line image h L) 1 i (s + i) k (place p.tables (lines_of t i) p.output) (omega arith) ∙ ap (λ (j : ℕ). given (place p.tables (lines_of t j) p.output) 0) e;
-          kept = λ j m. v.kept j (omega arith);
-          named = subst (λ (j : ℕ). Below states (lines_of t j)) e v.named;
-        }
+    pub lines_end : i ≡ k → PostLines image s k states (Ok tt) y
+    lines_end e = record {
+      is = λ h L p u z. v.is h L p u z ∙ records_end image h L (Read.line image h L) 1 i (s + i) k (place p.tables (lines_at y) p.output) (omega arith);
+      then = record { count = v.count ∙ e; named = v.named };
+    }

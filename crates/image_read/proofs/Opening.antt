@@ -20,7 +20,7 @@ use Rattle.image_steps.specs.Image as Image
 use Rattle.image_steps.specs.Read.{head_at, head_fits, fresh, then_records, from_head, if_verified, read}
 use Rattle.image_words.specs.declared.Head.{Head}
 use Rattle.image_words.specs.Clauses.{head_of, PostHead}
-use Rattle.book_place.specs.declared.Setting.{Setting}
+use Rattle.book_memory.specs.declared.Setting.{Setting}
 use Rattle.book_begin.specs.Clauses.{setting_for}
 use Rattle.image_read.specs.Clauses.{setting_at, PostOpen}
 

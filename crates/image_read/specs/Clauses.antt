@@ -1,28 +1,31 @@
 -- 02 (ii), "Reading makes a new book's constants, then each record again by its constructor": what the parts of reading an image ask and promise, in the words of image_steps/specs/Read.
-use Rattle.std.specs.Prelude.{◌≡◌, Bool, true, ◌&&◌, List, [], ◌∷◌, ◌++◌, Result, Ok, Err, ℕ, ◌+◌, ◌*◌, ◌-◌, ◌≤◌, eqb, length, get_or}
+use Rattle.std.specs.Prelude.{◌≡◌, Bool, true, ◌&&◌, List, [], ◌∷◌, ◌++◌, Result, Ok, Err, ℕ, ◌+◌, ◌*◌, ◌-◌, ◌≤◌, eqb, length}
+use Rattle.std.proofs.Math.Option.{Option}
 use Rattle.common.specs.Outcome.{Outcome, refused, given, Step, after, ◌>>=◌}
-use Rattle.common.specs.Runs.{table}
-use Rattle.aut_steps.specs.Tables.{Limits, limits01, aut}
+use Rattle.refusal.specs.declared.Refusal.{Refusal}
+use Rattle.refusal.specs.Numbers.{number_of, outcome}
+use Rattle.aut_steps.specs.Tables.{Limits, limits01}
 use Rattle.aut_steps.specs.Wf.{WfAut}
 use Rattle.aut_steps.specs.Scratch.{Kept}
-use Rattle.aut_delta_steps.specs.Delta.{store}
-use Rattle.aut_query_steps.specs.Tables.{tables, WfTables}
-use Rattle.aut_states.specs.declared.Counts.{Counts}
-use Rattle.aut_relations.specs.Clauses.{aut_of}
-use Rattle.book_steps.specs.Run.{Lent, RunState, place, zeroed}
-use Rattle.refusal.specs.declared.Refusal.{Refusal}
-use Rattle.refusal.specs.Numbers.{number_of}
+use Rattle.aut_query_steps.specs.Tables.{WfTables}
+use Rattle.aut_relations.specs.declared.Aut.{Aut as Lent}
+use Rattle.aut_relations.specs.Behind.{LISTS}
+use Rattle.aut_relations.specs.Lent.{aut_in, Unless}
+use Rattle.aut_query_stage.specs.Lent.{tables_in}
+use Rattle.book_steps.specs.Run as Run
+use Rattle.book_steps.specs.Run.{RunState, place}
+use Rattle.book_memory.specs.declared.Setting.{Setting}
+use Rattle.book_memory.specs.declared.Lines.{Lines}
+use Rattle.book_memory.specs.declared.Place.{Place}
+use Rattle.book_memory.specs.Place.{LINES, lines_of, place_in, lengths_of, Below, Empty, Standing}
+use Rattle.book_begin.specs.declared.Header.{Header}
+use Rattle.book_begin.specs.Clauses.{setting_for}
 use Rattle.image_steps.specs.Image as Image
 use Rattle.image_steps.specs.Image.{layout, start_of, reach, total}
 use Rattle.image_steps.specs.Read as Read
 use Rattle.image_words.specs.declared.Head.{Head}
 use Rattle.image_words.specs.Clauses.{head_of, Small, Reaches, entered_by}
-use Rattle.image_states.specs.Clauses.{put_in, taken_by, TakenBeside}
-use Rattle.book_place.specs.declared.Setting.{Setting}
-use Rattle.book_place.specs.declared.Place.{Place}
-use Rattle.book_place.specs.Clauses.{LINES, WORK, lines_of, Below, Memory, memory, place_of, Standing}
-use Rattle.book_begin.specs.declared.Header.{Header}
-use Rattle.book_begin.specs.Clauses.{setting_for}
+use Rattle.image_states.specs.Clauses.{put_in}
 
 -- ---- block 0
 
@@ -39,7 +42,7 @@ pub record Fitting (image : List ℕ) (h : Head) : Type 0 where
   pub small : Small h
 
 -- the records are still to be read; or the number
-abbrev pub opened_by : Lent → Limits → List ℕ → Result Head Refusal → Outcome RunState ℕ
+abbrev pub opened_by : Run.Lent → Limits → List ℕ → Result Head Refusal → Outcome RunState ℕ
 opened_by lent L image (Ok h) = Read.then_records L image (head_of h) (Read.fresh lent h.fields)
 opened_by lent L image (Err e) = refused (number_of e)
 
@@ -53,33 +56,62 @@ OpensBy image (Ok h) = Opens image h
 OpensBy image (Err e) = Unit
 
 pub record PostOpen (image : List ℕ) (r : Result Head Refusal) : Type 0 where
-  pub is : (lent : Lent) (L : Limits) → Read.read lent L image ≡ opened_by lent L image r
+  pub is : (lent : Run.Lent) (L : Limits) → Read.read lent L image ≡ opened_by lent L image r
   pub then : OpensBy image r
+
+-- ---- what is kept: x before, y after. The same words are lent; what is not said to be written is as it was
+
+-- both tables of nodes are written, and the fields are set
+pub record OnlyNodes (x y : Place) : Type 0 where
+  pub sp : y.aut.sp.nodes.ghost_name ≡ x.aut.sp.nodes.ghost_name
+  pub spp : y.aut.spp.nodes.ghost_name ≡ x.aut.spp.nodes.ghost_name
+  pub states : y.aut.states ≡ x.aut.states
+  pub members : y.aut.members ≡ x.aut.members
+  pub transitions : y.aut.transitions ≡ x.aut.transitions
+  pub pending : y.aut.pending ≡ x.aut.pending
+  pub scratch : y.aut.scratch ≡ x.aut.scratch
+  pub lines : y.lines ≡ x.lines
+  pub output : y.output ≡ x.output
+
+-- the words of the table of lines
+pub record SameLines (x y : Lines) : Type 0 where
+  pub words : y.words.ghost_name ≡ x.words.ghost_name
+  pub length : length y.words.now ≡ length x.words.now
+
+-- states, members, scratch and lines are written
+pub record OnlyRecords (x y : Place) : Type 0 where
+  pub sp : y.aut.sp ≡ x.aut.sp
+  pub spp : y.aut.spp ≡ x.aut.spp
+  pub states : y.aut.states.words.ghost_name ≡ x.aut.states.words.ghost_name
+  pub members : y.aut.members.words.ghost_name ≡ x.aut.members.words.ghost_name
+  pub transitions : y.aut.transitions ≡ x.aut.transitions
+  pub pending : y.aut.pending ≡ x.aut.pending
+  pub scratch : y.aut.scratch.ghost_name ≡ x.aut.scratch.ghost_name
+  pub length : length y.aut.scratch.now ≡ length x.aut.scratch.now
+  pub lines : SameLines x.lines y.lines
+  pub output : y.output ≡ x.output
+
+-- transitions, pending entries and output are as they were, and so is the length of the table of lines
+pub record Beside (x y : Place) : Type 0 where
+  pub transitions : y.aut.transitions ≡ x.aut.transitions
+  pub pending : y.aut.pending ≡ x.aut.pending
+  pub table : length y.lines.words.now ≡ length x.lines.words.now
+  pub output : y.output ≡ x.output
 
 -- ---- nodes
 
--- zeroed tables, but for the nodes
-abbrev pub begun_with : Lent → (sp : List ℕ) → ℕ → (nodes : List ℕ) → ℕ → RunState
-begun_with lent sp a nodes b =
-    place (tables (table sp a) (store (aut (table nodes b) (table (zeroed lent.states) 0) (table (zeroed lent.members) 0)) (table (zeroed lent.transitions) 0))) [] []
+-- the tables are in order, for N fields
+pub record Ordered (N : ℕ) (y : Place) : Type 0 where
+  pub fields : y.aut.spp.fields ≡ N
+  pub tables : WfTables N limits01 (tables_in y.aut)
 
-abbrev pub diagrams_by : Lent → Result (ℕ × ℕ) Refusal → (sp nodes : List ℕ) → Outcome RunState ℕ
-diagrams_by lent (Ok (a, b)) sp nodes = given (begun_with lent sp a nodes b) 0
-diagrams_by lent (Err e) sp nodes = refused (number_of e)
-
-pub record PreFresh (a b : List ℕ) (N : ℕ) : Type 0 where
+pub record PreFresh (N : ℕ) (x : Place) : Type 0 where
   pub few : N ≤ 31
-  pub sp : a ≡ zeroed (length a)
-  pub nodes : b ≡ zeroed (length b)
+  pub empty : Empty x
 
--- the tables are in order
-abbrev pub OrderedBy : ℕ → Result (ℕ × ℕ) Refusal → (sp nodes : List ℕ) → Type 0
-OrderedBy N (Ok (a, b)) sp nodes = (lent : Lent) → WfTables N limits01 (begun_with lent sp a nodes b).tables
-OrderedBy N (Err e) sp nodes = Unit
-
-pub record PostFresh (N : ℕ) (r : Result (ℕ × ℕ) Refusal) (sp nodes sp' nodes' : List ℕ) : Type 0 where
-  pub is : (lent : Lent) → lent.sp ≡ length sp → lent.spp ≡ length nodes → Read.fresh lent N ≡ diagrams_by lent r sp' nodes'
-  pub then : OrderedBy N r sp' nodes'
+pub record PostFresh (N : ℕ) (x : Place) (r : Result Unit Refusal) (y : Place) : Type 0 where
+  pub is : Read.fresh (lengths_of x) N ≡ outcome (λ u. 0) r (place_in y)
+  pub then : Unless r (Ordered N y)
 
 -- the records of packet nodes, then of relation nodes
 abbrev pub node_steps : List ℕ → Image.Head → Limits → Step RunState ℕ
@@ -87,15 +119,13 @@ node_steps image h L =
     Read.records image h L (Read.node image h L) 2 0 0 h.sp
     >>= λ _. Read.records image h L (Read.relation image h L) 4 0 (start_of 1 (layout h)) h.spp
 
-pub record PreDiagrams (image : List ℕ) (h : Head) (a b : List ℕ) : Type 0 where
+pub record PreDiagrams (image : List ℕ) (h : Head) (x : Place) : Type 0 where
   pub fitting : Fitting image h
-  pub sp : a ≡ zeroed (length a)
-  pub nodes : b ≡ zeroed (length b)
+  pub empty : Empty x
 
-pub record PostDiagrams (image : List ℕ) (h : Head) (r : Result (ℕ × ℕ) Refusal) (sp nodes sp' nodes' : List ℕ) : Type 0 where
-  pub is : (lent : Lent) → lent.sp ≡ length sp → lent.spp ≡ length nodes
-      → (L : Limits) → after (Read.fresh lent h.fields) (λ _. node_steps image (head_of h) L) ≡ diagrams_by lent r sp' nodes'
-  pub then : OrderedBy h.fields r sp' nodes'
+pub record PostDiagrams (image : List ℕ) (h : Head) (x : Place) (r : Result Unit Refusal) (y : Place) : Type 0 where
+  pub is : after (Read.fresh (lengths_of x) h.fields) (λ _. node_steps image (head_of h) limits01) ≡ outcome (λ u. 0) r (place_in y)
+  pub then : Unless r (Ordered h.fields y)
 
 -- ---- members and lines
 
@@ -117,26 +147,24 @@ pub record PostLine (image : List ℕ) (s states : ℕ) (r : Result ℕ Refusal)
       → (Read.enter image h L s 1 >>= λ _. Read.line image h L i s) p ≡ lined_by r p
   pub within : WithinBy states r
 
--- k lines stand behind word s, and have room
-pub record PreLines (image scratch : List ℕ) (s k : ℕ) : Type 0 where
+-- k lines stand behind word s, and have room; there is none so far
+pub record PreLines (image : List ℕ) (x : Lines) (s k : ℕ) : Type 0 where
   pub reaches : Reaches image (s + k)
-  pub few : LINES + k ≤ WORK
-  pub room : WORK ≤ length scratch
+  pub none : x.count ≡ 0
+  pub room : k ≤ length x.words.now
 
--- the lines are those of scratch; or the number
-abbrev pub lines_by : Result Unit Refusal → ℕ → List ℕ → RunState → Outcome RunState ℕ
-lines_by (Ok u) k scratch p = given (place p.tables (lines_of scratch k) p.output) 0
-lines_by (Err e) k scratch p = refused (number_of e)
+abbrev pub lines_at : Lines → List (Option ℕ)
+lines_at y = lines_of y.words.now y.count
 
-abbrev pub BelowBy : ℕ → Result Unit Refusal → ℕ → List ℕ → Type 0
-BelowBy states (Ok u) k scratch = Below states (lines_of scratch k)
-BelowBy states (Err e) k scratch = Unit
+-- there are k lines, each of which stands for one of the states, if for any
+pub record Lined (states k : ℕ) (y : Lines) : Type 0 where
+  pub count : y.count ≡ k
+  pub named : Below states (lines_at y)
 
-pub record PostLines (image : List ℕ) (s k states : ℕ) (r : Result Unit Refusal) (scratch scratch' : List ℕ) : Type 0 where
+pub record PostLines (image : List ℕ) (s k states : ℕ) (r : Result Unit Refusal) (y : Lines) : Type 0 where
   pub is : (h : Image.Head) (L : Limits) (p : RunState) → p.tables.base.aut.states.count ≡ states → p.lines ≡ []
-      → Read.records image h L (Read.line image h L) 1 0 s k p ≡ lines_by r k scratch' p
-  pub kept : (i : ℕ) → LINES + k ≤ i → get_or scratch' i 0 ≡ get_or scratch i 0
-  pub named : BelowBy states r k scratch'
+      → Read.records image h L (Read.line image h L) 1 0 s k p ≡ outcome (λ u. 0) r (place p.tables (lines_at y) p.output)
+  pub then : Unless r (Lined states k y)
 
 -- spare members and unused words (image_steps: Read.ended)
 abbrev pub ended_by : List ℕ → Image.Head → ℕ → Bool
@@ -147,10 +175,10 @@ ended_by image h members =
 -- ---- states, and all records behind the nodes
 
 -- tables in order, in which the records behind the nodes are read
-pub record PreRecords (image : List ℕ) (h : Head) (c : Counts) (t st mem s : List ℕ) : Type 0 where
+pub record PreAutomaton (image : List ℕ) (h : Head) (x : Lent) : Type 0 where
   pub fitting : Fitting image h
-  pub good : WfAut h.fields limits01 (aut_of t st mem c)
-  pub room : WORK + 64 ≤ length s
+  pub good : WfAut h.fields limits01 (aut_in x)
+  pub room : 64 ≤ length x.scratch.now
 
 -- members and states
 abbrev pub state_steps : List ℕ → Image.Head → Limits → Step RunState ℕ
@@ -158,10 +186,15 @@ state_steps image h L =
     Read.records image h L (Read.member image h L) 1 0 (start_of 2 (layout h)) h.members
     >>= λ _. Read.records image h L (Read.state image h L) 4 0 (start_of 3 (layout h)) h.states
 
-pub record PostAutomaton (image : List ℕ) (h : Head) (r : Result Counts Refusal) (c : Counts) (t st mem s st' mem' s' : List ℕ) : Type 0 where
-  pub is : (p : RunState) → p.tables.base.aut ≡ aut_of t st mem c → state_steps image (head_of h) limits01 p ≡ taken_by r t st' mem' p
-  pub beside : TakenBeside r c
-  pub kept : Kept WORK 64 s s'
+pub record PostAutomaton (image : List ℕ) (h : Head) (x : Lent) (r : Result Unit Refusal) (y : Lent) : Type 0 where
+  pub is : (p : RunState) → p.tables.base.aut ≡ aut_in x → state_steps image (head_of h) limits01 p ≡ outcome (λ u. 0) r (put_in (aut_in y) p)
+  pub kept : Kept 0 64 x.scratch.now y.scratch.now
+
+-- .. and room for lines, none so far
+pub record PreRecords (image : List ℕ) (h : Head) (x : Place) : Type 0 where
+  pub automaton : PreAutomaton image h x.aut
+  pub no_lines : x.lines.count ≡ 0
+  pub table : length x.lines.words.now ≡ LINES
 
 -- .. then lines, and the end
 abbrev pub rest_steps : List ℕ → Image.Head → Limits → Step RunState ℕ
@@ -171,53 +204,28 @@ rest_steps image h L =
     >>= λ _. Read.records image h L (Read.line image h L) 1 0 (start_of 4 (layout h)) h.lines
     >>= λ _. Read.ended image h L
 
-abbrev pub rest_by : Result Place Refusal → (t st mem s : List ℕ) → RunState → Outcome RunState ℕ
-rest_by (Ok q) t st mem s p = given (place (put_in (aut_of t st mem q.counts) p).tables (lines_of s q.lines) p.output) 0
-rest_by (Err e) t st mem s p = refused (number_of e)
+pub record Rests (h : Head) (x y : Place) : Type 0 where
+  pub lined : Lined y.aut.states.count h.lines y.lines
+  pub kept : Kept 0 64 x.aut.scratch.now y.aut.scratch.now
 
-pub record Rests (h : Head) (q : Place) (c : Counts) (s s' : List ℕ) : Type 0 where
-  pub sp : q.counts.sp ≡ c.sp
-  pub transitions : q.counts.transitions ≡ c.transitions
-  pub lines : q.lines ≡ h.lines
-  pub silent : q.output ≡ 0
-  pub named : Below q.counts.states (lines_of s' q.lines)
-  pub kept : (i : ℕ) → WORK + 64 ≤ i → get_or s' i 0 ≡ get_or s i 0
-
-abbrev pub RestsBy : Head → Result Place Refusal → Counts → (s s' : List ℕ) → Type 0
-RestsBy h (Ok q) c s s' = Rests h q c s s'
-RestsBy h (Err e) c s s' = Unit
-
-pub record PostRecords (image : List ℕ) (h : Head) (r : Result Place Refusal) (c : Counts) (t st mem s st' mem' s' : List ℕ) : Type 0 where
-  pub is : (p : RunState) → p.tables.base.aut ≡ aut_of t st mem c → p.lines ≡ [] → rest_steps image (head_of h) limits01 p ≡ rest_by r t st' mem' s' p
-  pub then : RestsBy h r c s s'
+pub record PostRecords (image : List ℕ) (h : Head) (x : Place) (r : Result Unit Refusal) (y : Place) : Type 0 where
+  pub is : rest_steps image (head_of h) limits01 (place_in x) ≡ outcome (λ u. 0) r (place_in y)
+  pub then : Unless r (Rests h x y)
 
 -- ---- an image
 
--- zeroed tables, and scratch as a book needs it
-pub record PreRead (a b c d s : List ℕ) : Type 0 where
-  pub sp : a ≡ zeroed (length a)
-  pub nodes : b ≡ zeroed (length b)
-  pub states : c ≡ zeroed (length c)
-  pub members : d ≡ zeroed (length d)
-  pub scratch : s ≡ zeroed (length s)
-  pub room : 6144 ≤ length s
-
--- the place that is read, or the number
-abbrev pub read_by : Result Place Refusal → Memory → Outcome RunState ℕ
-read_by (Ok p) m = given (place_of m p) 0
-read_by (Err e) m = refused (number_of e)
+-- everything is zeroed, and scratch as a book needs it
+pub record PreRead (x : Place) : Type 0 where
+  pub empty : Empty x
+  pub table : length x.lines.words.now ≡ LINES
+  pub room : LISTS ≤ length x.aut.scratch.now
 
 -- the place is in order for any line
-pub record Reads (image : List ℕ) (p : Place) (sp' nodes' states' members' scratch' : List ℕ) : Type 0 where
-  pub standing : (transitions pending : ℕ) (output : List ℕ) → Standing (setting_at image) (memory sp' nodes' states' members' (zeroed transitions) (zeroed pending) scratch' output) p
-  pub silent : p.output ≡ 0
+pub record Reads (image : List ℕ) (y : Place) : Type 0 where
+  pub standing : Standing (setting_at image) y
+  pub silent : y.output.at ≡ 0
   pub some : 512 ≤ length image
 
-abbrev pub ReadsBy : List ℕ → Result Place Refusal → (sp' nodes' states' members' scratch' : List ℕ) → Type 0
-ReadsBy image (Ok p) sp' nodes' states' members' scratch' = Reads image p sp' nodes' states' members' scratch'
-ReadsBy image (Err e) sp' nodes' states' members' scratch' = Unit
-
-pub record PostRead (image : List ℕ) (r : Result Place Refusal) (sp nodes states members scratch sp' nodes' states' members' scratch' : List ℕ) : Type 0 where
-  pub is : (lent : Lent) → lent.sp ≡ length sp → lent.spp ≡ length nodes → lent.states ≡ length states → lent.members ≡ length members
-      → (pending output : List ℕ) → Read.read lent limits01 image ≡ read_by r (memory sp' nodes' states' members' (zeroed lent.transitions) pending scratch' output)
-  pub then : ReadsBy image r sp' nodes' states' members' scratch'
+pub record PostRead (image : List ℕ) (x : Place) (r : Result Unit Refusal) (y : Place) : Type 0 where
+  pub is : Read.read (lengths_of x) limits01 image ≡ outcome (λ u. 0) r (place_in y)
+  pub then : Unless r (Reads image y)

@@ -3,17 +3,17 @@
 
 ghost use Rattle.std.specs.Prelude.{◌≡◌, ◌+◌, ◌≤◌, length};
 ghost use Rattle.image_words.specs.Clauses.{Reaches, head_of};
+ghost use Rattle.image_states.specs.Clauses.{OnlyExprs};
+ghost use Rattle.book_memory.specs.Place.{SameSlices};
 ghost use Rattle.image_read.specs.Clauses as Its;
 
-use aut_states::Counts;
+use aut_relations::Aut;
 use book_begin::Header;
-use book_place::{LINES, Place, Setting, WORK};
+use book_memory::{Lines, Place, Setting};
 use image_block::BLOCK;
 use image_states::Lists;
 use image_words::{Head, WORDS};
 use refusal::Refusal;
-use sp::SPstore;
-use spp::SPPstore;
 
 // ---- block 0
 
@@ -50,45 +50,27 @@ fn open(image: &[u8]) -> Result<Head, Refusal>
 
 // ---- nodes
 
-// the constants in zeroed tables: how many packet nodes and relation nodes there are
-fn fresh(sp: &mut [u32], nodes: &mut [u32], fields: u32) -> Result<(usize, usize), Refusal>
-    requires { Its.PreFresh sp.old nodes.old fields }
-    ensures { Its.PostFresh fields result sp.old nodes.old sp.new
-        nodes.new }
+// the constants in zeroed tables
+fn fresh(place: &mut Place, fields: u32) -> Result<(), Refusal>
+    requires { Its.PreFresh fields place.old }
+    ensures keeps { Its.OnlyNodes place.old place.new }
+    ensures gives { Its.PostFresh fields place.old result place.new }
 {
-    let mut sets = SPstore {
-        nodes: sp,
-        count: 0,
-    };
-    let Ok(_) = sets.start(fields) else {
-        return Err(Refusal::Sp);
-    };
-    let mut relations = SPPstore {
-        nodes,
-        count: 0,
-        fields,
-    };
-    let Ok(_) = relations.start() else {
-        return Err(Refusal::Spp);
-    };
-    Ok((sets.count, relations.count))
+    place.aut.spp.fields = fields;
+    place.aut.sp.start(fields)?;
+    place.aut.spp.start()?;
+    Ok(())
 }
 
 // the constants, then the records of both kinds of nodes
-fn read_diagrams(
-    image: &[u8],
-    sp: &mut [u32],
-    nodes: &mut [u32],
-    h: Head,
-) -> Result<(usize, usize), Refusal>
-    requires { Its.PreDiagrams image.now h sp.old nodes.old }
-    ensures { Its.PostDiagrams image.now h result sp.old nodes.old sp.new
-        nodes.new }
+fn read_diagrams(image: &[u8], place: &mut Place, h: Head) -> Result<(), Refusal>
+    requires { Its.PreDiagrams image.now h place.old }
+    ensures keeps { Its.OnlyNodes place.old place.new }
+    ensures gives { Its.PostDiagrams image.now h place.old result place.new }
 {
-    let (a, b) = fresh(sp, nodes, h.fields)?;
-    let n = image_nodes::read_nodes(image, sp, h.fields, a, h.sp)?;
-    let m = image_nodes::read_relations(image, nodes, h.fields, b, 2 * h.sp, h.spp)?;
-    Ok((n, m))
+    fresh(place, h.fields)?;
+    image_nodes::read_nodes(image, &mut place.aut.sp, h.fields, h.sp)?;
+    image_nodes::read_relations(image, &mut place.aut.spp, 2 * h.sp, h.spp)
 }
 
 // ---- members and lines
@@ -120,16 +102,18 @@ fn line_at(image: &[u8], s: usize, states: usize) -> Result<u32, Refusal>
 // k lines, from word s on, into the table of lines
 fn read_lines(
     image: &[u8],
-    scratch: &mut [u32],
+    lines: &mut Lines,
     s: usize,
     k: usize,
     states: usize,
 ) -> Result<(), Refusal>
-    requires { Its.PreLines image.now scratch.old s k }
-    ensures { Its.PostLines image.now s k states result scratch.old scratch.new }
+    requires { Its.PreLines image.now lines.old s k }
+    ensures keeps { Its.SameLines lines.old lines.new }
+    ensures gives { Its.PostLines image.now s k states result lines.new }
 {
     for i in 0..k {
-        scratch[LINES + i] = line_at(image, s + i, states)?;
+        let w = line_at(image, s + i, states)?;
+        lines.add(w);
     }
     Ok(())
 }
@@ -152,20 +136,11 @@ fn ended(image: &[u8], h: Head, members: usize) -> bool
 
 // ---- all records
 
-// members, then states; a list is written where the steps work
-fn read_automaton(
-    image: &[u8],
-    nodes: &[u32],
-    states: &mut [u32],
-    members: &mut [u32],
-    scratch: &mut [u32],
-    h: Head,
-    c: Counts,
-) -> Result<Counts, Refusal>
-    requires { Its.PreRecords image.now h c nodes.now states.old members.old scratch.old }
-    ensures { Its.PostAutomaton image.now h result c nodes.now states.old
-        members.old scratch.old states.new members.new
-        scratch.new }
+// members, then states
+fn read_automaton(image: &[u8], aut: &mut Aut, h: Head) -> Result<(), Refusal>
+    requires { Its.PreAutomaton image.now h aut.old }
+    ensures keeps { OnlyExprs aut.old aut.new }
+    ensures gives { Its.PostAutomaton image.now h aut.old result aut.new }
 {
     let first = 2 * h.sp + 4 * h.spp;
     read_members(image, first, h.members)?;
@@ -176,74 +151,36 @@ fn read_automaton(
     let at = Lists {
         first,
         count: h.members,
-        base: WORK,
     };
-    image_states::read_states(
-        image,
-        nodes,
-        states,
-        members,
-        scratch,
-        c,
-        setting.config,
-        at,
-        first + h.members,
-        h.states,
-    )
+    image_states::read_states(image, aut, setting.config, at, first + h.members, h.states)
 }
 
 // .. then lines, and the end
-fn read_records(
-    image: &[u8],
-    nodes: &[u32],
-    states: &mut [u32],
-    members: &mut [u32],
-    scratch: &mut [u32],
-    h: Head,
-    c: Counts,
-) -> Result<Place, Refusal>
-    requires { Its.PreRecords image.now h c nodes.now states.old members.old scratch.old }
-    ensures { Its.PostRecords image.now h result c nodes.now states.old
-        members.old scratch.old states.new members.new
-        scratch.new }
+fn read_records(image: &[u8], place: &mut Place, h: Head) -> Result<(), Refusal>
+    requires { Its.PreRecords image.now h place.old }
+    ensures keeps { Its.OnlyRecords place.old place.new }
+    ensures gives { Its.PostRecords image.now h place.old result place.new }
 {
-    let counts = read_automaton(image, nodes, states, members, scratch, h, c)?;
+    read_automaton(image, &mut place.aut, h)?;
     let start = 2 * h.sp + 4 * h.spp + h.members + 4 * h.states;
-    read_lines(image, scratch, start, h.lines, counts.states)?;
-    if !ended(image, h, counts.members) {
+    let states = place.aut.states.count;
+    read_lines(image, &mut place.lines, start, h.lines, states)?;
+    if !ended(image, h, place.aut.members.count) {
         return Err(Refusal::Record);
     }
-    Ok(Place {
-        counts,
-        lines: h.lines,
-        output: 0,
-    })
+    Ok(())
 }
 
 // ---- an image
 
-// From zeroed tables: the place that the image stands for.
-pub fn read(
-    image: &[u8],
-    sp: &mut [u32],
-    nodes: &mut [u32],
-    states: &mut [u32],
-    members: &mut [u32],
-    scratch: &mut [u32],
-) -> Result<Place, Refusal>
-    requires { Its.PreRead sp.old nodes.old states.old members.old scratch.old }
-    ensures { Its.PostRead image.now result sp.old nodes.old states.old
-        members.old scratch.old sp.new nodes.new states.new
-        members.new scratch.new }
+// From an empty place: the place that the image stands for.
+pub fn read(image: &[u8], place: &mut Place) -> Result<(), Refusal>
+    requires { Its.PreRead place.old }
+    ensures keeps { SameSlices place.old place.new }
+    ensures beside { Its.Beside place.old place.new }
+    ensures gives { Its.PostRead image.now place.old result place.new }
 {
     let h = open(image)?;
-    let (a, b) = read_diagrams(image, sp, nodes, h)?;
-    let c = Counts {
-        sp: a,
-        spp: b,
-        states: 0,
-        members: 0,
-        transitions: 0,
-    };
-    read_records(image, nodes, states, members, scratch, h, c)
+    read_diagrams(image, place, h)?;
+    read_records(image, place, h)
 }

@@ -11,14 +11,13 @@ use lib.Seq.{length-take-le, get_or-take, get_or-append-add}
 use borrow.Author.Tests.{ltb-true, ltb-false}
 use Rattle.aut_steps.specs.Tables.{limits01, words}
 use Rattle.aut_steps.proofs.Facts.{words_length}
-use Rattle.image_steps.specs.Image.{head_words, start_of, head_of, state_words, line_word, line_words}
+use Rattle.image_steps.specs.Image.{head_words, start_of, state_words, line_word, line_words}
 use Rattle.book_steps.specs.Run as Run
-use Rattle.aut_states.specs.declared.Counts.{Counts}
-use Rattle.book_place.specs.Clauses.{setting_of}
-use Rattle.book_place.specs.declared.Setting.{Setting}
-use Rattle.book_place.specs.Clauses.{LINES, Memory, memory, place_of, stands_for, lines_of}
-use Rattle.book_place.proofs.Scratch.{lines_length, line_named}
-use Rattle.image_save.specs.Clauses.{place_at, Few, Present, TotalIs, BlocksAre, HeadIs, record_at, word_in}
+use Rattle.book_memory.specs.declared.Setting.{Setting}
+use Rattle.book_memory.specs.declared.Place.{Place}
+use Rattle.book_memory.specs.Place.{stands_for, lines_of}
+use Rattle.book_memory.proofs.Table.{lines_length, line_named}
+use Rattle.image_save.specs.Clauses.{Few, Present, TotalIs, BlocksAre, record_at, head_in, head_at, word_in}
 
 -- ---- one list behind another
 
@@ -77,130 +76,136 @@ word_is (suc x) = omega arith
 lines_are : (s : List ℕ) (k : ℕ) → length (line_words (lines_of s k)) ≡ k
 lines_are s k = line_words_length (lines_of s k) ∙ lines_length s k
 
-lines_at : (s : List ℕ) (k i : ℕ) → i < k → get_or (line_words (lines_of s k)) i 0 ≡ get_or s (LINES + i) 0
-lines_at s k i l = line_words_at (lines_of s k) i ∙ ap line_word (line_named s k i l) ∙ word_is (get_or s (LINES + i) 0)
+lines_at : (s : List ℕ) (k i : ℕ) → i < k → get_or (line_words (lines_of s k)) i 0 ≡ get_or s i 0
+lines_at s k i l = line_words_at (lines_of s k) i ∙ ap line_word (line_named s k i l) ∙ word_is (get_or s i 0)
 
 -- ---- the records
 
-module _ (m : Memory) (c : Counts) (k : ℕ) where
+module _ (x : Place) where
+  abbrev packets : List ℕ
+  packets = take (2 * x.aut.sp.count) x.aut.sp.nodes.now
+
+  abbrev relations : List ℕ
+  relations = take (4 * x.aut.spp.count) x.aut.spp.nodes.now
+
+  abbrev listed : List ℕ
+  listed = take x.aut.members.count x.aut.members.words.now
+
+  abbrev plain : List ℕ
+  plain = state_words x.aut.states.words.now x.aut.states.count
+
   abbrev line_list : List ℕ
-  line_list = line_words (lines_of m.scratch k)
+  line_list = line_words (lines_of x.lines.words.now x.lines.count)
 
   abbrev from_states : List ℕ
-  from_states = state_words m.states c.states ++ line_list
+  from_states = plain ++ line_list
 
   abbrev from_members : List ℕ
-  from_members = take c.members m.members ++ from_states
+  from_members = listed ++ from_states
 
   abbrev from_nodes : List ℕ
-  from_nodes = take (4 * c.spp) m.nodes ++ from_members
+  from_nodes = relations ++ from_members
 
-  module _ (P : Present m c k) (i : ℕ) where
-    sp_size : length (take (2 * c.sp) m.sp) ≡ 2 * c.sp
-    sp_size = length-take-le (2 * c.sp) m.sp P.sp
+  module _ (P : Present x) (i : ℕ) where
+    packets_size : length packets ≡ 2 * x.aut.sp.count
+    packets_size = length-take-le (2 * x.aut.sp.count) x.aut.sp.nodes.now P.sp
 
-    nodes_size : length (take (4 * c.spp) m.nodes) ≡ 4 * c.spp
-    nodes_size = length-take-le (4 * c.spp) m.nodes P.nodes
+    relations_size : length relations ≡ 4 * x.aut.spp.count
+    relations_size = length-take-le (4 * x.aut.spp.count) x.aut.spp.nodes.now P.spp
 
-    members_size : length (take c.members m.members) ≡ c.members
-    members_size = length-take-le c.members m.members P.members
+    listed_size : length listed ≡ x.aut.members.count
+    listed_size = length-take-le x.aut.members.count x.aut.members.words.now P.members
 
-    pub is_packet : i < 2 * c.sp → get_or m.sp i 0 ≡ record_at m c k i
-    is_packet l = sym (before (take (2 * c.sp) m.sp) from_nodes (2 * c.sp) i sp_size l ∙ get_or-take (2 * c.sp) m.sp i 0 l)
+    pub is_packet : i < 2 * x.aut.sp.count → get_or x.aut.sp.nodes.now i 0 ≡ record_at x i
+    is_packet l = sym (before packets from_nodes (2 * x.aut.sp.count) i packets_size l ∙ get_or-take (2 * x.aut.sp.count) x.aut.sp.nodes.now i 0 l)
 
-    module _ (p : 2 * c.sp ≤ i) where
+    module _ (p : 2 * x.aut.sp.count ≤ i) where
       abbrev i1 : ℕ
-      i1 = i - 2 * c.sp
+      i1 = i - 2 * x.aut.sp.count
 
-      past_packets : record_at m c k i ≡ get_or from_nodes i1 0
-      past_packets = behind (take (2 * c.sp) m.sp) from_nodes (2 * c.sp) i sp_size p
+      past_packets : record_at x i ≡ get_or from_nodes i1 0
+      past_packets = behind packets from_nodes (2 * x.aut.sp.count) i packets_size p
 
-      pub is_relation : i1 < 4 * c.spp → get_or m.nodes i1 0 ≡ record_at m c k i
-      is_relation l = sym (past_packets ∙ before (take (4 * c.spp) m.nodes) from_members (4 * c.spp) i1 nodes_size l ∙ get_or-take (4 * c.spp) m.nodes i1 0 l)
+      pub is_relation : i1 < 4 * x.aut.spp.count → get_or x.aut.spp.nodes.now i1 0 ≡ record_at x i
+      is_relation l = sym (past_packets ∙ before relations from_members (4 * x.aut.spp.count) i1 relations_size l ∙ get_or-take (4 * x.aut.spp.count) x.aut.spp.nodes.now i1 0 l)
 
-      module _ (q : 4 * c.spp ≤ i1) where
+      module _ (q : 4 * x.aut.spp.count ≤ i1) where
         abbrev i2 : ℕ
-        i2 = i1 - 4 * c.spp
+        i2 = i1 - 4 * x.aut.spp.count
 
-        past_relations : record_at m c k i ≡ get_or from_members i2 0
-        past_relations = past_packets ∙ behind (take (4 * c.spp) m.nodes) from_members (4 * c.spp) i1 nodes_size q
+        past_relations : record_at x i ≡ get_or from_members i2 0
+        past_relations = past_packets ∙ behind relations from_members (4 * x.aut.spp.count) i1 relations_size q
 
-        pub is_member : i2 < c.members → get_or m.members i2 0 ≡ record_at m c k i
-        is_member l = sym (past_relations ∙ before (take c.members m.members) from_states c.members i2 members_size l ∙ get_or-take c.members m.members i2 0 l)
+        pub is_member : i2 < x.aut.members.count → get_or x.aut.members.words.now i2 0 ≡ record_at x i
+        is_member l = sym (past_relations ∙ before listed from_states x.aut.members.count i2 listed_size l ∙ get_or-take x.aut.members.count x.aut.members.words.now i2 0 l)
 
-        module _ (r : c.members ≤ i2) where
+        module _ (r : x.aut.members.count ≤ i2) where
           abbrev i3 : ℕ
-          i3 = i2 - c.members
+          i3 = i2 - x.aut.members.count
 
-          past_members : record_at m c k i ≡ get_or from_states i3 0
-          past_members = past_relations ∙ behind (take c.members m.members) from_states c.members i2 members_size r
+          past_members : record_at x i ≡ get_or from_states i3 0
+          past_members = past_relations ∙ behind listed from_states x.aut.members.count i2 listed_size r
 
-          pub is_state : i3 < 4 * c.states → get_or m.states (12 * (i3 / 4) + i3 % 4) 0 ≡ record_at m c k i
-          is_state l = sym (past_members ∙ before (state_words m.states c.states) line_list (4 * c.states) i3 (states_length m.states c.states) l ∙ states_at m.states c.states i3 l)
+          pub is_state : i3 < 4 * x.aut.states.count → get_or x.aut.states.words.now (12 * (i3 / 4) + i3 % 4) 0 ≡ record_at x i
+          is_state l =
+              sym
+              (past_members
+              ∙ before plain line_list (4 * x.aut.states.count) i3 (states_length x.aut.states.words.now x.aut.states.count) l
+              ∙ states_at x.aut.states.words.now x.aut.states.count i3 l)
 
-          module _ (s : 4 * c.states ≤ i3) where
+          module _ (s : 4 * x.aut.states.count ≤ i3) where
             abbrev i4 : ℕ
-            i4 = i3 - 4 * c.states
+            i4 = i3 - 4 * x.aut.states.count
 
-            past_states : record_at m c k i ≡ get_or line_list i4 0
-            past_states = past_members ∙ behind (state_words m.states c.states) line_list (4 * c.states) i3 (states_length m.states c.states) s
+            past_states : record_at x i ≡ get_or line_list i4 0
+            past_states = past_members ∙ behind plain line_list (4 * x.aut.states.count) i3 (states_length x.aut.states.words.now x.aut.states.count) s
 
-            pub is_line : i4 < k → get_or m.scratch (LINES + i4) 0 ≡ record_at m c k i
-            is_line l = sym (past_states ∙ lines_at m.scratch k i4 l)
+            pub is_line : i4 < x.lines.count → get_or x.lines.words.now i4 0 ≡ record_at x i
+            is_line l = sym (past_states ∙ lines_at x.lines.words.now x.lines.count i4 l)
 
-            pub is_nothing : k ≤ i4 → 0 ≡ record_at m c k i
-            is_nothing l = sym (past_states ∙ get_or-eq_default line_list 0 (omega (arith, lines_are m.scratch k)))
+            pub is_nothing : x.lines.count ≤ i4 → 0 ≡ record_at x i
+            is_nothing l = sym (past_states ∙ get_or-eq_default line_list 0 (omega (arith, lines_are x.lines.words.now x.lines.count)))
 
 -- ---- how much there is
 
-pub total_is : (c : Counts) (k : ℕ) → TotalIs c k (2 * c.sp + 4 * c.spp + c.members + 4 * c.states + k)
+abbrev sum_of : Place → ℕ
+sum_of x = 2 * x.aut.sp.count + 4 * x.aut.spp.count + x.aut.members.count + 4 * x.aut.states.count + x.lines.count
+
+pub total_is : (x : Place) → TotalIs x (sum_of x)
 unfolding start_of
-total_is c k S m out = omega (arith, lines_length m.scratch k)
+total_is x S = omega (arith, lines_length x.lines.words.now x.lines.count)
 
 -- the number itself
 any : Run.Setting
 any = record { fields = 0; budget = 0; limits = limits01; entries = 0; room = 0 }
 
-empty : Memory
-empty = memory [] [] [] [] [] [] [] []
+pub total_value : (x : Place) (t : ℕ) → TotalIs x t → t ≡ sum_of x
+total_value x t e = e any ∙ sym (total_is x any)
 
-pub total_value : (c : Counts) (k t : ℕ) → TotalIs c k t → t ≡ 2 * c.sp + 4 * c.spp + c.members + 4 * c.states + k
-total_value c k t e = e any empty 0 ∙ sym (total_is c k any empty 0)
-
-pub blocks_are : (c : Counts) (k t : ℕ) → TotalIs c k t → BlocksAre c k (1 + (t + 126) / 127)
-blocks_are c k t e S m out = ap (λ (n : ℕ). 1 + (n + 126) / 127) (e S m out)
+pub blocks_are : (x : Place) (t : ℕ) → TotalIs x t → BlocksAre x (1 + (t + 126) / 127)
+blocks_are x t e S = ap (λ (n : ℕ). 1 + (n + 126) / 127) (e S)
 
 -- few enough that their bytes can be counted
-pub blocks_small : {c : Counts} {k : ℕ} (n : ℕ) → Few c k → BlocksAre c k n → n ≤ 1048576
-blocks_small {c} {k} n f e = omega (arith, e any empty 0, blocks_are c k (2 * c.sp + 4 * c.spp + c.members + 4 * c.states + k) (total_is c k) any empty 0)
+pub blocks_small : {x : Place} (n : ℕ) → Few x → BlocksAre x n → n ≤ 1048576
+blocks_small {x} n f e = omega (arith, f.lines, e any, blocks_are x (sum_of x) (total_is x) any)
 
 -- ---- block 0
 
-pub head_is : (S : Setting) (c : Counts) (k j n r : ℕ) → j ≡ n → HeadIs S c k n r → HeadIs S c k j r
-head_is S c k j n r e h entries room m out =
-    h entries room m out ∙ ap (λ (i : ℕ). get_or (head_words (head_of (setting_of S entries room) (place_of m (place_at c k out)))) i 0) (sym e)
+pub head_is : (S : Setting) (x : Place) (j n r : ℕ) → j ≡ n → r ≡ head_at S x n → r ≡ head_at S x j
+head_is S x j n r e h = h ∙ ap (λ (i : ℕ). get_or (head_words (head_in S x)) i 0) (sym e)
 
 -- the last word is the number of lines
-pub head_lines : (S : Setting) (c : Counts) (k : ℕ) → HeadIs S c k 7 k
-head_lines S c k entries room m out = sym (lines_length m.scratch k)
+pub head_lines : (S : Setting) (x : Place) → x.lines.count ≡ head_at S x 7
+head_lines S x = sym (lines_length x.lines.words.now x.lines.count)
 
-pub head_over : (S : Setting) (c : Counts) (k j : ℕ) → 8 ≤ j → HeadIs S c k j 0
-head_over S c k j l entries room m out =
-    sym (get_or-eq_default (head_words (head_of (setting_of S entries room) (place_of m (place_at c k out)))) 0 {n = j} (omega arith))
-
-one_more : (n j : ℕ) → n ≤ j → (j ≡ n → ⊥) → n + 1 ≤ j
-one_more n j l ne = omega arith
-
--- a number that is none of these is above them
-pub not_below : (j : ℕ) → (j ≡ 0 → ⊥) → (j ≡ 1 → ⊥) → (j ≡ 2 → ⊥) → (j ≡ 3 → ⊥) → (j ≡ 4 → ⊥) → (j ≡ 5 → ⊥) → (j ≡ 6 → ⊥) → (j ≡ 7 → ⊥) → 8 ≤ j
-not_below j a b c d e f g h =
-    one_more 7 j (one_more 6 j (one_more 5 j (one_more 4 j (one_more 3 j (one_more 2 j (one_more 1 j (one_more 0 j (omega arith) a) b) c) d) e) f) g) h
+pub head_over : (S : Setting) (x : Place) (j : ℕ) → 8 ≤ j → 0 ≡ head_at S x j
+head_over S x j l = sym (get_or-eq_default (head_words (head_in S x)) 0 {n = j} (omega arith))
 
 -- ---- word j of block b
 
-pub head_word_is : (S : Setting) (m : Memory) (c : Counts) (k b j r : ℕ) → b ≡ 0 → HeadIs S c k j r → r ≡ word_in S m c k b j
-head_word_is S m c k b j r e h = h 0 0 m 0 ∙ ap (λ (b : ℕ). word_in S m c k b j) (sym e)
+pub head_word_is : (S : Setting) (x : Place) (b j r : ℕ) → b ≡ 0 → r ≡ head_at S x j → r ≡ word_in S x b j
+head_word_is S x b j r e h = h ∙ ap (λ (b : ℕ). word_in S x b j) (sym e)
 
-pub record_word_is : (S : Setting) (m : Memory) (c : Counts) (k b j r : ℕ) → (b ≡ 0 → ⊥) → r ≡ record_at m c k (127 * (b - 1) + j) → r ≡ word_in S m c k b j
-record_word_is S m c k zero j r n e = absurd (n refl)
-record_word_is S m c k (suc b) j r n e = e ∙ ap (λ (a : ℕ). record_at m c k (127 * a + j)) {x = suc b - 1} {y = b} (omega arith)
+pub record_word_is : (S : Setting) (x : Place) (b j r : ℕ) → (b ≡ 0 → ⊥) → r ≡ record_at x (127 * (b - 1) + j) → r ≡ word_in S x b j
+record_word_is S x zero j r n e = absurd (n refl)
+record_word_is S x (suc b) j r n e = e ∙ ap (λ (a : ℕ). record_at x (127 * a + j)) {x = suc b - 1} {y = b} (omega arith)

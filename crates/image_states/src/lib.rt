@@ -1,14 +1,13 @@
 // The states of an image, read: each record is tested against the tables so far, entered as the last step of its constructor does, and its number looked at.
 #![tactic(auto)]
 
-ghost use Rattle.std.specs.Prelude.{◌≡◌, false, ◌+◌, ◌*◌, ◌≤◌, ◌<◌, length};
-ghost use Rattle.aut_steps.specs.Tables.{words};
-ghost use Rattle.aut_states.specs.Clauses.{limits_of};
+ghost use Rattle.std.specs.Prelude.{◌≡◌, [], ◌+◌, ◌*◌, length};
 ghost use Rattle.image_kinds.specs.Clauses.{ShapeOf};
 ghost use Rattle.image_kinds.specs.declared.Shape.TheVariants as shape;
-ghost use Rattle.image_states.specs.Clauses.{listed, Holds, WordsAt, Copies, Wants, Enters, EntersAny, EntersList, ReadsList, ReadsState, Turns, ReadsStates, Ordered, OrderedAny, ListAsks, ReadAsks, StateAsks, TurnAsks, StatesAsk, Named, as_state};
+ghost use Rattle.image_states.specs.Clauses as Its;
 
-use aut_states::{Config, Counts, State};
+use aut_relations::Aut;
+use aut_states::{Config, Members, States};
 use image_kinds::Shape;
 use refusal::Refusal;
 
@@ -21,16 +20,12 @@ pub struct Words {
     pub nesting: u32,
 }
 
-// where the members stand: their first word in the image, how many there are, and where in scratch a list goes
+// where the members stand: their first word in the image, and how many there are
 #[derive(Clone, Copy)]
 pub struct Lists {
     pub first: usize,
     pub count: usize,
-    pub base: usize,
 }
-
-// Refusal::Record as aut_states says it: a record cannot be made of those before it, or comes out differently
-const RECORD: u32 = 32;
 
 // words of a state's record
 pub const STATE: usize = 4;
@@ -38,8 +33,8 @@ pub const STATE: usize = 4;
 // ---- words
 
 fn words_at(image: &[u8], s: usize) -> Words
-    requires { Holds image.now (s + 4) }
-    ensures { WordsAt image.now s result }
+    requires { Its.Holds image.now (s + 4) }
+    ensures { Its.WordsAt image.now s result }
 {
     Words {
         kind: image_words::word(image, s),
@@ -49,282 +44,195 @@ fn words_at(image: &[u8], s: usize) -> Words
     }
 }
 
-// the k words from `at` on go to scratch
-pub fn copy_members(image: &[u8], scratch: &mut [u32], at: usize, base: usize, k: usize)
-    requires { Holds image.now (at + k) × (base + k ≤ length scratch.old) }
-    ensures { Copies image.now at k base scratch.old scratch.new }
+// the words from `at` on go to the list
+fn copy_members(image: &[u8], list: &mut [u32], at: usize)
+    requires { Its.Holds image.now (at + length list.old) }
+    ensures { Its.Copies image.now at (length list.old) list.new }
 {
-    for j in 0..k {
-        scratch[base + j] = image_words::word(image, at + j);
+    for j in 0..list.len() {
+        list[j] = image_words::word(image, at + j);
     }
 }
 
 // ---- a record without a list
 
-// the number n is wanted
-fn want(r: State, n: usize) -> State
-    ensures { Wants n r result }
+fn enter_leaf(aut: &mut Aut, config: Config, w: Words) -> Result<u32, Refusal>
+    requires { Its.Ordered config aut.old × ShapeOf w.kind shape.Leaf }
+    ensures keeps { Its.OnlyStates aut.old aut.new }
+    ensures gives { Its.Enters config w [] aut.old result aut.new }
 {
-    match r {
-        State::Refused(e) => State::Refused(e),
-        State::Is(i, d) => {
-            if i as usize != n {
-                return State::Refused(RECORD);
-            }
-            State::Is(i, d)
-        }
+    if !image_kinds::leaf_fits(&aut.spp, config.fields, w.first, w.second, w.nesting) {
+        return Err(Refusal::Record);
     }
+    aut.states.intern0(w.kind, w.first)
 }
 
-fn enter_leaf(nodes: &[u32], states: &mut [u32], c: Counts, config: Config, w: Words) -> State
-    requires { Ordered config.fields (limits_of config.limits) c nodes.now states.old ×
-        ShapeOf w.kind shape.Leaf }
-    ensures { Enters config.fields (limits_of config.limits) w result c nodes.now states.old
-        states.new }
-{
-    if !image_kinds::leaf_fits(nodes, c.spp, config.fields, w.first, w.second, w.nesting) {
-        return State::Refused(RECORD);
-    }
-    let put = aut_states::intern0(states, c.states, w.kind, w.first);
-    aut_relations::placed(put, c)
-}
-
-fn enter_constant(states: &mut [u32], c: Counts, config: Config, w: Words) -> State
-    requires { OrderedAny config.fields (limits_of config.limits) c states.old ×
-        ShapeOf w.kind shape.Constant }
-    ensures { EntersAny config.fields (limits_of config.limits) w result c states.old
-        states.new }
+fn enter_constant(aut: &mut Aut, config: Config, w: Words) -> Result<u32, Refusal>
+    requires { Its.Ordered config aut.old × ShapeOf w.kind shape.Constant }
+    ensures keeps { Its.OnlyStates aut.old aut.new }
+    ensures gives { Its.Enters config w [] aut.old result aut.new }
 {
     if !image_kinds::constant_fits(w.first, w.second, w.nesting) {
-        return State::Refused(RECORD);
+        return Err(Refusal::Record);
     }
-    let put = aut_states::intern0(states, c.states, w.kind, w.first);
-    aut_relations::placed(put, c)
+    aut.states.intern0(w.kind, w.first)
 }
 
-fn enter_single(states: &mut [u32], c: Counts, config: Config, w: Words) -> State
-    requires { OrderedAny config.fields (limits_of config.limits) c states.old ×
-        ShapeOf w.kind shape.Single }
-    ensures { EntersAny config.fields (limits_of config.limits) w result c states.old
-        states.new }
+fn enter_single(aut: &mut Aut, config: Config, w: Words) -> Result<u32, Refusal>
+    requires { Its.Ordered config aut.old × ShapeOf w.kind shape.Single }
+    ensures keeps { Its.OnlyStates aut.old aut.new }
+    ensures gives { Its.Enters config w [] aut.old result aut.new }
 {
     if !image_kinds::single_fits(
-        states,
-        c.states,
+        &aut.states,
         config.limits,
         w.kind,
         w.first,
         w.second,
         w.nesting,
     ) {
-        return State::Refused(RECORD);
+        return Err(Refusal::Record);
     }
-    let put = aut_states::intern1(states, c.states, config.limits, w.kind, w.first);
-    aut_relations::placed(put, c)
+    aut.states.intern1(config.limits, w.kind, w.first)
 }
 
-fn enter_pair(states: &mut [u32], c: Counts, config: Config, w: Words) -> State
-    requires { OrderedAny config.fields (limits_of config.limits) c states.old ×
-        ShapeOf w.kind shape.Pair }
-    ensures { EntersAny config.fields (limits_of config.limits) w result c states.old
-        states.new }
+fn enter_pair(aut: &mut Aut, config: Config, w: Words) -> Result<u32, Refusal>
+    requires { Its.Ordered config aut.old × ShapeOf w.kind shape.Pair }
+    ensures keeps { Its.OnlyStates aut.old aut.new }
+    ensures gives { Its.Enters config w [] aut.old result aut.new }
 {
-    if !image_kinds::pair_fits(
-        states, c.states, config, w.kind, w.first, w.second, w.nesting,
-    ) {
-        return State::Refused(RECORD);
+    if !image_kinds::pair_fits(&aut.states, config, w.kind, w.first, w.second, w.nesting) {
+        return Err(Refusal::Record);
     }
-    let put = aut_states::intern2(states, c.states, config.limits, w.kind, w.first, w.second);
-    aut_relations::placed(put, c)
-}
-
-fn enter_plain(nodes: &[u32], states: &mut [u32], c: Counts, config: Config, w: Words) -> State
-    requires { Ordered config.fields (limits_of config.limits) c nodes.now states.old ×
-        (listed w.kind ≡ false) }
-    ensures { Enters config.fields (limits_of config.limits) w result c nodes.now states.old
-        states.new }
-{
-    let shape = image_kinds::shape_of(w.kind);
-    match shape {
-        Shape::Leaf => enter_leaf(nodes, states, c, config, w),
-        Shape::Constant => enter_constant(states, c, config, w),
-        Shape::Single => enter_single(states, c, config, w),
-        Shape::Pair => enter_pair(states, c, config, w),
-        Shape::List => State::Refused(RECORD),
-        Shape::Unknown => State::Refused(RECORD),
-    }
+    aut.states.intern2(config.limits, w.kind, w.first, w.second)
 }
 
 // ---- a record with a list
 
-fn has_list(kind: u32) -> bool
-    ensures { listed kind ≡ result }
-{
-    if kind == aut_states::kind::UNION {
-        return true;
-    }
-    kind == aut_states::kind::INTERSECT
-}
-
-// the list stands in scratch
 fn enter_list(
-    states: &mut [u32],
-    members: &mut [u32],
-    scratch: &[u32],
-    c: Counts,
+    states: &mut States,
+    members: &mut Members,
     config: Config,
-    base: usize,
+    list: &[u32],
     w: Words,
-) -> State
-    requires { ListAsks config c w base states.old members.old scratch.now }
-    ensures { EntersList config.fields (limits_of config.limits)
-        (words scratch.now base w.second) w result c states.old members.old
-        states.new members.new }
+) -> Result<u32, Refusal>
+    requires { Its.ListAsks config w list.now states.old members.old × ShapeOf w.kind shape.List }
+    ensures same { states.new.words.ghost_name ≡ states.old.words.ghost_name }
+    ensures same_members { members.new.words.ghost_name ≡ members.old.words.ghost_name }
+    ensures gives { Its.EntersList config w list.now states.old members.old result states.new
+        members.new }
 {
     if !image_kinds::list_fits(
-        states, scratch, c, config, base, w.kind, w.first, w.second, w.nesting,
-    ) {
-        return State::Refused(RECORD);
-    }
-    aut_states::intern_list(
         states,
-        members,
-        scratch,
-        c,
-        config.limits,
+        list,
+        members.count,
+        config,
         w.kind,
-        base,
-        w.second as usize,
-    )
+        w.first,
+        w.second,
+        w.nesting,
+    ) {
+        return Err(Refusal::Record);
+    }
+    states.intern_list(members, config.limits, w.kind, list)
 }
 
 // the list is among the image's members, and no longer than a list may be
 fn read_list(
     image: &[u8],
-    states: &mut [u32],
-    members: &mut [u32],
-    scratch: &mut [u32],
-    c: Counts,
+    aut: &mut Aut,
     config: Config,
     at: Lists,
     w: Words,
-) -> State
-    requires { ReadAsks image.now config at c w states.old members.old scratch.old }
-    ensures { ReadsList image.now config.fields (limits_of config.limits) at w result c
-        states.old members.old scratch.old states.new members.new
-        scratch.new }
+) -> Result<u32, Refusal>
+    requires { Its.ReadAsks image.now config at aut.old × ShapeOf w.kind shape.List }
+    ensures keeps { Its.OnlyExprs aut.old aut.new }
+    ensures gives { Its.Reads image.now config at w aut.old result aut.new }
 {
     let x = w.first as usize;
     let k = w.second as usize;
     if x + k > at.count {
-        return State::Refused(RECORD);
+        return Err(Refusal::Record);
     }
     if k > config.limits.list {
-        return State::Refused(RECORD);
+        return Err(Refusal::Record);
     }
-    copy_members(image, scratch, at.first + x, at.base, k);
-    enter_list(states, members, scratch, c, config, at.base, w)
+    let list = &mut aut.scratch[..k];
+    copy_members(image, list, at.first + x);
+    enter_list(&mut aut.states, &mut aut.members, config, list, w)
 }
 
 // ---- records
 
+// the record with these words
+fn enter(image: &[u8], aut: &mut Aut, config: Config, at: Lists, w: Words) -> Result<u32, Refusal>
+    requires { Its.ReadAsks image.now config at aut.old }
+    ensures keeps { Its.OnlyExprs aut.old aut.new }
+    ensures gives { Its.Reads image.now config at w aut.old result aut.new }
+{
+    match image_kinds::shape_of(w.kind) {
+        Shape::Leaf => enter_leaf(aut, config, w),
+        Shape::Constant => enter_constant(aut, config, w),
+        Shape::Single => enter_single(aut, config, w),
+        Shape::Pair => enter_pair(aut, config, w),
+        Shape::List => read_list(image, aut, config, at, w),
+        Shape::Unknown => Err(Refusal::Record),
+    }
+}
+
+// the number n is wanted
+fn want(i: u32, n: usize) -> Result<u32, Refusal>
+    ensures { Its.Wants n i result }
+{
+    if i as usize != n {
+        return Err(Refusal::Record);
+    }
+    Ok(i)
+}
+
 // the record of a state at word s
 pub fn read_state(
     image: &[u8],
-    nodes: &[u32],
-    states: &mut [u32],
-    members: &mut [u32],
-    scratch: &mut [u32],
-    c: Counts,
+    aut: &mut Aut,
     config: Config,
     at: Lists,
     s: usize,
-) -> State
-    requires { StateAsks image.now config at s c nodes.now states.old members.old scratch.old }
-    ensures { ReadsState image.now config.fields (limits_of config.limits) at s result c
-        nodes.now states.old members.old scratch.old states.new
-        members.new scratch.new }
+) -> Result<u32, Refusal>
+    requires { Its.StateAsks image.now config at s aut.old }
+    ensures keeps { Its.OnlyExprs aut.old aut.new }
+    ensures gives { Its.ReadsState image.now config at s aut.old result aut.new }
 {
     let w = words_at(image, s);
-    if has_list(w.kind) {
-        let r = read_list(image, states, members, scratch, c, config, at, w);
-        return want(r, c.states);
-    }
-    let r = enter_plain(nodes, states, c, config, w);
-    want(r, c.states)
-}
-
-// the refusal of a record's number
-fn named(r: State) -> Result<(u32, Counts), Refusal>
-    requires { Named r }
-    ensures { r ≡ as_state result }
-{
-    match r {
-        State::Is(i, d) => Ok((i, d)),
-        State::Refused(e) => {
-            if e == aut_states::refusal::STATES {
-                return Err(Refusal::States);
-            }
-            if e == aut_states::refusal::MEMBERS {
-                return Err(Refusal::Members);
-            }
-            Err(Refusal::Record)
-        }
-    }
+    let n = aut.states.count;
+    let i = enter(image, aut, config, at, w)?;
+    want(i, n)
 }
 
 // the block that it reaches, and the record
-fn read_at(
-    image: &[u8],
-    nodes: &[u32],
-    states: &mut [u32],
-    members: &mut [u32],
-    scratch: &mut [u32],
-    c: Counts,
-    config: Config,
-    at: Lists,
-    s: usize,
-) -> Result<(u32, Counts), Refusal>
-    requires { TurnAsks image.now config at s c nodes.now states.old members.old scratch.old }
-    ensures { Turns image.now config.fields (limits_of config.limits) at s (as_state result) c
-        nodes.now states.old members.old scratch.old states.new
-        members.new scratch.new }
+fn read_at(image: &[u8], aut: &mut Aut, config: Config, at: Lists, s: usize) -> Result<u32, Refusal>
+    requires { Its.TurnAsks image.now config at s aut.old }
+    ensures keeps { Its.OnlyExprs aut.old aut.new }
+    ensures gives { Its.Turns image.now config at s aut.old result aut.new }
 {
     image_words::enter(image, s, STATE)?;
-    named(read_state(image, nodes, states, members, scratch, c, config, at, s))
+    read_state(image, aut, config, at, s)
 }
 
-// the records of k states, the first at word s: the counts then
+// the records of k states, the first at word s
 pub fn read_states(
     image: &[u8],
-    nodes: &[u32],
-    states: &mut [u32],
-    members: &mut [u32],
-    scratch: &mut [u32],
-    c: Counts,
+    aut: &mut Aut,
     config: Config,
     at: Lists,
     s: usize,
     k: usize,
-) -> Result<Counts, Refusal>
-    requires { StatesAsk image.now config at s k c nodes.now states.old members.old scratch.old }
-    ensures { ReadsStates image.now config.fields (limits_of config.limits) at s k result c
-        nodes.now states.old members.old scratch.old states.new
-        members.new scratch.new }
+) -> Result<(), Refusal>
+    requires { Its.StatesAsk image.now config at s k aut.old }
+    ensures keeps { Its.OnlyExprs aut.old aut.new }
+    ensures gives { Its.ReadsStates image.now config at s k aut.old result aut.new }
 {
-    let mut d = c;
     for i in 0..k {
-        (_, d) = read_at(
-            image,
-            nodes,
-            states,
-            members,
-            scratch,
-            d,
-            config,
-            at,
-            s + STATE * i,
-        )?;
+        read_at(image, aut, config, at, s + STATE * i)?;
     }
-    Ok(d)
+    Ok(())
 }

@@ -1,32 +1,18 @@
+use Rattle.std.proofs.Common.{rules}
 use native.Mathlib.Omega.{arith}
+use Rattle.image_save.proofs.Whole.{writes}
 use Rattle.image_keep.proofs.Keeping as its
 use Rattle.image_keep.proofs.keep.Goals as goal
-
-pub returns-in_default : goal.returns-in_default
-returns-in_default c = its.keep_stopped _ _ _ c.in_default.is
-
-pub has_next-requires : goal.has_next-requires
-has_next-requires c = (its.keep_present _ c.args.image.now _ c.in-End.is c.requires).states
-
-pub returns-then-has_next : goal.returns-then-has_next
-returns-then-has_next c =
-    rw c.number.ensures (its.keep_unknown _ _ _ c.in-End.is c.has_next.ensures c.if-has_next.true)
-
-pub blocks_of-n-requires : goal.blocks_of-n-requires
-blocks_of-n-requires c = (its.keep_present _ c.args.image.now _ c.in-End.is c.requires).few
+use Rattle.image_keep.proofs.keep.Goals.{then-n-gt-BLOCKS-via-then-n-gt-BLOCKS, then-n-gt-BLOCKS-via-else-n-gt-BLOCKS+then-n-image}
 
 pub returns-then-n-gt-BLOCKS : goal.returns-then-n-gt-BLOCKS
-returns-then-n-gt-BLOCKS c =
-    rw c.number-then-n-gt-BLOCKS.ensures (its.keep_many _ _ _ c.in-End.is c.has_next.ensures c.if-has_next.false c.blocks_of-n.result c.blocks_of-n.ensures c.if-n-gt-BLOCKS.true)
-
-pub returns-then-n-image : goal.returns-then-n-image
-returns-then-n-image c =
-    rw c.number-then-n-image.ensures (its.keep_long _ _ _ c.in-End.is c.has_next.ensures c.if-has_next.false c.blocks_of-n.result c.blocks_of-n.ensures c.if-n-gt-BLOCKS.false (omega (arith, c.if-n-image.true)))
+returns-then-n-gt-BLOCKS c = rw c.in_ok-setting.was (elim c.then-n-gt-BLOCKS.branch [
+  | then-n-gt-BLOCKS-via-then-n-gt-BLOCKS w ↦ its.keep_many _ _ _ c.has_next.ensures c.if-has_next.false c.blocks_of-n.ensures w.if-n-gt-BLOCKS.true
+  | then-n-gt-BLOCKS-via-else-n-gt-BLOCKS+then-n-image w ↦ its.keep_long _ _ _ c.has_next.ensures c.if-has_next.false c.blocks_of-n.ensures (omega (arith, w.if-n-gt-BLOCKS.false)) (omega (arith, w.if-n-image.true))
+])
 
 pub write-requires : goal.write-requires
-write-requires c =
-    its.keep_writes _ _ _ c.in-End.is c.has_next.ensures c.if-has_next.false c.blocks_of-n.result c.blocks_of-n.ensures c.if-n-gt-BLOCKS.false (omega (arith, c.if-n-image.false)) (its.keep_present _ c.args.image.now _ c.in-End.is c.requires)
+write-requires c = writes c.in_ok-setting.setting c.args.place.now c.args.image.now c.blocks_of-n.result c.blocks_of-n.ensures (search rules) c.if-n-gt-BLOCKS.false c.if-n-image.false
 
 pub returns : goal.returns
-returns c =
-    its.keep_written _ _ _ c.in-End.is c.has_next.ensures c.if-has_next.false c.blocks_of-n.result c.blocks_of-n.ensures c.if-n-gt-BLOCKS.false (omega (arith, c.if-n-image.false)) c.write.ensures
+returns c = rw c.in_ok-setting.was (its.keep_written _ _ _ c.has_next.ensures c.if-has_next.false c.blocks_of-n.ensures c.if-n-gt-BLOCKS.false c.if-n-image.false c.write.ensures)

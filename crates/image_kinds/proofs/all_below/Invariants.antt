@@ -1,9 +1,7 @@
 use mathlib.Core.Path.{◌≡◌}
-use Prim.Native.Nat.{◌-◌, ◌+◌}
-use Rattle.aut_steps.specs.Tables.{words}
+use lib.ListN.{drop}
 use Rattle.image_steps.specs.Records.{all_below}
 use Rattle.image_kinds.proofs.all_below.Given as goal
 
-abbrev pub invariant-loop-j : goal.invariant-loop-j
-invariant-loop-j l =
-    all_below l.n (words l.scratch l.base l.k) ≡ all_below l.n (words l.scratch (l.base + l.j) (l.k - l.j))
+abbrev pub invariant-loop-x : goal.invariant-loop-x
+invariant-loop-x l = all_below l.n l.list ≡ all_below l.n (drop l.x-index l.list)

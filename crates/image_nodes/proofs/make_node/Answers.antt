@@ -1,29 +1,22 @@
 use mathlib.Core.Path.{◌∙◌}
-use Rattle.std.proofs.Common.{rules}
 use native.Mathlib.Omega.{arith}
 use Rattle.image_nodes.proofs.Node as its
 use Rattle.image_nodes.proofs.make_node.Goals as goal
 
-pub returns-then-not-children_fit : goal.returns-then-not-children_fit
-returns-then-not-children_fit c =
-    its.node_unfit c.args.fields c.args.sp.now c.args.count c.args.i c.args.x0 c.args.x1 c.children_fit.ensures c.if-not-children_fit.true
+pub returns-then-not-children_fit-clause-gives : goal.returns-then-not-children_fit-clause-gives
+returns-then-not-children_fit-clause-gives c = its.unfit (its.node_wanted c.args.fields c.args.sets.now.nodes.now c.args.sets.now.count c.args.i c.args.x0 c.args.x1) (c.children_fit.ensures ∙ c.if-not-children_fit.true)
 
-pub returns-then-i-count : goal.returns-then-i-count
-returns-then-i-count c =
-    its.node_full_wrong c.args.fields c.args.sp.now c.args.count c.args.i c.args.x0 c.args.x1 c.children_fit.ensures c.if-not-children_fit.false
-    c.in_default.ensures.gives c.if-i-count.true
+pub returns-in-Ok-clause-gives : goal.returns-in-Ok-clause-gives
+returns-in-Ok-clause-gives c =
+    its.same (its.node_wanted c.args.fields c.args.sets.now.nodes.now c.args.sets.now.count c.args.i c.args.x0 c.args.x1) (c.children_fit.ensures ∙ c.if-not-children_fit.false) c.in-Ok.ensures.gives (λ a b e. omega (arith, e)) (omega (arith, c.if-h-i.true))
 
-pub returns-in_default : goal.returns-in_default
-returns-in_default c =
-    its.node_full c.args.fields c.args.sp.now c.args.count c.args.i c.args.x0 c.args.x1 c.children_fit.ensures c.if-not-children_fit.false
-    c.in_default.ensures.gives c.requires.near c.if-i-count.false
+pub returns-in-Err-clause-gives : goal.returns-in-Err-clause-gives
+returns-in-Err-clause-gives c =
+    its.no_room (its.node_wanted c.args.fields c.args.sets.now.nodes.now c.args.sets.now.count c.args.i c.args.x0 c.args.x1) (c.children_fit.ensures ∙ c.if-not-children_fit.false) c.in-Err.ensures.gives c.requires.near c.if-next.true
 
-pub returns-then-h-i : goal.returns-then-h-i
-returns-then-h-i c =
-    its.node_other c.args.fields c.args.sp.now c.args.count c.args.i c.args.x0 c.args.x1 c.children_fit.ensures c.if-not-children_fit.false
-    c.in-Ok.ensures.gives (λ e. omega (arith, e, c.if-h-i.true))
+pub returns-in_default-clause-gives : goal.returns-in_default-clause-gives
+returns-in_default-clause-gives c = its.other (its.node_wanted c.args.fields c.args.sets.now.nodes.now c.args.sets.now.count c.args.i c.args.x0 c.args.x1) (c.children_fit.ensures ∙ c.if-not-children_fit.false) c.in-Ok.ensures.gives (λ e. omega (arith, e, c.if-h-i.false))
 
-pub returns : goal.returns
-returns c =
-    its.node_same c.args.fields c.args.sp.now c.args.count c.args.i c.args.x0 c.args.x1 c.children_fit.ensures c.if-not-children_fit.false
-    {h = c.in-Ok.h.0} (c.in-Ok.ensures.gives ∙ search rules) (omega (arith, c.if-h-i.false))
+pub returns-in_default-2-clause-gives : goal.returns-in_default-2-clause-gives
+returns-in_default-2-clause-gives c =
+    its.no_room_wrong (its.node_wanted c.args.fields c.args.sets.now.nodes.now c.args.sets.now.count c.args.i c.args.x0 c.args.x1) (c.children_fit.ensures ∙ c.if-not-children_fit.false) c.in-Err.ensures.gives c.if-next.false

@@ -1,30 +1,18 @@
-use native.Mathlib.Omega.{arith}
 use Rattle.image_nodes.proofs.Depth as its
 use Rattle.image_nodes.proofs.relation_depth.Goals as goal
 
 pub loop-d-init : goal.loop-d-init
-loop-d-init c = its.depth_r_begin c.args.nodes.now c.args.n c.args.h c.requires
+loop-d-init c = record { depth = its.depth_begin (its.of_relations c.args.relations.now.nodes.now) c.args.n c.args.h; within = c.requires.within }
 
 pub returns-then-x-lt2 : goal.returns-then-x-lt2
-returns-then-x-lt2 c =
-    its.depth_r_leaf c.args.nodes.now c.args.n c.args.h c.loop-d.d c.loop-d.x c.loop-d.invariant c.loop-d-test.true c.if-x-lt2.true
-
-pub overflow_cast-i : goal.overflow_cast-i
-overflow_cast-i c = omega arith
-
-pub overflow_mul-x : goal.overflow_mul-x
-overflow_mul-x c = omega (arith, c.loop-d.invariant.inside.within, c.loop-d.invariant.inside.fits)
-
-pub offset_bounds-nodes-i : goal.offset_bounds-nodes-i
-offset_bounds-nodes-i c = omega (arith, c.loop-d.invariant.inside.within, c.loop-d.invariant.inside.fits)
-
-pub bounds-nodes-i : goal.bounds-nodes-i
-bounds-nodes-i c = omega (arith, c.loop-d.invariant.inside.within, c.loop-d.invariant.inside.fits)
+returns-then-x-lt2 c = its.depth_leaf (its.of_relations c.args.relations.now.nodes.now) c.args.n c.args.h c.loop-d.invariant.depth c.loop-d-test.true c.if-x-lt2.true
 
 pub loop-d-preserved : goal.loop-d-preserved
 loop-d-preserved c =
-    its.depth_r_again c.args.nodes.now c.args.n c.args.h c.loop-d.d c.loop-d.x c.loop-d.invariant c.loop-d-test.true c.if-x-lt2.false
+    record {
+      depth = its.depth_again (its.of_relations c.args.relations.now.nodes.now) c.args.n c.args.h c.loop-d.invariant.depth c.loop-d-test.true c.if-x-lt2.false;
+      within = its.within_relations c.args.relations.now.nodes.now c.requires.rising c.if-x-lt2.false c.loop-d.invariant.within;
+    }
 
 pub returns : goal.returns
-returns c =
-    its.depth_r_end c.args.nodes.now c.args.n c.args.h c.loop-d.d c.loop-d.x c.loop-d.invariant (omega (arith, c.loop-d.auto.d-end, c.loop-d-test.false))
+returns c = its.depth_end (its.of_relations c.args.relations.now.nodes.now) c.args.n c.args.h c.loop-d.invariant.depth c.loop-d-test.false c.loop-d.auto.d-end

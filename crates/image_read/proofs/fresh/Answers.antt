@@ -1,14 +1,15 @@
-use mathlib.Core.Path.{◌∙◌}
-use Rattle.std.proofs.Common.{rules}
+use Rattle.refusal.proofs.Passed.{passed}
 use Rattle.image_read.proofs.Constants as constants
 use Rattle.image_read.proofs.fresh.Goals as goal
 
-pub returns-in_default : goal.returns-in_default
-returns-in_default c = constants.fresh_no_sets _ _ _ c.requires c.in_default.ensures.gives
+pub returns-in_err-start-clause-gives : goal.returns-in_err-start-clause-gives
+returns-in_err-start-clause-gives c =
+    rw (passed c.from_residual.ensures) (constants.fresh_no_sets c.args.fields c.args.place.now c.requires c.in_err-start.ensures.gives _)
 
-pub returns-in_default-start : goal.returns-in_default-start
-returns-in_default-start c =
-    constants.fresh_no_relations _ _ _ c.requires {x = c.in-Ok.field-0.0} {a = c.start.new.self.count} _ _ (c.in-Ok.ensures.gives ∙ search rules) c.in_default-start.ensures.gives
+pub returns-in_err-start-2-clause-gives : goal.returns-in_err-start-2-clause-gives
+returns-in_err-start-2-clause-gives c =
+    rw (passed c.from_residual-in_err-start-2.ensures) (constants.fresh_no_relations c.args.fields c.args.place.now c.requires c.start.new.self c.in_ok-start.ensures.gives c.in_err-start-2.ensures.gives _)
 
-pub returns : goal.returns
-returns c = constants.fresh_given _ _ _ c.requires {x = c.in-Ok.field-0.0} {a = c.start.new.self.count} _ _ (c.in-Ok.ensures.gives ∙ search rules) {y = record { zero = c.in-Ok-start.field-0.zero.0; one = c.in-Ok-start.field-0.one.0; top = c.in-Ok-start.field-0.top.0 }} {b = c.start-2.new.self.count} (c.in-Ok-start.ensures.gives ∙ search rules)
+pub returns-clause-gives : goal.returns-clause-gives
+returns-clause-gives c =
+    constants.fresh_given c.args.fields c.args.place.now c.requires c.start.new.self c.in_ok-start.ensures.gives c.start-2.new.self c.in_ok-start-2.ensures.gives c.in_ok-start-2.ensures.same_store.fields

@@ -3,19 +3,19 @@ use Rattle.image_read.proofs.Whole as whole
 use Rattle.image_read.proofs.read.Goals as goal
 
 pub read_diagrams-requires : goal.read_diagrams-requires
-read_diagrams-requires c = whole.diagrams_ready _ _ _ _ _ _ c.requires c.open.ensures c.in_ok-h.was
+read_diagrams-requires c = whole.diagrams_ready c.args.image.now c.args.place.now c.requires c.in_ok-h.h c.in_ok-h.ensures
 
 pub read_records-requires : goal.read_records-requires
 read_records-requires c =
-    whole.records_ready _ _ _ _ _ _ c.requires c.open.ensures c.in_ok-h.was _ _ c.read_diagrams.ensures c.in_ok-a.was
+    whole.records_ready c.args.image.now c.args.place.now c.requires c.in_ok-h.h c.in_ok-h.ensures c.read_diagrams.new.place c.in_ok-read_diagrams.ensures.gives c.in_ok-read_diagrams.ensures.keeps
 
-pub returns-in_err-h : goal.returns-in_err-h
-returns-in_err-h c = rw (passed c.from_residual.ensures) (whole.not_opened _ _ _ _ _ _ c.requires c.open.ensures c.in_err-h.was)
+pub returns-in_err-h-clause-gives : goal.returns-in_err-h-clause-gives
+returns-in_err-h-clause-gives c = rw (passed c.from_residual.ensures) (whole.not_opened c.args.image.now c.args.place.now c.requires c.in_err-h.ensures _)
 
-pub returns-in_err-a : goal.returns-in_err-a
-returns-in_err-a c =
-    rw (passed c.from_residual-in_err-a.ensures) (whole.no_diagrams _ _ _ _ _ _ c.requires c.open.ensures c.in_ok-h.was _ _ c.read_diagrams.ensures c.in_err-a.was)
+pub returns-in_err-read_diagrams-clause-gives : goal.returns-in_err-read_diagrams-clause-gives
+returns-in_err-read_diagrams-clause-gives c =
+    rw (passed c.from_residual-in_err-read_diagrams.ensures) (whole.no_diagrams c.args.image.now c.args.place.now c.requires c.in_ok-h.h c.in_ok-h.ensures c.in_err-read_diagrams.ensures.gives _)
 
-pub returns : goal.returns
-returns c =
-    whole.read_done _ _ _ _ _ _ c.requires c.open.ensures c.in_ok-h.was _ _ c.read_diagrams.ensures c.in_ok-a.was _ _ _ c.read_records.ensures c.read_records.auto.scratch
+pub returns-clause-gives : goal.returns-clause-gives
+returns-clause-gives c =
+    whole.read_done c.args.image.now c.args.place.now c.requires c.in_ok-h.h c.in_ok-h.ensures c.read_diagrams.new.place c.in_ok-read_diagrams.ensures.gives c.in_ok-read_diagrams.ensures.keeps c.read_records.new.place c.read_records.ensures.keeps c.read_records.ensures.gives

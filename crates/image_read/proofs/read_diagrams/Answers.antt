@@ -3,27 +3,23 @@ use Rattle.image_read.proofs.Nodes as nodes
 use Rattle.image_read.proofs.read_diagrams.Goals as goal
 
 pub fresh-requires : goal.fresh-requires
-fresh-requires c = nodes.constants_ready _ _ _ _ c.requires
+fresh-requires c = nodes.constants_ready c.args.image.now c.args.h c.args.place.now c.requires
 
 pub read_nodes-requires : goal.read_nodes-requires
-read_nodes-requires c = nodes.nodes_ready _ _ _ _ c.requires _ _ c.fresh.ensures c.in_ok-a.was
+read_nodes-requires c = nodes.nodes_ready c.args.image.now c.args.h c.args.place.now c.requires c.fresh.new.place c.in_ok-fresh.ensures.gives
 
 pub read_relations-requires : goal.read_relations-requires
 read_relations-requires c =
-    nodes.relations_ready _ _ _ _ c.requires _ _ c.fresh.ensures c.in_ok-a.was _ c.read_nodes.ensures c.in_ok-n.was
+    nodes.relations_ready c.args.image.now c.args.h c.args.place.now c.requires c.fresh.new.place c.in_ok-fresh.ensures.gives c.read_nodes.new.sets c.in_ok-read_nodes.ensures.gives
 
-pub returns-in_err-a : goal.returns-in_err-a
-returns-in_err-a c =
-    rw (passed c.from_residual.ensures) (nodes.no_constants _ _ _ _ c.requires _ _ c.fresh.ensures c.in_err-a.was)
+pub returns-in_err-fresh-clause-gives : goal.returns-in_err-fresh-clause-gives
+returns-in_err-fresh-clause-gives c =
+    rw (passed c.from_residual.ensures) (nodes.no_constants c.args.image.now c.args.h c.args.place.now c.requires c.fresh.new.place _ c.in_err-fresh.ensures.gives)
 
-pub returns-in_err-n : goal.returns-in_err-n
-returns-in_err-n c =
-    rw (passed c.from_residual-in_err-n.ensures) (nodes.no_nodes _ _ _ _ c.requires _ _ c.fresh.ensures c.in_ok-a.was _ c.read_nodes.ensures c.in_err-n.was)
+pub returns-in_err-read_nodes-clause-gives : goal.returns-in_err-read_nodes-clause-gives
+returns-in_err-read_nodes-clause-gives c =
+    rw (passed c.from_residual-in_err-read_nodes.ensures) (nodes.no_nodes c.args.image.now c.args.h c.args.place.now c.requires c.fresh.new.place c.in_ok-fresh.ensures.gives c.read_nodes.new.sets c.in_err-read_nodes.ensures.gives _)
 
-pub returns-in_err-m : goal.returns-in_err-m
-returns-in_err-m c =
-    rw (passed c.from_residual-in_err-m.ensures) (nodes.no_relations _ _ _ _ c.requires _ _ c.fresh.ensures c.in_ok-a.was _ c.read_nodes.ensures c.in_ok-n.was _ c.read_relations.ensures c.in_err-m.was)
-
-pub returns : goal.returns
-returns c =
-    nodes.diagrams_given _ _ _ _ c.requires _ _ c.fresh.ensures c.in_ok-a.was _ c.read_nodes.ensures c.in_ok-n.was _ c.read_relations.ensures c.in_ok-m.was
+pub returns-clause-gives : goal.returns-clause-gives
+returns-clause-gives c =
+    nodes.diagrams c.args.image.now c.args.h c.args.place.now c.requires c.fresh.new.place c.in_ok-fresh.ensures.gives c.read_nodes.new.sets c.in_ok-read_nodes.ensures.gives c.read_relations.new.relations c.read_relations.ensures.same_store.fields c.read_relations.ensures.gives

@@ -1,5 +1,9 @@
+use Rattle.image_read.specs.Clauses.{SameLines}
 use Rattle.image_read.proofs.Lines as lines
 use Rattle.image_read.proofs.read_lines.Given as goal
 
 abbrev pub invariant-loop-i : goal.invariant-loop-i
-invariant-loop-i l = lines.LinesAt l.image l.s l.k l.states l.initial.scratch l.scratch l.i
+invariant-loop-i l = record {
+  keeps : SameLines l.initial.lines l.lines;
+  at : lines.LinesAt l.image l.s l.k l.states l.initial.lines l.i l.lines;
+}

@@ -3,33 +3,20 @@ use Rattle.image_read.proofs.States as states
 use Rattle.image_read.proofs.read_records.Goals as goal
 
 pub read_lines-requires : goal.read_lines-requires
-read_lines-requires c =
-    states.lines_ready _ _ _ _ _ _ _ c.requires c.read_automaton.ensures c.in_ok-counts.was c.read_automaton.auto.scratch
+read_lines-requires c = states.lines_ready c.args.image.now c.args.h c.args.place.now c.requires
 
-pub ended-requires : goal.ended-requires
-ended-requires c = c.requires.fitting
+pub returns-then-not-ended-clause-gives : goal.returns-then-not-ended-clause-gives
+returns-then-not-ended-clause-gives c =
+    states.no_end c.args.image.now c.args.h c.args.place.now c.requires c.read_automaton.new.aut c.in_ok-read_automaton.ensures.gives c.read_lines.new.lines c.in_ok-read_lines.ensures.gives c.ended.ensures c.if-not-ended.true _
 
-pub shape_of-states-then-not-ended : goal.shape_of-states-then-not-ended
-shape_of-states-then-not-ended c = c.read_automaton.auto.states
+pub returns-in_err-read_automaton-clause-gives : goal.returns-in_err-read_automaton-clause-gives
+returns-in_err-read_automaton-clause-gives c =
+    rw (passed c.from_residual.ensures) (states.no_states c.args.image.now c.args.h c.args.place.now c.requires c.in_err-read_automaton.ensures.gives _)
 
-pub returns-then-not-ended : goal.returns-then-not-ended
-returns-then-not-ended c =
-    states.no_end _ _ _ _ _ _ _ c.requires c.read_automaton.ensures c.in_ok-counts.was c.read_lines.ensures c.in_ok-read_lines.was c.ended.ensures c.if-not-ended.true
+pub returns-in_err-read_lines-clause-gives : goal.returns-in_err-read_lines-clause-gives
+returns-in_err-read_lines-clause-gives c =
+    rw (passed c.from_residual-in_err-read_lines.ensures) (states.lines_stopped c.args.image.now c.args.h c.args.place.now c.requires c.read_automaton.new.aut c.in_ok-read_automaton.ensures.gives c.in_err-read_lines.ensures.gives _)
 
-pub returns-in_err-counts : goal.returns-in_err-counts
-returns-in_err-counts c =
-    rw (passed c.from_residual.ensures) (states.no_states _ _ _ _ _ _ _ c.requires c.read_automaton.ensures c.in_err-counts.was)
-
-pub shape_of-states-in_err-read_lines : goal.shape_of-states-in_err-read_lines
-shape_of-states-in_err-read_lines c = c.read_automaton.auto.states
-
-pub returns-in_err-read_lines : goal.returns-in_err-read_lines
-returns-in_err-read_lines c =
-    rw (passed c.from_residual-in_err-read_lines.ensures) (states.no_lines _ _ _ _ _ _ _ c.requires c.read_automaton.ensures c.in_ok-counts.was c.read_lines.ensures c.in_err-read_lines.was)
-
-pub shape_of-states : goal.shape_of-states
-shape_of-states c = c.read_automaton.auto.states
-
-pub returns : goal.returns
-returns c =
-    states.records_given _ _ _ _ _ _ _ c.requires c.read_automaton.ensures c.in_ok-counts.was c.read_lines.ensures c.in_ok-read_lines.was c.ended.ensures c.if-not-ended.false
+pub returns-clause-gives : goal.returns-clause-gives
+returns-clause-gives c =
+    states.records_given c.args.image.now c.args.h c.args.place.now c.requires c.read_automaton.new.aut c.in_ok-read_automaton.ensures.gives c.read_lines.new.lines c.in_ok-read_lines.ensures.gives c.ended.ensures c.if-not-ended.false c.in_ok-read_automaton.ensures.keeps

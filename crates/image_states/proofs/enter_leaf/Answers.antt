@@ -1,15 +1,23 @@
-use mathlib.Core.Path.{refl, ◌∙◌}
-use mathlib.Core.Bool.{true, false}
+use mathlib.Core.Path.{◌∙◌}
+use mathlib.Core.List.{[]}
 use Rattle.aut_steps.specs.Intern.{intern0}
 use Rattle.aut_states.specs.Clauses.{limits_of}
-use Rattle.aut_relations.specs.Clauses.{aut_of}
+use Rattle.aut_relations.specs.Lent.{states_in, members_in, aut_in}
+use Rattle.image_kinds.proofs.Whole as whole
 use Rattle.image_states.proofs.Entering as its
 use Rattle.image_states.proofs.enter_leaf.Goals as goal
 
-pub returns-then-not-leaf_fits : goal.returns-then-not-leaf_fits
-returns-then-not-leaf_fits c =
-    its.entered_no c.args.config.fields (limits_of c.args.config.limits) c.args.w c.args.c c.args.nodes.now c.args.states.now (its.leaf_fits_lem c.args.config.fields (limits_of c.args.config.limits) c.args.w c.args.c c.args.nodes.now c.args.states.now false c.requires.1 (λ L s m. c.leaf_fits.ensures L s m ∙ c.if-not-leaf_fits.true)) c.args.states.now refl
+pub returns-then-not-leaf_fits-clause-gives : goal.returns-then-not-leaf_fits-clause-gives
+returns-then-not-leaf_fits-clause-gives c =
+    let k = c.args.config in
+    let w = c.args.w in
+    let x = c.args.aut.now in
+    its.entered_no k w [] x (whole.of_leaf k.fields (limits_of k.limits) (aut_in x) [] w.kind w.first w.second w.nesting c.requires.1 ∙ c.leaf_fits.ensures (limits_of k.limits) (states_in x) (members_in x) ∙ c.if-not-leaf_fits.true) x
 
-pub returns : goal.returns
-returns c =
-    its.entered c.args.config.fields (limits_of c.args.config.limits) c.args.w c.args.c c.args.nodes.now c.args.states.now (its.leaf_fits_lem c.args.config.fields (limits_of c.args.config.limits) c.args.w c.args.c c.args.nodes.now c.args.states.now true c.requires.1 (λ L s m. c.leaf_fits.ensures L s m ∙ c.if-not-leaf_fits.false)) (intern0 c.args.w.kind c.args.w.first) (λ mem xs. its.enters_leaf c.args.config.fields (limits_of c.args.config.limits) xs c.args.w.kind c.args.w.first c.args.w.second c.args.w.nesting (aut_of c.args.nodes.now c.args.states.now mem c.args.c) c.requires.1) c.intern0-put.result c.intern0-put.new.states c.intern0-put.ensures c.placed.result c.placed.ensures
+pub returns-clause-gives : goal.returns-clause-gives
+returns-clause-gives c =
+    let k = c.args.config in
+    let w = c.args.w in
+    let x = c.args.aut.now in
+    its.entered k w [] x (whole.of_leaf k.fields (limits_of k.limits) (aut_in x) [] w.kind w.first w.second w.nesting c.requires.1 ∙ c.leaf_fits.ensures (limits_of k.limits) (states_in x) (members_in x) ∙ c.if-not-leaf_fits.false)
+    (intern0 w.kind w.first) (its.enters_leaf k.fields (limits_of k.limits) [] w.kind w.first w.second w.nesting (aut_in x) c.requires.1) c.intern0.result _ c.intern0.ensures.gives

@@ -1,21 +1,29 @@
-use mathlib.Core.Path.{refl, ◌∙◌}
+use mathlib.Core.Path.{◌∙◌}
 use mathlib.Core.List.{[]}
-use Rattle.common.specs.Runs.{table}
 use Rattle.aut_steps.specs.Intern.{intern2}
 use Rattle.aut_states.specs.Clauses.{limits_of}
-use Rattle.aut_relations.specs.Clauses.{aut_of}
+use Rattle.aut_relations.specs.Lent.{nodes_in, members_in, aut_in}
 use Rattle.image_kinds.proofs.Whole as whole
 use Rattle.image_states.proofs.Entering as its
 use Rattle.image_states.proofs.enter_pair.Goals as goal
 
-pub returns-then-not-pair_fits : goal.returns-then-not-pair_fits
-returns-then-not-pair_fits c =
-    record { any = λ t. its.entered_no c.args.config.fields (limits_of c.args.config.limits) c.args.w c.args.c t c.args.states.now (λ mem xs. c.pair_fits.ensures.is (table t c.args.c.spp) (table mem c.args.c.members) xs ∙ c.if-not-pair_fits.true) c.args.states.now refl }
+pub returns-then-not-pair_fits-clause-gives : goal.returns-then-not-pair_fits-clause-gives
+returns-then-not-pair_fits-clause-gives c =
+    let x = c.args.aut.now in
+    its.entered_no c.args.config c.args.w [] x (c.pair_fits.ensures.is (nodes_in x) (members_in x) [] ∙ c.if-not-pair_fits.true) x
 
-pub intern2-put-requires : goal.intern2-put-requires
-intern2-put-requires c =
-    its.pair_ready c.requires.0.ordered.good c.args.w.kind c.args.w.first c.args.w.second c.requires.1 (whole.pair_xy c.args.config.fields (limits_of c.args.config.limits) (table c.requires.0.nodes c.args.c.spp) (table c.requires.0.ordered.members c.args.c.members) c.args.states.now c.args.c.states [] c.args.w.kind c.args.w.first c.args.w.second c.args.w.nesting c.requires.1 (c.pair_fits.ensures.is (table c.requires.0.nodes c.args.c.spp) (table c.requires.0.ordered.members c.args.c.members) [] ∙ c.if-not-pair_fits.false))
+pub intern2-requires : goal.intern2-requires
+intern2-requires c =
+    let k = c.args.config in
+    let w = c.args.w in
+    let x = c.args.aut.now in
+    its.pair_ready c.requires.0.good w.kind w.first w.second c.requires.1
+    (whole.pair_xy k.fields (limits_of k.limits) (nodes_in x) (members_in x) x.states.words.now x.states.count [] w.kind w.first w.second w.nesting c.requires.1 (c.pair_fits.ensures.is (nodes_in x) (members_in x) [] ∙ c.if-not-pair_fits.false))
 
-pub returns : goal.returns
-returns c =
-    record { any = λ t. its.entered c.args.config.fields (limits_of c.args.config.limits) c.args.w c.args.c t c.args.states.now (λ mem xs. c.pair_fits.ensures.is (table t c.args.c.spp) (table mem c.args.c.members) xs ∙ c.if-not-pair_fits.false) (intern2 (limits_of c.args.config.limits) c.args.w.kind c.args.w.first c.args.w.second) (λ mem xs. its.enters_pair c.args.config.fields (limits_of c.args.config.limits) xs c.args.w.kind c.args.w.first c.args.w.second c.args.w.nesting (aut_of t c.args.states.now mem c.args.c) c.requires.1) c.intern2-put.result c.intern2-put.new.states c.intern2-put.ensures c.placed.result c.placed.ensures }
+pub returns-clause-gives : goal.returns-clause-gives
+returns-clause-gives c =
+    let k = c.args.config in
+    let w = c.args.w in
+    let x = c.args.aut.now in
+    its.entered k w [] x (c.pair_fits.ensures.is (nodes_in x) (members_in x) [] ∙ c.if-not-pair_fits.false)
+    (intern2 (limits_of k.limits) w.kind w.first w.second) (its.enters_pair k.fields (limits_of k.limits) [] w.kind w.first w.second w.nesting (aut_in x) c.requires.1) c.intern2.result _ c.intern2.ensures.gives

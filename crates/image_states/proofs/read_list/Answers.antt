@@ -1,30 +1,28 @@
+use mathlib.Core.Path.{refl}
 use Prim.Native.Nat.{◌+◌}
 use native.Mathlib.Omega.{arith}
-use Rattle.aut_states.specs.Clauses.{limits_of}
+use lib.Seq.{length-take-le}
 use Rattle.image_states.proofs.Copying as copying
 use Rattle.image_states.proofs.Turning as its
 use Rattle.image_states.proofs.read_list.Goals as goal
 
-pub returns-then-x-k : goal.returns-then-x-k
-returns-then-x-k c =
-    its.list_far c.args.image.now c.args.config.fields (limits_of c.args.config.limits) c.args.at c.args.w c.args.c c.args.states.now c.args.members.now c.requires.kind c.if-x-k.true c.args.scratch.now c.args.states.now c.args.members.now
+pub returns-then-x-k-clause-gives : goal.returns-then-x-k-clause-gives
+returns-then-x-k-clause-gives c = its.list_far c.args.image.now c.args.config c.args.at c.args.w _ c.requires.1 c.if-x-k.true
 
-pub returns-then-k-config : goal.returns-then-k-config
-returns-then-k-config c =
-    its.list_long c.args.image.now c.args.config.fields (limits_of c.args.config.limits) c.args.at c.args.w c.args.c c.args.states.now c.args.members.now c.requires.kind c.if-x-k.false c.if-k-config.true c.args.scratch.now c.args.states.now c.args.members.now
+pub returns-then-k-config-clause-gives : goal.returns-then-k-config-clause-gives
+returns-then-k-config-clause-gives c = its.list_long c.args.image.now c.args.config c.args.at c.args.w _ c.requires.1 c.if-x-k.false c.if-k-config.true
 
 pub overflow_add-at : goal.overflow_add-at
 overflow_add-at c =
-    omega (arith, copying.few_words c.args.image.now (c.args.at.first + c.args.at.count) c.requires.members, c.if-x-k.false)
+    omega (arith, copying.few_words c.args.image.now (c.args.at.first + c.args.at.count) c.requires.0.members, c.if-x-k.false)
 
 pub copy_members-requires : goal.copy_members-requires
-copy_members-requires c =
-    (copying.holds_less c.requires.members (omega (arith, c.if-x-k.false)), omega (arith, c.requires.room, c.requires.list, c.if-k-config.false))
+copy_members-requires c = copying.holds_less c.requires.0.members (omega (arith, c.if-x-k.false, length-take-le c.args.w.second c.args.aut.now.scratch.now (omega (arith, c.requires.0.list, c.requires.0.room, c.if-k-config.false))))
 
 pub enter_list-requires : goal.enter_list-requires
-enter_list-requires c =
-    record { few = c.requires.few; nodes = c.requires.nodes; good = c.requires.good; kind = c.requires.kind; short = omega (arith, c.requires.list, c.if-k-config.false); room = omega (arith, c.requires.room, c.requires.list, c.if-k-config.false, c.copy_members.auto.scratch) }
+enter_list-requires c = (record { few = c.requires.0.ordered.few; nodes = _; good = c.requires.0.ordered.good; long = omega (arith, length-take-le c.args.w.second c.args.aut.now.scratch.now (omega (arith, c.requires.0.list, c.requires.0.room, c.if-k-config.false))) }, c.requires.1)
 
-pub returns : goal.returns
-returns c =
-    its.list_read c.args.image.now c.args.config.fields (limits_of c.args.config.limits) c.args.at c.args.w c.args.c c.args.states.now c.args.members.now c.requires.kind c.if-x-k.false c.args.scratch.now c.copy_members.new.scratch c.copy_members.ensures c.requires.room (omega (arith, c.requires.list, c.if-k-config.false)) c.enter_list.result c.enter_list.new.states c.enter_list.new.members c.enter_list.ensures
+pub returns-clause-gives : goal.returns-clause-gives
+returns-clause-gives c =
+    its.list_read c.args.image.now c.args.config c.args.at c.args.w c.args.aut.now c.requires.1 c.if-x-k.false c.copy_members.new.list (length-take-le c.args.w.second c.args.aut.now.scratch.now (omega (arith, c.requires.0.list, c.requires.0.room, c.if-k-config.false))) c.copy_members.ensures (omega (arith, c.requires.0.list, c.if-k-config.false))
+    (omega (arith, c.requires.0.list, c.requires.0.room, c.if-k-config.false)) _ _ c.enter_list.ensures.gives refl refl
