@@ -22,15 +22,17 @@ use Rattle.aut_delta_steps.specs.DeltaReads.{quit, enter_with, enter}
 use Rattle.aut_states.specs.declared.Config.{Config}
 use Rattle.aut_relations.specs.declared.Aut.{Aut as Lent}
 use Rattle.aut_relations.specs.Lent.{nodes_in, aut_in, Keeps, KeepsExprs, Does, Handles}
+use Rattle.aut_relations.proofs.Kept.{keeps_of}
 use Rattle.aut_relations.proofs.Order.{backed_of}
 use Rattle.aut_sequence.specs.Clauses.{task_of}
 use Rattle.aut_sequence.specs.declared.Task.TheVariants as task
+use Rattle.aut_epsilon.specs.Clauses.{After}
 use Rattle.aut_epsilon.specs.Asked.{EpsilonAsked, Later}
 use Rattle.aut_stage.specs.Rule.{Laws, Stage}
 use Rattle.aut_stage.proofs.Rule.{all_of, begin, instead, next, stuck, done}
 use Rattle.aut_stage.proofs.OnLent.{related}
 use Rattle.aut_delta_stage.specs.OnTables.{store_in, StoreAsked, tables_layer, GoesStore}
-use Rattle.aut_delta_stage.proofs.OnTables.{tables_laws, asked_of, store_after, refused_goes, step_goes, keeps_exprs, then_on, aut_goes, epsilon_goes}
+use Rattle.aut_delta_stage.proofs.OnTables.{tables_laws, asked_of, store_after, refused_goes, step_goes, then_on, aut_goes, epsilon_goes}
 use Rattle.aut_delta.specs.Readings.{EnterAsked, Enters, epsilon_quit, star_quit, unless, unless_entered}
 
 -- ---- nothing is done
@@ -58,19 +60,22 @@ module _ {k : Config} {x y : Lent} {a : ℕ} (R : EnterAsked k x a) (K : Keeps x
     no_epsilon {e} {V} q D =
         refused_goes q (stuck W 0 0 {see' = λ (v : V). tt} {Q = λ τ u. Unit} {υ' = store_in x} {z = x.scratch.now} (epsilon_goes R.store K a {r = Err e} D tt).post (λ e. on_aut (f e)) g0).is
 
-    module _ {h : SPP} (D : Does N 0 0 aut_in (λ h. h.0) (epsilon N a) x (Ok h) y) (A : Later k a x (Ok h) y) where
+    module _ {h : SPP} (D : Does N 0 0 aut_in (λ h. h.0) (epsilon N a) x (Ok h) y) (A : Later k.fields a x (Ok h) y) where
       E : GoesStore k 0 0 (λ τ e. ValidAt τ.aut.nodes N e) (λ (h : SPP). h.0) (on_aut (epsilon N a)) x (Ok h) y
       E = epsilon_goes R.store K a D A
 
       g1 : Stage (tables_layer N k.limits) 0 0 whole (on_aut (f h.0) (store_in y)) (store_in x) (store_in y) x.scratch.now y.scratch.now
       g1 = next W 0 0 E.post (all_of 0 0) (λ e. on_aut (f e)) g0
 
-  module _ {h : SPP} (D : Does N 0 0 aut_in (λ h. h.0) (epsilon N a) x (Ok h) y) (A : Later k a x (Ok h) y) where
+  module _ {h : SPP} (D : Does N 0 0 aut_in (λ h. h.0) (epsilon N a) x (Ok h) y) (A : Later k.fields a x (Ok h) y) where
     pub epsilon_made : {V : Type 0} {v : V} → Enters k (epsilon_quit N a) x (Ok v) y
     epsilon_made = record { post = done W 0 0 (g1 quit D A) tt }
 
+    left : After N k.limits a (aut_in x) (aut_in y) y.scratch.now h.0
+    left = A k.limits R.store.prepared.ready
+
     pub relate_ready : Handles N y h.0 h.0
-    relate_ready = record { fields = K.spp.fields ∙ R.store.fields; backed = backed_of A.ready; at_a = A.law.found.means.den.at; at_b = A.law.found.means.den.at }
+    relate_ready = record { fields = K.spp.fields ∙ R.store.fields; backed = backed_of left.ready; at_a = left.law.found.means.den.at; at_b = left.law.found.means.den.at }
 
     abbrev then_star : ℕ → Step Aut Unit
     then_star e = on_nodes (Rel.star N e) >>= quit
@@ -83,10 +88,10 @@ module _ {k : Config} {x y : Lent} {a : ℕ} (R : EnterAsked k x a) (K : Keeps x
 
     module _ {z : Lent} (L : KeepsExprs y z) {r : Result SPP Refusal} (S : Does N 0 0 nodes_in (λ h. h.0) (task_of N task.Star h.0 h.0) y r z) where
       abbrev Starred : Result SPP Refusal → Type 0
-      Starred r = GoesStore k 0 0 (λ τ e. Denotes τ.aut.nodes N e (closure A.law.found.means.relation)) (λ (h : SPP). h.0) (on_aut (on_nodes (Rel.star N h.0))) y r z
+      Starred r = GoesStore k 0 0 (λ τ e. Denotes τ.aut.nodes N e (closure left.law.found.means.relation)) (λ (h : SPP). h.0) (on_aut (on_nodes (Rel.star N h.0))) y r z
 
       starred : Starred r
-      starred = aut_goes S1 (keeps_exprs L) (on_nodes (Rel.star N h.0)) (related (asked_of S1) L (nodes_goes A.ready.good (star_makes A.ready.good.nodes A.law.found.means.den)) S)
+      starred = aut_goes S1 (keeps_of L) (on_nodes (Rel.star N h.0)) (related (asked_of S1) L (nodes_goes left.ready.good (star_makes left.ready.good.nodes left.law.found.means.den)) S)
 
       pub no_star : {e : Refusal} {V : Type 0} {q : Result V Refusal} {u : Lent} → q ≡ Err e → r ≡ Err e → Enters k (star_quit N a) x q u
       no_star {e} {V} q p =
@@ -132,8 +137,8 @@ module _ {k : Config} {x : Lent} {i : ℕ} (R : EnterAsked k x i) where
       ready : EnterAsked k x a
       ready = subst (EnterAsked k x) (sym is) (sequence_ready e)
 
-      pub first_ready : EpsilonAsked k x a
-      first_ready = record { asked = asked_of ready.store; epsilons = ready.store.prepared.worked.epsilons; has = ready.has }
+      pub first_ready : EpsilonAsked k.fields x a
+      first_ready = record { limits = k.limits; fields = ready.store.fields; ready = ready.store.prepared.ready; epsilons = ready.store.prepared.worked.epsilons; has = ready.has }
 
       as_enter : {y : Lent} {V : Type 0} {r : Result V Refusal} → Enters k (epsilon_quit k.fields a) x r y → Enters k (enter k.fields i) x r y
       as_enter {y} {r = r} g = in_sequence i e (subst (λ (a : ℕ). Enters k (epsilon_quit k.fields a) x r y) is g)
@@ -142,7 +147,7 @@ module _ {k : Config} {x : Lent} {i : ℕ} (R : EnterAsked k x i) where
         pub first_stuck : {q : Refusal} {V : Type 0} {r : Result V Refusal} {z : Lent} → r ≡ Err q → Does k.fields 0 0 {V = SPP} aut_in (λ h. h.0) (epsilon k.fields a) x (Err q) y → Enters k (enter k.fields i) x r z
         first_stuck p D = as_enter (no_epsilon ready K quit p D)
 
-        pub first_made : {h : SPP} {V : Type 0} {v : V} → Does k.fields 0 0 aut_in (λ h. h.0) (epsilon k.fields a) x (Ok h) y → Later k a x (Ok h) y → Enters k (enter k.fields i) x (Ok v) y
+        pub first_made : {h : SPP} {V : Type 0} {v : V} → Does k.fields 0 0 aut_in (λ h. h.0) (epsilon k.fields a) x (Ok h) y → Later k.fields a x (Ok h) y → Enters k (enter k.fields i) x (Ok v) y
         first_made D A = as_enter (epsilon_made ready K D A)
 
     module _ (e : kind_of x.states.words.now i ≡ STAR) where

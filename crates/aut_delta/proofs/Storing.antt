@@ -38,14 +38,12 @@ use Rattle.aut_states.specs.declared.Config.{Config}
 use Rattle.aut_relations.specs.Behind.{Modifies}
 use Rattle.aut_relations.specs.declared.Aut.{Aut as Lent}
 use Rattle.aut_relations.specs.Lent.{Keeps}
-use Rattle.aut_relations.proofs.Order.{in_table}
+use Rattle.aut_relations.proofs.Order.{in_table, ready_after}
 use Rattle.aut_stage.specs.Rule.{Laws, Stage}
 use Rattle.aut_stage.proofs.Rule.{all_of, begin, instead, next}
 use Rattle.aut_stage.specs.OnLent.{Goes}
-use Rattle.aut_stage.proofs.OnAut.{ready_left}
 use Rattle.aut_st_insert.specs.Clauses.{RESULT}
-use Rattle.aut_delta_stage.specs.OnStore.{Prepared}
-use Rattle.aut_delta_stage.specs.OnTables.{store_in, StoreAsked, tables_layer, GoesStore}
+use Rattle.aut_delta_stage.specs.OnTables.{store_in, StoreAsked, tables_layer, GoesStore, Prepared}
 use Rattle.aut_delta_stage.proofs.OnTables.{tables_laws, store_after, refused_goes, step_goes, aut_goes}
 use Rattle.aut_delta_kinds.specs.Clauses.{TogetherAsked, together_of}
 use Rattle.aut_delta_keep.specs.Clauses.{KeepAsked, KeepsOthers}
@@ -190,7 +188,7 @@ module _ {k : Config} {i : ℕ} {x : Lent} (F : FinishAsked k x i) where
                     ext = D.listed.went;
                     frame = subst (λ (s : List ℕ). Modifies N 0 1088 τ3.aut.nodes x.scratch.now s) at frame;
                     ready = subst (λ (s : List ℕ). Prepared N k.limits τ3 s) at (record {
-                      ready = ready_left N k.limits 0 1088 σ.aut τ3.aut x.scratch.now y2.scratch.now D.listed.went.grown D.listed.worked.good (K2.length ∙ K1.length) frame F.store.prepared.ready;
+                      ready = ready_after F.store.prepared.ready D.listed.went.grown D.listed.worked.good frame (K2.length ∙ K1.length);
                       worked = D.listed.worked;
                     });
                     holds = record { marked = D.stored.marked; reads = refl };

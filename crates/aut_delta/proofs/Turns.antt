@@ -27,14 +27,13 @@ use Rattle.spp.specs.Clauses.{SameStore}
 use Rattle.aut_states.specs.Clauses.{limits_of}
 use Rattle.aut_states.specs.declared.Config.{Config}
 use Rattle.aut_relations.specs.declared.Aut.{Aut as Lent}
-use Rattle.aut_relations.specs.declared.Transitions.{Transitions}
 use Rattle.aut_relations.specs.Lent.{Keeps}
 use Rattle.aut_relations.proofs.Order.{in_table}
 use Rattle.aut_stage.specs.Rule.{Laws, Stage}
 use Rattle.aut_stage.proofs.Rule as Rule
 use Rattle.aut_stage.proofs.Rule.{Inside, all_of, instead, next, finish, done}
-use Rattle.aut_st_insert.proofs.Kept.{same_trans, keeps_refl}
 use Rattle.aut_delta_stage.specs.OnTables.{store_in, KeepsStore, StoreAsked, tables_layer}
+use Rattle.aut_delta_stage.proofs.Kept.{store_refl}
 use Rattle.aut_delta_stage.proofs.OnTables.{tables_laws, store_after, refused_goes}
 use Rattle.aut_delta.specs.Clauses.{DeltaAsked, Deltas}
 use Rattle.aut_delta.specs.Readings.{DescendAsked, EndsBy, FinishAsked}
@@ -63,32 +62,6 @@ then_both : {A B C : Type 0} (o : Outcome Store A) (f : A → Step Store B) (g :
 then_both (refused number) f g = refl
 then_both (given τ a) f g = refl
 
--- ---- what several calls keep together
-
-pub store_keeps : {x y : Lent} → Keeps x y → KeepsStore x y
-store_keeps K = record {
-  sp = K.sp;
-  spp = K.spp;
-  states = K.states;
-  members = K.members;
-  transitions = ap (λ (t : Transitions). t.words.ghost_name) K.transitions;
-  pending = K.pending;
-  scratch = K.scratch;
-  length = K.length;
-}
-
-pub store_trans : {x y z : Lent} → KeepsStore x y → KeepsStore y z → KeepsStore x z
-store_trans p q = record {
-  sp = q.sp ∙ p.sp;
-  spp = same_trans p.spp q.spp;
-  states = q.states ∙ p.states;
-  members = q.members ∙ p.members;
-  transitions = q.transitions ∙ p.transitions;
-  pending = q.pending ∙ p.pending;
-  scratch = q.scratch ∙ p.scratch;
-  length = q.length ∙ p.length;
-}
-
 -- ---- the loop
 
 -- the run has come to the tables z, and e states of the way down are entered
@@ -109,7 +82,7 @@ module _ {k : Config} {i : ℕ} {x : Lent} (A : DeltaAsked k x i) where
 
   pub begin : Turn k i x x 0
   begin = record {
-    keeps = store_keeps (keeps_refl x);
+    keeps = store_refl x;
     stage = Rule.begin W 0 1088 A.store.prepared refl;
     rest = λ y ys v. refl;
   }

@@ -34,7 +34,7 @@ use Rattle.aut_relations.specs.declared.Aut.{Aut as Lent}
 use Rattle.aut_relations.specs.Lent.{Keeps}
 use Rattle.aut_relations.proofs.Order.{in_table}
 use Rattle.aut_stage.specs.Rule.{Laws, Came}
-use Rattle.aut_st_insert.proofs.Kept.{keeps_refl, keeps_trans}
+use Rattle.aut_relations.proofs.Kept.{keeps_refl, keeps_trans}
 use Rattle.aut_delta_stage.specs.OnTables.{store_in, StoreAsked, tables_layer}
 use Rattle.aut_delta_stage.proofs.OnTables.{tables_laws}
 use Rattle.aut_operands.specs.declared.Part.TheVariants as part

@@ -1,4 +1,3 @@
 -- delta in code. Read in this order.
 pub mod Clauses  -- what delta asks and promises
 pub mod Readings  -- what the answers of its parts say in the words of its step
-pub mod Parts  -- the same where a table and its count are apart

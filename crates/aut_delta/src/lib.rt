@@ -8,17 +8,12 @@ ghost use Rattle.aut_delta_stage.specs.OnTables.{KeepsStore};
 ghost use Rattle.aut_delta.specs.Clauses.{DeltaAsked, Deltas};
 ghost use Rattle.aut_delta.specs.Readings.{EnterAsked, star_quit, unless_entered, DescendAsked, EndsBy, FinishAsked, Enters};
 ghost use Rattle.aut_delta_steps.specs.DeltaReads as M;
-ghost use Rattle.aut_relations.specs.Parts.{SameParts};
-ghost use Rattle.aut_delta_stage.specs.OnStore.{store_of};
-ghost use Rattle.aut_delta.specs.Parts.{PreDelta, PostDelta, worked_of, store_apart};
 
 use aut_operands::Part;
-use aut_relations::{Apart, Aut, Transitions};
+use aut_relations::Aut;
 use aut_sequence::Task;
-use aut_states::{Config, Counts, Members, States};
+use aut_states::Config;
 use refusal::Refusal;
-use sp::SPstore;
-use spp::SPPstore;
 
 // ---- what is worked out before the operands' lists
 
@@ -121,106 +116,4 @@ pub fn delta(aut: &mut Aut, config: Config, x: u32) -> Result<(), Refusal>
         delta(aut, config, y)?;
         entered = i;
     }
-}
-
-// ---- for the layers that hold a table and its count apart
-
-// the list is in the tables; or 01's number
-#[derive(Clone, Copy)]
-pub enum Worked {
-    Done(Counts),
-    Refused(u32),
-}
-
-fn worked_of(answer: Result<(), Refusal>, c: Counts) -> Worked
-    ensures { result ≡ worked_of answer c }
-{
-    match answer {
-        Ok(()) => Worked::Done(c),
-        Err(e) => Worked::Refused(e.number()),
-    }
-}
-
-fn delta_apart(apart: &mut Apart, config: Config, x: u32) -> Result<(), Refusal>
-    requires { PreDelta config.fields config.limits (store_apart apart.old) apart.old.scratch.now x }
-    ensures same { SameParts apart.old apart.new }
-    ensures gives { PostDelta config.fields config.limits x (store_apart apart.old) apart.old.counts
-        (worked_of result apart.new.counts)
-        (store_of apart.new.nodes.now apart.new.states.now apart.new.members.now
-        apart.new.transitions.now) apart.old.scratch.now apart.new.scratch.now }
-{
-    let mut aut = Aut {
-        sp: SPstore {
-            nodes: Default::default(),
-            count: 0,
-        },
-        spp: SPPstore {
-            nodes: std::mem::take(&mut apart.nodes),
-            count: apart.counts.spp,
-            fields: config.fields,
-        },
-        states: States {
-            words: std::mem::take(&mut apart.states),
-            count: apart.counts.states,
-        },
-        members: Members {
-            words: std::mem::take(&mut apart.members),
-            count: apart.counts.members,
-        },
-        transitions: Transitions {
-            words: std::mem::take(&mut apart.transitions),
-            count: apart.counts.transitions,
-        },
-        pending: Default::default(),
-        scratch: std::mem::take(&mut apart.scratch),
-    };
-    let answer = delta(&mut aut, config, x);
-    apart.counts = Counts {
-        sp: apart.counts.sp,
-        spp: aut.spp.count,
-        states: aut.states.count,
-        members: aut.members.count,
-        transitions: aut.transitions.count,
-    };
-    let lent = &mut aut;
-    let nodes = std::mem::take(&mut lent.spp.nodes);
-    let states = std::mem::take(&mut lent.states.words);
-    let members = std::mem::take(&mut lent.members.words);
-    let transitions = std::mem::take(&mut lent.transitions.words);
-    let scratch = std::mem::take(&mut lent.scratch);
-    apart.nodes = nodes;
-    apart.states = states;
-    apart.members = members;
-    apart.transitions = transitions;
-    apart.scratch = scratch;
-    answer
-}
-
-pub fn delta_on(
-    nodes: &mut [u32],
-    states: &mut [u32],
-    members: &mut [u32],
-    transitions: &mut [u32],
-    scratch: &mut [u32],
-    c: Counts,
-    config: Config,
-    x: u32,
-) -> Worked
-    requires { PreDelta config.fields config.limits
-        (store_of nodes.old states.old members.old transitions.old c) scratch.old x }
-    ensures { PostDelta config.fields config.limits x
-        (store_of nodes.old states.old members.old transitions.old c) c result
-        (store_of nodes.new states.new members.new transitions.new)
-        scratch.old scratch.new }
-{
-    let mut apart = Apart {
-        nodes,
-        states,
-        members,
-        transitions,
-        scratch,
-        counts: c,
-    };
-    let answer = delta_apart(&mut apart, config, x);
-    worked_of(answer, apart.counts)
 }

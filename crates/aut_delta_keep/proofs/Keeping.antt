@@ -1,5 +1,5 @@
 -- A list's words copied behind the transitions in use, then words 5 and 6 of its state: that is keep_list. Without room it is 25.
-use Rattle.std.specs.Prelude.{if◌then◌else◌, Result, Ok, Err}
+use Rattle.std.specs.Prelude.{if◌then◌else◌, Result, Err}
 use mathlib.Core.Path.{◌≡◌, refl, sym, ◌∙◌, ap, ap₂, subst}
 use mathlib.Core.Bool.{Bool, true, false, ◌&&◌}
 use mathlib.Core.List.{List, ◌∷◌}
@@ -20,7 +20,7 @@ use Rattle.aut_st_steps.proofs.Places.{edges_length}
 use Rattle.aut_delta_steps.specs.Epsilon.{set_word}
 use Rattle.aut_delta_steps.specs.Delta.{Store, store, transition_cap, room_t, append, keep_list}
 use Rattle.aut_st_insert.specs.Clauses.{RESULT}
-use Rattle.aut_delta_keep.specs.Clauses.{Appended, Appends}
+use Rattle.aut_delta_keep.specs.Clauses.{Appended}
 
 -- a list's words are those it is read from
 flat_edges : (s : List ℕ) (a k : ℕ) → flat (edges s a k) ≡ words s (2 * a) (2 * k)

@@ -4,7 +4,7 @@
 ghost use Rattle.std.specs.Prelude.{◌≡◌, ◌+◌, ◌*◌, ◌≤◌, length};
 ghost use Rattle.refusal.specs.Numbers.{outcome};
 ghost use Rattle.aut_st_steps.specs.Edges.{edges};
-ghost use Rattle.aut_st_insert.specs.Clauses.{RESULT};
+ghost use Rattle.aut_st_insert.specs.Clauses.{RESULT, list_in};
 ghost use Rattle.aut_delta_steps.specs.Delta as M;
 ghost use Rattle.aut_delta_stage.specs.OnTables.{store_in};
 ghost use Rattle.aut_delta_keep.specs.Clauses.{table_of, KeepAsked, KeepsOthers, Appends};
@@ -45,7 +45,7 @@ fn append(transitions: &mut Transitions, scratch: &mut [u32], m: usize) -> Resul
 pub fn keep_list(aut: &mut Aut, x: u32, m: usize) -> Result<(), Refusal>
     requires { KeepAsked aut.old x m }
     ensures keeps { KeepsOthers aut.old aut.new }
-    ensures gives { M.keep_list x (edges aut.old.scratch.now RESULT m) (store_in aut.old) ≡ outcome (λ u. edges aut.old.scratch.now RESULT m) result (store_in aut.new) }
+    ensures gives { M.keep_list x (list_in aut.old m) (store_in aut.old) ≡ outcome (λ u. list_in aut.old m) result (store_in aut.new) }
 {
     let start = aut.transitions.count;
     append(&mut aut.transitions, aut.scratch, m)?;

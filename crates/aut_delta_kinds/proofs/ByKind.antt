@@ -42,7 +42,7 @@ use Rattle.aut_stage.proofs.OnLent.{lent_laws, related, asked_after}
 use Rattle.aut_st_insert.specs.Clauses.{RESULT}
 use Rattle.aut_st_source.specs.Clauses.{stored, Walked}
 use Rattle.aut_st_ops.specs.Asked.{TwoAsked}
-use Rattle.aut_st_complement.specs.Asked as Not
+use Rattle.aut_st_each.specs.Asked.{OneAsked}
 use Rattle.aut_delta_stage.specs.OnTables.{store_in}
 use Rattle.aut_delta_many.specs.Clauses.{lists_at}
 use Rattle.aut_delta_many.specs.Asked.{ManyAsked}
@@ -162,7 +162,7 @@ module _ {k : Config} {x : Lent} {i : ℕ} (R : TogetherAsked k x i) where
     -- ---- one list
 
     module _ {d : Span} (q : Spans st a d) (e : kind_of st i ≡ COMPLEMENT) where
-      pub complement_ready : Not.OneAsked k x (stored d.start d.count)
+      pub complement_ready : OneAsked k x (stored d.start d.count)
       complement_ready = record { asked = asked; limit = R.ready.limit; walked = operands.spanned R.ready (operands.complement_operand R.ready pa pb e) q }
 
       pub of_complement : {r : Result ℕ Refusal} {y : Lent} → Gives 832 (St.st_complement (ops N (limits_of k.limits)) (edges tr d.start d.count)) r y → Gives 1088 whole r y

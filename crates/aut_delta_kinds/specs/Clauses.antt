@@ -10,12 +10,11 @@ use Rattle.aut_delta_steps.specs.Delta.{Store, list_at}
 use Rattle.aut_delta_steps.specs.DeltaReads.{list_operands, together_with}
 use Rattle.aut_delta_steps.specs.DeltaDown.{Has}
 use Rattle.aut_delta_steps.specs.EpsilonDown.{Known}
-use Rattle.aut_delta_stage.specs.OnStore.{Prepared}
 use Rattle.aut_states.specs.Clauses.{limits_of}
 use Rattle.aut_states.specs.declared.Config.{Config}
 use Rattle.aut_states.specs.declared.Limits.{Limits}
 use Rattle.aut_relations.specs.declared.Aut.{Aut as Lent}
-use Rattle.aut_delta_stage.specs.OnTables.{store_in}
+use Rattle.aut_delta_stage.specs.OnTables.{store_in, Prepared}
 
 pub record PreTogether (N : ℕ) (l : Limits) (σ : Store) (s : List ℕ) (x : ℕ) : Type 0 where
   pub prepared : Prepared N l σ s

@@ -8,7 +8,7 @@ use Rattle.aut_relations.specs.declared.Aut.{Aut as Lent}
 use Rattle.aut_relations.specs.Lent.{aut_in}
 use Rattle.aut_st_source.specs.declared.Source.{Source}
 use Rattle.aut_st_each.specs.Asked.{EachAsked}
-use Rattle.aut_st_ops.specs.Asked.{OneAsked}
+use Rattle.aut_st_each.specs.Asked.{OneAsked}
 
 module _ {k : Config} {x : Lent} {source : Source} where
   pub each_asked : {each : M.Each} → OneAsked k x source → EachAt k.fields (aut_in x) each → EachAsked k x each source 0

@@ -29,18 +29,19 @@ use Rattle.aut_relations.specs.Lent.{states_in, aut_in, Keeps}
 use Rattle.aut_relations.proofs.Order.{ready_until}
 use Rattle.aut_stage.specs.OnLent.{Goes}
 use Rattle.aut_stage.proofs.Rule.{Inside}
-use Rattle.aut_st_insert.specs.Clauses.{RESULT}
+use Rattle.aut_st_insert.specs.Clauses.{RESULT, list_in}
 use Rattle.aut_st_edges.specs.Clauses.{Wrote, CopyReady}
 use Rattle.aut_st_source.specs.Clauses.{stored}
 use Rattle.aut_st_source.proofs.Contracts.{scratched}
-use Rattle.aut_st_ops.specs.Asked.{OneAsked, TwoAsked}
+use Rattle.aut_st_each.specs.Asked.{OneAsked}
+use Rattle.aut_st_ops.specs.Asked.{TwoAsked}
 use Rattle.aut_st_stage.proofs.Turns.{source_in}
 use Rattle.aut_st_stage.proofs.Run.{Run, written, stated, keeps_stated, goes_stated, run_begin, run_next, run_stuck, run_finish}
 use Rattle.aut_st_stage.proofs.Waits.{Waits, waits, with_it, waits_later, waits_copied}
 use Rattle.aut_st_xor.proofs.Joins as join
 use Rattle.aut_st_xor.proofs.Joins.{Joins}
 use Rattle.aut_delta_lists.specs.Asked.{SequenceAsked, StarAsked, UntilAsked}
-use Rattle.aut_delta_lists.proofs.Waiting.{part, all, list_in, GoesList, list_stuck, list_copy, list_waits, list_next}
+use Rattle.aut_delta_lists.proofs.Waiting.{part, all, GoesList, list_stuck, list_copy, list_waits, list_next}
 
 abbrev FIRST : ℕ
 FIRST = 416

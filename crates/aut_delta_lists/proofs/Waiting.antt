@@ -10,7 +10,6 @@ use Rattle.common.specs.Outcome.{Step, after}
 use Rattle.refusal.specs.declared.Refusal.{Refusal}
 use Rattle.netkat_steps.specs.ListSteps.{Edge}
 use Rattle.aut_steps.specs.Tables.{Aut}
-use Rattle.aut_st_steps.specs.Edges.{edges}
 use Rattle.aut_st_steps.specs.ListSpec.{ListAt}
 use Rattle.aut_states.specs.Clauses.{limits_of}
 use Rattle.aut_states.specs.declared.Config.{Config}
@@ -18,7 +17,7 @@ use Rattle.aut_relations.specs.declared.Aut.{Aut as Lent}
 use Rattle.aut_relations.specs.Lent.{Keeps}
 use Rattle.aut_stage.specs.OnLent.{Goes}
 use Rattle.aut_stage.proofs.Rule.{Inside}
-use Rattle.aut_st_insert.specs.Clauses.{RESULT}
+use Rattle.aut_st_insert.specs.Clauses.{RESULT, list_in}
 use Rattle.aut_st_edges.specs.Clauses.{Wrote, CopyReady}
 use Rattle.aut_st_source.specs.declared.Source.{Source}
 use Rattle.aut_st_source.proofs.Contracts.{scratched}
@@ -32,10 +31,6 @@ part = record { from = omega arith; to = omega arith }
 -- the whole list operation
 pub all : Inside 0 832 0 832
 all = record { from = omega arith; to = omega arith }
-
--- a list that stands at RESULT
-abbrev pub list_in : Lent → ℕ → List Edge
-list_in x n = edges x.scratch.now RESULT n
 
 abbrev pub GoesList : Config → ℕ → Step Aut (List Edge) → Lent → Result ℕ Refusal → Lent → Type 0
 GoesList k m o x r y = Goes k 0 m (ListAt k.fields (limits_of k.limits)) (list_in y) o x r y

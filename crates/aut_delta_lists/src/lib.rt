@@ -12,9 +12,9 @@ ghost use Rattle.aut_delta_steps.specs.Delta as Delta;
 ghost use Rattle.aut_states.specs.Clauses.{limits_of};
 ghost use Rattle.aut_relations.specs.Lent.{aut_in, Keeps};
 ghost use Rattle.aut_stage.specs.OnLent.{Goes};
-ghost use Rattle.aut_st_insert.specs.Clauses as Seen;
+ghost use Rattle.aut_st_insert.specs.Clauses.{list_in};
 ghost use Rattle.aut_st_source.specs.Clauses.{source_of};
-ghost use Rattle.aut_st_ops.specs.Asked.{OneAsked};
+ghost use Rattle.aut_st_each.specs.Asked.{OneAsked};
 ghost use Rattle.aut_delta_lists.specs.Asked.{SequenceAsked, StarAsked, UntilAsked, AloneAsked};
 
 use aut_relations::Aut;
@@ -38,7 +38,7 @@ pub fn st_postcompose(
     requires { OneAsked config aut.old source × State (aut_in aut.old) e }
     ensures keeps { Keeps aut.old aut.new }
     ensures gives { Goes config 0 832 (ListAt config.fields (limits_of config.limits))
-        (λ n. edges aut.new.scratch.now Seen.RESULT n)
+        (list_in aut.new)
         (St.st_postcompose (ops config.fields (limits_of config.limits))
         (source_of source aut.old.transitions.words.now aut.old.scratch.now) e)
         aut.old result aut.new }
@@ -57,7 +57,7 @@ pub fn st_precompose(
     requires { OneAsked config aut.old source × Label config.fields (aut_in aut.old) l.0 }
     ensures keeps { Keeps aut.old aut.new }
     ensures gives { Goes config 0 832 (ListAt config.fields (limits_of config.limits))
-        (λ n. edges aut.new.scratch.now Seen.RESULT n)
+        (list_in aut.new)
         (St.st_precompose (ops config.fields (limits_of config.limits)) l.0
         (source_of source aut.old.transitions.words.now aut.old.scratch.now))
         aut.old result aut.new }
@@ -76,7 +76,7 @@ pub fn st_intersect_expr(
     requires { OneAsked config aut.old source × State (aut_in aut.old) e }
     ensures keeps { Keeps aut.old aut.new }
     ensures gives { Goes config 0 832 (ListAt config.fields (limits_of config.limits))
-        (λ n. edges aut.new.scratch.now Seen.RESULT n)
+        (list_in aut.new)
         (St.st_intersect_expr (ops config.fields (limits_of config.limits))
         (source_of source aut.old.transitions.words.now aut.old.scratch.now) e)
         aut.old result aut.new }
@@ -96,7 +96,7 @@ pub fn st_singleton(
     ensures spp { aut.new.spp ≡ aut.old.spp }
     ensures members { aut.new.members ≡ aut.old.members }
     ensures gives { EdgeAt config.fields (aut_in aut.old) (edge target label.0) → Goes config 0 832 (ListAt config.fields (limits_of config.limits))
-        (λ n. edges aut.new.scratch.now Seen.RESULT n)
+        (list_in aut.new)
         (St.st_singleton (ops config.fields (limits_of config.limits)) label.0 target)
         aut.old result aut.new }
 {
@@ -129,7 +129,7 @@ pub fn sequence_list(
     requires { SequenceAsked config aut.old y eps.0 first k second j }
     ensures keeps { Keeps aut.old aut.new }
     ensures gives { Goes config 0 1088 (ListAt config.fields (limits_of config.limits))
-        (λ n. edges aut.new.scratch.now Seen.RESULT n)
+        (list_in aut.new)
         (Delta.sequence_list config.fields (limits_of config.limits) y eps.0
         (edges aut.old.transitions.words.now first k)
         (edges aut.old.transitions.words.now second j)) aut.old result aut.new }
@@ -180,7 +180,7 @@ pub fn star_list(
     requires { StarAsked config aut.old x eps.0 first k }
     ensures keeps { Keeps aut.old aut.new }
     ensures gives { Goes config 0 1088 (ListAt config.fields (limits_of config.limits))
-        (λ n. edges aut.new.scratch.now Seen.RESULT n)
+        (list_in aut.new)
         (Delta.star_list config.fields (limits_of config.limits) x eps.0
         (edges aut.old.transitions.words.now first k)) aut.old result aut.new }
 {
@@ -219,7 +219,7 @@ pub fn until_list(
     requires { UntilAsked config aut.old a b first k second j }
     ensures keeps { Keeps aut.old aut.new }
     ensures gives { Goes config 0 1088 (ListAt config.fields (limits_of config.limits))
-        (λ n. edges aut.new.scratch.now Seen.RESULT n)
+        (list_in aut.new)
         (Delta.until_list config.fields (limits_of config.limits) a b
         (edges aut.old.transitions.words.now first k)
         (edges aut.old.transitions.words.now second j)) aut.old result aut.new }
@@ -255,7 +255,7 @@ pub fn dup_list(aut: &mut Aut, config: Config) -> Result<usize, Refusal>
     ensures spp { aut.new.spp ≡ aut.old.spp }
     ensures members { aut.new.members ≡ aut.old.members }
     ensures gives { Goes config 0 832 (ListAt config.fields (limits_of config.limits))
-        (λ n. edges aut.new.scratch.now Seen.RESULT n)
+        (list_in aut.new)
         (Delta.dup_list config.fields (limits_of config.limits)) aut.old result aut.new }
 {
     let one = spp::one_at_depth(config.fields, config.fields);
@@ -270,7 +270,7 @@ pub fn next_list(aut: &mut Aut, config: Config, a: u32) -> Result<usize, Refusal
     ensures spp { aut.new.spp ≡ aut.old.spp }
     ensures members { aut.new.members ≡ aut.old.members }
     ensures gives { State (aut_in aut.old) a → Goes config 0 832 (ListAt config.fields (limits_of config.limits))
-        (λ n. edges aut.new.scratch.now Seen.RESULT n)
+        (list_in aut.new)
         (St.st_singleton (ops config.fields (limits_of config.limits)) (top_at config.fields) a)
         aut.old result aut.new }
 {
@@ -284,7 +284,7 @@ pub fn top_list(aut: &mut Aut, config: Config) -> Result<usize, Refusal>
     ensures spp { aut.new.spp ≡ aut.old.spp }
     ensures members { aut.new.members ≡ aut.old.members }
     ensures gives { Goes config 0 832 (ListAt config.fields (limits_of config.limits))
-        (λ n. edges aut.new.scratch.now Seen.RESULT n)
+        (list_in aut.new)
         (Delta.top_list config.fields (limits_of config.limits)) aut.old result aut.new }
 {
     let x = aut.states.mk_top()?;

@@ -35,8 +35,8 @@ use Rattle.aut_relations.specs.Lent.{aut_in, Keeps, Asked}
 use Rattle.aut_stage.specs.OnLent.{lent_layer, Goes}
 use Rattle.aut_stage.proofs.OnLent.{lent_laws}
 use Rattle.aut_stage.proofs.Rule.{Inside, Folds, Turned, begin, stuck, done, turn, over, again, all_of}
-use Rattle.aut_st_insert.specs.Clauses.{RESULT}
-use Rattle.aut_st_insert.proofs.Kept.{keeps_refl, keeps_trans}
+use Rattle.aut_st_insert.specs.Clauses.{RESULT, list_in}
+use Rattle.aut_relations.proofs.Kept.{keeps_refl, keeps_trans}
 use Rattle.aut_st_edges.specs.Clauses.{Wrote, CopyReady}
 use Rattle.aut_st_source.specs.Clauses.{stored}
 use Rattle.aut_st_source.proofs.Contracts.{scratched}
@@ -58,9 +58,6 @@ FIRST = 416
 
 part : Inside 0 1088 0 832
 part = record { from = omega arith; to = omega arith }
-
-abbrev list_in : Lent → ℕ → List Edge
-list_in x n = edges x.scratch.now RESULT n
 
 abbrev GoesList : Config → ℕ → Step Aut (List Edge) → Lent → Result ℕ Refusal → Lent → Type 0
 GoesList k m o x r y = Goes k 0 m (ListAt k.fields (limits_of k.limits)) (list_in y) o x r y

@@ -17,7 +17,7 @@ use Rattle.aut_delta_steps.specs.Delta.{Store, list_at}
 use Rattle.aut_delta_steps.specs.DeltaDown.{Has}
 use Rattle.aut_delta_steps.proofs.ListGoes.{list_at_lem}
 use Rattle.aut_delta_steps.proofs.Extends.{edges_sets}
-use Rattle.aut_delta_stage.specs.OnStore.{Prepared}
+use Rattle.aut_delta_stage.specs.OnTables.{Prepared}
 use Rattle.aut_states.specs.Clauses.{limits_of}
 use Rattle.aut_states.specs.declared.Limits.{Limits}
 use Rattle.aut_st_edges.specs.Clauses.{Wrote}

@@ -2,7 +2,7 @@
 // FIRST while the next one is joined to it; the result stands at RESULT.
 #![tactic(auto)]
 
-ghost use Rattle.std.specs.Prelude.{[], ◌≡◌, ◌+◌, ◌*◌, ◌≤◌, length};
+ghost use Rattle.std.specs.Prelude.{[], ◌+◌, ◌*◌, ◌≤◌, length};
 ghost use Rattle.aut_st_steps.specs.Edges.{edges};
 ghost use Rattle.aut_st_steps.specs.ListSpec.{ListAt};
 ghost use Rattle.aut_delta_steps.specs.Delta.{list_at, union_all, intersect_first};
@@ -10,6 +10,7 @@ ghost use Rattle.aut_states.specs.Clauses.{limits_of};
 ghost use Rattle.aut_relations.specs.Lent.{Keeps};
 ghost use Rattle.aut_stage.specs.OnLent.{Goes};
 ghost use Rattle.aut_st_insert.specs.Clauses as Seen;
+ghost use Rattle.aut_st_insert.specs.Clauses.{list_in};
 ghost use Rattle.aut_st_edges.specs.Clauses.{Wrote};
 ghost use Rattle.aut_delta_stage.specs.OnTables.{store_in};
 ghost use Rattle.aut_delta_many.specs.Clauses.{lists_at};
@@ -67,9 +68,9 @@ fn join_next(aut: &mut Aut, config: Config, join: Join, n: usize, y: u32) -> Res
     requires { NextAsked config aut.old n y }
     ensures keeps { Keeps aut.old aut.new }
     ensures gives { Goes config 0 1088 (ListAt config.fields (limits_of config.limits))
-        (λ n. edges aut.new.scratch.now Seen.RESULT n)
+        (list_in aut.new)
         (join_one config.fields (limits_of config.limits) join
-        (edges aut.old.scratch.now Seen.RESULT n) (list_at (store_in aut.old) y))
+        (list_in aut.old n) (list_at (store_in aut.old) y))
         aut.old result aut.new }
 {
     let list = stored_list(aut, y);
@@ -100,9 +101,9 @@ fn join_all(
     requires { AllAsked config aut.old n from k }
     ensures keeps { Keeps aut.old aut.new }
     ensures gives { Goes config 0 1088 (ListAt config.fields (limits_of config.limits))
-        (λ n. edges aut.new.scratch.now Seen.RESULT n)
+        (list_in aut.new)
         (join_all config.fields (limits_of config.limits) join
-        (lists_at (store_in aut.old) from k) (edges aut.old.scratch.now Seen.RESULT n))
+        (lists_at (store_in aut.old) from k) (list_in aut.old n))
         aut.old result aut.new }
 {
     let mut m = n;
@@ -119,7 +120,7 @@ pub fn union_all(aut: &mut Aut, config: Config, from: usize, k: usize) -> Result
     requires { ManyAsked config aut.old from k }
     ensures keeps { Keeps aut.old aut.new }
     ensures gives { Goes config 0 1088 (ListAt config.fields (limits_of config.limits))
-        (λ n. edges aut.new.scratch.now Seen.RESULT n)
+        (list_in aut.new)
         (union_all config.fields (limits_of config.limits)
         (lists_at (store_in aut.old) from k) []) aut.old result aut.new }
 {
@@ -131,7 +132,7 @@ pub fn intersect_all(aut: &mut Aut, config: Config, from: usize, k: usize) -> Re
     requires { ManyAsked config aut.old from k }
     ensures keeps { Keeps aut.old aut.new }
     ensures gives { Goes config 0 1088 (ListAt config.fields (limits_of config.limits))
-        (λ n. edges aut.new.scratch.now Seen.RESULT n)
+        (list_in aut.new)
         (intersect_first config.fields (limits_of config.limits)
         (lists_at (store_in aut.old) from k)) aut.old result aut.new }
 {

@@ -1,3 +1,3 @@
--- The laws of the layer of specs/.
-pub mod OnStore
+-- The laws of the layer of specs/; what several calls keep.
 pub mod OnTables
+pub mod Kept

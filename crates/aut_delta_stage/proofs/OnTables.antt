@@ -1,10 +1,9 @@
 -- The laws of the layer of specs/OnTables; and calls on the constructors' tables, and of epsilon, as calls of it.
 use mathlib.Core.Path.{◌≡◌, refl, sym, ◌∙◌, ap, subst}
-use mathlib.Core.List.{List}
 use Prim.Native.Nat.{ℕ}
 use Rattle.std.specs.Prelude.{Result, Ok, Err}
 use Rattle.common.specs.Outcome.{Outcome, refused, given, Step, after}
-use Rattle.common.specs.Runs.{Table, table, placed}
+use Rattle.common.specs.Runs.{table, placed}
 use Rattle.refusal.specs.declared.Refusal.{Refusal}
 use Rattle.refusal.specs.Numbers.{number_of, outcome}
 use Rattle.spp_steps.specs.Wf.{ValidAt}
@@ -21,18 +20,14 @@ use Rattle.aut_delta_steps.proofs.Extends.{went_refl, went_trans, went_since, we
 use Rattle.aut_states.specs.Clauses.{limits_of}
 use Rattle.aut_states.specs.declared.Config.{Config}
 use Rattle.aut_states.specs.declared.Limits.{Limits}
-use Rattle.aut_states.specs.declared.States.{States}
-use Rattle.aut_states.specs.declared.Members.{Members}
 use Rattle.aut_relations.specs.declared.Aut.{Aut as Lent}
 use Rattle.aut_relations.specs.declared.Transitions.{Transitions}
-use Rattle.aut_relations.specs.Behind.{Modifies}
 use Rattle.aut_relations.proofs.Behind.{left_refl, left_trans, left_wide, left_kept}
-use Rattle.aut_relations.specs.Lent.{aut_in, transitions_in, Keeps, KeepsExprs, Does, Asked}
+use Rattle.aut_relations.proofs.Order.{ready_after}
+use Rattle.aut_relations.specs.Lent.{aut_in, transitions_in, Keeps, Does, Asked}
 use Rattle.aut_epsilon.specs.Asked.{Later}
 use Rattle.aut_stage.specs.Rule.{Laws, Post}
 use Rattle.aut_stage.specs.OnLent.{lent_layer, Goes}
-use Rattle.aut_stage.proofs.OnAut.{ready_left}
-use Rattle.aut_delta_stage.specs.OnStore.{Prepared}
 use Rattle.aut_delta_stage.specs.OnTables.{store_in, StoreAsked, tables_layer, GoesStore}
 
 pub tables_laws : (N : ℕ) (l : Limits) → Laws (tables_layer N l)
@@ -43,7 +38,7 @@ tables_laws N l = record {
   frame_trans = λ a n σ τ s s' s'' e p q. left_trans e.grown.nodes p q;
   frame_wide = λ a n b m σ s s' x y p. left_wide p x y;
   frame_kept = λ a n σ s s' x len k. left_kept k len x;
-  ready_kept = λ a n σ s s' len p r. record { ready = ready_left N l a n σ.aut σ.aut s s' (went_refl σ).grown r.ready.good len p r.ready; worked = r.worked };
+  ready_kept = λ a n σ s s' len p r. record { ready = ready_after r.ready (went_refl σ).grown r.ready.good p len; worked = r.worked };
 }
 
 -- ---- what is asked of the constructors' tables; tables in order after a call
@@ -63,18 +58,6 @@ module _ {k : Config} {a n : ℕ} {V A : Type 0} {P : Store → A → Type 0} {s
 
   pub step_goes : {o' : Step Store A} → o' (store_in x) ≡ o (store_in x) → GoesStore k a n P see o x r y → GoesStore k a n P see o' x r y
   step_goes e g = record { post = record { is = e ∙ g.post.is; then = g.post.then } }
-
-pub keeps_exprs : {x y : Lent} → KeepsExprs x y → Keeps x y
-keeps_exprs K = record {
-  sp = K.sp;
-  spp = K.spp;
-  states = ap (λ (s : States). s.words.ghost_name) K.states;
-  members = ap (λ (m : Members). m.words.ghost_name) K.members;
-  transitions = K.transitions;
-  pending = K.pending;
-  scratch = K.scratch;
-  length = K.length;
-}
 
 -- ---- one step after another, on the constructors' tables
 
@@ -120,9 +103,10 @@ module _ {k : Config} {x y : Lent} (R : StoreAsked k x) (K : Keeps x y) where
   -- ---- a call of epsilon
 
   module _ (i : ℕ) where
-    epsilon_post : (r : Result SPP Refusal) → Does k.fields 0 0 aut_in (λ h. h.0) (epsilon k.fields i) x r y → Later k i x r y
+    epsilon_post : (r : Result SPP Refusal) → Does k.fields 0 0 aut_in (λ h. h.0) (epsilon k.fields i) x r y → Later k.fields i x r y
         → Post (tables_layer k.fields k.limits) 0 0 (λ τ e. ValidAt τ.aut.nodes k.fields e) (λ (h : SPP). h.0) (on_aut (epsilon k.fields i) (store_in x)) (store_in x) r (store_in y) x.scratch.now y.scratch.now
-    epsilon_post (Ok h) D a =
+    epsilon_post (Ok h) D late =
+        let a = late k.limits R.prepared.ready in
         let f = a.law.found in
         record {
           is = on_aut_is (λ (h : SPP). h.0) (epsilon k.fields i) (Ok h) D.is;
@@ -135,5 +119,5 @@ module _ {k : Config} {x y : Lent} (R : StoreAsked k x) (K : Keeps x y) where
         }
     epsilon_post (Err q) D a = record { is = on_aut_is (λ (h : SPP). h.0) (epsilon k.fields i) (Err q) D.is; then = tt }
 
-    pub epsilon_goes : {r : Result SPP Refusal} → Does k.fields 0 0 aut_in (λ h. h.0) (epsilon k.fields i) x r y → Later k i x r y → GoesStore k 0 0 (λ τ e. ValidAt τ.aut.nodes k.fields e) (λ (h : SPP). h.0) (on_aut (epsilon k.fields i)) x r y
+    pub epsilon_goes : {r : Result SPP Refusal} → Does k.fields 0 0 aut_in (λ h. h.0) (epsilon k.fields i) x r y → Later k.fields i x r y → GoesStore k 0 0 (λ τ e. ValidAt τ.aut.nodes k.fields e) (λ (h : SPP). h.0) (on_aut (epsilon k.fields i)) x r y
     epsilon_goes {r} D a = record { post = epsilon_post r D a }

@@ -5,14 +5,16 @@ use Rattle.common.specs.Outcome.{Step}
 use Rattle.refusal.specs.declared.Refusal.{Refusal}
 use Rattle.spp.specs.Clauses.{SameStore}
 use Rattle.aut_delta_steps.specs.Delta.{Store, store}
+use Rattle.aut_delta_steps.specs.Wf.{WfStore}
 use Rattle.aut_delta_steps.specs.Extends.{ExtStore}
+use Rattle.aut_states.specs.Clauses.{limits_of}
 use Rattle.aut_states.specs.declared.Config.{Config}
 use Rattle.aut_states.specs.declared.Limits.{Limits}
 use Rattle.aut_relations.specs.declared.Aut.{Aut as Lent}
 use Rattle.aut_relations.specs.Behind.{LISTS, Modifies}
+use Rattle.aut_relations.specs.Clauses.{Ready}
 use Rattle.aut_relations.specs.Lent.{aut_in, transitions_in}
 use Rattle.aut_stage.specs.Rule.{Layer, Post}
-use Rattle.aut_delta_stage.specs.OnStore.{Prepared}
 
 abbrev pub store_in : Lent → Store
 store_in x = store (aut_in x) (transitions_in x)
@@ -32,7 +34,12 @@ pub record KeepsStore (x y : Lent) : Type 0 where
 
 -- ---- what is asked
 
--- tables and scratch in order, for the fields and limits of the book, and what is worked out is true
+-- tables and scratch in order, and what is worked out is true
+pub record Prepared (N : ℕ) (l : Limits) (σ : Store) (s : List ℕ) : Type 0 where
+  pub ready : Ready N l σ.aut s
+  pub worked : WfStore N (limits_of l) σ
+
+-- .. for the fields and limits of the book
 pub record StoreAsked (k : Config) (x : Lent) : Type 0 where
   pub fields : x.spp.fields ≡ k.fields
   pub prepared : Prepared k.fields k.limits (store_in x) x.scratch.now

@@ -13,7 +13,6 @@ use Rattle.netkat_steps.specs.ListSteps.{Edge, MadeList, IsList}
 use Rattle.netkat_steps.proofs.ListSteps.{list_later, list_same}
 use Rattle.aut_steps.specs.Tables.{Limits, Aut}
 use Rattle.aut_steps.specs.Languages.{◌≈◌}
-use Rattle.aut_steps.proofs.Languages.{same}
 use Rattle.aut_steps.specs.Wf.{states, nesting, ExtAut, WfAut}
 use Rattle.aut_steps.proofs.Wf.{grown_trans}
 use Rattle.aut_steps.proofs.StepSpec.{RefusalReason, no_node, StepSpec, stops, comes}

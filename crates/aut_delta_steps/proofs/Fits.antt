@@ -26,7 +26,7 @@ use Rattle.aut_steps.proofs.IntersectLaws.{mk_intersect_goes}
 use Rattle.aut_steps.proofs.SequenceLaws.{mk_sequence_goes}
 use Rattle.aut_st_steps.specs.Operations.{ops}
 use Rattle.aut_delta_steps.proofs.Labels.{union_makes, intersect_makes, difference_makes, sequence_makes, complement_makes}
-use Rattle.aut_delta_steps.specs.Fits.{readings, tables, Since}
+use Rattle.aut_delta_steps.specs.Fits.{readings, Since}
 
 module _ (N : ℕ) (L : Limits) where
   abbrev pub since : Aut → Readings N (ops N L)

@@ -2,7 +2,6 @@
 -- operands' lists worked out one after another, keep none of the answers, and read them from the tables when it puts them together: the step that does so, and that it is `delta`.
 use Rattle.std.specs.Prelude.{List, [], ◌∷◌, map, ℕ, eqb, if◌then◌else◌}
 use Rattle.common.specs.Outcome.{given, Step, return, ◌>>=◌}
-use Rattle.netkat.specs.Rules.{star}
 use Rattle.netkat_steps.specs.ListSteps.{Edge, st_singleton, st_xor, st_difference, st_complement}
 use Rattle.aut_steps.specs.Relations as Rel
 use Rattle.aut_steps.specs.Tables.{SPP, UNION, INTERSECT, XOR, DIFFERENCE, COMPLEMENT, SEQUENCE, STAR, DUP, NEXT, UNTIL, Limits, Aut, on_nodes}

@@ -3,7 +3,6 @@
 use Rattle.std.specs.Prelude.{List, [], ◌∷◌, ℕ, eqb, if◌then◌else◌}
 use Rattle.common.specs.Outcome.{given, Step, return, ◌>>=◌}
 use Rattle.common.specs.Runs.{Table}
-use Rattle.netkat.specs.Rules.{union, xor, difference, complement, sequence, star}
 use Rattle.aut_steps.specs.Relations as Rel
 use Rattle.aut_steps.specs.Tables.{UNION, INTERSECT, XOR, DIFFERENCE, COMPLEMENT, SEQUENCE, STAR, UNTIL, TOP, kind_of, op1, op2, list_of}
 use Rattle.aut_steps.specs.Constructors.{each}

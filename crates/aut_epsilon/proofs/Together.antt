@@ -16,7 +16,6 @@ use Rattle.spp_steps.specs.Wf.{Ext, ValidAt}
 use Rattle.spp_steps.proofs.Laws.{ext_refl, ext_trans, at_ext, den_mem, den_zero}
 use Rattle.spp_steps.proofs.Apply.{apply_exact}
 use Rattle.spp.specs.declared.SPP.{SPP}
-use Rattle.spp.proofs.Calls.{same_trans}
 use Rattle.aut_steps.specs.Relations as Rel
 use Rattle.aut_steps.proofs.RelationLaws as RelationLaws
 use Rattle.aut_steps.specs.Tables.{UNION, INTERSECT, XOR, DIFFERENCE, COMPLEMENT, SEQUENCE, STAR, UNTIL, TOP, kind_of, op1, op2, words}
@@ -32,6 +31,7 @@ use Rattle.aut_relations.specs.Behind.{Modifies, CacheReady}
 use Rattle.aut_relations.proofs.Behind.{left_refl, left_trans, backed_left}
 use Rattle.aut_relations.specs.declared.Aut.{Aut as Lent}
 use Rattle.aut_relations.specs.Lent.{nodes_in, KeepsExprs, Does, Handles}
+use Rattle.aut_relations.proofs.Kept.{exprs_refl, exprs_trans}
 use Rattle.aut_relations.proofs.Each.{Grows, Keeps as KeepsStep, makes_gives}
 use Rattle.aut_epsilon.specs.Clauses.{ValueAt, ValuesReady, EachReady, CombineReady}
 
@@ -49,21 +49,6 @@ pub stays : {N : ℕ} {p : Step Table ℕ} {x : Lent} {h : SPP} → p (nodes_in 
 stays {x} e = record { is = e; left = left_refl 0 0 (nodes_in x) x.scratch.now }
 
 -- ---- combine_each: i members are done
-
-kept_refl : (x : Lent) → KeepsExprs x x
-kept_refl x = record { sp = refl; spp = record { lent = refl; fields = refl }; states = refl; members = refl; transitions = refl; pending = refl; scratch = refl; length = refl }
-
-kept_trans : {x y z : Lent} → KeepsExprs x y → KeepsExprs y z → KeepsExprs x z
-kept_trans p q = record {
-  sp = q.sp ∙ p.sp;
-  spp = same_trans p.spp q.spp;
-  states = q.states ∙ p.states;
-  members = q.members ∙ p.members;
-  transitions = q.transitions ∙ p.transitions;
-  pending = q.pending ∙ p.pending;
-  scratch = q.scratch ∙ p.scratch;
-  length = q.length ∙ p.length;
-}
 
 value_later : {N : ℕ} {t t' : Table} {st : List ℕ} {y : ℕ} → Ext t t' → ValueAt N t st y → ValueAt N t' st y
 value_later {N} {st = st} {y = y} e v = record { state = v.state; known = v.known; at = at_ext e N (value_of st y) v.at }
@@ -101,7 +86,7 @@ module _ {N : ℕ} (o : Spp.Op) {h from k : ℕ} {x₀ : Lent} (p : EachReady N 
 
   pub begin : Turn N o h from k x₀ x₀ h 0
   begin = record {
-    keeps = kept_refl x₀;
+    keeps = exprs_refl x₀;
     left = left_refl 0 0 (nodes_in x₀) x₀.scratch.now;
     ext = ext_refl (nodes_in x₀);
     backed = p.list.backed;
@@ -143,7 +128,7 @@ module _ {N : ℕ} (o : Spp.Op) {h from k : ℕ} {x₀ : Lent} (p : EachReady N 
           again K D =
               let d = given_of ((keeps N o st).step (nodes_in x) (get_or mem (from + i) 0) g v.backed.wf v.at_g value_then) (ap (λ (b : ℕ). Spp.apply N o N g b (nodes_in x)) then ∙ D.is) in
               record {
-                keeps = kept_trans v.keeps K;
+                keeps = exprs_trans v.keeps K;
                 left = left_trans d.ext v.left D.left;
                 ext = ext_trans v.ext d.ext;
                 backed = backed_left v.backed d.ext d.wf D.left K.length;

@@ -3,6 +3,7 @@
 #![tactic(auto)]
 
 ghost use Rattle.std.specs.Prelude.{◌≡◌, [], ◌∷◌, ◌+◌, ◌*◌, ◌<◌, length};
+ghost use Rattle.refusal.specs.declared.Refusal.TheVariants.{Spp};
 ghost use Rattle.spp_steps.specs.Model as M;
 ghost use Rattle.spp.specs.Clauses.{op_of};
 ghost use Rattle.aut_steps.specs.Tables.{words};
@@ -12,20 +13,16 @@ ghost use Rattle.aut_delta_steps.specs.Epsilon as E;
 ghost use Rattle.aut_delta_steps.specs.Epsilon.{value_of};
 ghost use Rattle.aut_delta_steps.specs.EpsilonReads.{combine_on};
 ghost use Rattle.aut_delta_steps.specs.EpsilonDown.{Known};
-ghost use Rattle.aut_relations.specs.Clauses.{aut_of};
-ghost use Rattle.aut_relations.specs.Lent.{nodes_in, aut_in, Keeps, KeepsExprs, Does};
-ghost use Rattle.aut_relations.specs.Parts.{aut_apart, SameParts};
+ghost use Rattle.aut_relations.specs.Lent.{nodes_in, aut_in, Keeps, KeepsExprs, Does, Only};
 ghost use Rattle.aut_epsilon.specs.Clauses.{ValuesReady, EachReady, CombineReady};
 ghost use Rattle.aut_epsilon.specs.Asked.{EpsilonAsked, FinishAsked, Later};
-ghost use Rattle.aut_epsilon.specs.Parts.{made_of, Asks, Works};
 
 use aut_operands::Part;
-use aut_relations::{Apart, Aut, Transitions};
+use aut_relations::Aut;
 use aut_sequence::Task;
-use aut_states::{Config, Counts, Members, STATE, States, kind, word};
+use aut_states::{Config, STATE, States, kind, word};
 use refusal::Refusal;
-use sp::SPstore;
-use spp::{Made, Op, SPP, SPPstore};
+use spp::{Op, SPP};
 
 // what is worked out of a state: an SPP's handle, of another what is kept
 #[tactic(auto, unfolding(aut_delta_steps::specs::Epsilon::value_of, aut_delta_steps::specs::Epsilon::epsilon_of))]
@@ -44,6 +41,7 @@ pub fn value(states: &States, y: u32) -> SPP
 fn apply(aut: &mut Aut, config: Config, op: Op, x: u32, y: u32) -> Result<SPP, Refusal>
     requires { ValuesReady config.fields aut.old (x ∷ y ∷ []) }
     ensures keeps { KeepsExprs aut.old aut.new }
+    ensures only { Only Spp result }
     ensures gives { Does config.fields 0 0 nodes_in (λ h. h.0)
         (M.apply config.fields (op_of op) config.fields (value_of aut.old.states.words.now x)
         (value_of aut.old.states.words.now y)) aut.old result aut.new }
@@ -56,6 +54,7 @@ fn apply(aut: &mut Aut, config: Config, op: Op, x: u32, y: u32) -> Result<SPP, R
 fn relate(aut: &mut Aut, config: Config, task: Task, x: u32, y: u32) -> Result<SPP, Refusal>
     requires { ValuesReady config.fields aut.old (x ∷ y ∷ []) }
     ensures keeps { KeepsExprs aut.old aut.new }
+    ensures only { Only Spp result }
     ensures gives { Does config.fields 0 0 nodes_in (λ h. h.0)
         (task_of config.fields task (value_of aut.old.states.words.now x)
         (value_of aut.old.states.words.now y)) aut.old result aut.new }
@@ -76,6 +75,7 @@ fn combine_each(
 ) -> Result<SPP, Refusal>
     requires { EachReady config.fields aut.old h.0 from k }
     ensures keeps { KeepsExprs aut.old aut.new }
+    ensures only { Only Spp result }
     ensures gives { Does config.fields 0 0 nodes_in (λ h. h.0)
         (each (λ y g. M.apply config.fields (op_of op) config.fields g
         (value_of aut.old.states.words.now y)) (words aut.old.members.words.now from k) h.0)
@@ -93,6 +93,7 @@ fn combine_each(
 fn combine(aut: &mut Aut, config: Config, x: u32) -> Result<SPP, Refusal>
     requires { CombineReady config.fields aut.old x }
     ensures keeps { KeepsExprs aut.old aut.new }
+    ensures only { Only Spp result }
     ensures gives { Does config.fields 0 0 nodes_in (λ h. h.0)
         (combine_on config.fields aut.old.states.words.now aut.old.members.words.now x) aut.old
         result aut.new }
@@ -129,10 +130,11 @@ fn combine(aut: &mut Aut, config: Config, x: u32) -> Result<SPP, Refusal>
 
 // epsilon of a state whose operands are all worked out
 fn finish(aut: &mut Aut, config: Config, x: u32) -> Result<SPP, Refusal>
-    requires { FinishAsked config aut.old x }
+    requires { FinishAsked config.fields aut.old x }
     ensures keeps { Keeps aut.old aut.new }
     ensures members { aut.new.members ≡ aut.old.members }
     ensures states { aut.new.states.count ≡ aut.old.states.count }
+    ensures only { Only Spp result }
     ensures gives { Does config.fields 0 0 aut_in (λ h. h.0) (E.epsilon config.fields x) aut.old
         result aut.new }
 {
@@ -146,13 +148,14 @@ fn finish(aut: &mut Aut, config: Config, x: u32) -> Result<SPP, Refusal>
 // The tables say how far a run has come: it goes down by reading, and calls itself on a state whose operands are all worked out, so it is
 // at most two deep, however x is nested
 pub fn epsilon(aut: &mut Aut, config: Config, x: u32) -> Result<SPP, Refusal>
-    requires { EpsilonAsked config aut.old x }
+    requires { EpsilonAsked config.fields aut.old x }
     ensures keeps { Keeps aut.old aut.new }
     ensures members { aut.new.members ≡ aut.old.members }
     ensures states { aut.new.states.count ≡ aut.old.states.count }
+    ensures only { Only Spp result }
     ensures gives { Does config.fields 0 0 aut_in (λ h. h.0) (E.epsilon config.fields x) aut.old
         result aut.new }
-    ensures after { Later config x aut.old result aut.new }
+    ensures after { Later config.fields x aut.old result aut.new }
 {
     if !aut_operands::is_open(&aut.states, Part::Epsilon, x) {
         return Ok(value(&aut.states, x));
@@ -164,90 +167,4 @@ pub fn epsilon(aut: &mut Aut, config: Config, x: u32) -> Result<SPP, Refusal>
         }
         epsilon(aut, config, y)?;
     }
-}
-
-// ---- for the layers that hold a table and its count apart
-
-// it is refused only where a relation node is lacking
-fn made_of(answer: Result<SPP, Refusal>, count: usize) -> Made
-    ensures { result ≡ made_of answer count }
-{
-    match answer {
-        Ok(h) => Made::Node(h, count),
-        Err(_) => Made::Full,
-    }
-}
-
-fn epsilon_apart(apart: &mut Apart, config: Config, x: u32) -> Made
-    requires { Asks config.fields config.limits (aut_apart apart.old) apart.old.scratch.now x }
-    ensures same { SameParts apart.old apart.new }
-    ensures members { apart.new.members.now ≡ apart.old.members.now }
-    ensures works { Works config.fields x result apart.old.counts apart.old.nodes.now
-        apart.old.states.now apart.old.members.now apart.old.scratch.now apart.new.nodes.now
-        apart.new.states.now apart.new.scratch.now }
-{
-    let mut aut = Aut {
-        sp: SPstore {
-            nodes: Default::default(),
-            count: 0,
-        },
-        spp: SPPstore {
-            nodes: std::mem::take(&mut apart.nodes),
-            count: apart.counts.spp,
-            fields: config.fields,
-        },
-        states: States {
-            words: std::mem::take(&mut apart.states),
-            count: apart.counts.states,
-        },
-        members: Members {
-            words: std::mem::take(&mut apart.members),
-            count: apart.counts.members,
-        },
-        transitions: Transitions {
-            words: Default::default(),
-            count: 0,
-        },
-        pending: Default::default(),
-        scratch: std::mem::take(&mut apart.scratch),
-    };
-    let answer = epsilon(&mut aut, config, x);
-    let made = made_of(answer, aut.spp.count);
-    let lent = &mut aut;
-    let nodes = std::mem::take(&mut lent.spp.nodes);
-    let states = std::mem::take(&mut lent.states.words);
-    let members = std::mem::take(&mut lent.members.words);
-    let scratch = std::mem::take(&mut lent.scratch);
-    apart.nodes = nodes;
-    apart.states = states;
-    apart.members = members;
-    apart.scratch = scratch;
-    made
-}
-
-// a handle and the number of relation nodes
-pub fn epsilon_on(
-    nodes: &mut [u32],
-    states: &mut [u32],
-    members: &mut [u32],
-    scratch: &mut [u32],
-    c: Counts,
-    config: Config,
-    x: u32,
-) -> Made
-    requires { Asks config.fields config.limits
-        (aut_of nodes.old states.old members.old c) scratch.old x }
-    ensures members { members.new ≡ members.old }
-    ensures works { Works config.fields x result c nodes.old states.old members.old
-        scratch.old nodes.new states.new scratch.new }
-{
-    let mut apart = Apart {
-        nodes,
-        states,
-        members,
-        transitions: Default::default(),
-        scratch,
-        counts: c,
-    };
-    epsilon_apart(&mut apart, config, x)
 }

@@ -1,18 +1,18 @@
 // mk_intersect_n and mk_intersect of aut.rs: products of a list with Union members are made one by one, never stored.
 #![tactic(auto)]
 
-ghost use Rattle.std.specs.Prelude.{◌≡◌, List, [], ◌∷◌, ℕ, ◌+◌, ◌*◌, ◌≤◌, ◌<◌};
-ghost use Rattle.aut_steps.specs.Tables.{INTERSECT, words};
+ghost use Rattle.std.specs.Prelude.{List, [], ◌+◌, ◌<◌};
+ghost use Rattle.aut_steps.specs.Tables.{words};
 ghost use Rattle.aut_steps.specs.Constructors as C;
 ghost use Rattle.aut_states.specs.Clauses.{limits_of};
-ghost use Rattle.aut_scratch.specs.Clauses.{OpenReady, OpenedAll, CountReady, Counts, ProductReady, Products};
+ghost use Rattle.aut_scratch.specs.Clauses.{CountReady, Counts, Products};
 ghost use Rattle.aut_relations.specs.Lent.{aut_in, Keeps, Does, Asked};
 ghost use Rattle.aut_stage.specs.OnLent.{Goes};
 ghost use Rattle.aut_union.specs.Clauses.{ListAt, PairAt};
 ghost use Rattle.aut_intersect.specs.Clauses.{BaseReady, BasesReady, AllStates};
 
 use aut_relations::Aut;
-use aut_states::{Config, Members, States};
+use aut_states::Config;
 use refusal::Refusal;
 use spp::Op;
 
@@ -112,7 +112,7 @@ pub fn mk_intersect(aut: &mut Aut, config: Config, x: u32, y: u32) -> Result<u32
     if x == y {
         return Ok(x);
     }
-    if aut.both_relations(x, y) {
+    if aut.states.both_relations(x, y) {
         return aut.spp_of(config, Op::Intersect, x, y);
     }
     let at = aut_scratch::GIVEN;

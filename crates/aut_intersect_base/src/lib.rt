@@ -7,13 +7,12 @@ ghost use Rattle.aut_steps.specs.Relations.{top_at};
 ghost use Rattle.aut_steps.specs.Constructors as C;
 ghost use Rattle.aut_steps.specs.Constructors.{each, met};
 ghost use Rattle.aut_states.specs.Clauses.{limits_of, states_of, seen, Fits};
-ghost use Rattle.aut_scratch.specs.Clauses.{OpenReady, OpenedAll};
 ghost use Rattle.aut_relations.specs.Lent.{nodes_in, aut_in, Keeps, KeepsExprs, Does, Asked};
 ghost use Rattle.aut_union.specs.Clauses.{Most, UniteReady, UnitesReady, Adds, ListAt};
 ghost use Rattle.aut_intersect_base.specs.Clauses.{some_of, handle_of, met_of, met_at, nothing_of, alone_of, list_of, AddReady, FinishReady, Finishes};
 
 use aut_relations::Aut;
-use aut_states::{Config, Members, States};
+use aut_states::{Config, States};
 use refusal::Refusal;
 use spp::{Op, SPP};
 

@@ -1,12 +1,12 @@
 -- A step for each member of a list, on relation nodes: what all of them leave, and a loop that does them while it writes to scratch.
-use mathlib.Core.Path.{◌≡◌, refl, sym, ◌∙◌, ap, ap₂, subst}
-use mathlib.Core.List.{List, [], ◌∷◌, ◌++◌}
-use Prim.Native.Nat.{ℕ, zero, suc, ◌+◌, ◌-◌, ◌*◌, ◌≤◌, ◌<◌}
+use mathlib.Core.Path.{◌≡◌, refl, sym, ◌∙◌, ap, subst}
+use mathlib.Core.List.{List, [], ◌∷◌}
+use Prim.Native.Nat.{ℕ, ◌+◌, ◌-◌, ◌≤◌, ◌<◌}
 use native.Mathlib.Omega.{arith}
 use lib.ListN.{length, get_or}
 use Rattle.common.specs.Outcome.{Outcome, refused, given, Step, after, Gives, refusal, gives}
 use Rattle.common.proofs.Follow.{given_of}
-use Rattle.common.specs.Runs.{Table, table}
+use Rattle.common.specs.Runs.{Table}
 use Rattle.spp_steps.specs.Wf.{Wf, Ext}
 use Rattle.spp_steps.proofs.Laws.{ext_refl, ext_trans}
 use Rattle.aut_steps.specs.Tables.{words}

@@ -1,13 +1,12 @@
 -- A list of states is opened to states. And a step on states after which a list is made of its answer.
 use Rattle.std.specs.Prelude.{if◌then◌else◌}
-use mathlib.Core.Path.{◌≡◌, refl, sym, ◌∙◌, ap, subst}
+use mathlib.Core.Path.{refl}
 use mathlib.Core.Bool.{Bool, true, false}
 use mathlib.Core.List.{List, [], ◌∷◌, ◌++◌}
 use Prim.Native.Nat.{ℕ, ◌<◌}
-use native.Mathlib.Omega.{arith}
 use lib.Dec.{eqb}
 use Rattle.netkat.specs.Rules.{union, intersection}
-use Rattle.aut_steps.specs.Tables.{UNION, INTERSECT, TOP, kind_of, Limits, Aut}
+use Rattle.aut_steps.specs.Tables.{UNION, INTERSECT, TOP, Limits, Aut}
 use Rattle.aut_steps.specs.Kinds.{form}
 use Rattle.aut_steps.specs.Ascending.{All}
 use Rattle.aut_steps.proofs.ListLaws.{all_append}

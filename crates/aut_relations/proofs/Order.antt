@@ -1,36 +1,24 @@
 -- What tables in order give to the functions on lists and states.
-use mathlib.Core.Path.{◌≡◌, refl, sym, ◌∙◌, ap, subst}
-use mathlib.Core.Bool.{Bool, true, false}
-use mathlib.Core.List.{List, [], ◌∷◌, ◌++◌}
-use mathlib.Core.Logic.{◌⊎◌, inl, inr}
-use Prim.Native.Nat.{ℕ, zero, suc, ◌+◌, ◌*◌, ◌≤◌, ◌<◌}
+use mathlib.Core.Path.{◌≡◌, refl, subst}
+use mathlib.Core.List.{List}
+use Prim.Native.Nat.{ℕ, ◌+◌, ◌*◌, ◌≤◌, ◌<◌}
 use native.Mathlib.Omega.{arith}
-use lib.ListN.{length, get_or}
-use Rattle.common.specs.Outcome.{Outcome, refused, given, Gives}
-use Rattle.common.proofs.Follow.{given_of}
-use Rattle.common.specs.Runs.{Table, table}
+use lib.ListN.{length}
 use Rattle.netkat.specs.Rules.{Rule, xor, difference, complement, sequence, star, next, until}
-use Rattle.spp_steps.specs.Wf.{Wf, Ext, ValidAt}
-use Rattle.spp_steps.proofs.Laws.{at_ext}
-use Rattle.aut_steps.specs.Tables.{SPP, UNION, INTERSECT, XOR, DIFFERENCE, COMPLEMENT, SEQUENCE, STAR, NEXT, UNTIL, kind_of, op1, op2, words, Limits, Aut, state_cap}
+use Rattle.aut_steps.specs.Tables.{UNION, INTERSECT, XOR, DIFFERENCE, COMPLEMENT, SEQUENCE, STAR, NEXT, UNTIL, Limits, Aut, state_cap}
 use Rattle.aut_steps.specs.Kinds.{Form, one, two, form}
 use Rattle.aut_steps.specs.Ascending.{All}
 use Rattle.aut_steps.proofs.ListLaws.{all_map}
 use Rattle.aut_steps.proofs.Products.{union_size}
 use Rattle.aut_steps.specs.Wf.{states, kind, first, second, Ok, ExtAut, WfAut}
 use Rattle.aut_steps.proofs.Wf.{ok_as}
-use Rattle.aut_steps.specs.StepSpec.{Gone}
-use Rattle.aut_steps.proofs.StepSpec.{StepSpec}
 use Rattle.aut_steps.proofs.StateLaws as StateLaws
-use Rattle.aut_states.specs.declared.Counts.{Counts}
 use Rattle.aut_states.specs.declared.Limits.{Limits as Bounds}
-use Rattle.aut_states.specs.declared.State.{State}
-use Rattle.aut_states.specs.declared.State.TheVariants.{Is, Refused}
-use Rattle.aut_states.specs.Clauses.{limits_of, Fits, Ready1, Ready2, ListIn, Below, AddReady, ListReady}
+use Rattle.aut_states.specs.Clauses.{limits_of, Fits, Ready1, Ready2}
 use Rattle.aut_scratch.specs.Clauses.{OpenAt, ProductAt}
-use Rattle.aut_relations.specs.Behind.{LISTS, Modifies, CacheReady}
+use Rattle.aut_relations.specs.Behind.{Modifies, CacheReady}
 use Rattle.aut_relations.proofs.Behind.{backed_left}
-use Rattle.aut_relations.specs.Clauses.{aut_of, seen_aut, ModifiesBy, Ready, RelAt}
+use Rattle.aut_relations.specs.Clauses.{Ready, RelAt}
 
 module _ {N : ℕ} {L : Limits} {σ : Aut} (g : WfAut N L σ) where
   abbrev st : List ℕ
@@ -110,25 +98,6 @@ module _ {N : ℕ} {L : Limits} {σ : Aut} (g : WfAut N L σ) where
   pub ready_until : {x y : ℕ} → x < states σ → y < states σ → Ready2 st (states σ) UNTIL x y
   unfolding form
   ready_until l m = two_ready UNTIL until refl l m
-
-  module _ (c : Counts) (states-is : c.states ≡ states σ) (members-is : c.members ≡ σ.members.count) (s : List ℕ) (base k : ℕ) (a : All (λ x. x < states σ) (words s base k)) (r : base + k ≤ length s) (few : k ≤ 128) where
-    ready : (kind : ℕ) → ((i : ℕ) → i < states σ → ListIn st mem i kind) → ((i : ℕ) → i < states σ → kind_of st i ≡ kind → All (λ x. x < i) (words mem (op1 st i) (op2 st i)))
-        → ListReady st mem s c kind base k
-    ready kind f e = record {
-      add = record { fits = record { fits = omega (arith, g.fits, states-is); small = omega (arith, g.small, states-is) }; small = omega (arith, g.members_small, members-is); within = r; few = few };
-      lists = λ i l. f i (omega (arith, states-is));
-      below = record { within = r; states = below (words s base k) a };
-      has = subst (λ (n : ℕ). All (λ x. x < n) (words s base k)) (sym states-is) a;
-      earlier = λ i l. e i (omega (arith, states-is));
-    }
-
-    pub union_ready : ListReady st mem s c UNION base k
-    unfolding form
-    union_ready = ready UNION (λ i l. record { within = union_inside l }) (λ i l e. (ok_as g UNION l e).earlier)
-
-    pub intersect_ready : ListReady st mem s c INTERSECT base k
-    unfolding form
-    intersect_ready = ready INTERSECT (λ i l. record { within = intersect_inside l }) (λ i l e. (ok_as g INTERSECT l e).earlier)
 
 -- scratch and nodes
 pub backed_of : {N : ℕ} {l : Bounds} {σ : Aut} {s : List ℕ} → Ready N l σ s → CacheReady N σ.nodes s

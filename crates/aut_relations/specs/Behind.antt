@@ -4,7 +4,6 @@ use Rattle.common.specs.Runs.{Table}
 use Rattle.cache.specs.Cache.{Valid, OnCodes, OnlyCodes, Sound, WritesValid}
 use Rattle.spp_steps.specs.Wf.{Wf}
 use Rattle.spp.specs.Reuse as Reuse
-use Rattle.aut_steps.specs.Scratch.{Kept}
 
 -- the words below are lists, those from here on the cache
 abbrev pub LISTS : ℕ

@@ -1,5 +1,5 @@
 -- All tables that are lent: how the steps see them, what a call keeps, what its answer says, and what the operations on relations ask.
-use Rattle.std.specs.Prelude.{◌≡◌, List, ℕ, ◌<◌, length, Result, Ok, Err}
+use Rattle.std.specs.Prelude.{◌≡◌, ℕ, ◌<◌, length, Result, Ok, Err}
 use Rattle.common.specs.Outcome.{Step}
 use Rattle.common.specs.Runs.{Table, table}
 use Rattle.refusal.specs.declared.Refusal.{Refusal}
@@ -7,9 +7,8 @@ use Rattle.refusal.specs.Numbers.{outcome}
 use Rattle.spp_steps.specs.Wf.{ValidAt}
 use Rattle.spp.specs.Clauses.{SameStore}
 use Rattle.aut_steps.specs.Tables.{op1, Exprs, exprs, Aut, aut}
-use Rattle.aut_states.specs.Clauses.{limits_of, Fits}
+use Rattle.aut_states.specs.Clauses.{Fits}
 use Rattle.aut_states.specs.declared.Config.{Config}
-use Rattle.aut_states.specs.declared.States.{States}
 use Rattle.aut_relations.specs.declared.Aut.{Aut as Lent}
 use Rattle.aut_relations.specs.Behind.{Modifies, CacheReady}
 use Rattle.aut_relations.specs.Clauses.{Ready}
@@ -18,6 +17,9 @@ use Rattle.aut_relations.specs.Clauses.{Ready}
 
 abbrev pub nodes_in : Lent → Table
 nodes_in x = table x.spp.nodes.now x.spp.count
+
+abbrev pub sets_in : Lent → Table
+sets_in x = table x.sp.nodes.now x.sp.count
 
 abbrev pub states_in : Lent → Table
 states_in x = table x.states.words.now x.states.count
@@ -64,6 +66,11 @@ pub record KeepsExprs (x y : Lent) : Type 0 where
 abbrev pub Unless : {V : Type 0} → Result V Refusal → Type 0 → Type 0
 Unless (Ok v) T = T
 Unless (Err e) T = Unit
+
+-- it is refused with f alone
+abbrev pub Only : {V : Type 0} → Refusal → Result V Refusal → Type 0
+Only f (Ok v) = Unit
+Only f (Err e) = e ≡ f
 
 -- The steps o from x, seen by `view`, come to the answer r, its value seen by `see`, and to y. Unless refused, of the lists in scratch only the n words from a on were written.
 pub record Does (N a n : ℕ) {S V A : Type 0} (view : Lent → S) (see : V → A) (o : Step S A) (x : Lent) (r : Result V Refusal) (y : Lent) : Type 0 where

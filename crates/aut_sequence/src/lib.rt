@@ -2,11 +2,12 @@
 #![tactic(auto)]
 
 ghost use Rattle.std.specs.Prelude.{◌≡◌, [], ◌∷◌, ◌+◌, ◌*◌, ◌≤◌, ◌<◌, length};
+ghost use Rattle.refusal.specs.declared.Refusal.TheVariants.{Spp};
 ghost use Rattle.aut_steps.specs.Tables.{op1};
 ghost use Rattle.aut_steps.specs.Ascending.{All};
 ghost use Rattle.aut_steps.specs.Constructors as C;
 ghost use Rattle.aut_states.specs.Clauses.{limits_of};
-ghost use Rattle.aut_relations.specs.Lent.{nodes_in, aut_in, Keeps, KeepsExprs, Does, Asked, Handles, Relations};
+ghost use Rattle.aut_relations.specs.Lent.{nodes_in, aut_in, Keeps, KeepsExprs, Does, Only, Asked, Handles, Relations};
 ghost use Rattle.aut_sequence.specs.Clauses.{task_of, regroups, joined_of, Enough, Walks, Chain, Ends, Links};
 
 use aut_relations::Aut;
@@ -27,7 +28,7 @@ pub fn mk_xor(aut: &mut Aut, config: Config, x: u32, y: u32) -> Result<u32, Refu
     if x == y {
         return aut.states.mk_spp(spp::zero_at_depth(config.fields));
     }
-    if aut.both_relations(x, y) {
+    if aut.states.both_relations(x, y) {
         return aut.spp_of(config, Op::Xor, x, y);
     }
     if x < y {
@@ -47,7 +48,7 @@ pub fn mk_difference(aut: &mut Aut, config: Config, x: u32, y: u32) -> Result<u3
     if x == y {
         return aut.states.mk_spp(spp::zero_at_depth(config.fields));
     }
-    if aut.both_relations(x, y) {
+    if aut.states.both_relations(x, y) {
         return aut.spp_of(config, Op::Difference, x, y);
     }
     aut.states.intern2(config.limits, kind::DIFFERENCE, x, y)
@@ -65,6 +66,7 @@ pub enum Task {
 pub fn relate(aut: &mut Aut, config: Config, task: Task, a: SPP, b: SPP) -> Result<SPP, Refusal>
     requires { Handles config.fields aut.old a.0 b.0 }
     ensures keeps { KeepsExprs aut.old aut.new }
+    ensures only { Only Spp result }
     ensures gives { Does config.fields 0 0 nodes_in (λ h. h.0)
         (task_of config.fields task a.0 b.0) aut.old result aut.new }
 {
@@ -139,7 +141,7 @@ fn joined(aut: &mut Aut, config: Config, x: u32, y: u32) -> Result<u32, Refusal>
     ensures gives { Does config.fields 0 0 aut_in (λ i. i)
         (joined_of config.fields (limits_of config.limits) x y) aut.old result aut.new }
 {
-    if aut.both_relations(x, y) {
+    if aut.states.both_relations(x, y) {
         return spp_by(aut, config, Task::Sequence, x, y);
     }
     let one = spp::one_at_depth(config.fields, config.fields);

@@ -1,5 +1,5 @@
 -- The labels united: a loop over a source.
-use mathlib.Core.Path.{◌≡◌, refl, ◌∙◌, subst}
+use mathlib.Core.Path.{◌≡◌, refl, subst}
 use mathlib.Core.List.{List}
 use Prim.Native.Nat.{ℕ}
 use native.Mathlib.Omega.{arith}
@@ -22,27 +22,10 @@ use Rattle.aut_relations.specs.Lent.{nodes_in, aut_in, KeepsExprs, Does, Asked, 
 use Rattle.aut_stage.specs.OnLent.{Goes}
 use Rattle.aut_stage.proofs.OnLent.{related}
 use Rattle.aut_stage.proofs.Rule.{Folds}
-use Rattle.aut_st_insert.proofs.Kept.{same_refl, same_trans}
 use Rattle.aut_st_source.specs.declared.Source.{Source}
 use Rattle.aut_st_stage.proofs.Turns.{TurningIn, turn_begin_in}
 use Rattle.aut_st_each.proofs.Join.{handles}
-use Rattle.aut_st_complement.specs.Asked.{OneAsked}
-
--- what several operations on relations keep
-pub exprs_refl : (x : Lent) → KeepsExprs x x
-exprs_refl x = record { sp = refl; spp = same_refl x.spp; states = refl; members = refl; transitions = refl; pending = refl; scratch = refl; length = refl }
-
-pub exprs_trans : {x y z : Lent} → KeepsExprs x y → KeepsExprs y z → KeepsExprs x z
-exprs_trans p q = record {
-  sp = q.sp ∙ p.sp;
-  spp = same_trans p.spp q.spp;
-  states = q.states ∙ p.states;
-  members = q.members ∙ p.members;
-  transitions = q.transitions ∙ p.transitions;
-  pending = q.pending ∙ p.pending;
-  scratch = q.scratch ∙ p.scratch;
-  length = q.length ∙ p.length;
-}
+use Rattle.aut_st_each.specs.Asked.{OneAsked}
 
 module _ (k : Config) where
   abbrev pub cover_one : Edge → ℕ → Step Aut ℕ

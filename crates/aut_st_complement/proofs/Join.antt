@@ -39,8 +39,9 @@ use Rattle.aut_st_stage.proofs.Turns.{source_in}
 use Rattle.aut_st_stage.proofs.Run.{Run, run_begin, run_next, run_as, run_finish, stated, keeps_stated, goes_stated}
 use Rattle.aut_st_stage.proofs.Waits.{Waits, waits, waits_later, with_it}
 use Rattle.aut_st_each.specs.Asked.{EachAsked}
-use Rattle.aut_st_each.proofs.Join.{handles, keeps_of}
-use Rattle.aut_st_complement.specs.Asked.{OneAsked}
+use Rattle.aut_relations.proofs.Kept.{keeps_of}
+use Rattle.aut_st_each.proofs.Join.{handles}
+use Rattle.aut_st_each.specs.Asked.{OneAsked}
 use Rattle.aut_st_complement.proofs.Cover.{cover}
 
 none_at : (s : List ℕ) → edges s RESULT 0 ≡ []

@@ -4,14 +4,13 @@
 ghost use Rattle.netkat_steps.specs.ListSteps as St;
 ghost use Rattle.aut_steps.specs.Relations.{zero_at};
 ghost use Rattle.aut_st_steps.specs.Operations.{ops};
-ghost use Rattle.aut_st_steps.specs.Edges.{edges};
 ghost use Rattle.aut_st_steps.specs.ListSpec.{ListAt, Label};
 ghost use Rattle.aut_states.specs.Clauses.{limits_of};
 ghost use Rattle.aut_relations.specs.Lent.{Keeps, KeepsExprs};
 ghost use Rattle.aut_stage.specs.OnLent.{Goes};
-ghost use Rattle.aut_st_insert.specs.Clauses.{RESULT};
+ghost use Rattle.aut_st_insert.specs.Clauses.{list_in};
 ghost use Rattle.aut_st_source.specs.Clauses.{source_of};
-ghost use Rattle.aut_st_complement.specs.Asked.{OneAsked};
+ghost use Rattle.aut_st_each.specs.Asked.{OneAsked};
 
 use aut_relations::Aut;
 use aut_st_each::Each;
@@ -42,7 +41,7 @@ pub fn st_complement(aut: &mut Aut, config: Config, source: Source) -> Result<us
     requires { OneAsked config aut.old source }
     ensures keeps { Keeps aut.old aut.new }
     ensures gives { Goes config 0 832 (ListAt config.fields (limits_of config.limits))
-        (λ k. edges aut.new.scratch.now RESULT k)
+        (list_in aut.new)
         (St.st_complement (ops config.fields (limits_of config.limits))
         (source_of source aut.old.transitions.words.now aut.old.scratch.now)) aut.old result aut.new }
 {

@@ -29,11 +29,11 @@ use Rattle.aut_st_steps.proofs.EachSteps.{made_goes}
 use Rattle.aut_states.specs.Clauses.{limits_of, states_of}
 use Rattle.aut_states.specs.declared.Config.{Config}
 use Rattle.aut_states.specs.declared.States.{States}
-use Rattle.aut_states.specs.declared.Members.{Members}
 use Rattle.aut_relations.specs.declared.Aut.{Aut as Lent}
 use Rattle.aut_relations.specs.Behind.{Modifies}
 use Rattle.aut_relations.proofs.Behind.{left_refl, left_wide}
 use Rattle.aut_relations.specs.Lent.{nodes_in, states_in, aut_in, Keeps, KeepsExprs, Does, Asked, Handles}
+use Rattle.aut_relations.proofs.Kept.{keeps_of}
 use Rattle.aut_relations.proofs.Order.{backed_of}
 use Rattle.aut_stage.specs.OnLent.{Goes}
 use Rattle.aut_stage.proofs.OnLent as OnLent
@@ -52,19 +52,6 @@ use Rattle.aut_st_each.specs.Asked.{MakeAsked}
 -- two relations of tables in order
 pub handles : {k : Config} {x : Lent} → Asked k x → {a b : ℕ} → ValidAt (nodes_in x) k.fields a → ValidAt (nodes_in x) k.fields b → Handles k.fields x a b
 handles R a b = record { fields = R.fields; backed = backed_of R.ready; at_a = a; at_b = b }
-
--- an operation on relations keeps what a constructor keeps
-pub keeps_of : {x y : Lent} → KeepsExprs x y → Keeps x y
-keeps_of K = record {
-  sp = K.sp;
-  spp = K.spp;
-  states = ap (λ (s : States). s.words.ghost_name) K.states;
-  members = ap (λ (m : Members). m.words.ghost_name) K.members;
-  transitions = K.transitions;
-  pending = K.pending;
-  scratch = K.scratch;
-  length = K.length;
-}
 
 nothing : (n : ℕ) → Inside 0 n 0 0
 nothing n = record { from = omega arith; to = omega arith }

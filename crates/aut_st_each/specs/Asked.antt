@@ -1,5 +1,5 @@
 -- What the loops over transition lists ask. The list that is made stands at RESULT.
-use Rattle.std.specs.Prelude.{ℕ}
+use Rattle.std.specs.Prelude.{ℕ, ◌≤◌}
 use Rattle.netkat_steps.specs.ListSteps.{Edge}
 use Rattle.aut_st_steps.specs.Edges.{EdgeAt}
 use Rattle.aut_st_steps.specs.EachSteps as M
@@ -28,3 +28,9 @@ pub record PairsAsked (k : Config) (x : Lent) (source other : Source) (m : ℕ) 
   pub list : ListAsked k x m
   pub first : Walked k.fields (aut_in x) x.transitions.words.now x.scratch.now source
   pub second : Walked k.fields (aut_in x) x.transitions.words.now x.scratch.now other
+
+-- the source of an operation that begins a list
+pub record OneAsked (k : Config) (x : Lent) (source : Source) : Type 0 where
+  pub asked : Asked k x
+  pub limit : k.limits.transitions ≤ 64
+  pub walked : Walked k.fields (aut_in x) x.transitions.words.now x.scratch.now source

@@ -4,13 +4,13 @@
 ghost use Rattle.netkat_steps.specs.ListSteps as St;
 ghost use Rattle.netkat_steps.specs.ListSteps.{edge};
 ghost use Rattle.aut_st_steps.specs.Operations.{ops};
-ghost use Rattle.aut_st_steps.specs.Edges.{edges, EdgeAt};
+ghost use Rattle.aut_st_steps.specs.Edges.{EdgeAt};
 ghost use Rattle.aut_st_steps.specs.ListSpec.{ListAt};
 ghost use Rattle.aut_st_steps.specs.EachSteps as M;
 ghost use Rattle.aut_states.specs.Clauses.{limits_of};
 ghost use Rattle.aut_relations.specs.Lent.{Keeps};
 ghost use Rattle.aut_stage.specs.OnLent.{Goes};
-ghost use Rattle.aut_st_insert.specs.Clauses.{RESULT};
+ghost use Rattle.aut_st_insert.specs.Clauses.{list_in};
 ghost use Rattle.aut_st_insert.specs.Asked.{ListAsked};
 ghost use Rattle.aut_st_source.specs.Clauses.{edge_of, source_of};
 ghost use Rattle.aut_st_each.specs.Clauses.{each_of};
@@ -103,9 +103,9 @@ fn insert_made(
     requires { ListAsked config aut.old m × MakeAsked config aut.old (each_of each) (edge_of t) }
     ensures keeps { Keeps aut.old aut.new }
     ensures gives { Goes config 0 832 (ListAt config.fields (limits_of config.limits))
-        (λ k. edges aut.new.scratch.now RESULT k)
+        (list_in aut.new)
         (M.insert_made config.fields (limits_of config.limits) (each_of each) (edge_of t)
-        (edges aut.old.scratch.now RESULT m)) aut.old result aut.new }
+        (list_in aut.old m)) aut.old result aut.new }
 {
     let new = make_edge(aut, config, each, t)?;
     aut_st_insert::st_insert(aut, config, new.target, new.label, m)
@@ -122,11 +122,11 @@ pub fn insert_each(
     requires { EachAsked config aut.old (each_of each) source m }
     ensures keeps { Keeps aut.old aut.new }
     ensures gives { Goes config 0 832 (ListAt config.fields (limits_of config.limits))
-        (λ k. edges aut.new.scratch.now RESULT k)
+        (list_in aut.new)
         (St.insert_each (ops config.fields (limits_of config.limits))
         (M.made config.fields (limits_of config.limits) (each_of each))
         (source_of source aut.old.transitions.words.now aut.old.scratch.now)
-        (edges aut.old.scratch.now RESULT m)) aut.old result aut.new }
+        (list_in aut.old m)) aut.old result aut.new }
 {
     let mut n = m;
     for i in 0..source.length {
@@ -147,12 +147,12 @@ pub fn insert_pairs(
     requires { PairsAsked config aut.old first second m }
     ensures keeps { Keeps aut.old aut.new }
     ensures gives { Goes config 0 832 (ListAt config.fields (limits_of config.limits))
-        (λ k. edges aut.new.scratch.now RESULT k)
+        (list_in aut.new)
         (St.insert_pairs (ops config.fields (limits_of config.limits))
         (St.meet_of (ops config.fields (limits_of config.limits)))
         (source_of first aut.old.transitions.words.now aut.old.scratch.now)
         (source_of second aut.old.transitions.words.now aut.old.scratch.now)
-        (edges aut.old.scratch.now RESULT m)) aut.old result aut.new }
+        (list_in aut.old m)) aut.old result aut.new }
 {
     let mut n = m;
     for i in 0..first.length {

@@ -1,5 +1,4 @@
 -- Lemmas for the proofs of this crate.
-pub mod Kept
 pub mod Join
 pub mod Calls
 pub mod Placing

@@ -45,7 +45,7 @@ use Rattle.aut_stage.proofs.Rule.{all_of, begin, instead, next, stuck, finish, d
 use Rattle.aut_st_edges.specs.Clauses.{Seeks, Wrote}
 use Rattle.aut_st_insert.specs.Clauses.{RESULT, list_in}
 use Rattle.aut_st_insert.specs.Asked.{PlaceAsked}
-use Rattle.aut_st_insert.proofs.Kept.{same_refl}
+use Rattle.aut_relations.proofs.Kept.{same_refl}
 use Rattle.aut_st_insert.proofs.Join.{edges_behind, ready_few, list_same, list_after}
 use Rattle.aut_st_insert.proofs.Calls.{Run, anywhere, handles, StatesOnly, on_states_goes}
 

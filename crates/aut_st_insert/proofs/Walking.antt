@@ -34,7 +34,7 @@ use Rattle.aut_stage.proofs.Turns.{Entries, read_begin, read_at, read_stuck, rea
 use Rattle.aut_st_edges.specs.Clauses.{Wrote, CopyReady}
 use Rattle.aut_st_insert.specs.Clauses.{RESULT, TAKEN, list_in, part_in}
 use Rattle.aut_st_insert.specs.Asked.{ListAsked, PlaceAsked, MeetAsked, WalkAsked}
-use Rattle.aut_st_insert.proofs.Kept.{keeps_refl, keeps_trans}
+use Rattle.aut_relations.proofs.Kept.{keeps_refl, keeps_trans}
 use Rattle.aut_st_insert.proofs.Join.{list_few, ready_few, list_none, list_same, list_after}
 use Rattle.aut_st_insert.proofs.Calls.{Run, anywhere, handles, subtracts}
 

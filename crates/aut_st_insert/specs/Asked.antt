@@ -7,12 +7,12 @@ use Rattle.aut_states.specs.Clauses.{limits_of}
 use Rattle.aut_states.specs.declared.Config.{Config}
 use Rattle.aut_relations.specs.declared.Aut.{Aut as Lent}
 use Rattle.aut_relations.specs.Lent.{aut_in, Asked}
-use Rattle.aut_st_insert.specs.Clauses.{RESULT, TAKEN}
+use Rattle.aut_st_insert.specs.Clauses.{TAKEN, list_in}
 
 -- tables and scratch in order, the limits in range, and the m transitions at RESULT are a list
 pub record ListAsked (k : Config) (x : Lent) (m : ℕ) : Type 0 where
   pub asked : Asked k x
-  pub list : ListAt k.fields (limits_of k.limits) (aut_in x) (edges x.scratch.now RESULT m)
+  pub list : ListAt k.fields (limits_of k.limits) (aut_in x) (list_in x m)
   pub limit : k.limits.transitions ≤ 64
 
 -- a transition to be placed

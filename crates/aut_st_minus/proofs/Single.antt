@@ -28,6 +28,7 @@ use Rattle.aut_states.specs.Clauses.{limits_of}
 use Rattle.aut_states.specs.declared.Config.{Config}
 use Rattle.aut_relations.specs.declared.Aut.{Aut as Lent}
 use Rattle.aut_relations.specs.Lent.{nodes_in, aut_in, Keeps, KeepsExprs, Does, Handles}
+use Rattle.aut_relations.proofs.Kept.{keeps_of}
 use Rattle.aut_stage.specs.OnLent.{Goes}
 use Rattle.aut_stage.proofs.Rule.{Inside, all_of}
 use Rattle.aut_stage.proofs.OnLent.{made}
@@ -37,9 +38,6 @@ use Rattle.aut_st_insert.proofs.Join.{list_same, list_after}
 use Rattle.aut_st_insert.proofs.Calls.{handles, intersects, unites}
 use Rattle.aut_st_stage.proofs.Run.{Run, run_begin, run_next, run_stuck, run_as, run_done}
 use Rattle.aut_st_minus.specs.Clauses.{OneAsked, sum_in}
-
-exprs_kept : {x y : Lent} → KeepsExprs x y → Keeps x y
-exprs_kept K = record { sp = K.sp; spp = K.spp; states = ap (λ s. s.words.ghost_name) K.states; members = ap (λ s. s.words.ghost_name) K.members; transitions = K.transitions; pending = K.pending; scratch = K.scratch; length = K.length }
 
 -- a call that writes no list
 none_in : Inside 0 832 0 0
@@ -107,7 +105,7 @@ module _ {k : Config} {x : Lent} {t u : Edge} {h m : ℕ} (R : OneAsked k x t u 
 
     module _ {y2 : Lent} {v : SPP} (K2 : KeepsExprs y1 y2) (D2 : Does N 0 0 nodes_in (λ (l : SPP). l.0) (Rel.intersect N t.label u.label) y1 (Ok v) y2) where
       run_2 : Run k 0 832 whole (λ σ. after (on_nodes (Rel.union N h v.0) σ) (fourth a v.0)) x y2
-      run_2 = run_next (third a) run_1 none_in (exprs_kept K2) (meets K2 D2)
+      run_2 = run_next (third a) run_1 none_in (keeps_of K2) (meets K2 D2)
 
       list_2 : ListAsked k y2 m
       list_2 = list_after list_1 (meets K2 D2) (omega arith) K2.spp
@@ -141,7 +139,7 @@ module _ {k : Config} {x : Lent} {t u : Edge} {h m : ℕ} (R : OneAsked k x t u 
         same = list_same list_2 (sums K3 D3) (omega arith) ∙ list_same list_1 (meets K2 D2) (omega arith) ∙ list_same R.list (differs K1 D1) (omega arith)
 
         run_3 : Run k 0 832 whole (λ σ. after (put (list_in y3 m) σ) last) x y3
-        run_3 = run_as (run_next (fourth a v.0) run_2 none_in (exprs_kept K3) (sums K3 D3)) (ap (λ (fs : List Edge). after (put fs (aut_in y3)) last) (sym same))
+        run_3 = run_as (run_next (fourth a v.0) run_2 none_in (keeps_of K3) (sums K3 D3)) (ap (λ (fs : List Edge). after (put fs (aut_in y3)) last) (sym same))
 
         -- ---- the insertion
 

@@ -28,9 +28,9 @@ use Rattle.aut_st_source.specs.declared.Source.{Source}
 use Rattle.aut_st_stage.proofs.Turns.{source_in}
 use Rattle.aut_st_stage.proofs.Run.{Run, run_begin, run_next, run_stuck, run_finish}
 use Rattle.aut_st_stage.proofs.Waits.{Waits, waits, waits_later, with_it}
-use Rattle.aut_st_each.specs.Asked.{EachAsked, PairsAsked}
+use Rattle.aut_st_each.specs.Asked.{EachAsked, PairsAsked, OneAsked}
 use Rattle.aut_st_minus.specs.Clauses.{RowsAsked}
-use Rattle.aut_st_ops.specs.Asked.{OneAsked, TwoAsked}
+use Rattle.aut_st_ops.specs.Asked.{TwoAsked}
 
 -- ---- the list at RESULT is empty
 

@@ -31,7 +31,7 @@ use Rattle.aut_stage.specs.Rule.{Stage}
 use Rattle.aut_stage.specs.OnLent.{lent_layer, Goes}
 use Rattle.aut_stage.proofs.OnLent.{lent_laws, by_law, asked_after}
 use Rattle.aut_stage.proofs.Rule.{Inside, begin, instead, wrote, next, stuck, finish, done}
-use Rattle.aut_st_insert.proofs.Kept.{same_refl, keeps_refl, keeps_trans}
+use Rattle.aut_relations.proofs.Kept.{same_refl, keeps_refl, keeps_trans}
 
 -- ---- tables of which a part was written
 

@@ -33,7 +33,7 @@ use Rattle.aut_stage.proofs.Rule.{Inside, all_of, Folds, Turned}
 use Rattle.aut_stage.proofs.Turns.{Entries, read_begin, read_at, read_stuck, read_again, read_end}
 use Rattle.aut_st_insert.specs.Clauses.{RESULT}
 use Rattle.aut_st_insert.specs.Asked.{ListAsked}
-use Rattle.aut_st_insert.proofs.Kept.{keeps_refl, keeps_trans}
+use Rattle.aut_relations.proofs.Kept.{keeps_refl, keeps_trans}
 use Rattle.aut_st_source.specs.declared.Source.{Source}
 use Rattle.aut_st_source.specs.Clauses.{source_of, entry_of, EntryIn, Walked}
 use Rattle.aut_st_source.proofs.Sources.{on_from, from_all, from_next, from_done, entry_in, entry_at_lem, entry_kept, source_kept, walked_later}

@@ -1,42 +1,36 @@
 -- The laws of the layer of specs/OnLent; and calls whose law is known, as calls of it.
 use mathlib.Core.Path.{◌≡◌, refl, ◌∙◌, ap, subst}
-use mathlib.Core.List.{List}
-use Prim.Native.Nat.{ℕ, ◌≤◌}
+use Prim.Native.Nat.{ℕ}
 use lib.ListN.{length}
 use Rattle.std.specs.Prelude.{Result, Ok, Err}
-use Rattle.common.specs.Outcome.{Outcome, given, Step}
+use Rattle.common.specs.Outcome.{Outcome, Step}
 use Rattle.common.specs.Runs.{Table, placed}
 use Rattle.refusal.specs.declared.Refusal.{Refusal}
 use Rattle.refusal.specs.Numbers.{outcome}
-use Rattle.spp_steps.specs.Wf.{Ext, ValidAt}
-use Rattle.spp_steps.proofs.Laws.{ext_refl, ext_trans}
 use Rattle.spp.specs.Clauses.{SameStore}
-use Rattle.aut_steps.specs.Tables.{Aut, put_nodes, put_states, on_nodes, on_states}
-use Rattle.aut_steps.specs.Wf.{ExtAut, WfAut}
+use Rattle.aut_steps.specs.Tables.{Aut, put_nodes, on_nodes}
 use Rattle.aut_steps.proofs.Wf.{grown_refl, grown_trans}
-use Rattle.aut_steps.specs.StepSpec.{Memos}
 use Rattle.aut_steps.proofs.StepSpec.{StepSpec, came}
 use Rattle.aut_states.specs.Clauses.{limits_of}
 use Rattle.aut_states.specs.declared.Config.{Config}
 use Rattle.aut_states.specs.declared.Limits.{Limits}
-use Rattle.aut_relations.specs.Behind.{LISTS, Modifies, CacheReady}
-use Rattle.aut_relations.proofs.Behind.{left_refl, left_trans, left_wide, left_kept, backed_left}
-use Rattle.aut_relations.specs.Clauses.{Ready}
+use Rattle.aut_relations.specs.Behind.{Modifies}
+use Rattle.aut_relations.proofs.Behind.{left_refl, left_trans, left_wide, left_kept}
+use Rattle.aut_relations.proofs.Order.{ready_after}
 use Rattle.aut_relations.specs.declared.Aut.{Aut as Lent}
-use Rattle.aut_relations.specs.Lent.{nodes_in, states_in, aut_in, Keeps, KeepsExprs, Does, Unless, Asked}
-use Rattle.aut_stage.specs.Rule.{Layer, Laws, Post}
+use Rattle.aut_relations.specs.Lent.{nodes_in, aut_in, Keeps, KeepsExprs, Does, Unless, Asked}
+use Rattle.aut_stage.specs.Rule.{Laws, Post}
 use Rattle.aut_stage.specs.OnLent.{lent_layer, Goes}
-use Rattle.aut_stage.proofs.OnAut.{ready_left, onward_refl, onward_trans}
 
 pub lent_laws : (N : ℕ) (l : Limits) → Laws (lent_layer N l)
 lent_laws N l = record {
-  ext_refl = onward_refl;
-  ext_trans = onward_trans;
+  ext_refl = λ σ. record { grown = grown_refl σ; memos = λ i w x y. refl };
+  ext_trans = λ σ τ υ p q. record { grown = grown_trans p.grown q.grown; memos = λ i w x y. q.memos i w x y ∙ p.memos i w x y };
   frame_refl = λ a n σ s. left_refl a n σ.nodes s;
   frame_trans = λ a n σ τ s s' s'' e p q. left_trans e.grown.nodes p q;
   frame_wide = λ a n b m σ s s' x y p. left_wide p x y;
   frame_kept = λ a n σ s s' x len k. left_kept k len x;
-  ready_kept = λ a n σ s s' len p r. ready_left N l a n σ σ s s' (grown_refl σ) r.good len p r;
+  ready_kept = λ a n σ s s' len p r. ready_after r (grown_refl σ) r.good p len;
 }
 
 -- A step whose law is known: from its equation, what it left, and the law, the whole of `Post`.
@@ -50,7 +44,7 @@ module _ {k : Config} {x : Lent} (R : Asked k x) (y : Lent) (len : length y.scra
         then = record {
           ext = record { grown = i.grown; memos = i.memos };
           frame = p;
-          ready = ready_left k.fields k.limits a n (aut_in x) (aut_in y) x.scratch.now y.scratch.now i.grown i.good len p R.ready;
+          ready = ready_after R.ready i.grown i.good p len;
           holds = i.holds;
         };
       }

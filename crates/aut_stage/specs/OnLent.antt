@@ -1,5 +1,5 @@
 -- All tables that are lent as a layer of the rule: nodes, states and members, which the constructors and the lists of transitions change. Words 4 to 11 of every state are kept.
-use Rattle.std.specs.Prelude.{◌≡◌, List, ℕ, Result}
+use Rattle.std.specs.Prelude.{ℕ, Result}
 use Rattle.common.specs.Outcome.{Step}
 use Rattle.refusal.specs.declared.Refusal.{Refusal}
 use Rattle.aut_steps.specs.Tables.{Aut}

@@ -4,7 +4,6 @@ use Rattle.common.specs.Outcome.{Outcome}
 use Rattle.refusal.specs.declared.Refusal.{Refusal}
 use Rattle.refusal.specs.Numbers.{outcome}
 use Rattle.aut_steps.specs.Scratch.{Kept}
-use Rattle.aut_relations.specs.Lent.{Unless}
 
 -- Tables and the scratch beside them: when a store has come from another, what a step may leave of scratch (n words from a on, and notes that are right of the store), and when a store and scratch
 -- are in order.

@@ -2,4 +2,3 @@
 pub mod Slices
 pub mod Scan
 pub mod Intern
-pub mod Apart

@@ -3,17 +3,17 @@ use mathlib.Core.Path.{◌≡◌, refl, sym, ◌∙◌, ap, subst}
 use mathlib.Core.Bool.{Bool, true, false}
 use mathlib.Core.List.{List, [], ◌∷◌}
 use mathlib.Core.Logic.{◌⊎◌, ⊎_elim}
-use Prim.Native.Nat.{ℕ, suc, ◌+◌, ◌-◌, ◌*◌, ◌<◌, ◌≤◌, max}
+use Prim.Native.Nat.{ℕ, suc, ◌+◌, ◌*◌, ◌<◌, ◌≤◌, max}
 use native.Mathlib.Omega.{arith}
 use native.Mathlib.Decide.{ℕ_discrete}
 use lib.ListN.{length, get_or, drop, drop_of_length-le}
 use lib.Seq.{drop-cons}
 use borrow.Author.Tests.{eq-eqb, ne_eqb}
-use Rattle.aut_steps.specs.Tables.{kind_of, op1, op2, nest, words, Exprs}
+use Rattle.aut_steps.specs.Tables.{kind_of, op1, op2, nest, Exprs}
 use Rattle.aut_steps.specs.Intern.{seek, same2, same_at, same_l, nest_l}
 use Rattle.aut_steps.specs.Ascending.{All}
 use Rattle.aut_steps.proofs.Facts.{same2_is, same_l_is}
-use Rattle.aut_steps.proofs.Scratch.{seek_here, seek_end, seek_skip, words_on, words_done}
+use Rattle.aut_steps.proofs.Scratch.{seek_here, seek_end, seek_skip}
 use Rattle.aut_states.specs.Clauses.{Fits, From, Ready1, Ready2, ListAsked, above_l}
 
 -- ---- a search that has come to i of n
@@ -116,16 +116,3 @@ from_list {τ} {k} {xs} {a} r e =
 pub inside : {t : List ℕ} {n : ℕ} (xs : List ℕ) → Fits t n → All (λ x. x < n) xs → All (λ x. 12 * x + 11 < length t) xs
 inside [] f a = tt
 inside (x ∷ xs) f a = (omega (arith, f.fits, a.0), inside xs f a.1)
-
--- ---- a list as words of scratch, for image_kinds
-
-module _ (st s : List ℕ) (base k j h : ℕ) (l : j < k) where
-  pub nest_step : (e : ℕ) → e ≡ nest st (get_or s (base + j) 0) → (h' : ℕ) → h' ≡ max h e → nest_l st h (words s (base + j) (k - j)) ≡ nest_l st h' (words s (base + (j + 1)) (k - (j + 1)))
-  unfolding nest_l
-  nest_step e q h' p =
-      ap (nest_l st h) (words_on s base k j l)
-      ∙ ap (λ (z : ℕ). nest_l st z (words s (base + (j + 1)) (k - (j + 1)))) {x = max h (nest st (get_or s (base + j) 0))} {y = h'} (omega (arith, p, q))
-
-pub nest_end : (st s : List ℕ) (b k j h : ℕ) → k ≤ j → nest_l st h (words s b (k - j)) ≡ h
-unfolding nest_l
-nest_end st s b k j h l = ap (nest_l st h) (words_done s b k j l)

@@ -1,21 +1,16 @@
 -- What an answer says in the words of the steps, and what the functions ask of the tables.
-use Rattle.std.specs.Prelude.{◌≡◌, Bool, false, List, [], ◌∷◌, ℕ, ◌+◌, ◌*◌, ◌≤◌, ◌<◌, max, length, Option, Some, None, Result, Ok, Err, if◌then◌else◌}
+use Rattle.std.specs.Prelude.{◌≡◌, Bool, false, List, [], ◌∷◌, ℕ, ◌+◌, ◌*◌, ◌≤◌, ◌<◌, max, length, Option, Some, None, Result, if◌then◌else◌}
 use Rattle.common.specs.Outcome.{Outcome, refused, given, Step}
 use Rattle.common.specs.Runs.{Table, table}
 use Rattle.refusal.specs.declared.Refusal.{Refusal}
-use Rattle.refusal.specs.Numbers.{number_of, outcome}
+use Rattle.refusal.specs.Numbers.{outcome}
 use Rattle.aut_steps.specs.Tables as M
 use Rattle.aut_steps.specs.Tables.{Exprs, exprs, kind_of, op1, op2, words, state_cap, member_cap, room_m}
 use Rattle.aut_steps.specs.Intern.{seek, store}
 use Rattle.aut_steps.specs.Ascending.{All}
-use Rattle.aut_states.specs.declared.Counts.{Counts}
 use Rattle.aut_states.specs.declared.Limits.{Limits}
 use Rattle.aut_states.specs.declared.States.{States}
 use Rattle.aut_states.specs.declared.Members.{Members}
-use Rattle.aut_states.specs.declared.Put.{Put}
-use Rattle.aut_states.specs.declared.Put.TheVariants as put
-use Rattle.aut_states.specs.declared.State.{State}
-use Rattle.aut_states.specs.declared.State.TheVariants as state
 
 abbrev pub limits_of : Limits → M.Limits
 limits_of l = record { nesting = l.nesting; list = l.list; products = l.products; transitions = l.transitions }
@@ -84,49 +79,3 @@ pub record ListAsked (τ : Exprs) (k : ℕ) (xs : List ℕ) : Type 0 where
   pub lists : (i : ℕ) → i < τ.states.count → ListIn τ.states.words τ.members.words i k
   pub has : All (λ x. x < τ.states.count) xs
   pub earlier : (i : ℕ) → i < τ.states.count → kind_of τ.states.words i ≡ k → All (λ x. x < i) (words τ.members.words (op1 τ.states.words i) (op2 τ.states.words i))
-
--- ---- for the layers that hold a table and its count apart. A list is given as k words of scratch at base.
-
-abbrev pub put_of : Result ℕ Refusal → ℕ → Put
-put_of (Ok i) n = put.At i n
-put_of (Err e) n = put.Refused (number_of e)
-
-abbrev pub state_of : Result ℕ Refusal → Counts → State
-state_of (Ok i) c = state.Is i c
-state_of (Err e) c = state.Refused (number_of e)
-
--- a state and the table at exit, or 01's number
-abbrev pub seen_put : Put → List ℕ → Outcome Table ℕ
-seen_put (put.At i n) t = given (table t n) i
-seen_put (put.Refused e) t = refused e
-
-abbrev pub seen_state : State → List ℕ → List ℕ → Outcome Exprs ℕ
-seen_state (state.Is i c) s m = given (exprs (table s c.states) (table m c.members)) i
-seen_state (state.Refused e) s m = refused e
-
--- the counts of the tables that are not taken are as they were
-abbrev pub Beside : State → Counts → Type 0
-Beside (state.Is i d) c = (d.sp ≡ c.sp) × (d.spp ≡ c.spp) × (d.transitions ≡ c.transitions)
-Beside (state.Refused e) c = Unit
-
-pub record Interned (o : Outcome Exprs ℕ) (r : State) (c : Counts) (s m : List ℕ) : Type 0 where
-  pub is : o ≡ seen_state r s m
-  pub beside : Beside r c
-
--- the k words of scratch at base are numbers of whole records
-pub record Below (st s : List ℕ) (base k : ℕ) : Type 0 where
-  pub within : base + k ≤ length s
-  pub states : All (λ x. 12 * x + 11 < length st) (words s base k)
-
-pub record AddReady (st m s : List ℕ) (c : Counts) (base k : ℕ) : Type 0 where
-  pub fits : Fits st c.states
-  pub small : c.members ≤ member_cap
-  pub within : base + k ≤ length s
-  pub few : k ≤ 128
-
-pub record ListReady (st m s : List ℕ) (c : Counts) (kind base k : ℕ) : Type 0 where
-  pub add : AddReady st m s c base k
-  pub lists : (i : ℕ) → i < c.states → ListIn st m i kind
-  pub below : Below st s base k
-  pub has : All (λ x. x < c.states) (words s base k)
-  pub earlier : (i : ℕ) → i < c.states → kind_of st i ≡ kind → All (λ x. x < i) (words m (op1 st i) (op2 st i))

@@ -7,29 +7,14 @@ pub mod word;
 
 ghost use Rattle.std.specs.Prelude.{◌≡◌, ℕ, ◌+◌, ◌*◌, ◌≤◌, ◌<◌, max, length};
 ghost use Rattle.std.proofs.lemmas.List.Edits.{sets};
-ghost use Rattle.common.specs.Runs.{table};
-ghost use Rattle.aut_steps.specs.Tables.{COMPLEMENT, NEXT, UNTIL, exprs, words, kind_of, op1, op2, nest};
+ghost use Rattle.aut_steps.specs.Tables.{COMPLEMENT, NEXT, UNTIL, words, kind_of, op1, op2, nest};
 ghost use Rattle.aut_steps.specs.Intern as M;
 ghost use Rattle.aut_steps.specs.Constructors as C;
 ghost use Rattle.aut_steps.specs.Ascending.{All};
 ghost use Rattle.aut_states.specs.Clauses.{limits_of, states_of, members_of, exprs_of, seen, Found, Fits, From, Ready1, Ready2, ListIn, PushReady, ListAsked, above_l, append};
-ghost use Rattle.aut_states.specs.Clauses.{put_of, state_of, seen_put, Interned, ListReady};
 
 use refusal::Refusal;
 use spp::SPP;
-
-// for the layers that hold a refusal as a number
-pub use refusal;
-
-// records in use of each table
-#[derive(Clone, Copy)]
-pub struct Counts {
-    pub sp: usize,
-    pub spp: usize,
-    pub states: usize,
-    pub members: usize,
-    pub transitions: usize,
-}
 
 // 01's limits 8, 6, 7, 9
 #[derive(Clone, Copy)]
@@ -114,6 +99,15 @@ impl States<'_> {
         ensures { result ≡ nest self.now.words.now x }
     {
         self.words[STATE * x as usize + word::NESTING]
+    }
+
+    // whether both states are relations
+    pub fn both_relations(&self, x: u32, y: u32) -> bool
+        requires { (12 * x + 11 < length self.now.words.now) ×
+            (12 * y + 11 < length self.now.words.now) }
+        ensures { C.relations self.now.words.now x y ≡ result }
+    {
+        self.kind(x) == kind::SPP && self.kind(y) == kind::SPP
     }
 
     // whether state i has this kind and these operands
@@ -315,7 +309,7 @@ impl States<'_> {
     }
 
     // the highest nesting of the list
-    fn nest_list(&self, list: &[u32]) -> u32
+    pub fn nest_list(&self, list: &[u32]) -> u32
         requires { All (λ x. 12 * x + 11 < length self.now.words.now) list.now }
         ensures { result ≡ M.nest_l self.now.words.now 0 list.now }
     {
@@ -367,123 +361,10 @@ impl States<'_> {
     }
 }
 
-// ---- for the layers that hold a table and its count apart
-
-// a state and the number of states, or 01's number
-#[derive(Clone, Copy)]
-pub enum Put {
-    At(u32, usize),
-    Refused(u32),
-}
-
-#[derive(Clone, Copy)]
-pub enum State {
-    Is(u32, Counts),
-    Refused(u32),
-}
-
-fn put_of(answer: Result<u32, Refusal>, count: usize) -> Put
-    ensures { result ≡ put_of answer count }
-{
-    match answer {
-        Ok(i) => Put::At(i, count),
-        Err(e) => Put::Refused(e.number()),
-    }
-}
-
-pub fn state_of(answer: Result<u32, Refusal>, c: Counts) -> State
-    ensures { result ≡ state_of answer c }
-{
-    match answer {
-        Ok(i) => State::Is(i, c),
-        Err(e) => State::Refused(e.number()),
-    }
-}
-
-#[tactic(auto, unfolding(aut_steps::specs::Tables::nest))]
-pub fn nest_of(states: &[u32], x: u32) -> u32
-    requires { 12 * x + 11 < length states.now }
-    ensures { result ≡ nest states.now x }
-{
-    let i = x as usize;
-    states[12 * i + 3]
-}
-
 // k words of one slice at base go to the other at m
 pub fn copy(out: &mut [u32], m: usize, from: &[u32], base: usize, k: usize)
     requires { (m + k ≤ length out.old) × (base + k ≤ length from.now) }
     ensures { sets out.old m (words from.now base k) ≡ out.new }
 {
     out[m..m + k].copy_from_slice(&from[base..base + k]);
-}
-
-pub fn intern0(states: &mut [u32], count: usize, kind: u32, x: u32) -> Put
-    requires { Fits states.old count }
-    ensures { M.intern0 kind x (table states.old count) ≡ seen_put result states.new }
-{
-    let mut table = States {
-        words: states,
-        count,
-    };
-    let answer = table.intern0(kind, x);
-    put_of(answer, table.count)
-}
-
-pub fn intern1(states: &mut [u32], count: usize, limits: Limits, kind: u32, x: u32) -> Put
-    requires { Ready1 states.old count kind x }
-    ensures { M.intern1 (limits_of limits) kind x (table states.old count) ≡ seen_put result
-        states.new }
-{
-    let mut table = States {
-        words: states,
-        count,
-    };
-    let answer = table.intern1(limits, kind, x);
-    put_of(answer, table.count)
-}
-
-pub fn intern2(states: &mut [u32], count: usize, limits: Limits, kind: u32, x: u32, y: u32) -> Put
-    requires { Ready2 states.old count kind x y }
-    ensures { M.intern2 (limits_of limits) kind x y (table states.old count) ≡ seen_put result
-        states.new }
-{
-    let mut table = States {
-        words: states,
-        count,
-    };
-    let answer = table.intern2(limits, kind, x, y);
-    put_of(answer, table.count)
-}
-
-pub fn intern_list(
-    states: &mut [u32],
-    members: &mut [u32],
-    scratch: &[u32],
-    c: Counts,
-    limits: Limits,
-    kind: u32,
-    base: usize,
-    k: usize,
-) -> State
-    requires { ListReady states.old members.old scratch.now c kind base k }
-    ensures { Interned
-        (M.intern_l (limits_of limits) kind (words scratch.now base k)
-        (exprs (table states.old c.states) (table members.old c.members))) result c
-        states.new members.new }
-{
-    let mut table = States {
-        words: states,
-        count: c.states,
-    };
-    let mut rest = Members {
-        words: members,
-        count: c.members,
-    };
-    let answer = table.intern_list(&mut rest, limits, kind, &scratch[base..base + k]);
-    let counts = Counts {
-        states: table.count,
-        members: rest.count,
-        ..c
-    };
-    state_of(answer, counts)
 }

@@ -7,11 +7,10 @@ use native.Mathlib.Omega.{arith}
 use lib.Dec.{eqb}
 use lib.ListN.{length, take, drop}
 use Rattle.std.specs.Result.{IsErr, IsErrAnd}
-use Rattle.common.specs.Outcome.{Outcome, given, Step, after, ◌>>=◌}
+use Rattle.common.specs.Outcome.{Outcome, Step, after, ◌>>=◌}
 use Rattle.common.specs.Runs.{Table, placed}
 use Rattle.refusal.specs.declared.Refusal.{Refusal}
 use Rattle.refusal.specs.declared.Refusal.TheVariants as refusal
-use Rattle.refusal.specs.Numbers.{outcome}
 use Rattle.spp_steps.specs.Wf.{ValidAt}
 use Rattle.aut_steps.specs.Tables.{UNION, words, Limits, Aut, aut, exprs, put_nodes, put_states, put_exprs, on_states, on_exprs}
 use Rattle.aut_steps.specs.Relations as Rel

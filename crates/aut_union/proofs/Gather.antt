@@ -35,6 +35,7 @@ use Rattle.aut_states.specs.declared.Config.{Config}
 use Rattle.aut_states.specs.declared.States.{States}
 use Rattle.aut_states.specs.Clauses.{states_of}
 use Rattle.aut_relations.specs.Behind.{LISTS, Modifies}
+use Rattle.aut_relations.proofs.Kept.{exprs_refl, exprs_trans}
 use Rattle.aut_relations.proofs.Behind.{left_any, left_kept, words_behind}
 use Rattle.aut_relations.specs.Clauses.{RelAt}
 use Rattle.aut_relations.specs.declared.Aut.{Aut as Lent}
@@ -49,22 +50,7 @@ use Rattle.aut_union.specs.Clauses.{parts_at, UniteReady, UnitesReady, Adds, Lis
 pub put_left : {N : ℕ} {s s' : List ℕ} (t : Table) (a x : ℕ) → a < LISTS → s' ≡ set s a x → Modifies N a 1 t s s'
 put_left {s = s} t a x l e = subst (Modifies _ a 1 t s) (sym e) (left_kept (kept_sets (x ∷ []) s a 1 a (omega arith) (omega arith)) (simp length-set) (omega arith))
 
--- ---- what a call keeps
-
-pub exprs_kept : (x : Lent) → KeepsExprs x x
-exprs_kept x = record { sp = refl; spp = record { lent = refl; fields = refl }; states = refl; members = refl; transitions = refl; pending = refl; scratch = refl; length = refl }
-
-pub exprs_kept_on : {x y z : Lent} → KeepsExprs x y → KeepsExprs y z → KeepsExprs x z
-exprs_kept_on a b = record {
-  sp = b.sp ∙ a.sp;
-  spp = record { lent = b.spp.lent ∙ a.spp.lent; fields = b.spp.fields ∙ a.spp.fields };
-  states = b.states ∙ a.states;
-  members = b.members ∙ a.members;
-  transitions = b.transitions ∙ a.transitions;
-  pending = b.pending ∙ a.pending;
-  scratch = b.scratch ∙ a.scratch;
-  length = b.length ∙ a.length;
-}
+-- ---- tables after a call
 
 pub tables_after : {x y : Lent} → KeepsExprs x y → aut (nodes_in y) (states_in x) (members_in x) ≡ aut_in y
 tables_after K = rw K.states (rw K.members refl)
@@ -137,7 +123,7 @@ module _ {N : ℕ} (G : Gathers N) where
 
     pub begin : (v : G.V) → G.see x.scratch.now to v ≡ G.start → G.many v ≡ 0 → Turned x from k to x v 0
     begin v e z = record {
-      keeps = exprs_kept x;
+      keeps = exprs_refl x;
       turn = subst (λ (a : G.A). Turn N (G.one st) (Held Any) G.start (nodes_in x) x.scratch.now from k to a (nodes_in x) x.scratch.now (G.many v) 0) (sym e)
           (subst (λ (m : ℕ). Turn N (G.one st) (Held Any) G.start (nodes_in x) x.scratch.now from k to G.start (nodes_in x) x.scratch.now m 0) (sym z)
           (turns.begin K G.start (nodes_in x) x.scratch.now from k to R.apart R.room R.backed (begun Any R.backed.wf R.backed.few)));
@@ -169,7 +155,7 @@ module _ {N : ℕ} (G : Gathers N) where
 
         pub again : {w : G.V} → KeepsExprs y z → Does N (to + G.many v) 1 nodes_in (G.see z.scratch.now to) One y (Ok w) z → G.many w ≤ G.many v + 1 → Turned x from k to z w (i + 1)
         again {w} E D f = record {
-          keeps = exprs_kept_on T.keeps E;
+          keeps = exprs_trans T.keeps E;
           turn = turns.again K G.start (nodes_in x) x.scratch.now from k to R.apart R.room a (nodes_in y) y.scratch.now (G.many v) i T.turn l (members_of_lem N st (nodes_in x) (words x.scratch.now from k) R.at)
               (G.see z.scratch.now to w) (nodes_in z) z.scratch.now (G.many w)
               (subst (λ (s : _). G.one s.words.now (get_or y.scratch.now (from + i) 0) a (nodes_in y) ≡ given (nodes_in z) (G.see z.scratch.now to w)) T.keeps.states D.is) D.left f E.length;

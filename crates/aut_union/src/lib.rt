@@ -1,7 +1,7 @@
 // mk_union_n and mk_union of aut.rs. A list is k words of scratch (the map of scratch is aut_scratch's).
 #![tactic(auto)]
 
-ghost use Rattle.std.specs.Prelude.{◌≡◌, List, [], ◌∷◌, ℕ, ◌+◌, ◌*◌, ◌≤◌, ◌<◌, length};
+ghost use Rattle.std.specs.Prelude.{◌≡◌, List, [], ◌+◌, ◌≤◌, ◌<◌};
 ghost use Rattle.aut_steps.specs.Tables.{words, UNION};
 ghost use Rattle.aut_steps.specs.Relations.{zero_at};
 ghost use Rattle.aut_steps.specs.Constructors as C;
@@ -171,7 +171,7 @@ pub fn mk_union(aut: &mut Aut, config: Config, x: u32, y: u32) -> Result<u32, Re
     if x == y {
         return Ok(x);
     }
-    if aut.both_relations(x, y) {
+    if aut.states.both_relations(x, y) {
         return aut.spp_of(config, Op::Union, x, y);
     }
     let at = aut_scratch::PRODUCT;

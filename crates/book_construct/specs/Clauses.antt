@@ -1,16 +1,9 @@
 -- 01, "The book and its answers", constructor lines: what a line in code says in the words of the steps, what is asked of it and what its answer promises.
-use Rattle.std.specs.Prelude.{◌≡◌, List, ℕ, ◌≤◌, ◌<◌, Result, Ok, Err}
+use Rattle.std.specs.Prelude.{List, ℕ, ◌≤◌, ◌<◌, Result, Ok, Err}
 use Rattle.refusal.specs.declared.Refusal.{Refusal}
 use Rattle.aut_steps.specs.Tables.{words}
 use Rattle.book_construct_steps.specs.Lines as M
-use Rattle.aut_states.specs.Clauses.{limits_of}
 use Rattle.aut_states.specs.declared.Config.{Config}
-use Rattle.aut_states.specs.declared.Counts.{Counts}
-use Rattle.aut_states.specs.declared.Limits.{Limits}
-use Rattle.aut_states.specs.declared.State.{State}
-use Rattle.aut_states.specs.declared.State.TheVariants.{Is, Refused}
-use Rattle.aut_relations.specs.Behind.{LISTS}
-use Rattle.aut_relations.specs.Clauses.{aut_of, seen_aut, Beside, ModifiesBy, Ready}
 use Rattle.aut_relations.specs.declared.Aut.{Aut as Lent}
 use Rattle.aut_relations.specs.Lent.{Asked}
 use Rattle.book_words.specs.Clauses.{constant_of, bit_of, single_of, pair_of, listed_of}
@@ -46,16 +39,3 @@ pub record FieldReady (k : Config) (x : Lent) (f : ℕ) : Type 0 where
 abbrev pub ReadyBy : Config → Result ℕ Refusal → Lent → Type 0
 ReadyBy k (Ok z) y = Asked k y × (z < y.states.count)
 ReadyBy k (Err e) y = Unit
-
--- ---- for the layer that holds a table and its count apart
-
-abbrev pub ReadyApart : ℕ → Limits → State → List ℕ → List ℕ → List ℕ → List ℕ → Type 0
-ReadyApart N l (Is z d) t st mem s = Ready N l (aut_of t st mem d) s × (z < d.states)
-ReadyApart N l (Refused e) t st mem s = Unit
-
--- the step of the line has been done
-pub record Made (N : ℕ) (l : Limits) (line : M.Line ℕ) (r : State) (c : Counts) (t st mem s t' st' mem' s' : List ℕ) : Type 0 where
-  pub is : M.make N (limits_of l) line (aut_of t st mem c) ≡ seen_aut r t' st' mem'
-  pub beside : Beside r c
-  pub left : ModifiesBy N 0 LISTS r t' s s'
-  pub ready : ReadyApart N l r t' st' mem' s'

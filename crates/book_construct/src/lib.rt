@@ -11,17 +11,13 @@ ghost use Rattle.aut_relations.specs.Behind.{LISTS};
 ghost use Rattle.aut_relations.specs.Lent.{nodes_in, aut_in, Keeps, KeepsExprs, Does, Asked};
 ghost use Rattle.aut_union.specs.Clauses.{ListAt, PairAt};
 ghost use Rattle.book_words.specs.Clauses.{constant_of, bit_of, single_of, pair_of, listed_of};
-ghost use Rattle.book_construct.specs.Clauses.{line_of, LineReady, FieldReady, ReadyBy, Made};
-ghost use Rattle.aut_relations.specs.Clauses.{aut_of, Ready};
-ghost use Rattle.aut_relations.specs.Parts.{aut_apart, SameParts};
-ghost use Rattle.aut_states.specs.Clauses.{state_of};
+ghost use Rattle.book_construct.specs.Clauses.{line_of, LineReady, FieldReady, ReadyBy};
 
-use aut_relations::{Apart, Aut, Transitions};
-use aut_states::{Config, Counts, Members, State, States};
+use aut_relations::Aut;
+use aut_states::Config;
 use book_words::{Bit, Constant, Listed, Pair, Single};
 use refusal::Refusal;
-use sp::SPstore;
-use spp::{SPP, SPPstore};
+use spp::SPP;
 
 // operands are states; the members of a list, at most 64, are the first words of scratch
 #[derive(Clone, Copy)]
@@ -133,86 +129,4 @@ pub fn make(aut: &mut Aut, config: Config, line: Line) -> Result<u32, Refusal>
         Line::Pair(word, x, y) => make_pair(aut, config, word, x, y),
         Line::Listed(word, k) => make_listed(aut, config, word, k),
     }
-}
-
-// ---- for the layer that holds a table and its count apart
-
-fn make_apart(apart: &mut Apart, config: Config, line: Line) -> Result<u32, Refusal>
-    requires { Ready config.fields config.limits (aut_apart apart.old) apart.old.scratch.now ×
-        LineReady config.fields apart.old.counts.states apart.old.scratch.now line }
-    ensures same { SameParts apart.old apart.new }
-    ensures made { Made config.fields config.limits (line_of apart.old.scratch.now line)
-        (state_of result apart.new.counts) apart.old.counts apart.old.nodes.now apart.old.states.now
-        apart.old.members.now apart.old.scratch.now apart.new.nodes.now apart.new.states.now
-        apart.new.members.now apart.new.scratch.now }
-{
-    let mut aut = Aut {
-        sp: SPstore {
-            nodes: Default::default(),
-            count: 0,
-        },
-        spp: SPPstore {
-            nodes: std::mem::take(&mut apart.nodes),
-            count: apart.counts.spp,
-            fields: config.fields,
-        },
-        states: States {
-            words: std::mem::take(&mut apart.states),
-            count: apart.counts.states,
-        },
-        members: Members {
-            words: std::mem::take(&mut apart.members),
-            count: apart.counts.members,
-        },
-        transitions: Transitions {
-            words: Default::default(),
-            count: 0,
-        },
-        pending: Default::default(),
-        scratch: std::mem::take(&mut apart.scratch),
-    };
-    let made = make(&mut aut, config, line);
-    apart.counts = Counts {
-        spp: aut.spp.count,
-        states: aut.states.count,
-        members: aut.members.count,
-        ..apart.counts
-    };
-    let lent = &mut aut;
-    let nodes = std::mem::take(&mut lent.spp.nodes);
-    let states = std::mem::take(&mut lent.states.words);
-    let members = std::mem::take(&mut lent.members.words);
-    let scratch = std::mem::take(&mut lent.scratch);
-    apart.nodes = nodes;
-    apart.states = states;
-    apart.members = members;
-    apart.scratch = scratch;
-    made
-}
-
-pub fn make_on(
-    nodes: &mut [u32],
-    states: &mut [u32],
-    members: &mut [u32],
-    scratch: &mut [u32],
-    c: Counts,
-    config: Config,
-    line: Line,
-) -> State
-    requires { Ready config.fields config.limits (aut_of nodes.old states.old members.old c)
-        scratch.old × LineReady config.fields c.states scratch.old line }
-    ensures { Made config.fields config.limits (line_of scratch.old line) result c
-        nodes.old states.old members.old scratch.old nodes.new
-        states.new members.new scratch.new }
-{
-    let mut apart = Apart {
-        nodes,
-        states,
-        members,
-        transitions: Default::default(),
-        scratch,
-        counts: c,
-    };
-    let made = make_apart(&mut apart, config, line);
-    aut_states::state_of(made, apart.counts)
 }

@@ -62,15 +62,3 @@ impl Refusal {
         }
     }
 }
-
-// ---- for the layers that hold a refusal as a number
-
-pub const SP: u32 = 20;
-
-pub const SPP: u32 = 21;
-
-pub const STATES: u32 = 22;
-
-pub const MEMBERS: u32 = 23;
-
-pub const PENDING: u32 = 24;

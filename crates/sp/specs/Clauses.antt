@@ -11,9 +11,6 @@ use Rattle.sp.specs.declared.SP.{SP}
 use Rattle.sp.specs.declared.Full.{Full}
 use Rattle.sp.specs.declared.SPstore.{SPstore}
 use Rattle.sp.specs.declared.SPview.{SPview}
-use Rattle.sp.specs.declared.Made.{Made}
-use Rattle.sp.specs.declared.Made.TheVariants.{Node}
-use Rattle.sp.specs.declared.Made.TheVariants as made
 use Rattle.sp.specs.declared.Quick.{Quick}
 use Rattle.sp.specs.declared.Quick.TheVariants.{Out, On}
 use Rattle.sp.specs.declared.Op.{Op}
@@ -86,13 +83,3 @@ pub record SizeAsked (σ : Table) (m : List ℕ) (d a : ℕ) : Type 0 where
 pub record SizeAnswer (σ : Table) (m : List ℕ) (d a r : ℕ) (m' : List ℕ) : Type 0 where
   pub is : r ≡ size σ.words d a
   pub notes : WritesValid (SpNoted σ) m m'
-
--- ---- for the layers that hold a table and its count apart
-
-abbrev pub made_of : Result SP Full → ℕ → Made
-made_of (Ok h) n = Node h n
-made_of (Err e) n = made.Full
-
-abbrev pub seen_made : Made → List ℕ → Outcome Table ℕ
-seen_made (Node h n) t = given (table t n) h.0
-seen_made made.Full t = refused 20

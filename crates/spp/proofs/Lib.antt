@@ -6,4 +6,3 @@ pub mod Calls
 pub mod Quartet
 pub mod Turn
 pub mod Rising
-pub mod Apart

@@ -13,9 +13,6 @@ use Rattle.spp.specs.declared.Full.{Full}
 use Rattle.spp.specs.declared.SPPstore.{SPPstore}
 use Rattle.spp.specs.declared.SPPview.{SPPview}
 use Rattle.spp.specs.declared.Constants.{Constants}
-use Rattle.spp.specs.declared.Made.{Made}
-use Rattle.spp.specs.declared.Made.TheVariants.{Node}
-use Rattle.spp.specs.declared.Made.TheVariants as made
 use Rattle.spp.specs.declared.Quick.{Quick}
 use Rattle.spp.specs.declared.Quick.TheVariants.{Out, On}
 use Rattle.spp.specs.declared.Op.{Op}
@@ -117,13 +114,3 @@ Noted N m (refused number) m' = Unit
 pub record Answer {R A : Type 0} (N : ℕ) (see : R → Table → Outcome Table A) (c : Step Table A) (σ : Table) (m : List ℕ) (r : R) (τ : Table) (m' : List ℕ) : Type 0 where
   pub gives : c σ ≡ see r τ
   pub notes : Noted N m (see r τ) m'
-
--- ---- for the layers that hold a table and its count apart
-
-abbrev pub made_of : Result SPP Full → ℕ → Made
-made_of (Ok h) n = Node h n
-made_of (Err e) n = made.Full
-
-abbrev pub seen_made : Made → List ℕ → Outcome Table ℕ
-seen_made (Node h n) t = given (table t n) h.0
-seen_made made.Full t = refused 21

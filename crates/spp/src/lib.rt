@@ -6,7 +6,7 @@ ghost use Rattle.std.specs.Prelude.{◌≡◌, [], ◌∷◌, ℕ, ◌+◌, ◌*
 ghost use Rattle.common.specs.Runs.{table};
 ghost use Rattle.spp_steps.specs.Model as M;
 ghost use Rattle.spp.specs.Reuse.{code_of};
-ghost use Rattle.spp.specs.Clauses.{store_of, seen, op_of, exit_of, quad_of, entry_of, columns, seen_start, SameStore, Fits, First, ColumnAsked, FieldAsked, Asked, Answer, made_of};
+ghost use Rattle.spp.specs.Clauses.{store_of, seen, op_of, exit_of, quad_of, entry_of, columns, seen_start, SameStore, Fits, First, ColumnAsked, FieldAsked, Asked, Answer};
 
 use refusal::Refusal;
 
@@ -531,22 +531,5 @@ impl SPPstore<'_> {
             ≡ seen result (store_of self.new) }
     {
         self.field(self.fields, var, true, value)
-    }
-}
-
-// ---- for the layers that hold a table and its count apart
-
-#[derive(Clone, Copy)]
-pub enum Made {
-    Node(SPP, usize),
-    Full,
-}
-
-pub fn made_of(answer: Result<SPP, Full>, count: usize) -> Made
-    ensures { result ≡ made_of answer count }
-{
-    match answer {
-        Ok(h) => Made::Node(h, count),
-        Err(Full) => Made::Full,
     }
 }

@@ -1,7 +1,7 @@
 use native.Mathlib.Omega.{arith}
 use Rattle.refusal.proofs.Passed.{passed}
 use Rattle.aut_delta.proofs.Turns as turns
-use Rattle.aut_delta.proofs.Turns.{store_keeps, store_trans}
+use Rattle.aut_delta_stage.proofs.Kept.{store_keeps, store_trans}
 use Rattle.aut_delta.proofs.+delta.Goals as goal
 
 pub loop-aut-init : goal.loop-aut-init

@@ -1,7 +1,7 @@
 use mathlib.Core.Path.{◌∙◌}
 use native.Mathlib.Omega.{arith}
 use Rattle.refusal.proofs.Passed.{passed}
-use Rattle.aut_st_insert.proofs.Kept.{keeps_trans}
+use Rattle.aut_relations.proofs.Kept.{keeps_trans}
 use Rattle.aut_delta.proofs.Ways as ways
 use Rattle.aut_delta.proofs.descend.Goals as goal
 

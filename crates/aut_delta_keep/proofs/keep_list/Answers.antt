@@ -1,5 +1,4 @@
 use native.Mathlib.Omega.{arith}
-use mathlib.Core.Path.{◌∙◌}
 use Rattle.refusal.proofs.Passed.{passed}
 use Rattle.aut_relations.specs.Lent.{nodes_in, members_in, transitions_in}
 use Rattle.aut_st_steps.proofs.Places.{edges_length}

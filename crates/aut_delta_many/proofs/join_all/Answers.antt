@@ -1,4 +1,4 @@
-use Rattle.aut_st_insert.proofs.Kept.{keeps_trans}
+use Rattle.aut_relations.proofs.Kept.{keeps_trans}
 use Rattle.aut_delta_many.proofs.Joins as joins
 use Rattle.aut_delta_many.proofs.join_all.Goals as goal
 

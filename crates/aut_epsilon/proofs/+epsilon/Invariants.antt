@@ -8,7 +8,7 @@ abbrev pub decreases-epsilon : goal.decreases-epsilon
 decreases-epsilon l = nest l.aut.now.states.words.now l.x
 
 abbrev pub invariant-loop-aut : goal.invariant-loop-aut
-invariant-loop-aut l = Turn l.config l.x l.initial.aut l.aut
+invariant-loop-aut l = Turn l.config.fields l.x l.initial.aut l.aut
 
 abbrev pub decreases-loop-aut : goal.decreases-loop-aut
 decreases-loop-aut l = opens (epsilon_of l.aut.states.words.now) l.aut.states.count

@@ -1,7 +1,7 @@
 use Rattle.refusal.proofs.Passed.{passed}
 use Rattle.aut_st_stage.proofs.Turns.{turn_read, turn_edge, turn_stuck, turn_again, turn_end}
-use Rattle.aut_st_each.proofs.Join.{keeps_of}
-use Rattle.aut_st_complement.proofs.Cover.{exprs_refl, exprs_trans, cover_begin, both_labels, united}
+use Rattle.aut_relations.proofs.Kept.{keeps_of, exprs_refl, exprs_trans}
+use Rattle.aut_st_complement.proofs.Cover.{cover_begin, both_labels, united}
 use Rattle.aut_st_complement.proofs.cover_all.Goals as goal
 
 pub loop-i-init : goal.loop-i-init

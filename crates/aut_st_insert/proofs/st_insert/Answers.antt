@@ -1,6 +1,6 @@
 use mathlib.Core.Path.{refl}
 use Rattle.refusal.proofs.Passed.{passed}
-use Rattle.aut_st_insert.proofs.Kept.{same_refl}
+use Rattle.aut_relations.proofs.Kept.{same_refl}
 use Rattle.aut_st_insert.proofs.Walking as walking
 use Rattle.aut_st_insert.proofs.st_insert.Goals as goal
 

@@ -1,2 +1,0 @@
--- st_complement in code.
-pub mod Asked  -- what is asked
