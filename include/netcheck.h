@@ -19,7 +19,7 @@
  *  - each pointer leads to as many elements as its length says, aligned for the element, and stays valid during the call;
  *  - no two of the eight lent slices overlap each other, the book or an image, and an image that is written overlaps nothing else;
  *  - a slice of length 0 may have any pointer, also NULL;
- *  - enough stack: NETCHECK_STACK_BYTES. Measured, not proved: 13,456 bytes on the deepest books (nesting 256, 31 fields;
+ *  - enough stack: NETCHECK_STACK_BYTES. Measured, not proved: 12,432 bytes on the deepest books (nesting 256, 31 fields;
  *    tools/deep), with saving and reading too. It follows the number of fields; it does not grow with the nesting of a rule or the
  *    book's length.
  *
