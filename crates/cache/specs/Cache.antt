@@ -1,6 +1,6 @@
 -- A cache of results: slots of four words, the operation's code, two operands, the result. Code 0 is an empty slot.
 -- What a slot must satisfy is its user's (`Valid`). A cache is sound if each slot does; a step only notes slots that do.
-use Rattle.std.specs.Prelude.{◌≡◌, ◌⊎◌, List, ℕ, Option, Some, None, ◌+◌, ◌*◌, ◌≤◌, ◌<◌, length, get_or}
+use Rattle.std.specs.Prelude.{◌≡◌, ◌⊎◌, List, ℕ, Option, Some, None, ◌+◌, ◌*◌, ◌/◌, ◌%◌, ◌≤◌, ◌<◌, length, get_or}
 
 -- of an operation's code, two operands and a result
 abbrev pub Valid : Type 1
@@ -37,8 +37,9 @@ abbrev pub Found : List ℕ → ℕ → ℕ → ℕ → Option ℕ → Type 0
 Found m op a b (Some r) = Holds m op a b r
 Found m op a b None = Unit
 
-abbrev pub FoundWide : List ℕ → ℕ → ℕ → Option (ℕ × ℕ) → Type 0
-FoundWide m op a (Some (b, r)) = Holds m op a b r
+-- of a result of 64 bits, its high half before its low half
+abbrev pub FoundWide : List ℕ → ℕ → ℕ → Option ℕ → Type 0
+FoundWide m op a (Some r) = Holds m op a (r / 4294967296) (r % 4294967296)
 FoundWide m op a None = Unit
 
 -- ---- the codes of one user: those from lo to hi

@@ -1,9 +1,8 @@
 -- what the proofs of several functions use
+pub mod Bits
 pub mod Frame
 pub mod Refused
 pub mod Scan
-pub mod Node
-pub mod Exits
 pub mod Begin
 pub mod Turn
 pub mod Count

@@ -5,6 +5,7 @@ use mathlib.Core.List.{List, [], ◌∷◌}
 use Prim.Native.Nat.{ℕ, suc, ◌+◌, ◌*◌, ◌≤◌, ◌<◌}
 use native.Mathlib.Omega.{arith}
 use lib.ListN.{length}
+use Rattle.slices.proofs.Same.{slice_trans}
 use Rattle.common.specs.Packets.{bit, Relation}
 use Rattle.common.specs.Outcome.{Outcome, refused, given, Step}
 use Rattle.common.specs.Runs.{Table}
@@ -17,7 +18,7 @@ use Rattle.spp_steps.proofs.Laws.{spp_theory, at_ext, den_mem, false_true}
 use Rattle.spp_steps.proofs.Make.{mk_exact}
 use Rattle.spp_steps.proofs.Apply.{apply_exact}
 use Rattle.spp.proofs.Reuse.{spp_memo}
-use Rattle.spp.specs.Clauses.{seen, SameStore, Asked, Noted, Answer, AllValidAt, Fits}
+use Rattle.spp.specs.Clauses.{store_of, seen, SameStore, Asked, Noted, Answer, AllValidAt, Fits}
 use Rattle.std.specs.Prelude.{Result, Ok, Err, IsErr}
 use Rattle.spp.specs.declared.SPP.{SPP}
 use Rattle.spp.specs.declared.Full.{Full}
@@ -39,7 +40,7 @@ module _ {N : ℕ} {c : Step Table ℕ} {σ τ : Table} {m m' : List ℕ} where
 
 -- one store after two calls
 pub same_trans : {s t u : SPPstore} → SameStore s t → SameStore t u → SameStore s u
-same_trans p q = record { lent = q.lent ∙ p.lent; fields = q.fields ∙ p.fields }
+same_trans p q = record { nodes = slice_trans p.nodes q.nodes; fields = q.fields ∙ p.fields }
 
 -- a refusal is handed on
 pub refused_on : (r : Result SPP Full) (τ : Table) {o : Outcome Table ℕ} → IsErr r → o ≡ refused 21 → o ≡ seen r τ
@@ -57,6 +58,15 @@ asked_for {d} {σ} {m} {hs} e q = subst (λ (N : ℕ). Asked N d σ m hs) (sym e
 pub answer_for : {R A : Type 0} {see : R → Table → Outcome Table A} {N N' : ℕ} {σ τ : Table} {m m' : List ℕ} {r : R} (c : ℕ → Step Table A)
     → N' ≡ N → Answer N' see (c N') σ m r τ m' → Answer N see (c N) σ m r τ m'
 answer_for {see} {σ} {τ} {m} {m'} {r} c e z = subst (λ (N : ℕ). Answer N see (c N) σ m r τ m') e z
+
+-- what a call gave, or not, on a store t for as many fields as s; f is told how many
+module _ {R A : Type 0} {see : R → Table → Outcome Table A} {s t : SPPstore} (f : ℕ → Step Table A) {τ : Table} {m m' : List ℕ} {r : R}
+    (p : SameStore s t) (z : Answer t.fields see (f t.fields) (store_of t) m r τ m') where
+  pub gave_on : {υ : Table} {a : A} → see r τ ≡ given υ a → Gave (spp_memo s.fields) (f s.fields) (store_of t) m υ m' a
+  gave_on e = gave_of (answer_for f p.fields z) e
+
+  pub lost_on : see r τ ≡ refused 21 → f s.fields (store_of t) ≡ refused 21
+  lost_on e = lost_of (answer_for f p.fields z) e
 
 -- a call that has no cache
 pub gave_alone : {N : ℕ} {c : Step Table ℕ} {σ σ1 : Table} {m : List ℕ} {h : ℕ} → c σ ≡ given σ1 h → Gave (spp_memo N) c σ m σ1 m h

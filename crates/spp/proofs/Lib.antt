@@ -1,6 +1,5 @@
 pub mod Reuse
 pub mod Levels
-pub mod Nodes
 pub mod Scan
 pub mod Calls
 pub mod Quartet

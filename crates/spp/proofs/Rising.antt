@@ -120,10 +120,10 @@ tops_is N zero σ = refl
 tops_is N (suc d) σ = ap (λ (o : Outcome Table ℕ). after o (above N false d)) (tops_is N d σ)
 
 -- a column of a store for as many fields
-pub columns_for : {N N' : ℕ} (b : Bool) (x : ℕ) (σ : Table) {o : Outcome Table ℕ} → N' ≡ N → columns N' b x N' σ ≡ o → columns N b x N σ ≡ o
+columns_for : {N N' : ℕ} (b : Bool) (x : ℕ) (σ : Table) {o : Outcome Table ℕ} → N' ≡ N → columns N' b x N' σ ≡ o → columns N b x N σ ≡ o
 columns_for b x σ {o} e q = subst (λ (N : ℕ). columns N b x N σ ≡ o) e q
 
-pub column_asked_for : {N N' : ℕ} {b : Bool} {x : ℕ} {σ : Table} → N' ≡ N → ColumnAsked σ b x N → ColumnAsked σ b x N'
+column_asked_for : {N N' : ℕ} {b : Bool} {x : ℕ} {σ : Table} → N' ≡ N → ColumnAsked σ b x N → ColumnAsked σ b x N'
 column_asked_for {b} {x} {σ} e q = subst (ColumnAsked σ b x) (sym e) q
 
 -- what is asked by the three of a store's start
@@ -136,17 +136,26 @@ module _ (N : ℕ) (t : List ℕ) (few : N ≤ 31) where
     zeros_in = λ e. absurd (false_true e);
   }
 
-  module _ {σ1 : Table} {z : ℕ} (q1 : columns N false 0 N (table t 0) ≡ given σ1 z) where
-    pub asked_2 : ColumnAsked σ1 true 1 N
-    asked_2 = record {
+  -- each on a store for as many fields as the one before
+  module _ {σ1 : Table} {z N1 : ℕ} (q1 : columns N false 0 N (table t 0) ≡ given σ1 z) (e1 : N1 ≡ N) where
+    ones_asked : ColumnAsked σ1 true 1 N
+    ones_asked = record {
       deep = few;
       fits = columns_fits N N asked_1 (omega arith) q1;
       base_in = omega arith;
       zeros_in = λ e. omega (arith, zeros_count N t σ1 z (zeros_is N N (table t 0) ∙ q1));
     }
 
-    pub asked_3 : {σ2 : Table} {o : ℕ} → columns N true 1 N σ1 ≡ given σ2 o → ColumnAsked σ2 false 1 N
-    asked_3 q2 = record { deep = few; fits = columns_fits N N asked_2 (omega arith) q2; base_in = omega arith; zeros_in = λ e. absurd (false_true e) }
+    pub asked_2 : ColumnAsked σ1 true 1 N1
+    asked_2 = column_asked_for e1 ones_asked
+
+    pub asked_3 : {σ2 : Table} {o N2 : ℕ} → columns N1 true 1 N1 σ1 ≡ given σ2 o → N2 ≡ N1 → ColumnAsked σ2 false 1 N2
+    asked_3 q2 e2 = column_asked_for (e2 ∙ e1) (record {
+      deep = few;
+      fits = columns_fits N N ones_asked (omega arith) (columns_for true 1 _ e1 q2);
+      base_in = omega arith;
+      zeros_in = λ e. absurd (false_true e);
+    })
 
 module _ (N : ℕ) (σ : Table) where
   k3 : ℕ → ℕ → ℕ → Step Table Constants
@@ -162,27 +171,33 @@ module _ (N : ℕ) (σ : Table) where
   unfolding constants k1 k2 k3
   start_1 e = halted k1 (zeros_is N N σ ∙ e)
 
-  module _ {σ1 : Table} {z : ℕ} (q1 : columns N false 0 N σ ≡ given σ1 z) where
+  module _ {σ1 : Table} {z N1 : ℕ} (q1 : columns N false 0 N σ ≡ given σ1 z) (e1 : N1 ≡ N) where
     first : constants N σ ≡ k1 z σ1
     unfolding constants k1 k2 k3
     first = past σ1 z k1 (zeros_is N N σ ∙ q1)
 
-    pub start_2 : columns N true 1 N σ1 ≡ refused 21 → constants N σ ≡ refused 21
-    unfolding k1
-    start_2 e = first ∙ halted (k2 z) (ones_is N N σ1 ∙ e)
+    ones_for : {r : Outcome Table ℕ} → columns N1 true 1 N1 σ1 ≡ r → ones N N σ1 ≡ r
+    ones_for q = ones_is N N σ1 ∙ columns_for true 1 σ1 e1 q
 
-    module _ {σ2 : Table} {o : ℕ} (q2 : columns N true 1 N σ1 ≡ given σ2 o) where
+    pub start_2 : columns N1 true 1 N1 σ1 ≡ refused 21 → constants N σ ≡ refused 21
+    unfolding k1
+    start_2 q = first ∙ halted (k2 z) (ones_for q)
+
+    module _ {σ2 : Table} {o N2 : ℕ} (q2 : columns N1 true 1 N1 σ1 ≡ given σ2 o) (e2 : N2 ≡ N1) where
       second : constants N σ ≡ k2 z o σ2
       unfolding k1
-      second = first ∙ past σ2 o (k2 z) (ones_is N N σ1 ∙ q2)
+      second = first ∙ past σ2 o (k2 z) (ones_for q2)
 
-      pub start_3 : columns N false 1 N σ2 ≡ refused 21 → constants N σ ≡ refused 21
+      tops_for : {r : Outcome Table ℕ} → columns N2 false 1 N2 σ2 ≡ r → tops N σ2 ≡ r
+      tops_for q = tops_is N N σ2 ∙ columns_for false 1 σ2 (e2 ∙ e1) q
+
+      pub start_3 : columns N2 false 1 N2 σ2 ≡ refused 21 → constants N σ ≡ refused 21
       unfolding k2
-      start_3 e = second ∙ halted (k3 z o) (tops_is N N σ2 ∙ e)
+      start_3 q = second ∙ halted (k3 z o) (tops_for q)
 
-      pub start_4 : {σ3 : Table} {t : ℕ} → columns N false 1 N σ2 ≡ given σ3 t → constants N σ ≡ given σ3 (record { zero = z; one = o; top = t })
+      pub start_4 : {σ3 : Table} {t : ℕ} → columns N2 false 1 N2 σ2 ≡ given σ3 t → constants N σ ≡ given σ3 (record { zero = z; one = o; top = t })
       unfolding k2 k3
-      start_4 {σ3} {t} e = second ∙ past σ3 t (k3 z o) (tops_is N N σ2 ∙ e)
+      start_4 {σ3} {t} q = second ∙ past σ3 t (k3 z o) (tops_for q)
 
 module _ (N : ℕ) (e : ℕ → ℕ → Quad) (D f : ℕ) (σ : Table) (inside : f < D) where
   from_here : (D f : ℕ) → f < D → f ≡ 0 → field N e D f σ ≡ mk (e (one_at N (D - 1)) (zero_at N (D - 1))) σ

@@ -1,27 +1,25 @@
 -- One turn of `apply`: an exit, a result from the cache, or four calls and a node.
 use mathlib.Core.Path.{◌≡◌, sym, ◌∙◌, ap, ap₂, subst}
-use mathlib.Core.Bool.{Bool, true, false}
+use mathlib.Core.Bool.{true, false}
 use mathlib.Core.List.{List, [], ◌∷◌}
 use Prim.Native.Nat.{ℕ, zero, suc, ◌+◌, ◌*◌, ◌-◌, ◌≤◌, ◌<◌}
 use native.Mathlib.Omega.{arith}
 use lib.ListN.{length}
-use Rattle.common.specs.Outcome.{refused, given, Step, return}
+use Rattle.common.specs.Outcome.{given, Step, return}
 use Rattle.common.proofs.Follow.{given_of}
 use Rattle.common.specs.Runs.{Table, StableResult}
 use Rattle.cache.specs.Cache.{OnlyCodes, WritesValid, Holds, Exactly}
 use Rattle.cache.proofs.Stage as stage
-use Rattle.cache.proofs.Stage.{Stage, Gave}
+use Rattle.cache.proofs.Stage.{Stage}
 use Rattle.spp_steps.specs.Model.{Op, Exit, out, on, Quad, quad, kids, mem, mk, exit, follow, down, each, apply}
 use Rattle.spp_steps.specs.Wf.{ValidAt, Denotes}
 use Rattle.spp_steps.proofs.Laws.{spp_theory, at_ext, den_mem}
 use Rattle.spp_steps.proofs.Apply.{Leads, Going, pointwise, exit_right, exit_low, apply_exact}
 use Rattle.spp.specs.Reuse.{Kept, code_of}
 use Rattle.spp.proofs.Reuse.{spp_memo, run_code, reused, to_note}
-use Rattle.std.specs.Prelude.{Ok, Err}
-use Rattle.spp.specs.declared.SPP.{SPP}
-use Rattle.spp.specs.declared.Full.{Full}
-use Rattle.spp.specs.Clauses.{seen, Asked, Answer}
-use Rattle.spp.proofs.Calls.{gave, lost, answer_for, inside, at_kids, apply_can}
+use Rattle.spp.specs.declared.SPPstore.{SPPstore}
+use Rattle.spp.specs.Clauses.{store_of, Asked}
+use Rattle.spp.proofs.Calls.{inside, at_kids, apply_can}
 use Rattle.spp.proofs.Quartet.{Quartet}
 
 pub apply_out : (N : ℕ) (o : Op) (D a b h : ℕ) (σ : Table) → exit N o D a b ≡ out h → apply N o D a b σ ≡ given σ h
@@ -51,14 +49,20 @@ out≢on : {h : ℕ} {u : Op} {x y : ℕ} → out h ≡ on u x y → ⊥
 out≢on e = let z : ◌≡◌ {A = ℕ} 0 1 = cc in omega arith
 
 -- no exit: it goes down, with u on x and y
-pub record Down (N : ℕ) (o : Op) (D a b : ℕ) (σ : Table) (m : List ℕ) (u : Op) (x y : ℕ) : Type 0 where
-  asked : Asked N D σ m (a ∷ b ∷ [])
-  go_on : exit N o D a b ≡ on u x y
+pub record Down (s : SPPstore) (o : Op) (D a b : ℕ) (m : List ℕ) (u : Op) (x y : ℕ) : Type 0 where
+  asked : Asked s.fields D (store_of s) m (a ∷ b ∷ [])
+  go_on : exit s.fields o D a b ≡ on u x y
 
-pub goes_down : {N : ℕ} (o : Op) {D a b : ℕ} {σ : Table} {m : List ℕ} {u : Op} {x y : ℕ} → Asked N D σ m (a ∷ b ∷ []) → exit N o D a b ≡ on u x y → Down N o D a b σ m u x y
-goes_down o r e = record { asked = r; go_on = e }
+pub goes_down : (s : SPPstore) (o : Op) {D a b : ℕ} {m : List ℕ} {u : Op} {x y : ℕ} → Asked s.fields D (store_of s) m (a ∷ b ∷ []) → exit s.fields o D a b ≡ on u x y → Down s o D a b m u x y
+goes_down s o r e = record { asked = r; go_on = e }
 
-module _ {N : ℕ} {o : Op} {D a b : ℕ} {σ : Table} {m : List ℕ} {u : Op} {x y : ℕ} (G : Down N o D a b σ m u x y) where
+module _ {s : SPPstore} {o : Op} {D a b : ℕ} {m : List ℕ} {u : Op} {x y : ℕ} (G : Down s o D a b m u x y) where
+  abbrev N : ℕ
+  N = s.fields
+
+  abbrev σ : Table
+  σ = store_of s
+
   going : Going σ D (pointwise o (mem σ.words D a) (mem σ.words D b)) u x y
   going = subst (Leads σ D (pointwise o (mem σ.words D a) (mem σ.words D b))) G.go_on (exit_right G.asked.wf G.asked.deep (den_mem G.asked.at.0) (den_mem G.asked.at.1.0) o)
 
@@ -69,6 +73,9 @@ module _ {N : ℕ} {o : Op} {D a b : ℕ} {σ : Table} {m : List ℕ} {u : Op} {
   -- at depth 0 there is an exit
   pub above : D ≡ suc (D - 1)
   above = low D G.asked.at.0 G.asked.at.1.0 G.go_on
+
+  pub falls : {t : ℕ} → D ≡ t → D - 1 < t
+  falls e = omega (arith, above)
 
   pub lower : D - 1 < N
   lower = omega (arith, above, G.asked.deep)
@@ -94,7 +101,7 @@ module _ {N : ℕ} {o : Op} {D a b : ℕ} {σ : Table} {m : List ℕ} {u : Op} {
       ∙ reused (D - 1) G.asked.wf at_x (code_low u) (code_high u) G.asked.sound (subst (λ (k : ℕ). Holds m k x y h) e found)
 
   module _ {A B : Quad} (A-is : A ≡ kids σ.words x) (B-is : B ≡ kids σ.words y) where
-    pub calls : Quartet N (D - 1) (apply N u (D - 1)) (λ h1 h2 h3 h4. mk (quad h1 h2 h3 h4)) (apply N o D a b σ) σ m
+    pub calls : Quartet s (D - 1) (λ N. apply N u (D - 1)) (λ h1 h2 h3 h4. mk (quad h1 h2 h3 h4)) (apply N o D a b σ) m
         (A false false) (B false false) (A false true) (B false true) (A true false) (B true false) (A true true) (B true true)
     unfolding each
     calls =
@@ -111,15 +118,6 @@ module _ {N : ℕ} {o : Op} {D a b : ℕ} {σ : Table} {m : List ℕ} {u : Op} {
           };
           is = is_down σ ∙ ap₂ (λ (A B : Quad). each (apply N u (D - 1)) A B σ) (sym A-is) (sym B-is);
         }
-
-    -- what one of the four has given or not, on a store for as many fields
-    module _ (i j : Bool) {N' : ℕ} {σ' τ' : Table} {m' m'' : List ℕ} (e : N' ≡ N) where
-      pub gave_at : {h : SPP} → Answer N' seen (apply N' u (D - 1) (A i j) (B i j)) σ' m' (Ok h) τ' m''
-          → Gave (spp_memo N) (apply N u (D - 1) (A i j) (B i j)) σ' m' τ' m'' h.0
-      gave_at z = gave (answer_for (λ N. apply N u (D - 1) (A i j) (B i j)) e z)
-
-      pub lost_at : {f : Full} → Answer N' seen (apply N' u (D - 1) (A i j) (B i j)) σ' m' (Err f) τ' m'' → apply N u (D - 1) (A i j) (B i j) σ' ≡ refused 21
-      lost_at z = lost (answer_for (λ N. apply N u (D - 1) (A i j) (B i j)) e z)
 
   -- what was made may be noted
   pub noted : {code h : ℕ} {τ : Table} {m4 m5 : List ℕ} → code ≡ code_of u → Stage (spp_memo N) (apply N o D a b σ) (given τ h) σ τ m m4

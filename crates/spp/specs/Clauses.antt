@@ -1,5 +1,6 @@
 -- What an answer says in the words of the steps, what the operations ask, and what they ensure.
 use Rattle.std.specs.Prelude.{◌≡◌, Bool, true, false, List, [], ◌∷◌, ℕ, zero, suc, ◌+◌, ◌*◌, ◌≤◌, ◌<◌, length, Result, Ok, Err}
+use Rattle.slices.specs.Same.{SameSlice}
 use Rattle.common.specs.Outcome.{Outcome, refused, given, Step, return, ◌>>=◌}
 use Rattle.common.specs.Runs.{Table, table}
 use Rattle.cache.specs.Cache.{OnCodes, OnlyCodes, Sound, WritesValid}
@@ -25,9 +26,9 @@ store_of s = table s.nodes.now s.count
 abbrev pub view_of : SPPview → Table
 view_of s = table s.nodes.now s.count
 
--- t is s after a call: on the same lent words, for as many fields
+-- t is s after a call: on the same words, as many, for as many fields
 pub record SameStore (s t : SPPstore) : Type 0 where
-  pub lent : t.nodes.ghost_name ≡ s.nodes.ghost_name
+  pub nodes : SameSlice s.nodes t.nodes
   pub fields : t.fields ≡ s.fields
 
 -- a handle and the store at exit; or refusal 21

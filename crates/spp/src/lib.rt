@@ -90,8 +90,23 @@ pub enum Quick {
     On(Op, SPP, SPP),
 }
 
+// the most nodes of a table
+const MOST: usize = 16777216;
+
+// codes in the cache
+const UNION: u32 = 3;
+
+const INTERSECT: u32 = 4;
+
+const XOR: u32 = 5;
+
+const DIFFERENCE: u32 = 6;
+
+const NOT: u32 = 7;
+
 // ---- handles
 
+#[tactic(auto, using(crate::proofs::Levels::zero_low, crate::proofs::Levels::zero_up))]
 pub fn zero_at_depth(depth: u32) -> SPP
     requires { depth ≤ 31 }
     ensures { (N : ℕ) → M.zero_at N depth ≡ result.0 }
@@ -102,6 +117,7 @@ pub fn zero_at_depth(depth: u32) -> SPP
     SPP(depth + 1)
 }
 
+#[tactic(auto, using(crate::proofs::Levels::one_low, crate::proofs::Levels::one_up))]
 pub fn one_at_depth(fields: u32, depth: u32) -> SPP
     requires { (fields ≤ 31) × (depth ≤ 31) }
     ensures { M.one_at fields depth ≡ result.0 }
@@ -112,6 +128,7 @@ pub fn one_at_depth(fields: u32, depth: u32) -> SPP
     SPP(fields + depth + 1)
 }
 
+#[tactic(auto, using(crate::proofs::Levels::top_low, crate::proofs::Levels::top_up))]
 pub fn top_at_depth(fields: u32, depth: u32) -> SPP
     requires { (fields ≤ 31) × (depth ≤ 31) }
     ensures { M.top_at fields depth ≡ result.0 }
@@ -131,6 +148,7 @@ pub fn is_zero(depth: u32, spp: SPP) -> bool
 }
 
 // node i
+#[tactic(auto, using(crate::proofs::Scan::kid_is))]
 fn node(nodes: &[u32], i: usize) -> SPPnode
     requires { 4 * i + 3 < length nodes.now }
     ensures { quad_of result ≡ M.kid nodes.now i }
@@ -143,16 +161,8 @@ fn node(nodes: &[u32], i: usize) -> SPPnode
     }
 }
 
-// the children of a handle
-#[tactic(auto, unfolding(spp_steps::specs::Model::kids))]
-pub fn get(nodes: &[u32], spp: SPP) -> SPPnode
-    requires { (2 ≤ spp.0) × (4 * spp.0 ≤ length nodes.now + 4) }
-    ensures { quad_of result ≡ M.kids nodes.now spp.0 }
-{
-    node(nodes, (spp.0 - 2) as usize)
-}
-
 // the first node that can have the children x: it comes after theirs
+#[tactic(auto, using(crate::proofs::Scan::first_is))]
 fn first(x: SPPnode) -> usize
     ensures { First (quad_of x) result }
 {
@@ -180,10 +190,7 @@ fn union_exit(fields: u32, depth: u32, a: SPP, b: SPP) -> Quick
 {
     let zero = zero_at_depth(depth);
     let top = top_at_depth(fields, depth);
-    if a == b {
-        return Quick::Out(a);
-    }
-    if a == zero || b == top {
+    if a == b || a == zero || b == top {
         return Quick::Out(b);
     }
     if b == zero || a == top {
@@ -284,11 +291,11 @@ fn code_of(op: Op) -> u32
     ensures { result ≡ code_of (op_of op) }
 {
     match op {
-        Op::Union => 3,
-        Op::Intersect => 4,
-        Op::Xor => 5,
-        Op::Difference => 6,
-        Op::Not => 7,
+        Op::Union => UNION,
+        Op::Intersect => INTERSECT,
+        Op::Xor => XOR,
+        Op::Difference => DIFFERENCE,
+        Op::Not => NOT,
     }
 }
 
@@ -296,36 +303,13 @@ fn code_of(op: Op) -> u32
 fn entry(assigned: bool, value: bool, one: SPP, zero: SPP) -> SPPnode
     ensures { quad_of result ≡ entry_of assigned value one.0 zero.0 }
 {
-    if assigned {
-        if value {
-            return SPPnode {
-                x00: zero,
-                x01: one,
-                x10: zero,
-                x11: one,
-            };
-        }
-        return SPPnode {
-            x00: one,
-            x01: zero,
-            x10: one,
-            x11: zero,
-        };
-    }
-    if value {
-        return SPPnode {
-            x00: zero,
-            x01: zero,
-            x10: zero,
-            x11: one,
-        };
-    }
-    SPPnode {
-        x00: one,
-        x01: zero,
-        x10: zero,
-        x11: zero,
-    }
+    let (x00, x01, x10, x11) = match (assigned, value) {
+        (true, true) => (zero, one, zero, one),
+        (true, false) => (one, zero, one, zero),
+        (false, true) => (zero, zero, zero, one),
+        (false, false) => (one, zero, zero, zero),
+    };
+    SPPnode { x00, x01, x10, x11 }
 }
 
 // ---- the store
@@ -379,6 +363,7 @@ impl SPPstore<'_> {
     }
 
     // the node with the children x, found or put in
+    #[tactic(auto, unfolding(spp_steps::specs::Model::mk, spp_steps::specs::Model::room, spp_steps::specs::Model::put))]
     pub fn mk(&mut self, x: SPPnode) -> Result<SPP, Full>
         requires { Fits self.old.nodes.now self.old.count }
         ensures same_store { SameStore self.old self.new }
@@ -389,25 +374,36 @@ impl SPPstore<'_> {
         if i < count {
             return Ok(SPP((i + 2) as u32));
         }
-        if count < self.nodes.len() / 4 {
-            if count < 16777216 {
-                self.nodes[4 * count] = x.x00.0;
-                self.nodes[4 * count + 1] = x.x01.0;
-                self.nodes[4 * count + 2] = x.x10.0;
-                self.nodes[4 * count + 3] = x.x11.0;
-                self.count = count + 1;
-                return Ok(SPP((count + 2) as u32));
-            }
+        if count >= self.nodes.len() / 4 || count >= MOST {
+            return Err(Full);
         }
-        Err(Full)
+        self.nodes[4 * count] = x.x00.0;
+        self.nodes[4 * count + 1] = x.x01.0;
+        self.nodes[4 * count + 2] = x.x10.0;
+        self.nodes[4 * count + 3] = x.x11.0;
+        self.count = count + 1;
+        Ok(SPP((count + 2) as u32))
     }
 
-    // lends self, not its field: the store is then known to be as it was
+    // the store, to be read
+    pub fn view(&self) -> SPPview<'_>
+        ensures nodes { result.nodes.now ≡ self.now.nodes.now }
+        ensures count { result.count ≡ self.now.count }
+        ensures fields { result.fields ≡ self.now.fields }
+    {
+        SPPview {
+            nodes: self.nodes,
+            count: self.count,
+            fields: self.fields,
+        }
+    }
+
+    // the children of a handle
     pub fn get(&self, spp: SPP) -> SPPnode
         requires { (2 ≤ spp.0) × (4 * spp.0 ≤ length self.now.nodes.now + 4) }
         ensures { quad_of result ≡ M.kids self.now.nodes.now spp.0 }
     {
-        get(self.nodes, spp)
+        self.view().get(spp)
     }
 
     // the pointwise operations
@@ -432,12 +428,13 @@ impl SPPstore<'_> {
                 if let Some(h) = cache::look(cache, code, x.0, y.0) {
                     return Ok(SPP(h));
                 }
+                let below = depth - 1;
                 let p = self.get(x);
                 let q = self.get(y);
-                let x00 = self.apply(cache, depth - 1, o, p.x00, q.x00)?;
-                let x01 = self.apply(cache, depth - 1, o, p.x01, q.x01)?;
-                let x10 = self.apply(cache, depth - 1, o, p.x10, q.x10)?;
-                let x11 = self.apply(cache, depth - 1, o, p.x11, q.x11)?;
+                let x00 = self.apply(cache, below, o, p.x00, q.x00)?;
+                let x01 = self.apply(cache, below, o, p.x01, q.x01)?;
+                let x10 = self.apply(cache, below, o, p.x10, q.x10)?;
+                let x11 = self.apply(cache, below, o, p.x11, q.x11)?;
                 let h = self.mk(SPPnode { x00, x01, x10, x11 })?;
                 cache::note(cache, code, x.0, y.0, h.0);
                 Ok(h)
@@ -531,5 +528,16 @@ impl SPPstore<'_> {
             ≡ seen result (store_of self.new) }
     {
         self.field(self.fields, var, true, value)
+    }
+}
+
+impl SPPview<'_> {
+    // the children of a handle
+    #[tactic(auto, unfolding(spp_steps::specs::Model::kids))]
+    pub fn get(self, spp: SPP) -> SPPnode
+        requires { (2 ≤ spp.0) × (4 * spp.0 ≤ length self.nodes.now + 4) }
+        ensures { quad_of result ≡ M.kids self.entry.nodes.now spp.0 }
+    {
+        node(self.nodes, (spp.0 - 2) as usize)
     }
 }

@@ -2,6 +2,7 @@
 #![tactic(auto)]
 
 ghost use Rattle.std.specs.Prelude.{◌≡◌, Bool, ◌≤◌};
+ghost use Rattle.slices.specs.Same.{SameSlice};
 ghost use Rattle.sp.specs.Clauses as sp_seen;
 ghost use Rattle.sp.specs.Clauses.{store_of};
 ghost use Rattle.spp.specs.Clauses.{quad_of, view_of};
@@ -28,6 +29,15 @@ pub enum Led {
     More,
 }
 
+// codes in the cache
+const FWD: u32 = 10;
+
+const BWD: u32 = 11;
+
+const PUSH: u32 = 13;
+
+const PULL: u32 = 14;
+
 // the set whose first half is the union of w and x, and whose second half is that of y and z
 fn join(
     sets: &mut SPstore,
@@ -39,7 +49,7 @@ fn join(
     z: SP,
 ) -> Result<SP, Full>
     requires { JoinAsked (store_of sets.old) cache.old depth w.0 x.0 y.0 z.0 }
-    ensures same_table { sets.new.nodes.ghost_name ≡ sets.old.nodes.ghost_name }
+    ensures same_table { SameSlice sets.old.nodes sets.new.nodes }
     ensures answer { sp_seen.Answer (join depth w.0 x.0 y.0 z.0) (store_of sets.old) cache.old
         result (store_of sets.new) cache.new }
 {
@@ -67,8 +77,8 @@ fn project_code(way: Way) -> u32
     ensures { result ≡ project_code way }
 {
     match way {
-        Way::Forward => 10,
-        Way::Backward => 11,
+        Way::Forward => FWD,
+        Way::Backward => BWD,
     }
 }
 
@@ -82,7 +92,7 @@ fn project(
     r: SPP,
 ) -> Result<SP, Full>
     requires { Asked spp.fields depth (stores (store_of sets.old) (view_of spp)) cache.old r.0 }
-    ensures same_table { sets.new.nodes.ghost_name ≡ sets.old.nodes.ghost_name }
+    ensures same_table { SameSlice sets.old.nodes sets.new.nodes }
     ensures answer { Answer spp.entry.fields (project way depth r.0)
         (stores (store_of sets.old) (view_of spp.entry)) cache.old result (store_of sets.new) cache.new }
 {
@@ -93,7 +103,7 @@ fn project(
     if let Some(h) = cache::look(cache, code, r.0, r.0) {
         return Ok(SP(h));
     }
-    let node = spp::get(spp.nodes, r);
+    let node = spp.get(r);
     let q = turned(way, node);
     let below = depth - 1;
     let w = project(sets, spp, cache, below, way, q.x00)?;
@@ -114,7 +124,7 @@ pub fn fwd(
     r: SPP,
 ) -> Result<SP, Full>
     requires { Asked spp.fields depth (stores (store_of sets.old) (view_of spp)) cache.old r.0 }
-    ensures same_table { sets.new.nodes.ghost_name ≡ sets.old.nodes.ghost_name }
+    ensures same_table { SameSlice sets.old.nodes sets.new.nodes }
     ensures answer { Answer spp.entry.fields (fwd depth r.0)
         (stores (store_of sets.old) (view_of spp.entry)) cache.old result (store_of sets.new) cache.new }
 {
@@ -130,7 +140,7 @@ pub fn bwd(
     r: SPP,
 ) -> Result<SP, Full>
     requires { Asked spp.fields depth (stores (store_of sets.old) (view_of spp)) cache.old r.0 }
-    ensures same_table { sets.new.nodes.ghost_name ≡ sets.old.nodes.ghost_name }
+    ensures same_table { SameSlice sets.old.nodes sets.new.nodes }
     ensures answer { Answer spp.entry.fields (bwd depth r.0)
         (stores (store_of sets.old) (view_of spp.entry)) cache.old result (store_of sets.new) cache.new }
 {
@@ -143,19 +153,16 @@ fn led_exit(fields: u32, depth: u32, s: SP, r: SPP) -> Led
     requires { (fields ≤ 31) × (depth ≤ 31) }
     ensures { led_exit fields depth s.0 r.0 ≡ led_of result }
 {
-    if sp::is_zero(depth, s) {
-        return Led::Done(s);
-    }
-    let one = spp::one_at_depth(fields, depth);
-    if r.0 == one.0 {
-        return Led::Done(s);
-    }
     let zero = spp::zero_at_depth(depth);
-    if r.0 == zero.0 {
+    let one = spp::one_at_depth(fields, depth);
+    let top = spp::top_at_depth(fields, depth);
+    if sp::is_zero(depth, s) || r == one {
+        return Led::Done(s);
+    }
+    if r == zero {
         return Led::Done(sp::zero_at_depth(depth));
     }
-    let top = spp::top_at_depth(fields, depth);
-    if r.0 == top.0 {
+    if r == top {
         return Led::Done(sp::one_at_depth(depth));
     }
     if sp::is_universal(depth, s) {
@@ -179,8 +186,8 @@ fn lead_code(way: Way) -> u32
     ensures { result ≡ lead_code way }
 {
     match way {
-        Way::Forward => 13,
-        Way::Backward => 14,
+        Way::Forward => PUSH,
+        Way::Backward => PULL,
     }
 }
 
@@ -195,7 +202,7 @@ fn lead(
     r: SPP,
 ) -> Result<SP, Full>
     requires { LeadAsked spp.fields depth (stores (store_of sets.old) (view_of spp)) cache.old s.0 r.0 }
-    ensures same_table { sets.new.nodes.ghost_name ≡ sets.old.nodes.ghost_name }
+    ensures same_table { SameSlice sets.old.nodes sets.new.nodes }
     ensures answer { Answer spp.entry.fields (lead way spp.entry.fields depth s.0 r.0)
         (stores (store_of sets.old) (view_of spp.entry)) cache.old result (store_of sets.new) cache.new }
 {
@@ -208,7 +215,7 @@ fn lead(
                 return Ok(SP(h));
             }
             let p = sets.get(s);
-            let q = spp::get(spp.nodes, r);
+            let q = spp.get(r);
             let mid = paired(way, p.x1, p.x0);
             let below = depth - 1;
             let a = lead(sets, spp, cache, below, way, p.x0, q.x00)?;
@@ -233,7 +240,7 @@ pub fn push(
     r: SPP,
 ) -> Result<SP, Full>
     requires { LeadAsked spp.fields depth (stores (store_of sets.old) (view_of spp)) cache.old s.0 r.0 }
-    ensures same_table { sets.new.nodes.ghost_name ≡ sets.old.nodes.ghost_name }
+    ensures same_table { SameSlice sets.old.nodes sets.new.nodes }
     ensures answer { Answer spp.entry.fields (push spp.entry.fields depth s.0 r.0)
         (stores (store_of sets.old) (view_of spp.entry)) cache.old result (store_of sets.new) cache.new }
 {
@@ -250,7 +257,7 @@ pub fn pull(
     s: SP,
 ) -> Result<SP, Full>
     requires { LeadAsked spp.fields depth (stores (store_of sets.old) (view_of spp)) cache.old s.0 r.0 }
-    ensures same_table { sets.new.nodes.ghost_name ≡ sets.old.nodes.ghost_name }
+    ensures same_table { SameSlice sets.old.nodes sets.new.nodes }
     ensures answer { Answer spp.entry.fields (pull spp.entry.fields depth r.0 s.0)
         (stores (store_of sets.old) (view_of spp.entry)) cache.old result (store_of sets.new) cache.new }
 {

@@ -57,7 +57,7 @@ pub fn least(sets: SPview, depth: u32, s: SP) -> Option<u32>
     if depth == 0 {
         return Some(0);
     }
-    let p = sp::get(sets.nodes, s);
+    let p = sets.get(s);
     let low = least(sets, depth - 1, p.x0);
     if low.is_some() {
         return low;
@@ -73,12 +73,12 @@ struct Led {
     rest: u32,
 }
 
-fn row(spp: &[u32], depth: u32, packet: u32, r: SPP) -> Led
-    requires { (1 ≤ depth) × (depth ≤ 31) × (packet < 2 ^ depth) × (2 ≤ r.0) × (4 * r.0 ≤ length spp.now + 4) }
-    ensures { RowOf spp.now depth packet r.0 result.x0.0 result.x1.0 result.rest }
+fn row(spp: SPPview, depth: u32, packet: u32, r: SPP) -> Led
+    requires { (1 ≤ depth) × (depth ≤ 31) × (packet < 2 ^ depth) × (2 ≤ r.0) × (4 * r.0 ≤ length spp.nodes.now + 4) }
+    ensures { RowOf spp.entry.nodes.now depth packet r.0 result.x0.0 result.x1.0 result.rest }
 {
     let k = half(depth);
-    let q = spp::get(spp, r);
+    let q = spp.get(r);
     if packet < k {
         return Led {
             x0: q.x00,
@@ -116,8 +116,8 @@ pub fn least_led(
     if let Some(word) = cache::look(cache, LEAST + packet, s.0, r.0) {
         return from_word(word);
     }
-    let p = sp::get(sets.nodes, s);
-    let q = row(spp.nodes, depth, packet, r);
+    let p = sets.get(s);
+    let q = row(spp, depth, packet, r);
     let mut led = least_led(sets, spp, cache, depth - 1, q.rest, p.x0, q.x0);
     if led.is_none() {
         let high = least_led(sets, spp, cache, depth - 1, q.rest, p.x1, q.x1);

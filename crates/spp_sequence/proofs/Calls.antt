@@ -1,5 +1,5 @@
 -- Each part can be called in every store where its operands are handles; and what it gives are handles.
-use mathlib.Core.Path.{◌≡◌, refl, sym, ◌∙◌, ap, subst}
+use mathlib.Core.Path.{◌≡◌, sym, ◌∙◌, ap, subst}
 use mathlib.Core.Bool.{Bool, true, false}
 use mathlib.Core.List.{List}
 use Prim.Native.Nat.{ℕ, zero, suc, ◌-◌, ◌≤◌, ◌<◌}
@@ -8,7 +8,7 @@ use Rattle.std.specs.Prelude.{Result, Ok, Err, IsErr}
 use Rattle.common.specs.Outcome.{refused, given, Step, return}
 use Rattle.common.specs.Runs.{Table}
 use Rattle.common.proofs.Runs.{StableSpec, runs_map, runs_bind, runs_return}
-use Rattle.cache.proofs.Stage.{Can, Gave}
+use Rattle.cache.proofs.Stage.{Can}
 use Rattle.spp_steps.specs.Model.{union, Early, done, more, Quad, quad, apply, seq_exit, finish, down, under, product, sequence, star_exit, blocks, star}
 use Rattle.spp_steps.specs.Wf.{Wf, Ext, ValidAt}
 use Rattle.spp_steps.proofs.Laws.{spp_theory, ext_refl, ext_trans, at_ext, den_mem, false_true}
@@ -18,8 +18,8 @@ use Rattle.spp.proofs.Reuse.{spp_memo}
 use Rattle.spp.specs.declared.SPP.{SPP}
 use Rattle.spp.specs.declared.SPPnode.{SPPnode}
 use Rattle.spp.specs.declared.Full.{Full}
-use Rattle.spp.specs.Clauses.{seen, quad_of, Answer}
-use Rattle.spp.proofs.Calls.{gave, lost, gave_of, lost_of, answer_for, apply_can, mk_can, quad_at}
+use Rattle.spp.specs.Clauses.{Answer}
+use Rattle.spp.proofs.Calls.{apply_can, mk_can, quad_at}
 use Rattle.spp_sequence.specs.Parts.{row, sums, Pair, through, around}
 use Rattle.spp_sequence.specs.Clauses.{seen_row, seen_two, NodeAsked}
 
@@ -112,56 +112,6 @@ module _ (N d : ℕ) (deep : d ≤ N) where
       runs_bind (spp_theory N) (apply_can N d deep union v xq (at_ext f4 d v Av) A4 τ4 (ext_refl τ4) w4) (λ τ5 x11 e5 w5 A5.
       mk_can d (quad x x01 x10 x11) l w5
       (quad_at τ5 d x x01 x10 x11 (at_ext (ext_trans f4 e5) d x Ax) (at_ext (ext_trans e2 (ext_trans e3 (ext_trans e4 e5))) d x01 A1) (at_ext (ext_trans e4 e5) d x10 A3) A5))))))
-
--- ---- what a call gave or not, on a store for as many fields
-
-module _ {N N' : ℕ} (d : ℕ) {σ τ : Table} {m m' : List ℕ} (e : N' ≡ N) where
-  pub sequence_gave : (a b : ℕ) {h : SPP} → Answer N' seen (sequence N' d a b) σ m (Ok h) τ m' → Gave (spp_memo N) (sequence N d a b) σ m τ m' h.0
-  sequence_gave a b z = gave (answer_for (λ N. sequence N d a b) e z)
-
-  pub sequence_lost : (a b : ℕ) {f : Full} → Answer N' seen (sequence N' d a b) σ m (Err f) τ m' → sequence N d a b σ ≡ refused 21
-  sequence_lost a b z = lost (answer_for (λ N. sequence N d a b) e z)
-
-  pub union_gave : (a b : ℕ) {h : SPP} → Answer N' seen (apply N' union d a b) σ m (Ok h) τ m' → Gave (spp_memo N) (apply N union d a b) σ m τ m' h.0
-  union_gave a b z = gave (answer_for (λ N. apply N union d a b) e z)
-
-  pub union_lost : (a b : ℕ) {f : Full} → Answer N' seen (apply N' union d a b) σ m (Err f) τ m' → apply N union d a b σ ≡ refused 21
-  union_lost a b z = lost (answer_for (λ N. apply N union d a b) e z)
-
-  pub star_gave : (a : ℕ) {h : SPP} → Answer N' seen (star N' d a) σ m (Ok h) τ m' → Gave (spp_memo N) (star N d a) σ m τ m' h.0
-  star_gave a z = gave (answer_for (λ N. star N d a) e z)
-
-  pub star_lost : (a : ℕ) {f : Full} → Answer N' seen (star N' d a) σ m (Err f) τ m' → star N d a σ ≡ refused 21
-  star_lost a z = lost (answer_for (λ N. star N d a) e z)
-
-  pub row_gave : (p0 p1 : ℕ) (B : Quad) {x : SPPnode} → Answer N' seen_row (row (sequence N' d) p0 p1 B) σ m (Ok x) τ m'
-      → Gave (spp_memo N) (row (sequence N d) p0 p1 B) σ m τ m' (quad_of x)
-  row_gave p0 p1 B z = gave_of (answer_for (λ N. row (sequence N d) p0 p1 B) e z) refl
-
-  pub row_lost : (p0 p1 : ℕ) (B : Quad) {f : Full} → Answer N' seen_row (row (sequence N' d) p0 p1 B) σ m (Err f) τ m' → row (sequence N d) p0 p1 B σ ≡ refused 21
-  row_lost p0 p1 B z = lost_of (answer_for (λ N. row (sequence N d) p0 p1 B) e z) refl
-
-  pub sums_gave : (R S : Quad) {h : SPP} → Answer N' seen (sums (apply N' union d) R S) σ m (Ok h) τ m' → Gave (spp_memo N) (sums (apply N union d) R S) σ m τ m' h.0
-  sums_gave R S z = gave (answer_for (λ N. sums (apply N union d) R S) e z)
-
-  pub sums_lost : (R S : Quad) {f : Full} → Answer N' seen (sums (apply N' union d) R S) σ m (Err f) τ m' → sums (apply N union d) R S σ ≡ refused 21
-  sums_lost R S z = lost (answer_for (λ N. sums (apply N union d) R S) e z)
-
-  pub through_gave : (X : Quad) (v : ℕ) {x y : SPP} → Answer N' seen_two (through (sequence N' d) (apply N' union d) X v) σ m (Ok (x, y)) τ m'
-      → Gave (spp_memo N) (through (sequence N d) (apply N union d) X v) σ m τ m' (record { first = x.0; second = y.0 })
-  through_gave X v z = gave_of (answer_for (λ N. through (sequence N d) (apply N union d) X v) e z) refl
-
-  pub through_lost : (X : Quad) (v : ℕ) {f : Full} → Answer N' seen_two (through (sequence N' d) (apply N' union d) X v) σ m (Err f) τ m'
-      → through (sequence N d) (apply N union d) X v σ ≡ refused 21
-  through_lost X v z = lost_of (answer_for (λ N. through (sequence N d) (apply N union d) X v) e z) refl
-
-  pub around_gave : (c v q x : ℕ) {h : SPP} → Answer N' seen (around (sequence N' d) (apply N' union d) c v q x) σ m (Ok h) τ m'
-      → Gave (spp_memo N) (around (sequence N d) (apply N union d) c v q x) σ m τ m' h.0
-  around_gave c v q x z = gave (answer_for (λ N. around (sequence N d) (apply N union d) c v q x) e z)
-
-  pub around_lost : (c v q x : ℕ) {f : Full} → Answer N' seen (around (sequence N' d) (apply N' union d) c v q x) σ m (Err f) τ m'
-      → around (sequence N d) (apply N union d) c v q x σ ≡ refused 21
-  around_lost c v q x z = lost (answer_for (λ N. around (sequence N d) (apply N union d) c v q x) e z)
 
 pub node_asked_for : {N N' d : ℕ} {σ : Table} {m hs : List ℕ} → N' ≡ N → NodeAsked N d σ m hs → NodeAsked N' d σ m hs
 node_asked_for {d} {σ} {m} {hs} e q = subst (λ (N : ℕ). NodeAsked N d σ m hs) (sym e) q

@@ -9,6 +9,11 @@ ghost use Rattle.spp_sequence.specs.Clauses.{early_of, seen_row, seen_two, NodeA
 
 use spp::{Full, SPP, SPPnode, SPPstore};
 
+// codes in the cache
+const SEQUENCE: u32 = 8;
+
+const STAR: u32 = 9;
+
 // what is found with no look at the nodes
 #[tactic(auto, unfolding(spp_steps::specs::Model::seq_exit))]
 fn seq_exit(fields: u32, depth: u32, a: SPP, b: SPP) -> Option<SPP>
@@ -17,16 +22,10 @@ fn seq_exit(fields: u32, depth: u32, a: SPP, b: SPP) -> Option<SPP>
 {
     let zero = spp::zero_at_depth(depth);
     let one = spp::one_at_depth(fields, depth);
-    if a.0 == zero.0 {
+    if a == zero || b == one {
         return Some(a);
     }
-    if b.0 == one.0 {
-        return Some(a);
-    }
-    if b.0 == zero.0 {
-        return Some(b);
-    }
-    if a.0 == one.0 {
+    if b == zero || a == one {
         return Some(b);
     }
     None
@@ -93,7 +92,7 @@ pub fn sequence(
     if let Some(h) = seq_exit(store.fields, depth, a, b) {
         return Ok(h);
     }
-    if let Some(h) = cache::look(cache, 8, a.0, b.0) {
+    if let Some(h) = cache::look(cache, SEQUENCE, a.0, b.0) {
         return Ok(SPP(h));
     }
     let below = depth - 1;
@@ -102,7 +101,7 @@ pub fn sequence(
     let r = row(store, cache, below, p.x00, p.x01, q)?;
     let s = row(store, cache, below, p.x10, p.x11, q)?;
     let h = sums(store, cache, below, r, s)?;
-    cache::note(cache, 8, a.0, b.0, h.0);
+    cache::note(cache, SEQUENCE, a.0, b.0, h.0);
     Ok(h)
 }
 
@@ -114,13 +113,10 @@ fn star_exit(fields: u32, depth: u32, x: SPP) -> Option<SPP>
     let zero = spp::zero_at_depth(depth);
     let one = spp::one_at_depth(fields, depth);
     let top = spp::top_at_depth(fields, depth);
-    if x.0 == zero.0 {
+    if x == zero {
         return Some(one);
     }
-    if x.0 == one.0 {
-        return Some(x);
-    }
-    if x.0 == top.0 {
+    if x == one || x == top {
         return Some(x);
     }
     None
@@ -180,7 +176,7 @@ pub fn star(store: &mut SPPstore, cache: &mut [u32], depth: u32, x: SPP) -> Resu
     if let Some(h) = star_exit(store.fields, depth, x) {
         return Ok(h);
     }
-    if let Some(h) = cache::look(cache, 9, x.0, x.0) {
+    if let Some(h) = cache::look(cache, STAR, x.0, x.0) {
         return Ok(SPP(h));
     }
     let below = depth - 1;
@@ -189,6 +185,6 @@ pub fn star(store: &mut SPPstore, cache: &mut [u32], depth: u32, x: SPP) -> Resu
     let (be, sum) = through(store, cache, below, p, e)?;
     let x00 = star(store, cache, below, sum)?;
     let h = around(store, cache, below, p.x10, e, be, x00)?;
-    cache::note(cache, 9, x.0, x.0, h.0);
+    cache::note(cache, STAR, x.0, x.0, h.0);
     Ok(h)
 }

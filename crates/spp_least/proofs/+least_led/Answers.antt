@@ -1,6 +1,11 @@
 use mathlib.Core.Path.{◌∙◌}
+use Prim.Native.Nat.{ℕ}
+use Rattle.sp.specs.Clauses as Sets
+use Rattle.spp.specs.Clauses.{view_of}
+use Rattle.spp_steps.specs.ImageModel.{stores}
+use Rattle.spp_least.specs.Clauses.{LedAnswer}
 use Rattle.spp_least.proofs.LedTurn as led
-use Rattle.spp_least.proofs.+least_led.Goals.{then-is_zero-via-then-is_zero, then-is_zero-via-else-is_zero+then-is_zero-2, then-is_none, else-is_none}
+use Rattle.spp_least.proofs.+least_led.Goals.{Joined-is_none, then-is_zero-via-then-is_zero, then-is_zero-via-else-is_zero+then-is_zero-2, then-is_none, else-is_none}
 use Rattle.spp_least.proofs.+least_led.Goals as goal
 
 pub returns-then-is_zero : goal.returns-then-is_zero
@@ -30,14 +35,15 @@ least_led-high-requires t c = led.asked_1 c.requires c.if-depth-eq0.false c.get-
 pub raise-led-requires : goal.raise-led-requires
 raise-led-requires t c = led.small c.requires c.if-depth-eq0.false c.get-p.ensures c.row-q.ensures c.least_led-led.ensures c.least_led-high.ensures
 
-pub to_word-requires : goal.to_word-requires
-to_word-requires t c = led.short c.requires (elim c.if-is_none.branch [
+-- what one call or two come to
+came : {t : ℕ} (c : Joined-is_none t) → LedAnswer c.args.depth (stores (Sets.view_of c.args.sets) (view_of c.args.spp)) c.args.cache.now c.args.packet c.args.s.0 c.args.r.0 c.if-is_none.led c.if-is_none.cache
+came c = elim c.if-is_none.branch [
   | then-is_none w ↦ led.next c.requires c.if-depth-eq0.false c.get-p.ensures c.row-q.ensures c.least_led-led.ensures w.least_led-high.ensures w.if-is_none.ensures (w.led-is ∙ w.raise-led.ensures) w.cache-is
   | else-is_none w ↦ led.found c.requires c.if-depth-eq0.false c.get-p.ensures c.row-q.ensures c.least_led-led.ensures w.if-is_none.ensures w.led-is w.cache-is
-])
+]
+
+pub to_word-requires : goal.to_word-requires
+to_word-requires t c = led.short c.requires (came (goal.at.to_word-requires t c).Joined-is_none)
 
 pub returns : goal.returns
-returns t c = led.noted c.requires (elim c.if-is_none.branch [
-  | then-is_none w ↦ led.next c.requires c.if-depth-eq0.false c.get-p.ensures c.row-q.ensures c.least_led-led.ensures w.least_led-high.ensures w.if-is_none.ensures (w.led-is ∙ w.raise-led.ensures) w.cache-is
-  | else-is_none w ↦ led.found c.requires c.if-depth-eq0.false c.get-p.ensures c.row-q.ensures c.least_led-led.ensures w.if-is_none.ensures w.led-is w.cache-is
-]) c.to_word.ensures c.note.ensures
+returns t c = led.noted c.requires (came (goal.at.returns t c).Joined-is_none) c.to_word.ensures c.note.ensures

@@ -1,72 +1,51 @@
-use mathlib.Core.Path.{◌≡◌, refl, ◌∙◌}
 use native.Mathlib.Omega.{arith}
-use Prim.Native.Nat.{ℕ, suc, ◌+◌, ◌*◌, ◌-◌, ◌<◌}
 use Rattle.cache.proofs.Cache.{notes_refl}
 use Rattle.spp.specs.Clauses.{quad_of}
-use Rattle.spp.proofs.Calls.{stopped, asked_for}
+use Rattle.spp.proofs.Calls.{stopped}
 use Rattle.spp.proofs.Quartet as quartet
-use Rattle.spp_sequence.proofs.Calls.{sequence_done, sequence_gave, sequence_lost, row_gave, row_lost, sums_gave, sums_lost, node_asked_for, row_stopped}
+use Rattle.spp_sequence.proofs.Calls.{sequence_done, row_stopped}
 use Rattle.spp_sequence.proofs.Product as product
 use Rattle.spp_sequence.proofs.+row_sequence.Goals as goal
 
-less : (d t : ℕ) → d ≡ suc (d - 1) → 2 * d ≡ t → 2 * (d - 1) + 1 < t
-less d t h e = omega arith
-
 pub row-returns-in_err-x00-clause-answer : goal.row-returns-in_err-x00-clause-answer
 row-returns-in_err-x00-clause-answer t c =
-    let q = product.row_calls (quad_of c.args.q) c.requires in
-    row_stopped c.from_residual.ensures.0 (quartet.lost_1 q (sequence_lost _ refl _ _ c.in_err-x00.ensures.answer))
+    let q = product.row_calls c.args.store.now (quad_of c.args.q) c.requires in
+    row_stopped c.from_residual.ensures.0 (quartet.lost_1 q c.in_err-x00.ensures.answer)
 
 pub row-sequence-requires-2 : goal.row-sequence-requires-2
 row-sequence-requires-2 t c =
-    let q = product.row_calls (quad_of c.args.q) c.requires in
-    let g1 = sequence_gave _ refl _ _ c.in_ok-x00.ensures.answer in
-    (omega (arith, c.decreases), asked_for c.sequence.ensures.same_store.fields (quartet.ready_2 q g1))
+    let q = product.row_calls c.args.store.now (quad_of c.args.q) c.requires in
+    (omega (arith, c.decreases), quartet.ready_2 q c.sequence.ensures.same_store c.in_ok-x00.ensures.answer)
 
 pub row-returns-in_err-x01-clause-answer : goal.row-returns-in_err-x01-clause-answer
 row-returns-in_err-x01-clause-answer t c =
-    let q = product.row_calls (quad_of c.args.q) c.requires in
-    let g1 = sequence_gave _ refl _ _ c.in_ok-x00.ensures.answer in
-    row_stopped c.from_residual-in_err-x01.ensures.0 (quartet.lost_2 q g1 (sequence_lost _ c.sequence.ensures.same_store.fields _ _ c.in_err-x01.ensures.answer))
+    let q = product.row_calls c.args.store.now (quad_of c.args.q) c.requires in
+    row_stopped c.from_residual-in_err-x01.ensures.0 (quartet.lost_2 q c.sequence.ensures.same_store c.in_ok-x00.ensures.answer c.in_err-x01.ensures.answer)
 
 pub row-sequence-requires-3 : goal.row-sequence-requires-3
 row-sequence-requires-3 t c =
-    let q = product.row_calls (quad_of c.args.q) c.requires in
-    let g1 = sequence_gave _ refl _ _ c.in_ok-x00.ensures.answer in
-    let g2 = sequence_gave _ c.sequence.ensures.same_store.fields _ _ c.in_ok-x01.ensures.answer in
-    (omega (arith, c.decreases), asked_for (c.sequence-2.ensures.same_store.fields ∙ c.sequence.ensures.same_store.fields) (quartet.ready_3 q g1 g2))
+    let q = product.row_calls c.args.store.now (quad_of c.args.q) c.requires in
+    (omega (arith, c.decreases), quartet.ready_3 q c.sequence.ensures.same_store c.in_ok-x00.ensures.answer c.sequence-2.ensures.same_store c.in_ok-x01.ensures.answer)
 
 pub row-returns-in_err-x10-clause-answer : goal.row-returns-in_err-x10-clause-answer
 row-returns-in_err-x10-clause-answer t c =
-    let q = product.row_calls (quad_of c.args.q) c.requires in
-    let g1 = sequence_gave _ refl _ _ c.in_ok-x00.ensures.answer in
-    let g2 = sequence_gave _ c.sequence.ensures.same_store.fields _ _ c.in_ok-x01.ensures.answer in
-    row_stopped c.from_residual-in_err-x10.ensures.0 (quartet.lost_3 q g1 g2 (sequence_lost _ (c.sequence-2.ensures.same_store.fields ∙ c.sequence.ensures.same_store.fields) _ _ c.in_err-x10.ensures.answer))
+    let q = product.row_calls c.args.store.now (quad_of c.args.q) c.requires in
+    row_stopped c.from_residual-in_err-x10.ensures.0 (quartet.lost_3 q c.sequence.ensures.same_store c.in_ok-x00.ensures.answer c.sequence-2.ensures.same_store c.in_ok-x01.ensures.answer c.in_err-x10.ensures.answer)
 
 pub row-sequence-requires-4 : goal.row-sequence-requires-4
 row-sequence-requires-4 t c =
-    let q = product.row_calls (quad_of c.args.q) c.requires in
-    let g1 = sequence_gave _ refl _ _ c.in_ok-x00.ensures.answer in
-    let g2 = sequence_gave _ c.sequence.ensures.same_store.fields _ _ c.in_ok-x01.ensures.answer in
-    let g3 = sequence_gave _ (c.sequence-2.ensures.same_store.fields ∙ c.sequence.ensures.same_store.fields) _ _ c.in_ok-x10.ensures.answer in
-    (omega (arith, c.decreases), asked_for (c.sequence-3.ensures.same_store.fields ∙ c.sequence-2.ensures.same_store.fields ∙ c.sequence.ensures.same_store.fields) (quartet.ready_4 q g1 g2 g3))
+    let q = product.row_calls c.args.store.now (quad_of c.args.q) c.requires in
+    (omega (arith, c.decreases), quartet.ready_4 q c.sequence.ensures.same_store c.in_ok-x00.ensures.answer c.sequence-2.ensures.same_store c.in_ok-x01.ensures.answer c.sequence-3.ensures.same_store c.in_ok-x10.ensures.answer)
 
 pub row-returns-in_err-x11-clause-answer : goal.row-returns-in_err-x11-clause-answer
 row-returns-in_err-x11-clause-answer t c =
-    let q = product.row_calls (quad_of c.args.q) c.requires in
-    let g1 = sequence_gave _ refl _ _ c.in_ok-x00.ensures.answer in
-    let g2 = sequence_gave _ c.sequence.ensures.same_store.fields _ _ c.in_ok-x01.ensures.answer in
-    let g3 = sequence_gave _ (c.sequence-2.ensures.same_store.fields ∙ c.sequence.ensures.same_store.fields) _ _ c.in_ok-x10.ensures.answer in
-    row_stopped c.from_residual-in_err-x11.ensures.0 (quartet.lost_4 q g1 g2 g3 (sequence_lost _ (c.sequence-3.ensures.same_store.fields ∙ c.sequence-2.ensures.same_store.fields ∙ c.sequence.ensures.same_store.fields) _ _ c.in_err-x11.ensures.answer))
+    let q = product.row_calls c.args.store.now (quad_of c.args.q) c.requires in
+    row_stopped c.from_residual-in_err-x11.ensures.0 (quartet.lost_4 q c.sequence.ensures.same_store c.in_ok-x00.ensures.answer c.sequence-2.ensures.same_store c.in_ok-x01.ensures.answer c.sequence-3.ensures.same_store c.in_ok-x10.ensures.answer c.in_err-x11.ensures.answer)
 
 pub row-returns-clause-answer : goal.row-returns-clause-answer
 row-returns-clause-answer t c =
-    let q = product.row_calls (quad_of c.args.q) c.requires in
-    let g1 = sequence_gave _ refl _ _ c.in_ok-x00.ensures.answer in
-    let g2 = sequence_gave _ c.sequence.ensures.same_store.fields _ _ c.in_ok-x01.ensures.answer in
-    let g3 = sequence_gave _ (c.sequence-2.ensures.same_store.fields ∙ c.sequence.ensures.same_store.fields) _ _ c.in_ok-x10.ensures.answer in
-    let g4 = sequence_gave _ (c.sequence-3.ensures.same_store.fields ∙ c.sequence-2.ensures.same_store.fields ∙ c.sequence.ensures.same_store.fields) _ _ c.in_ok-x11.ensures.answer in
-    let s = quartet.last q g1 g2 g3 g4 in
+    let q = product.row_calls c.args.store.now (quad_of c.args.q) c.requires in
+    let s = quartet.last q c.sequence.ensures.same_store c.in_ok-x00.ensures.answer c.sequence-2.ensures.same_store c.in_ok-x01.ensures.answer c.sequence-3.ensures.same_store c.in_ok-x10.ensures.answer c.sequence-4.ensures.same_store c.in_ok-x11.ensures.answer in
     record { gives = s.left; notes = s.notes }
 
 pub sequence-returns-in-Some-clause-answer : goal.sequence-returns-in-Some-clause-answer
@@ -87,45 +66,36 @@ sequence-overflow_sub-below t c = omega (arith, product.up c.requires c.in_defau
 
 pub sequence-row-requires : goal.sequence-row-requires
 sequence-row-requires t c =
-    let q = product.goes_down c.requires c.in_default.ensures c.get-p.ensures c.get-q.ensures in
-    (less c.args.depth t (product.up c.requires c.in_default.ensures) c.decreases, product.ready_1 q)
+    let q = product.goes_down c.args.store.now c.requires c.in_default.ensures c.get-p.ensures c.get-q.ensures in
+    (product.falls q c.decreases, product.ready_1 q)
 
 pub sequence-returns-in_err-r-clause-answer : goal.sequence-returns-in_err-r-clause-answer
 sequence-returns-in_err-r-clause-answer t c =
-    let q = product.goes_down c.requires c.in_default.ensures c.get-p.ensures c.get-q.ensures in
-    stopped c.from_residual.ensures.0 (product.lost_1 q (row_lost _ refl _ _ _ c.in_err-r.ensures.answer))
+    let q = product.goes_down c.args.store.now c.requires c.in_default.ensures c.get-p.ensures c.get-q.ensures in
+    stopped c.from_residual.ensures.0 (product.lost_1 q c.in_err-r.ensures.answer)
 
 pub sequence-row-requires-2 : goal.sequence-row-requires-2
 sequence-row-requires-2 t c =
-    let q = product.goes_down c.requires c.in_default.ensures c.get-p.ensures c.get-q.ensures in
-    let g1 = row_gave _ refl _ _ _ c.in_ok-r.ensures.answer in
-    (less c.args.depth t (product.up c.requires c.in_default.ensures) c.decreases, asked_for c.row.ensures.same_store.fields (product.ready_2 q g1))
+    let q = product.goes_down c.args.store.now c.requires c.in_default.ensures c.get-p.ensures c.get-q.ensures in
+    (product.falls q c.decreases, product.ready_2 q c.row.ensures.same_store c.in_ok-r.ensures.answer)
 
 pub sequence-returns-in_err-s-clause-answer : goal.sequence-returns-in_err-s-clause-answer
 sequence-returns-in_err-s-clause-answer t c =
-    let q = product.goes_down c.requires c.in_default.ensures c.get-p.ensures c.get-q.ensures in
-    let g1 = row_gave _ refl _ _ _ c.in_ok-r.ensures.answer in
-    stopped c.from_residual-in_err-s.ensures.0 (product.lost_2 q g1 (row_lost _ c.row.ensures.same_store.fields _ _ _ c.in_err-s.ensures.answer))
+    let q = product.goes_down c.args.store.now c.requires c.in_default.ensures c.get-p.ensures c.get-q.ensures in
+    stopped c.from_residual-in_err-s.ensures.0 (product.lost_2 q c.row.ensures.same_store c.in_ok-r.ensures.answer c.in_err-s.ensures.answer)
 
 pub sequence-sums-requires : goal.sequence-sums-requires
 sequence-sums-requires t c =
-    let q = product.goes_down c.requires c.in_default.ensures c.get-p.ensures c.get-q.ensures in
-    let g1 = row_gave _ refl _ _ _ c.in_ok-r.ensures.answer in
-    let g2 = row_gave _ c.row.ensures.same_store.fields _ _ _ c.in_ok-s.ensures.answer in
-    node_asked_for (c.row-2.ensures.same_store.fields ∙ c.row.ensures.same_store.fields) (product.ready_3 q g1 g2)
+    let q = product.goes_down c.args.store.now c.requires c.in_default.ensures c.get-p.ensures c.get-q.ensures in
+    product.ready_3 q c.row.ensures.same_store c.in_ok-r.ensures.answer c.row-2.ensures.same_store c.in_ok-s.ensures.answer
 
 pub sequence-returns-in_err-h-clause-answer : goal.sequence-returns-in_err-h-clause-answer
 sequence-returns-in_err-h-clause-answer t c =
-    let q = product.goes_down c.requires c.in_default.ensures c.get-p.ensures c.get-q.ensures in
-    let g1 = row_gave _ refl _ _ _ c.in_ok-r.ensures.answer in
-    let g2 = row_gave _ c.row.ensures.same_store.fields _ _ _ c.in_ok-s.ensures.answer in
-    stopped c.from_residual-in_err-h.ensures.0 (product.lost_3 q g1 g2 (sums_lost _ (c.row-2.ensures.same_store.fields ∙ c.row.ensures.same_store.fields) _ _ c.in_err-h.ensures.answer))
+    let q = product.goes_down c.args.store.now c.requires c.in_default.ensures c.get-p.ensures c.get-q.ensures in
+    stopped c.from_residual-in_err-h.ensures.0 (product.lost_3 q c.row.ensures.same_store c.in_ok-r.ensures.answer c.row-2.ensures.same_store c.in_ok-s.ensures.answer c.in_err-h.ensures.answer)
 
 pub sequence-returns-clause-answer : goal.sequence-returns-clause-answer
 sequence-returns-clause-answer t c =
-    let q = product.goes_down c.requires c.in_default.ensures c.get-p.ensures c.get-q.ensures in
-    let g1 = row_gave _ refl _ _ _ c.in_ok-r.ensures.answer in
-    let g2 = row_gave _ c.row.ensures.same_store.fields _ _ _ c.in_ok-s.ensures.answer in
-    let g3 = sums_gave _ (c.row-2.ensures.same_store.fields ∙ c.row.ensures.same_store.fields) _ _ c.in_ok-h.ensures.answer in
-    let s = product.made q g1 g2 g3 in
+    let q = product.goes_down c.args.store.now c.requires c.in_default.ensures c.get-p.ensures c.get-q.ensures in
+    let s = product.made q c.row.ensures.same_store c.in_ok-r.ensures.answer c.row-2.ensures.same_store c.in_ok-s.ensures.answer c.in_ok-h.ensures.answer in
     record { gives = s.left; notes = product.noted q s c.note.ensures }

@@ -1,5 +1,6 @@
 use mathlib.Core.Path.{◌≡◌, refl, ◌∙◌, ap, sym}
 use native.Mathlib.Omega.{arith}
+use Rattle.slices.proofs.Same.{slice_refl}
 use Rattle.spp_steps.specs.Model.{zero_at}
 use Rattle.spp.specs.declared.SPP.{SPP}
 use Rattle.spp.specs.Clauses.{store_of, columns, beside}
@@ -19,7 +20,7 @@ side c =
 
 pub loop-below-init : goal.loop-below-init
 loop-below-init c = record {
-  same = record { lent = refl; fields = refl };
+  same = record { nodes = slice_refl c.args.self.now.nodes; fields = refl };
   so_far = rising.columns_none c.args.self.now.fields c.args.diagonal c.args.base.0 (store_of c.args.self.now);
 }
 

@@ -1,5 +1,5 @@
-use mathlib.Core.Path.{◌≡◌, ◌∙◌}
-use Rattle.std.specs.Prelude.{Result, Ok, Err, IsErr, true, false}
+use mathlib.Core.Path.{◌≡◌}
+use Rattle.std.specs.Prelude.{Result, Ok, Err, IsErr}
 use Rattle.common.specs.Outcome.{Outcome, refused}
 use Rattle.common.specs.Runs.{Table, table}
 use Rattle.spp_steps.specs.Model as M
@@ -20,26 +20,25 @@ returns-in_err-zero-clause-gives c =
     (rising.start_1 c.args.self.now.fields (table c.args.self.now.nodes.now 0) c.in_err-zero.ensures.gives)
 
 pub column-requires-2 : goal.column-requires-2
-column-requires-2 c =
-    rising.column_asked_for c.column.ensures.same_store.fields (rising.asked_2 c.args.self.now.fields c.args.self.now.nodes.now c.requires c.in_ok-zero.ensures.gives)
+column-requires-2 c = rising.asked_2 c.args.self.now.fields c.args.self.now.nodes.now c.requires c.in_ok-zero.ensures.gives c.column.ensures.same_store.fields
 
 pub returns-in_err-one-clause-gives : goal.returns-in_err-one-clause-gives
 returns-in_err-one-clause-gives c =
     refused_at _ (store_of c.column-2.new.self) c.from_residual-in_err-one.ensures.0
-    (rising.start_2 c.args.self.now.fields (table c.args.self.now.nodes.now 0) c.in_ok-zero.ensures.gives (rising.columns_for true 1 _ c.column.ensures.same_store.fields c.in_err-one.ensures.gives))
+    (rising.start_2 c.args.self.now.fields (table c.args.self.now.nodes.now 0) c.in_ok-zero.ensures.gives c.column.ensures.same_store.fields c.in_err-one.ensures.gives)
 
 pub column-requires-3 : goal.column-requires-3
 column-requires-3 c =
-    rising.column_asked_for (c.column-2.ensures.same_store.fields ∙ c.column.ensures.same_store.fields)
-    (rising.asked_3 c.args.self.now.fields c.args.self.now.nodes.now c.requires c.in_ok-zero.ensures.gives (rising.columns_for true 1 _ c.column.ensures.same_store.fields c.in_ok-one.ensures.gives))
+    rising.asked_3 c.args.self.now.fields c.args.self.now.nodes.now c.requires c.in_ok-zero.ensures.gives c.column.ensures.same_store.fields
+    c.in_ok-one.ensures.gives c.column-2.ensures.same_store.fields
 
 pub returns-in_err-top-clause-gives : goal.returns-in_err-top-clause-gives
 returns-in_err-top-clause-gives c =
     refused_at _ (store_of c.column-3.new.self) c.from_residual-in_err-top.ensures.0
-    (rising.start_3 c.args.self.now.fields (table c.args.self.now.nodes.now 0) c.in_ok-zero.ensures.gives (rising.columns_for true 1 _ c.column.ensures.same_store.fields c.in_ok-one.ensures.gives)
-    (rising.columns_for false 1 _ (c.column-2.ensures.same_store.fields ∙ c.column.ensures.same_store.fields) c.in_err-top.ensures.gives))
+    (rising.start_3 c.args.self.now.fields (table c.args.self.now.nodes.now 0) c.in_ok-zero.ensures.gives c.column.ensures.same_store.fields
+    c.in_ok-one.ensures.gives c.column-2.ensures.same_store.fields c.in_err-top.ensures.gives)
 
 pub returns-clause-gives : goal.returns-clause-gives
 returns-clause-gives c =
-    rising.start_4 c.args.self.now.fields (table c.args.self.now.nodes.now 0) c.in_ok-zero.ensures.gives (rising.columns_for true 1 _ c.column.ensures.same_store.fields c.in_ok-one.ensures.gives)
-    (rising.columns_for false 1 _ (c.column-2.ensures.same_store.fields ∙ c.column.ensures.same_store.fields) c.in_ok-top.ensures.gives)
+    rising.start_4 c.args.self.now.fields (table c.args.self.now.nodes.now 0) c.in_ok-zero.ensures.gives c.column.ensures.same_store.fields
+    c.in_ok-one.ensures.gives c.column-2.ensures.same_store.fields c.in_ok-top.ensures.gives

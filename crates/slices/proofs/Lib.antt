@@ -1,0 +1,2 @@
+-- What several calls keep of a slice together.
+pub mod Same
