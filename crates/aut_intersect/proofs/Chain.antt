@@ -1,8 +1,9 @@
 -- The chain of calls of an intersection: what each call is asked, and what the whole comes to.
-use Rattle.std.specs.Prelude.{Some, None, Result, Ok, Err}
-use mathlib.Core.Path.{◌≡◌, refl, ◌∙◌, ap}
+use Rattle.std.specs.Prelude.{Option, Some, Result, Ok, Err}
+use Rattle.std.specs.Option.{ok_or}
+use mathlib.Core.Path.{◌≡◌, refl, ◌∙◌, ap, subst}
 use mathlib.Core.List.{List, []}
-use Prim.Native.Nat.{ℕ, ◌≤◌}
+use Prim.Native.Nat.{ℕ, ◌+◌, ◌≤◌}
 use native.Mathlib.Omega.{arith}
 use native.Mathlib.Nat.{one-mul}
 use lib.ListN.{length}
@@ -26,7 +27,7 @@ use Rattle.aut_stage.specs.OnLent.{Goes}
 use Rattle.aut_stage.proofs.Rule as rule
 use Rattle.aut_stage.proofs.OnLent.{lent_laws, made}
 use Rattle.aut_union.specs.Clauses.{ListAt}
-use Rattle.aut_union.proofs.Calls.{not_done, handed, ListExits, OfList, several, PairExits, OfPair}
+use Rattle.aut_union.proofs.Calls.{not_done, handed, missing, ListExits, OfList, several, PairExits, OfPair}
 use Rattle.aut_intersect_base.proofs.Opening as opening
 use Rattle.aut_intersect.specs.Clauses.{BasesReady, AllStates}
 
@@ -56,13 +57,18 @@ module _ {c : Config} {x : Lent} {k : ℕ} (R : Asked c x) (A : ListAt x.scratch
   abbrev count : Within ℕ
   count = count_all c.limits.products x.states.words.now xs 1
 
-  pub count_ready : CountReady x.states.words.now x.scratch.now c.limits.products 64 k
-  count_ready = record { at = order.below R.ready.good xs A.states; limit = R.ready.products; within = omega (arith, A.apart, R.ready.room) }
+  pub count_ready : CountReady x.states.words.now xs c.limits.products × (64 + k ≤ length x.scratch.now)
+  count_ready = (record { at = order.below R.ready.good xs A.states; limit = R.ready.products }, omega (arith, A.apart, R.ready.room))
 
-  pub too_many : {y : Lent} → Counts count None → Does N 128 448 aut_in (λ i. i) whole x (Err refusal.Products) y
-  too_many K = not_done refusal.Products (ap (λ (o : Within ℕ). C.distribute N L xs o (aut_in x)) K.is)
+  module _ {o : Option ℕ} (T : Counts count o) where
+    pub too_many : {e : Refusal} → Err e ≡ ok_or o refusal.Products → {r : Result ℕ Refusal} → IsErr r × IsErrAnd r (λ x. x ≡ e) → {y : Lent} → Does N 128 448 aut_in (λ i. i) whole x r y
+    too_many v p {y} = missing (λ (o : Option ℕ) (r : Result ℕ Refusal). Counts count o → Does N 128 448 aut_in (λ i. i) whole x r y) v p
+        (λ T. not_done refusal.Products (ap (λ (o : Within ℕ). C.distribute N L xs o (aut_in x)) T.is)) T
 
-  module _ {n : ℕ} (K : Counts count (Some n)) where
+  module _ {n : ℕ} {o : Option ℕ} (T : Counts count o) (some : o ≡ Some n) where
+    K : Counts count (Some n)
+    K = subst (Counts count) some T
+
     abbrev products : Step Aut (List ℕ)
     products = C.bases N L xs 0 n []
 
@@ -113,16 +119,16 @@ module _ {c : Config} {x : Lent} {from k : ℕ} (R : Asked c x) (A : ListAt x.sc
   abbrev open_n : Within (List ℕ)
   open_n = open_all c.limits.list x.states.words.now x.members.words.now (words x.scratch.now from k) []
 
-  module _ (h : k ≤ c.limits.list) (p : k ≡ 1 → ⊥) {s1 : List ℕ} where
-    pub too_long : {y : Lent} → OpenedAll open_n None x.scratch.now s1 64 c.limits.list → Does c.fields 64 512 aut_in (λ i. i) all_n x (Err refusal.List) y
-    too_long O = opening.too_long R A (omega arith) rest (several of_list c x from k h p) refusal.List refl O
+  module _ (h : k ≤ c.limits.list) (p : k ≡ 1 → ⊥) {o : Option ℕ} {s1 : List ℕ} (O : OpenedAll open_n o x.scratch.now s1 64 c.limits.list) where
+    pub too_long : {e : Refusal} → Err e ≡ ok_or o refusal.List → {r : Result ℕ Refusal} → IsErr r × IsErrAnd r (λ x. x ≡ e) → {y : Lent} → Does c.fields 64 512 aut_in (λ i. i) all_n x r y
+    too_long v q = opening.too_long R A (omega arith) rest (several of_list c x from k h p) refusal.List refl O v q
 
-    module _ {m : ℕ} (O : OpenedAll open_n (Some m) x.scratch.now s1 64 c.limits.list) (len1 : length s1 ≡ length x.scratch.now) (y : Lent) (tables : aut_in y ≡ aut_in x) (fields : y.spp.fields ≡ x.spp.fields) (s : y.scratch.now ≡ s1) where
+    module _ {m : ℕ} (some : o ≡ Some m) (len1 : length s1 ≡ length x.scratch.now) (y : Lent) (tables : aut_in y ≡ aut_in x) (fields : y.spp.fields ≡ x.spp.fields) (s : y.scratch.now ≡ s1) where
       pub distribute_asked : Asked c y × ListAt y.scratch.now y.states.count 64 m 128
-      distribute_asked = let p = opening.next_ready R A (omega arith) O len1 y tables fields s in (p.0, p.1)
+      distribute_asked = let p = opening.next_ready R A (omega arith) O some len1 y tables fields s in (p.0, p.1)
 
       pub distributed : {r : Result ℕ Refusal} {z : Lent} → Does c.fields 128 448 aut_in (λ i. i) (rest (within (words y.scratch.now 64 m))) y r z → Does c.fields 64 512 aut_in (λ i. i) all_n x r z
-      distributed D = opening.next_done R A (omega arith) O len1 y tables fields s rest (several of_list c x from k h p) (omega arith) D
+      distributed D = opening.next_done R A (omega arith) O some len1 y tables fields s rest (several of_list c x from k h p) (omega arith) D
 
 -- ---- mk_intersect
 

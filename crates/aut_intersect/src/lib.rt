@@ -1,11 +1,11 @@
 // mk_intersect_n and mk_intersect of aut.rs: products of a list with Union members are made one by one, never stored.
 #![tactic(auto)]
 
-ghost use Rattle.std.specs.Prelude.{List, [], ◌+◌, ◌<◌};
+ghost use Rattle.std.specs.Prelude.{[], ◌+◌, ◌≤◌, length};
 ghost use Rattle.aut_steps.specs.Tables.{words};
 ghost use Rattle.aut_steps.specs.Constructors as C;
 ghost use Rattle.aut_states.specs.Clauses.{limits_of};
-ghost use Rattle.aut_scratch.specs.Clauses.{CountReady, Counts, Products};
+ghost use Rattle.aut_scratch.specs.Clauses.{CountReady, Counts};
 ghost use Rattle.aut_relations.specs.Lent.{aut_in, Keeps, Does, Asked};
 ghost use Rattle.aut_stage.specs.OnLent.{Goes};
 ghost use Rattle.aut_union.specs.Clauses.{ListAt, PairAt};
@@ -53,11 +53,13 @@ fn bases(aut: &mut Aut, config: Config, k: usize, n: usize) -> Result<(), Refusa
 
 // how many products the k states at OPENED have; None: too many
 fn count_all(aut: &Aut, most: usize, k: usize) -> Option<usize>
-    requires { CountReady aut.now.states.words.now aut.now.scratch.now most 64 k }
+    requires { CountReady aut.now.states.words.now (words aut.now.scratch.now 64 k) most ×
+        (64 + k ≤ length aut.now.scratch.now) }
     ensures { Counts (C.count_all most aut.now.states.words.now (words aut.now.scratch.now 64 k) 1)
         result }
 {
-    aut_scratch::count_all(&aut.states, aut.scratch, most, aut_scratch::OPENED, k)
+    let from = aut_scratch::OPENED;
+    aut_scratch::count_all(&aut.states, &aut.scratch[from..from + k], most)
 }
 
 // the union of the products of the k states at OPENED
@@ -68,14 +70,12 @@ fn distribute(aut: &mut Aut, config: Config, k: usize) -> Result<u32, Refusal>
         (C.intersect_opened config.fields (limits_of config.limits)
         (C.within (words aut.old.scratch.now 64 k))) aut.old result aut.new }
 {
-    let Some(n) = count_all(aut, config.limits.products, k) else {
-        return Err(Refusal::Products);
-    };
+    let n = count_all(aut, config.limits.products, k).ok_or(Refusal::Products)?;
     bases(aut, config, k, n)?;
     aut_union::mk_union_n(aut, config, aut_scratch::RESULTS, n)
 }
 
-// the intersection of the k states at from
+// the intersection of the k states at `from`
 pub fn mk_intersect_n(aut: &mut Aut, config: Config, from: usize, k: usize) -> Result<u32, Refusal>
     requires { Asked config aut.old × ListAt aut.old.scratch.now aut.old.states.count from k 64 }
     ensures keeps { Keeps aut.old aut.new }
@@ -89,7 +89,7 @@ pub fn mk_intersect_n(aut: &mut Aut, config: Config, from: usize, k: usize) -> R
     if k == 1 {
         return Ok(aut.scratch[from]);
     }
-    let Some(m) = aut_scratch::open(
+    let m = aut_scratch::open(
         &aut.states,
         &aut.members,
         aut.scratch,
@@ -97,9 +97,8 @@ pub fn mk_intersect_n(aut: &mut Aut, config: Config, from: usize, k: usize) -> R
         from,
         k,
         aut_scratch::OPENED,
-    ) else {
-        return Err(Refusal::List);
-    };
+    )
+    .ok_or(Refusal::List)?;
     distribute(aut, config, m)
 }
 

@@ -8,6 +8,7 @@ use native.Mathlib.Omega.{arith}
 use lib.Dec.{eqb}
 use lib.ListN.{length, set, take, drop}
 use borrow.Author.Tests.{eq-eqb, ne_eqb, eqb-true}
+use Rattle.std.specs.Option.{option_eq}
 use Rattle.std.specs.Result.{IsErr, IsErrAnd}
 use Rattle.common.specs.Outcome.{Outcome, given, Step, return, after, ◌>>=◌, Gives, gives}
 use Rattle.common.proofs.Follow.{call, branch}
@@ -15,7 +16,6 @@ use Rattle.common.specs.Runs.{Table, placed}
 use Rattle.refusal.specs.declared.Refusal.{Refusal}
 use Rattle.refusal.specs.Numbers.{outcome}
 use Rattle.refusal.proofs.Passed.{passed}
-use Rattle.spp_steps.specs.Model.{is_zero}
 use Rattle.spp_steps.specs.Wf.{Wf, ValidAt}
 use Rattle.spp_steps.proofs.Laws.{ext_refl, den_top}
 use Rattle.spp.specs.declared.SPP.{SPP as Handle}
@@ -241,6 +241,6 @@ module _ {c : Config} {x : Lent} {rel : Option Handle} {k : ℕ} (F : FinishRead
       let d = D others in
       record { is = is_end false false f (ne_eqb k 0 q) others ∙ d.is; kept = d.kept }
 
-pub is_nothing : (N : ℕ) {r : Option Handle} {h : Handle} {z : Bool} → r ≡ Some h → is_zero N N h.0 ≡ z → nothing_of N (some_of r) (handle_of N r) ≡ z
-unfolding is_zero
-is_nothing N e q = ap (λ (r : Option Handle). nothing_of N (some_of r) (handle_of N r)) e ∙ q
+pub is_nothing : (N : ℕ) (r : Option Handle) {z : Handle} {b : Bool} → Rel.zero_at N ≡ z.0 → b ≡ option_eq (λ g h. eqb g.0 h.0) r (Some z) → nothing_of N (some_of r) (handle_of N r) ≡ b
+is_nothing N None d e = sym e
+is_nothing N (Some h) d e = ap (eqb h.0) d ∙ sym e

@@ -1,5 +1,7 @@
 -- The members of a list are opened to `to`, and the next call writes behind them.
-use Rattle.std.specs.Prelude.{Some, None, Result, Err}
+use Rattle.std.specs.Prelude.{Option, Some, Result, Err}
+use Rattle.std.specs.Option.{ok_or}
+use Rattle.std.specs.Result.{IsErr, IsErrAnd}
 use mathlib.Core.Path.{◌≡◌, sym, ◌∙◌, ap, subst}
 use mathlib.Core.List.{List, []}
 use Prim.Native.Nat.{ℕ, ◌+◌, ◌≤◌, ◌<◌}
@@ -21,7 +23,7 @@ use Rattle.aut_relations.proofs.Opens.{AllWithin, all_states_lem}
 use Rattle.aut_relations.specs.declared.Aut.{Aut as Lent}
 use Rattle.aut_relations.specs.Lent.{aut_in, Does, Asked}
 use Rattle.aut_union.specs.Clauses.{ListAt}
-use Rattle.aut_union.proofs.Calls.{not_done, Written, written_asked, written_done}
+use Rattle.aut_union.proofs.Calls.{not_done, missing, Written, written_asked, written_done}
 
 module _ {c : Config} {x : Lent} {from k to : ℕ} (R : Asked c x) (A : ListAt x.scratch.now x.states.count from k to) (room : to + 64 ≤ LISTS) where
   abbrev opened : Within (List ℕ)
@@ -31,12 +33,17 @@ module _ {c : Config} {x : Lent} {from k to : ℕ} (R : Asked c x) (A : ListAt x
   open_ready = record { at = order.open_all_at R.ready.good (words x.scratch.now from k) A.states; limit = R.ready.list; apart = A.apart; room = omega (arith, R.ready.list, R.ready.room) }
 
   -- too many
-  pub too_long : (rest : Within (List ℕ) → Step Aut ℕ) {whole : Step Aut ℕ} → whole (aut_in x) ≡ rest opened (aut_in x) → {N a n : ℕ} {s1 : List ℕ} {y : Lent} (e : Refusal) → rest beyond (aut_in x) ≡ refused (number_of e)
-      → Extends opened None x.scratch.now s1 to c.limits.list → Does N a n aut_in (λ i. i) whole x (Err e) y
-  too_long rest is e q O = not_done e (is ∙ ap (λ (o : Within (List ℕ)). rest o (aut_in x)) O.is ∙ q)
+  pub too_long : (rest : Within (List ℕ) → Step Aut ℕ) {whole : Step Aut ℕ} → whole (aut_in x) ≡ rest opened (aut_in x) → {N a n : ℕ} {s1 : List ℕ} {y : Lent} (f : Refusal) → rest beyond (aut_in x) ≡ refused (number_of f)
+      → {o : Option ℕ} → Extends opened o x.scratch.now s1 to c.limits.list → {e : Refusal} → Err e ≡ ok_or o f → {r : Result ℕ Refusal} → IsErr r × IsErrAnd r (λ x. x ≡ e) → Does N a n aut_in (λ i. i) whole x r y
+  too_long rest {whole} is {N} {a} {n} {s1} {y} f q O v p =
+      missing (λ (o : Option ℕ) (r : Result ℕ Refusal). Extends opened o x.scratch.now s1 to c.limits.list → Does N a n aut_in (λ i. i) whole x r y) v p
+      (λ O. not_done f (is ∙ ap (λ (o : Within (List ℕ)). rest o (aut_in x)) O.is ∙ q)) O
 
-  module _ {s1 : List ℕ} {m : ℕ} (O : Extends opened (Some m) x.scratch.now s1 to c.limits.list) (len1 : length s1 ≡ length x.scratch.now) (y : Lent) (tables : aut_in y ≡ aut_in x) (fields : y.spp.fields ≡ x.spp.fields)
-      (s : y.scratch.now ≡ s1) where
+  module _ {s1 : List ℕ} {o : Option ℕ} {m : ℕ} (G : Extends opened o x.scratch.now s1 to c.limits.list) (some : o ≡ Some m) (len1 : length s1 ≡ length x.scratch.now) (y : Lent) (tables : aut_in y ≡ aut_in x)
+      (fields : y.spp.fields ≡ x.spp.fields) (s : y.scratch.now ≡ s1) where
+    O : Extends opened (Some m) x.scratch.now s1 to c.limits.list
+    O = subst (λ (o : Option ℕ). Extends opened o x.scratch.now s1 to c.limits.list) some G
+
     written : Written to m x y
     written = record {
       kept = subst (Kept to 64 x.scratch.now) (sym s) (kept_wide O.kept (omega arith) (omega (arith, R.ready.list)));

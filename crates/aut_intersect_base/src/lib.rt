@@ -2,7 +2,8 @@
 #![tactic(auto)]
 
 ghost use Rattle.std.specs.Prelude.{◌≡◌, false, List, [], ℕ, ◌+◌, ◌≤◌};
-ghost use Rattle.aut_steps.specs.Tables.{words, INTERSECT};
+ghost use Rattle.slices.specs.Same.{SameSlice};
+ghost use Rattle.aut_steps.specs.Tables.{words};
 ghost use Rattle.aut_steps.specs.Relations.{top_at};
 ghost use Rattle.aut_steps.specs.Constructors as C;
 ghost use Rattle.aut_steps.specs.Constructors.{each, met};
@@ -28,13 +29,10 @@ fn relation_of(fields: u32, relation: Option<SPP>) -> SPP
     requires { fields ≤ 31 }
     ensures { handle_of fields relation ≡ result.0 }
 {
-    match relation {
-        Some(h) => h,
-        None => spp::top_at_depth(fields, fields),
-    }
+    relation.unwrap_or(spp::top_at_depth(fields, fields))
 }
 
-// Top goes; x is intersected with the relation if it is one, or goes behind the others, which stand at to
+// Top goes; x is intersected with the relation if it is one, or goes behind the others, which stand at `to`
 fn meet_one(aut: &mut Aut, config: Config, p: Met, x: u32, to: usize) -> Result<Met, Refusal>
     requires { UniteReady config.fields aut.old (handle_of config.fields p.relation) x to p.others }
     ensures keeps { KeepsExprs aut.old aut.new }
@@ -64,7 +62,7 @@ fn meet_one(aut: &mut Aut, config: Config, p: Met, x: u32, to: usize) -> Result<
     })
 }
 
-// the relations of the k states at from, intersected; the others go to to
+// the relations of the k states at `from`, intersected; the others go to `to`
 fn meet_each(
     aut: &mut Aut,
     config: Config,
@@ -91,7 +89,7 @@ fn meet_each(
     Ok(p)
 }
 
-// the relation goes behind the k words at at as a state, if there is one
+// the relation goes behind the k words at `at` as a state, if there is one
 fn add_last(
     states: &mut States,
     scratch: &mut [u32],
@@ -100,7 +98,7 @@ fn add_last(
     k: usize,
 ) -> Result<usize, Refusal>
     requires { AddReady states.old.words.now scratch.old states.old.count at k }
-    ensures same { states.new.words.ghost_name ≡ states.old.words.ghost_name }
+    ensures same { SameSlice states.old.words states.new.words }
     ensures gives { (N : ℕ) (others : List ℕ) → Adds
         (C.add_last (met_of N relation others) (words scratch.old at k)) states.old result
         states.new scratch.old scratch.new at k }
@@ -118,16 +116,13 @@ fn nothing(fields: u32, relation: Option<SPP>) -> bool
     requires { fields ≤ 31 }
     ensures { nothing_of fields (some_of relation) (handle_of fields relation) ≡ result }
 {
-    match relation {
-        Some(h) => spp::is_zero(fields, h),
-        None => false,
-    }
+    relation == Some(spp::zero_at_depth(fields))
 }
 
 // no other members: the relation's state, or Top
 fn alone(states: &mut States, relation: Option<SPP>) -> Result<u32, Refusal>
     requires { Fits states.old.words.now states.old.count }
-    ensures same { states.new.words.ghost_name ≡ states.old.words.ghost_name }
+    ensures same { SameSlice states.old.words states.new.words }
     ensures gives { (N : ℕ) → alone_of (some_of relation) (handle_of N relation)
         (states_of states.old) ≡ seen result (states_of states.new) }
 {
@@ -148,6 +143,7 @@ fn meet_list(aut: &mut Aut, config: Config, relation: Option<SPP>, k: usize) -> 
 {
     let at = aut_scratch::SORTED;
     let m = add_last(&mut aut.states, aut.scratch, relation, at, k)?;
+    // only read, but `&aut.scratch[..]` beside `&mut aut.members` is not covered by the borrow checker
     let list = &mut aut.scratch[at..at + m];
     aut.states.intern_list(
         &mut aut.members,
@@ -196,7 +192,7 @@ fn meet(aut: &mut Aut, config: Config, k: usize) -> Result<u32, Refusal>
     meet_finish(aut, config, p.relation, r)
 }
 
-// the intersection of the k states at from, Unions not opened
+// the intersection of the k states at `from`, Unions not opened
 pub fn mk_intersect_n_base(
     aut: &mut Aut,
     config: Config,
@@ -209,7 +205,7 @@ pub fn mk_intersect_n_base(
         (C.mk_intersect_n_base config.fields (limits_of config.limits)
         (words aut.old.scratch.now from k)) aut.old result aut.new }
 {
-    let Some(m) = aut_scratch::open(
+    let m = aut_scratch::open(
         &aut.states,
         &aut.members,
         aut.scratch,
@@ -217,8 +213,7 @@ pub fn mk_intersect_n_base(
         from,
         k,
         aut_scratch::BASE,
-    ) else {
-        return Err(Refusal::List);
-    };
+    )
+    .ok_or(Refusal::List)?;
     meet(aut, config, m)
 }

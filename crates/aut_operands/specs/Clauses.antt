@@ -1,6 +1,6 @@
 -- 01, "Lent tables": words 1 and 2 of a state are its operands, or the start and the number of its members; word 4 is 0 while its epsilon is not worked out, word 6 while its list is not stored.
 -- What the readers of operands say in the words of the steps, and what is asked.
-use Rattle.std.specs.Prelude.{◌≡◌, Bool, true, false, List, ℕ, ◌+◌, ◌*◌, ◌≤◌, ◌<◌, length}
+use Rattle.std.specs.Prelude.{◌≡◌, Bool, true, false, List, ℕ, ◌+◌, ◌*◌, ◌≤◌, ◌<◌, length, Option, Some, None}
 use Rattle.aut_steps.specs.Tables.{UNION, INTERSECT, kind_of, op1, op2, nest, words}
 use Rattle.aut_steps.specs.Ascending.{All}
 use Rattle.aut_delta_steps.specs.Delta.{count_of}
@@ -46,10 +46,10 @@ pub record Looks (p : Part) (st mem : List ℕ) (x : ℕ) : Type 0 where
   pub inside : Inside st mem x
   pub operands : All (λ y. 12 * y + 11 < length st) (operands_of p st mem x)
 
--- r is x's first operand that is not worked out, or x where all are
-pub data Next (p : Part) (st mem : List ℕ) (x r : ℕ) : Type 0 where
-  none : r ≡ x → All (Worked p st) (operands_of p st mem x) → Next p st mem x r
-  some : First (Worked p st) (NotYet p st) r (operands_of p st mem x) → Next p st mem x r
+-- x's first operand that is not worked out; none: all are
+abbrev pub Next : Part → List ℕ → List ℕ → ℕ → Option ℕ → Type 0
+Next p st mem x (Some r) = First (Worked p st) (NotYet p st) r (operands_of p st mem x)
+Next p st mem x None = All (Worked p st) (operands_of p st mem x)
 
 -- so many states, whose operands are states that are nested lower
 pub record Nested (st mem : List ℕ) (count : ℕ) : Type 0 where

@@ -52,19 +52,16 @@ pub fn is_open(states: &States, part: Part, y: u32) -> bool
     }
 }
 
-// the first operand that is not worked out; x where all are
-pub fn open_operand(states: &States, members: &Members, part: Part, x: u32) -> u32
+// the first operand that is not worked out; None: all are
+pub fn open_operand(states: &States, members: &Members, part: Part, x: u32) -> Option<u32>
     requires { Looks part states.now.words.now members.now.words.now x }
     ensures { Next part states.now.words.now members.now.words.now x result }
 {
     let operands = operands(states, members, part, x);
-    for j in 0..operands.len() {
-        let y = operands[j];
-        if is_open(states, part, y) {
-            return y;
-        }
-    }
-    x
+    operands
+        .iter()
+        .find(|y| is_open(states, part, **y))
+        .copied()
 }
 
 // for epsilon: from x down along first operands that are not worked out, to a state of which all are
@@ -73,11 +70,8 @@ pub fn lowest(states: &States, members: &Members, x: u32) -> u32
     ensures { Way states.now.words.now members.now.words.now result x }
 {
     let mut y = x;
-    loop {
-        let z = open_operand(states, members, Part::Epsilon, y);
-        if z == y {
-            return y;
-        }
+    while let Some(z) = open_operand(states, members, Part::Epsilon, y) {
         y = z;
     }
+    y
 }

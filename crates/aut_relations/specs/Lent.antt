@@ -1,5 +1,6 @@
 -- All tables that are lent: how the steps see them, what a call keeps, what its answer says, and what the operations on relations ask.
-use Rattle.std.specs.Prelude.{◌≡◌, ℕ, ◌<◌, length, Result, Ok, Err}
+use Rattle.std.specs.Prelude.{◌≡◌, Bool, true, false, ℕ, ◌<◌, Result, Ok, Err}
+use Rattle.slices.specs.Same.{SameSlice}
 use Rattle.common.specs.Outcome.{Step}
 use Rattle.common.specs.Runs.{Table, table}
 use Rattle.refusal.specs.declared.Refusal.{Refusal}
@@ -38,27 +39,40 @@ transitions_in x = table x.transitions.words.now x.transitions.count
 
 -- ---- what a call keeps: x before, y after
 
--- of nodes, states, members and scratch the same words are lent; the other tables are as they were
-pub record Keeps (x y : Lent) : Type 0 where
-  pub sp : y.sp ≡ x.sp
-  pub spp : SameStore x.spp y.spp
-  pub states : y.states.words.ghost_name ≡ x.states.words.ghost_name
-  pub members : y.members.words.ghost_name ≡ x.members.words.ghost_name
-  pub transitions : y.transitions ≡ x.transitions
-  pub pending : y.pending ≡ x.pending
-  pub scratch : y.scratch.ghost_name ≡ x.scratch.ghost_name
-  pub length : length y.scratch.now ≡ length x.scratch.now
+-- the tables that a call may write; `count`: it may change how many states there are
+pub record Writes : Type 0 where
+  pub sp : Bool
+  pub spp : Bool
+  pub states : Bool
+  pub count : Bool
+  pub members : Bool
+  pub transitions : Bool
+  pub pending : Bool
+  pub scratch : Bool
 
--- the same, and states and members are as they were
-pub record KeepsExprs (x y : Lent) : Type 0 where
-  pub sp : y.sp ≡ x.sp
-  pub spp : SameStore x.spp y.spp
-  pub states : y.states ≡ x.states
-  pub members : y.members ≡ x.members
-  pub transitions : y.transitions ≡ x.transitions
-  pub pending : y.pending ≡ x.pending
-  pub scratch : y.scratch.ghost_name ≡ x.scratch.ghost_name
-  pub length : length y.scratch.now ≡ length x.scratch.now
+-- what is kept of a table that is written, or not
+abbrev pub either : Bool → Type 0 → Type 0 → Type 0
+either true A B = A
+either false A B = B
+
+-- of a table that is written the same words are lent, as many; another is as it was
+pub record KeepsBut (w : Writes) (x y : Lent) : Type 0 where
+  pub sp : either w.sp (SameSlice x.sp.nodes y.sp.nodes) (y.sp ≡ x.sp)
+  pub spp : either w.spp (SameStore x.spp y.spp) (y.spp ≡ x.spp)
+  pub states : either w.states (SameSlice x.states.words y.states.words) (y.states ≡ x.states)
+  pub count : either w.count Unit (y.states.count ≡ x.states.count)
+  pub members : either w.members (SameSlice x.members.words y.members.words) (y.members ≡ x.members)
+  pub transitions : either w.transitions (SameSlice x.transitions.words y.transitions.words) (y.transitions ≡ x.transitions)
+  pub pending : either w.pending (SameSlice x.pending y.pending) (y.pending ≡ x.pending)
+  pub scratch : either w.scratch (SameSlice x.scratch y.scratch) (y.scratch ≡ x.scratch)
+
+-- relation nodes and scratch are written
+abbrev pub KeepsExprs : Lent → Lent → Type 0
+KeepsExprs x y = KeepsBut (record { sp = false; spp = true; states = false; count = false; members = false; transitions = false; pending = false; scratch = true }) x y
+
+-- .. and states and members
+abbrev pub Keeps : Lent → Lent → Type 0
+Keeps x y = KeepsBut (record { sp = false; spp = true; states = true; count = true; members = true; transitions = false; pending = false; scratch = true }) x y
 
 -- ---- what an answer says
 

@@ -1,7 +1,7 @@
-// Aut of aut.rs: all tables that are lent; and the operations on relations for the constructors, whose cache lies in scratch behind the lists.
+// The tables that are lent, and the operations on relations for the constructors, whose cache lies in scratch behind the lists.
 #![tactic(auto)]
 
-ghost use Rattle.std.specs.Prelude.{◌≡◌, ◌+◌, ◌*◌, ◌<◌, length};
+ghost use Rattle.std.specs.Prelude.{◌≡◌};
 ghost use Rattle.refusal.specs.declared.Refusal.TheVariants.{Spp};
 ghost use Rattle.spp_steps.specs.Model as M;
 ghost use Rattle.spp.specs.Clauses.{op_of};
@@ -9,6 +9,7 @@ ghost use Rattle.aut_steps.specs.Tables.{op1};
 ghost use Rattle.aut_steps.specs.Constructors as C;
 ghost use Rattle.aut_relations.specs.Lent.{nodes_in, aut_in, Keeps, KeepsExprs, Does, Only, Handles, Relations};
 
+use aut_scratch::LISTS;
 use aut_states::{Config, Members, States};
 use refusal::Refusal;
 use sp::SPstore;
@@ -21,7 +22,7 @@ pub struct Transitions<'a> {
     pub count: usize,
 }
 
-// Aut of aut.rs: all tables that are lent. What holds for the whole book goes beside it, as a Config
+// Aut of aut.rs. What holds for the whole book goes beside it, as a Config
 #[derive(Drop)]
 pub struct Aut<'a> {
     pub sp: SPstore<'a>,
@@ -41,10 +42,9 @@ impl Aut<'_> {
         ensures gives { Does config.fields 0 0 nodes_in (λ h. h.0)
             (M.apply config.fields (op_of op) config.fields a.0 b.0) self.old result self.new }
     {
-        let at = aut_scratch::LISTS;
         Ok(
             self.spp
-                .apply(&mut self.scratch[at..], config.fields, op, a, b)?,
+                .apply(&mut self.scratch[LISTS..], config.fields, op, a, b)?,
         )
     }
 

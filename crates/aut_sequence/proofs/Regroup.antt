@@ -197,7 +197,7 @@ module _ {k : Config} {x y : ℕ} {l₀ l : Lent} {u e z : ℕ} (v : Turn k x y 
             from = v.from;
             keeps = keeps;
             same = same;
-            asked = record { fields = keep.spp.fields ∙ v.asked.fields; ready = ready_after v.asked.ready gone.grown gone.good D.left keep.length };
+            asked = record { fields = keep.spp.fields ∙ v.asked.fields; ready = ready_after v.asked.ready gone.grown gone.good D.left keep.scratch.length };
             grown = grown_1;
             left = left_1;
             chain = chain_1;

@@ -2,7 +2,8 @@
 use mathlib.Core.Path.{◌≡◌, ◌∙◌, ap}
 use mathlib.Core.Bool.{true}
 use mathlib.Core.List.{[], ◌∷◌}
-use Prim.Native.Nat.{ℕ, ◌<◌}
+use Prim.Native.Nat.{ℕ, ◌<◌, min, max}
+use native.Mathlib.Omega.{arith}
 use Rattle.std.specs.Prelude.{Result, Ok, Err}
 use Rattle.common.specs.Outcome.{Outcome, given, Step}
 use Rattle.common.specs.Runs.{Table, placed}
@@ -49,11 +50,8 @@ module _ {k : Config} {l : Lent} {x : ℕ} (a : Asked k l) (h : x < l.states.cou
       record { fits = fits_of; has_x = h; has_y = h; handles = record { fields = a.fields; backed = backed_of a.ready; at_a = at; at_b = at } }
 
 module _ {k : Config} {l : Lent} {x y : ℕ} (a : Asked k l × All (λ i. i < l.states.count) (x ∷ y ∷ [])) where
-  pub xor_ready : Ready2 l.states.words.now l.states.count XOR x y
-  xor_ready = ready_xor a.0.ready.good a.1.0 a.1.1.0
-
-  pub turned_ready : Ready2 l.states.words.now l.states.count XOR y x
-  turned_ready = ready_xor a.0.ready.good a.1.1.0 a.1.0
+  pub xor_ready : {i j : ℕ} → i ≡ min x y → j ≡ max x y → Ready2 l.states.words.now l.states.count XOR i j
+  xor_ready p q = ready_xor a.0.ready.good (omega (arith, a.1.0, a.1.1.0)) (omega (arith, a.1.0, a.1.1.0))
 
   pub difference_ready : Ready2 l.states.words.now l.states.count DIFFERENCE x y
   difference_ready = ready_difference a.0.ready.good a.1.0 a.1.1.0

@@ -31,10 +31,8 @@ pub fn mk_xor(aut: &mut Aut, config: Config, x: u32, y: u32) -> Result<u32, Refu
     if aut.states.both_relations(x, y) {
         return aut.spp_of(config, Op::Xor, x, y);
     }
-    if x < y {
-        return aut.states.intern2(config.limits, kind::XOR, x, y);
-    }
-    aut.states.intern2(config.limits, kind::XOR, y, x)
+    aut.states
+        .intern2(config.limits, kind::XOR, x.min(y), x.max(y))
 }
 
 #[tactic(auto, unfolding(aut_steps::specs::Constructors::mk_difference), using(crate::proofs::Tables::entered, crate::proofs::Tables::told))]
@@ -117,7 +115,7 @@ fn is_relation(states: &States, x: u32, h: SPP) -> bool
     requires { 12 * x + 11 < length states.now.words.now }
     ensures { result ≡ C.is_relation states.now.words.now x h.0 }
 {
-    states.kind(x) == kind::SPP && states.first(x) == h.0
+    states.kind(x) == kind::SPP && SPP(states.first(x)) == h
 }
 
 fn regroups(states: &States, fields: u32, x: u32, y: u32) -> bool

@@ -67,11 +67,11 @@ module _ {N a n : ℕ} {V A : Type 0} {see : V → A} {o : Step Table A} {x y : 
 module _ {k : Config} {a n : ℕ} {V A : Type 0} {P : Aut → A → Type 0} {see : V → A} {x y : Lent} {r : Result V Refusal} (R : Asked k x) where
   -- a constructor
   pub made : {o : Step Aut A} → Keeps x y → StepSpec k.fields (limits_of k.limits) P (aut_in x) (o (aut_in x)) → Does k.fields a n aut_in see o x r y → Goes k a n P see o x r y
-  made K G D = record { post = by_law R y K.length G r D.is D.left }
+  made K G D = record { post = by_law R y K.scratch.length G r D.is D.left }
 
   -- an operation on relations
   pub related : {o : Step Table A} → KeepsExprs x y → StepSpec k.fields (limits_of k.limits) P (aut_in x) (on_nodes o (aut_in x)) → Does k.fields a n nodes_in see o x r y → Goes k a n P see (on_nodes o) x r y
-  related {o} K G D = record { post = by_law R y K.length G r (on_nodes_is see o x y K r D.is) D.left }
+  related {o} K G D = record { post = by_law R y K.scratch.length G r (on_nodes_is see o x y K r D.is) D.left }
 
 -- tables in order after a call
 module _ {k : Config} {a n : ℕ} {V A : Type 0} {P : Aut → A → Type 0} {see : V → A} {x y : Lent} {o : Step Aut A} {v : V} where

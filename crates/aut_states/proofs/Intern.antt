@@ -13,6 +13,7 @@ use Rattle.std.specs.Prelude.{Result, Ok, Err}
 use Rattle.common.specs.Outcome.{Outcome, refused, given}
 use Rattle.common.specs.Runs.{Table, table, placed}
 use Rattle.refusal.specs.declared.Refusal.{Refusal}
+use Rattle.refusal.specs.declared.Refusal.TheVariants.{Nesting}
 use Rattle.aut_steps.specs.Tables.{kind_of, op1, nest, member_cap, room_m, Exprs, exprs, Limits, COMPLEMENT, TOP}
 use Rattle.aut_steps.specs.Intern.{seek, same2, same_l, put, intern0, intern1, intern2, nest_l, store, put_l, intern_l}
 use Rattle.aut_steps.specs.Relations.{zero_at}
@@ -36,6 +37,9 @@ module _ {S : Type 0} (n most e : ℕ) (s : S) (new : Outcome S ℕ) where
   way_new : (j : ℕ) → j ≡ n → e ≤ most → way j n most e s new ≡ new
   way_new j p l = simp (p, le-ltb n n (omega arith), le-ltb most e l)
 
+refuses : {S : Type 0} (s : S) {r : Refusal} {o : Result ℕ Refusal} → o ≡ Err r → r ≡ Nesting → seen o s ≡ refused 8
+refuses s {r} {o} p q = ap (λ (o : Result ℕ Refusal). seen o s) p ∙ ap (λ (r : Refusal). seen (Err r) s) q
+
 module _ (σ : Table) (k x : ℕ) where
   pub found0 : {i : ℕ} → (i < σ.count) × (seek (same2 σ.words k x 0) 0 σ.count ≡ i) → intern0 k x σ ≡ given σ i
   unfolding intern0
@@ -51,15 +55,16 @@ module _ (L : Limits) (σ : Table) (k x : ℕ) where
   found1 p = way_found σ.count L.nesting (nest σ.words x + 1) σ (put k x 0 (nest σ.words x + 1) σ) _ _ p
 
   module _ {e : ℕ} (p : seek (same2 σ.words k x 0) 0 σ.count ≡ σ.count) (e-is : e ≡ nest σ.words x) where
-    pub deep1 : L.nesting ≤ e → intern1 L k x σ ≡ refused 8
+    pub deep1 : {r : Refusal} {o : Result ℕ Refusal} → (L.nesting ≤ e) × (r ≡ Nesting) → o ≡ Err r → intern1 L k x σ ≡ seen o σ
     unfolding intern1
-    deep1 l = way_deep σ.count L.nesting (nest σ.words x + 1) σ (put k x 0 (nest σ.words x + 1) σ) _ p (omega (arith, e-is))
+    deep1 d q =
+        way_deep σ.count L.nesting (nest σ.words x + 1) σ (put k x 0 (nest σ.words x + 1) σ) _ p (omega (arith, e-is, d.0)) ∙ sym (refuses σ q d.1)
 
-    pub new1 : e < L.nesting → {z : Outcome Table ℕ} → put k x 0 (e + 1) σ ≡ z → intern1 L k x σ ≡ z
+    pub new1 : {h : ℕ} → (e < L.nesting) × (h ≡ e + 1) → {z : Outcome Table ℕ} → put k x 0 h σ ≡ z → intern1 L k x σ ≡ z
     unfolding intern1
-    new1 l w =
-        way_new σ.count L.nesting (nest σ.words x + 1) σ (put k x 0 (nest σ.words x + 1) σ) _ p (omega (arith, e-is))
-        ∙ ap (λ (e : ℕ). put k x 0 (e + 1) σ) (sym e-is) ∙ w
+    new1 {h} l w =
+        way_new σ.count L.nesting (nest σ.words x + 1) σ (put k x 0 (nest σ.words x + 1) σ) _ p (omega (arith, e-is, l.0))
+        ∙ ap (λ (e : ℕ). put k x 0 e σ) {x = nest σ.words x + 1} {y = h} (omega (arith, e-is, l.1)) ∙ w
 
 module _ (L : Limits) (σ : Table) (k x y : ℕ) where
   abbrev e2 : ℕ
@@ -70,15 +75,15 @@ module _ (L : Limits) (σ : Table) (k x y : ℕ) where
   found2 p = way_found σ.count L.nesting e2 σ (put k x y e2 σ) _ _ p
 
   module _ {a b h : ℕ} (p : seek (same2 σ.words k x y) 0 σ.count ≡ σ.count) (a-is : a ≡ nest σ.words x) (b-is : b ≡ nest σ.words y) (h-is : h ≡ max a b) where
-    pub deep2 : L.nesting ≤ h → intern2 L k x y σ ≡ refused 8
+    pub deep2 : {r : Refusal} {o : Result ℕ Refusal} → (L.nesting ≤ h) × (r ≡ Nesting) → o ≡ Err r → intern2 L k x y σ ≡ seen o σ
     unfolding intern2
-    deep2 l = way_deep σ.count L.nesting e2 σ (put k x y e2 σ) _ p (omega (arith, a-is, b-is, h-is))
+    deep2 d q = way_deep σ.count L.nesting e2 σ (put k x y e2 σ) _ p (omega (arith, a-is, b-is, h-is, d.0)) ∙ sym (refuses σ q d.1)
 
-    pub new2 : h < L.nesting → {z : Outcome Table ℕ} → put k x y (h + 1) σ ≡ z → intern2 L k x y σ ≡ z
+    pub new2 : {e : ℕ} → (h < L.nesting) × (e ≡ h + 1) → {z : Outcome Table ℕ} → put k x y e σ ≡ z → intern2 L k x y σ ≡ z
     unfolding intern2
-    new2 l w =
-        way_new σ.count L.nesting e2 σ (put k x y e2 σ) _ p (omega (arith, a-is, b-is, h-is))
-        ∙ ap (λ (e : ℕ). put k x y e σ) {x = e2} {y = h + 1} (omega (arith, a-is, b-is, h-is)) ∙ w
+    new2 {e} l w =
+        way_new σ.count L.nesting e2 σ (put k x y e2 σ) _ p (omega (arith, a-is, b-is, h-is, l.0))
+        ∙ ap (λ (e : ℕ). put k x y e σ) {x = e2} {y = e} (omega (arith, a-is, b-is, h-is, l.1)) ∙ w
 
 -- ---- push_list
 
@@ -139,15 +144,15 @@ module _ (L : Limits) (τ : Exprs) (k : ℕ) (xs : List ℕ) where
   found_l p = way_found τ.states.count L.nesting e_l τ (put_l k xs e_l τ) _ _ p
 
   module _ {e : ℕ} (p : place ≡ τ.states.count) (e-is : e ≡ nest_l τ.states.words 0 xs) where
-    pub deep_l : L.nesting ≤ e → intern_l L k xs τ ≡ refused 8
+    pub deep_l : {r : Refusal} {o : Result ℕ Refusal} → (L.nesting ≤ e) × (r ≡ Nesting) → o ≡ Err r → intern_l L k xs τ ≡ seen o τ
     unfolding intern_l
-    deep_l l = way_deep τ.states.count L.nesting e_l τ (put_l k xs e_l τ) _ p (omega (arith, e-is))
+    deep_l d q = way_deep τ.states.count L.nesting e_l τ (put_l k xs e_l τ) _ p (omega (arith, e-is, d.0)) ∙ sym (refuses τ q d.1)
 
-    pub new_l : e < L.nesting → {z : Outcome Exprs ℕ} → put_l k xs (e + 1) τ ≡ z → intern_l L k xs τ ≡ z
+    pub new_l : {h : ℕ} → (e < L.nesting) × (h ≡ e + 1) → {z : Outcome Exprs ℕ} → put_l k xs h τ ≡ z → intern_l L k xs τ ≡ z
     unfolding intern_l
-    new_l l w =
-        way_new τ.states.count L.nesting e_l τ (put_l k xs e_l τ) _ p (omega (arith, e-is))
-        ∙ ap (λ (e : ℕ). put_l k xs (e + 1) τ) (sym e-is) ∙ w
+    new_l {h} l w =
+        way_new τ.states.count L.nesting e_l τ (put_l k xs e_l τ) _ p (omega (arith, e-is, l.0))
+        ∙ ap (λ (e : ℕ). put_l k xs e τ) {x = e_l} {y = h} (omega (arith, e-is, l.1)) ∙ w
 
 -- ---- mk_complement
 

@@ -1,14 +1,17 @@
 -- Searches and loops over a list: where they begin, what one turn does, where they end.
 use mathlib.Core.Path.{◌≡◌, refl, sym, ◌∙◌, ap, subst}
 use mathlib.Core.Bool.{Bool, true, false}
-use mathlib.Core.List.{List, [], ◌∷◌}
+use mathlib.Core.List.{List, [], ◌∷◌, ◌++◌}
 use mathlib.Core.Logic.{◌⊎◌, ⊎_elim}
-use Prim.Native.Nat.{ℕ, suc, ◌+◌, ◌*◌, ◌<◌, ◌≤◌, max}
+use Prim.Native.Nat.{ℕ, ◌+◌, ◌*◌, ◌<◌, ◌≤◌, max}
 use native.Mathlib.Omega.{arith}
 use native.Mathlib.Decide.{ℕ_discrete}
-use lib.ListN.{length, get_or, drop, drop_of_length-le}
-use lib.Seq.{drop-cons}
+use lib.ListN.{length}
 use borrow.Author.Tests.{eq-eqb, ne_eqb}
+use Rattle.std.specs.Prelude.{Some}
+use Rattle.std.proofs.Common.{Bor, Iter}
+use Rattle.std.specs.Iterator.{Yields}
+use Rattle.std.proofs.lemmas.Fn.{fronts}
 use Rattle.aut_steps.specs.Tables.{kind_of, op1, op2, nest, Exprs}
 use Rattle.aut_steps.specs.Intern.{seek, same2, same_at, same_l, nest_l}
 use Rattle.aut_steps.specs.Ascending.{All}
@@ -46,26 +49,39 @@ module _ (st m xs : List ℕ) (k i : ℕ) where
 
 -- ---- above_list, nest_list
 
-one_off : (xs : List ℕ) (i : ℕ) → i < length xs → drop i xs ≡ get_or xs i 0 ∷ drop (i + 1) xs
-one_off xs i l = drop-cons xs i 0 l ∙ ap (λ (j : ℕ). get_or xs i 0 ∷ drop j xs) {x = suc i} {y = i + 1} (omega arith)
+above_snoc : (h x : ℕ) (xs : List ℕ) → above_l h (xs ++ x ∷ []) ≡ max (above_l h xs) (x + 1)
+unfolding above_l
+above_snoc h x [] = refl
+above_snoc h x (y ∷ ys) = above_snoc (max h (y + 1)) x ys
 
-module _ (xs : List ℕ) (i h : ℕ) where
-  pub above_on : {h' : ℕ} → i < length xs → h' ≡ max h (get_or xs i 0 + 1) → above_l h (drop i xs) ≡ above_l h' (drop (i + 1) xs)
-  unfolding above_l
-  above_on l e = ap (above_l h) (one_off xs i l) ∙ ap (λ (h : ℕ). above_l h (drop (i + 1) xs)) (sym e)
+-- one more of the list is looked at
+pub above_more : {a b : ℕ} (x : ℕ) (xs : List ℕ) → a ≡ above_l 0 xs → b ≡ max a (x + 1) → b ≡ above_l 0 (xs ++ x ∷ [])
+above_more {a} {b} x xs p q = q ∙ ap (λ (a : ℕ). max a (x + 1)) p ∙ sym (above_snoc 0 x xs)
 
-  pub above_done : length xs ≤ i → above_l h (drop i xs) ≡ h
-  unfolding above_l
-  above_done l = ap (above_l h) (drop_of_length-le xs l)
+pub above_none : 0 ≡ above_l 0 []
+unfolding above_l
+above_none = refl
 
-  module _ (st : List ℕ) where
-    pub nest_on : {e h' : ℕ} → i < length xs → e ≡ nest st (get_or xs i 0) → h' ≡ max h e → nest_l st h (drop i xs) ≡ nest_l st h' (drop (i + 1) xs)
-    unfolding nest_l
-    nest_on {e} {h'} l p q = ap (nest_l st h) (one_off xs i l) ∙ ap (λ (h : ℕ). nest_l st h (drop (i + 1) xs)) {x = max h (nest st (get_or xs i 0))} {y = h'} (omega (arith, p, q))
+module _ (st : List ℕ) where
+  nest_snoc : (h x : ℕ) (xs : List ℕ) → nest_l st h (xs ++ x ∷ []) ≡ max (nest_l st h xs) (nest st x)
+  unfolding nest_l
+  nest_snoc h x [] = refl
+  nest_snoc h x (y ∷ ys) = nest_snoc (max h (nest st y)) x ys
 
-    pub nest_done : length xs ≤ i → nest_l st h (drop i xs) ≡ h
-    unfolding nest_l
-    nest_done l = ap (nest_l st h) (drop_of_length-le xs l)
+  pub nest_more : {a b : ℕ} (e x : ℕ) (xs : List ℕ) → a ≡ nest_l st 0 xs → e ≡ nest st x → b ≡ max a e → b ≡ nest_l st 0 (xs ++ x ∷ [])
+  nest_more {a} {b} e x xs p q r = r ∙ ap (λ (e : ℕ). max a e) q ∙ ap (λ (a : ℕ). max a (nest st x)) p ∙ sym (nest_snoc 0 x xs)
+
+  pub nest_none : 0 ≡ nest_l st 0 []
+  unfolding nest_l
+  nest_none = refl
+
+-- an item that an iterator of a slice gives is of the slice
+turned : (P : ℕ → Type 0) (xs : List (Bor ℕ)) (s t : Iter ℕ) → All P s.rest.now → Yields fronts s xs t → All P t.rest.now
+turned P [] s t a y = subst (λ (s : Iter ℕ). All P s.rest.now) y a
+turned P (x ∷ xs) s t a y = turned P xs y.0 t (subst (All P) y.1 a).1 y.2
+
+pub given_one : (P : ℕ → Type 0) (xs : List (Bor ℕ)) (s t u : Iter ℕ) (x : Bor ℕ) → All P s.rest.now → Yields fronts s xs t → fronts t (Some x) u → P x.now
+given_one P xs s t u x a y e = (subst (All P) e (turned P xs s t a y)).0
 
 -- ---- where a search begins
 
@@ -76,14 +92,14 @@ not_true false f = refl
 pub from_start : {f : ℕ → Bool} {n : ℕ} → From f 0 n
 from_start = record { within = omega arith; none = λ i l. absurd (omega arith) }
 
-pub from_1 : {t : List ℕ} {n k x a : ℕ} → Ready1 t n k x → a ≡ max 0 (x + 1) → From (same2 t k x 0) a n
-from_1 {t} {n} {k} {x} r e = record {
+pub from_1 : {t : List ℕ} {n k x : ℕ} → Ready1 t n k x → From (same2 t k x 0) (x + 1) n
+from_1 {t} {n} {k} {x} r = record {
   within = omega (arith, r.has_x);
   none = λ i l. not_true (same2 t k x 0 i) (λ q. let s = same2_is t k x 0 i q in omega (arith, s.first, r.earlier i (omega (arith, r.has_x)) s.kind));
 }
 
-pub from_2 : {t : List ℕ} {n k x y a b : ℕ} → Ready2 t n k x y → b ≡ max 0 (x + 1) → a ≡ max b (y + 1) → From (same2 t k x y) a n
-from_2 {t} {n} {k} {x} {y} r d e = record {
+pub from_2 : {t : List ℕ} {n k x y a : ℕ} → Ready2 t n k x y → a ≡ max x y → From (same2 t k x y) (a + 1) n
+from_2 {t} {n} {k} {x} {y} r e = record {
   within = omega (arith, r.has_x, r.has_y);
   none = λ i l. not_true (same2 t k x y i) (λ q. let s = same2_is t k x y i q in
       let m = r.earlier i (omega (arith, r.has_x, r.has_y)) s.kind in

@@ -5,9 +5,10 @@
 pub mod kind;
 pub mod word;
 
-ghost use Rattle.std.specs.Prelude.{◌≡◌, ℕ, ◌+◌, ◌*◌, ◌≤◌, ◌<◌, max, length};
-ghost use Rattle.std.proofs.lemmas.List.Edits.{sets};
-ghost use Rattle.aut_steps.specs.Tables.{COMPLEMENT, NEXT, UNTIL, words, kind_of, op1, op2, nest};
+ghost use Rattle.std.specs.Prelude.{◌≡◌, ℕ, ◌+◌, ◌*◌, ◌≤◌, ◌<◌, MatchResult, length};
+ghost use Rattle.refusal.specs.declared.Refusal.TheVariants.{Nesting};
+ghost use Rattle.slices.specs.Same.{SameSlice};
+ghost use Rattle.aut_steps.specs.Tables.{COMPLEMENT, NEXT, UNTIL, kind_of, op1, op2, nest};
 ghost use Rattle.aut_steps.specs.Intern as M;
 ghost use Rattle.aut_steps.specs.Constructors as C;
 ghost use Rattle.aut_steps.specs.Ascending.{All};
@@ -25,6 +26,18 @@ pub struct Limits {
     pub transitions: usize,
 }
 
+impl Limits {
+    // the nesting of a state above one of nesting n
+    fn nested(self, n: u32) -> Result<u32, Refusal>
+        ensures { MatchResult result (λ e. (n < self.nesting) × (e ≡ n + 1)) (λ e. (self.nesting ≤ n) × (e ≡ Nesting)) }
+    {
+        if n >= self.nesting {
+            return Err(Refusal::Nesting);
+        }
+        Ok(n + 1)
+    }
+}
+
 // what holds for the whole book
 #[derive(Clone, Copy)]
 pub struct Config {
@@ -34,6 +47,11 @@ pub struct Config {
 
 // words of a state
 pub const STATE: usize = 12;
+
+// the most states, and the most members
+pub const MOST_STATES: usize = 32768;
+
+pub const MOST_MEMBERS: usize = 16777216;
 
 // the lent table of states, and how many of its records are states
 #[derive(Drop)]
@@ -49,22 +67,11 @@ pub struct Members<'a> {
     pub count: usize,
 }
 
-// one above x, or at if that is more. Operands are earlier states, so a search for a state begins above its operands
-fn above(at: usize, x: u32) -> usize
-    ensures { result ≡ max at (x + 1) }
-{
-    at.max(x as usize + 1)
-}
-
-// one above the highest of the list
+// one above the highest of the list. Operands are earlier states, so a search for a state begins above its operands
 fn above_list(list: &[u32]) -> usize
     ensures { result ≡ above_l 0 list.now }
 {
-    let mut at: usize = 0;
-    for x in list {
-        at = above(at, *x);
-    }
-    at
+    list.iter().fold(0, |at, x| at.max(*x as usize + 1))
 }
 
 impl States<'_> {
@@ -119,7 +126,7 @@ impl States<'_> {
         self.kind(i) == kind && self.first(i) == x && self.second(i) == y
     }
 
-    // the first that is; it is no state before from
+    // the first that is; it is no state before `from`
     fn find(&self, from: usize, kind: u32, x: u32, y: u32) -> Option<u32>
         requires { Fits self.now.words.now self.now.count ×
             From (M.same2 self.now.words.now kind x y) from self.now.count }
@@ -137,11 +144,11 @@ impl States<'_> {
     #[tactic(auto, unfolding(aut_steps::specs::Intern::put, aut_steps::specs::Tables::room_s, aut_steps::specs::Tables::put4))]
     fn put(&mut self, kind: u32, x: u32, y: u32, nest: u32) -> Result<u32, Refusal>
         requires { Fits self.old.words.now self.old.count }
-        ensures same_table { self.new.words.ghost_name ≡ self.old.words.ghost_name }
+        ensures same_table { SameSlice self.old.words self.new.words }
         ensures gives { M.put kind x y nest (states_of self.old) ≡ seen result (states_of self.new) }
     {
         let n = self.count;
-        if n >= self.words.len() / STATE || n >= 32768 {
+        if n >= self.words.len() / STATE || n >= MOST_STATES {
             return Err(Refusal::States);
         }
         self.words[STATE * n + word::KIND] = kind;
@@ -155,7 +162,7 @@ impl States<'_> {
     // SPP, Dup, Top: no operand that is a state
     pub fn intern0(&mut self, kind: u32, x: u32) -> Result<u32, Refusal>
         requires { Fits self.old.words.now self.old.count }
-        ensures same_table { self.new.words.ghost_name ≡ self.old.words.ghost_name }
+        ensures same_table { SameSlice self.old.words self.new.words }
         ensures gives { M.intern0 kind x (states_of self.old) ≡ seen result (states_of self.new) }
     {
         if let Some(i) = self.find(0, kind, x, 0) {
@@ -166,40 +173,34 @@ impl States<'_> {
 
     pub fn intern1(&mut self, limits: Limits, kind: u32, x: u32) -> Result<u32, Refusal>
         requires { Ready1 self.old.words.now self.old.count kind x }
-        ensures same_table { self.new.words.ghost_name ≡ self.old.words.ghost_name }
+        ensures same_table { SameSlice self.old.words self.new.words }
         ensures gives { M.intern1 (limits_of limits) kind x (states_of self.old) ≡ seen result
             (states_of self.new) }
     {
-        if let Some(i) = self.find(above(0, x), kind, x, 0) {
+        if let Some(i) = self.find(x as usize + 1, kind, x, 0) {
             return Ok(i);
         }
-        let e = self.nest_of(x);
-        if e >= limits.nesting {
-            return Err(Refusal::Nesting);
-        }
-        self.put(kind, x, 0, e + 1)
+        let e = limits.nested(self.nest_of(x))?;
+        self.put(kind, x, 0, e)
     }
 
     pub fn intern2(&mut self, limits: Limits, kind: u32, x: u32, y: u32) -> Result<u32, Refusal>
         requires { Ready2 self.old.words.now self.old.count kind x y }
-        ensures same_table { self.new.words.ghost_name ≡ self.old.words.ghost_name }
+        ensures same_table { SameSlice self.old.words self.new.words }
         ensures gives { M.intern2 (limits_of limits) kind x y (states_of self.old) ≡ seen result
             (states_of self.new) }
     {
-        if let Some(i) = self.find(above(above(0, x), y), kind, x, y) {
+        if let Some(i) = self.find(x.max(y) as usize + 1, kind, x, y) {
             return Ok(i);
         }
-        let e = self.nest_of(x).max(self.nest_of(y));
-        if e >= limits.nesting {
-            return Err(Refusal::Nesting);
-        }
-        self.put(kind, x, y, e + 1)
+        let e = limits.nested(self.nest_of(x).max(self.nest_of(y)))?;
+        self.put(kind, x, y, e)
     }
 
     #[tactic(auto, unfolding(aut_steps::specs::Constructors::mk_spp))]
     pub fn mk_spp(&mut self, spp: SPP) -> Result<u32, Refusal>
         requires { Fits self.old.words.now self.old.count }
-        ensures same_table { self.new.words.ghost_name ≡ self.old.words.ghost_name }
+        ensures same_table { SameSlice self.old.words self.new.words }
         ensures gives { C.mk_spp spp.0 (states_of self.old) ≡ seen result (states_of self.new) }
     {
         self.intern0(kind::SPP, spp.0)
@@ -208,7 +209,7 @@ impl States<'_> {
     #[tactic(auto, unfolding(aut_steps::specs::Constructors::mk_dup))]
     pub fn mk_dup(&mut self) -> Result<u32, Refusal>
         requires { Fits self.old.words.now self.old.count }
-        ensures same_table { self.new.words.ghost_name ≡ self.old.words.ghost_name }
+        ensures same_table { SameSlice self.old.words self.new.words }
         ensures gives { C.mk_dup (states_of self.old) ≡ seen result (states_of self.new) }
     {
         self.intern0(kind::DUP, 0)
@@ -217,7 +218,7 @@ impl States<'_> {
     #[tactic(auto, unfolding(aut_steps::specs::Constructors::mk_top))]
     pub fn mk_top(&mut self) -> Result<u32, Refusal>
         requires { Fits self.old.words.now self.old.count }
-        ensures same_table { self.new.words.ghost_name ≡ self.old.words.ghost_name }
+        ensures same_table { SameSlice self.old.words self.new.words }
         ensures gives { C.mk_top (states_of self.old) ≡ seen result (states_of self.new) }
     {
         self.intern0(kind::TOP, 0)
@@ -226,7 +227,7 @@ impl States<'_> {
     #[tactic(auto, unfolding(aut_steps::specs::Constructors::mk_next))]
     pub fn mk_next(&mut self, limits: Limits, x: u32) -> Result<u32, Refusal>
         requires { Ready1 self.old.words.now self.old.count NEXT x }
-        ensures same_table { self.new.words.ghost_name ≡ self.old.words.ghost_name }
+        ensures same_table { SameSlice self.old.words self.new.words }
         ensures gives { C.mk_next (limits_of limits) x (states_of self.old) ≡ seen result
             (states_of self.new) }
     {
@@ -236,7 +237,7 @@ impl States<'_> {
     #[tactic(auto, unfolding(aut_steps::specs::Constructors::mk_until))]
     pub fn mk_until(&mut self, limits: Limits, x: u32, y: u32) -> Result<u32, Refusal>
         requires { Ready2 self.old.words.now self.old.count UNTIL x y }
-        ensures same_table { self.new.words.ghost_name ≡ self.old.words.ghost_name }
+        ensures same_table { SameSlice self.old.words self.new.words }
         ensures gives { C.mk_until (limits_of limits) x y (states_of self.old) ≡ seen result
             (states_of self.new) }
     {
@@ -246,7 +247,7 @@ impl States<'_> {
     #[tactic(auto, unfolding(aut_steps::specs::Constructors::mk_complement))]
     pub fn mk_complement(&mut self, config: Config, x: u32) -> Result<u32, Refusal>
         requires { Ready1 self.old.words.now self.old.count COMPLEMENT x × (config.fields ≤ 31) }
-        ensures same_table { self.new.words.ghost_name ≡ self.old.words.ghost_name }
+        ensures same_table { SameSlice self.old.words self.new.words }
         ensures gives { C.mk_complement config.fields (limits_of config.limits) x
             (states_of self.old) ≡ seen result (states_of self.new) }
     {
@@ -263,12 +264,12 @@ impl Members<'_> {
     #[tactic(auto, unfolding(crate::specs::Clauses::append, aut_steps::specs::Tables::room_m, aut_steps::specs::Intern::store))]
     fn append(&mut self, list: &[u32]) -> Result<u32, Refusal>
         requires { self.old.count ≤ 16777216 }
-        ensures same_table { self.new.words.ghost_name ≡ self.old.words.ghost_name }
+        ensures same_table { SameSlice self.old.words self.new.words }
         ensures gives { append list.now (members_of self.old) ≡ seen result (members_of self.new) }
     {
         let m = self.count;
         let end = m + list.len();
-        if end > self.words.len() || end > 16777216 {
+        if end > self.words.len() || end > MOST_MEMBERS {
             return Err(Refusal::Members);
         }
         self.words[m..end].copy_from_slice(list);
@@ -292,7 +293,7 @@ impl States<'_> {
         self.kind(i) == kind && n == list.len() && &members.words[a..a + n] == list
     }
 
-    // the first that is; it is no state before from
+    // the first that is; it is no state before `from`
     fn find_list(&self, members: &Members, from: usize, kind: u32, list: &[u32]) -> Option<u32>
         requires { Fits self.now.words.now self.now.count ×
             ((i : ℕ) → i < self.now.count → ListIn self.now.words.now members.now.words.now i kind) ×
@@ -313,11 +314,7 @@ impl States<'_> {
         requires { All (λ x. 12 * x + 11 < length self.now.words.now) list.now }
         ensures { result ≡ M.nest_l self.now.words.now 0 list.now }
     {
-        let mut h: u32 = 0;
-        for x in list {
-            h = h.max(self.nest_of(*x));
-        }
-        h
+        list.iter().fold(0, |h, x| h.max(self.nest_of(*x)))
     }
 
     // a list's state at the end of the table, its members at the end of theirs
@@ -329,8 +326,8 @@ impl States<'_> {
         nest: u32,
     ) -> Result<u32, Refusal>
         requires { PushReady (exprs_of self.old members.old) }
-        ensures same_table { self.new.words.ghost_name ≡ self.old.words.ghost_name }
-        ensures same_members { members.new.words.ghost_name ≡ members.old.words.ghost_name }
+        ensures same_table { SameSlice self.old.words self.new.words }
+        ensures same_members { SameSlice members.old.words members.new.words }
         ensures gives { M.put_l kind list.now nest (exprs_of self.old members.old) ≡ seen result (exprs_of self.new members.new) }
     {
         let m = members.append(list)?;
@@ -345,26 +342,15 @@ impl States<'_> {
         list: &[u32],
     ) -> Result<u32, Refusal>
         requires { ListAsked (exprs_of self.old members.old) kind list.now }
-        ensures same_table { self.new.words.ghost_name ≡ self.old.words.ghost_name }
-        ensures same_members { members.new.words.ghost_name ≡ members.old.words.ghost_name }
+        ensures same_table { SameSlice self.old.words self.new.words }
+        ensures same_members { SameSlice members.old.words members.new.words }
         ensures gives { M.intern_l (limits_of limits) kind list.now (exprs_of self.old members.old) ≡ seen result
             (exprs_of self.new members.new) }
     {
         if let Some(i) = self.find_list(members, above_list(list), kind, list) {
             return Ok(i);
         }
-        let e = self.nest_list(list);
-        if e >= limits.nesting {
-            return Err(Refusal::Nesting);
-        }
-        self.push_list(members, kind, list, e + 1)
+        let e = limits.nested(self.nest_list(list))?;
+        self.push_list(members, kind, list, e)
     }
-}
-
-// k words of one slice at base go to the other at m
-pub fn copy(out: &mut [u32], m: usize, from: &[u32], base: usize, k: usize)
-    requires { (m + k ≤ length out.old) × (base + k ≤ length from.now) }
-    ensures { sets out.old m (words from.now base k) ≡ out.new }
-{
-    out[m..m + k].copy_from_slice(&from[base..base + k]);
 }

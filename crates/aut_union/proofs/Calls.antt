@@ -1,5 +1,6 @@
 -- What the calls of unions and intersections have in common: answers, a list of states that is written for the next call, the exits of a constructor of two states and of a list, and a list that is interned.
-use Rattle.std.specs.Prelude.{if◌then◌else◌, Result, Ok, Err}
+use Rattle.std.specs.Prelude.{if◌then◌else◌, Option, Some, None, Result, Ok, Err}
+use Rattle.std.specs.Option.{ok_or}
 use mathlib.Core.Path.{◌≡◌, refl, sym, ◌∙◌, ap, ap₂, subst}
 use mathlib.Core.Bool.{Bool, true, false}
 use mathlib.Core.List.{List, [], ◌∷◌}
@@ -63,6 +64,11 @@ module _ {N a n : ℕ} {S V A : Type 0} {view : Lent → S} {see : V → A} {o :
 
   pub handed : {y : Lent} {r : Result V Refusal} (e : Refusal) → IsErr r × IsErrAnd r (λ x. x ≡ e) → o (view x) ≡ refused (number_of e) → Does N a n view see o x r y
   handed {y} {r} e p q = subst (λ (r : Result V Refusal). Does N a n view see o x r y) (sym (passed p)) (not_done e q)
+
+-- where there is none, `.ok_or(f)?` hands on f
+pub missing : {V W : Type 0} {o : Option V} {f e : Refusal} {r : Result W Refusal} (P : Option V → Result W Refusal → Type 0) → Err e ≡ ok_or o f → IsErr r × IsErrAnd r (λ x. x ≡ e) → P None (Err f) → P o r
+missing {o = None} {f} {e} P v p h = subst (P None) (sym (passed p ∙ ap Err (let q : e ≡ f = cc in q))) h
+missing {o = Some w} P v p h = let z : ◌≡◌ {A = ℕ} 0 1 = cc in absurd (omega arith)
 
 -- an answer on states alone, and one on states and members, as one on all tables
 pub states_is : (x y : Lent) (t : States) (r : Result ℕ Refusal) → aut_in y ≡ aut (nodes_in x) (states_of t) (members_in x) → placed put_states (aut_in x) (seen r (states_of t)) ≡ outcome (λ i. i) r (aut_in y)

@@ -1,11 +1,12 @@
 -- The chain of calls of a union: what each call is asked, and what the whole comes to.
-use Rattle.std.specs.Prelude.{Option, Some, None, Result, Ok, Err}
+use Rattle.std.specs.Prelude.{Option, Some, Result, Ok, Err}
 use mathlib.Core.Path.{◌≡◌, refl, sym, ◌∙◌, ap, subst}
 use mathlib.Core.List.{List, []}
 use Prim.Native.Nat.{ℕ, ◌+◌, ◌-◌, ◌≤◌, ◌<◌}
 use native.Mathlib.Omega.{arith}
 use lib.Dec.{eqb}
 use lib.ListN.{length, take, drop}
+use Rattle.std.specs.Option.{ok_or}
 use Rattle.std.specs.Result.{IsErr, IsErrAnd}
 use Rattle.common.specs.Outcome.{Outcome, Step, after, ◌>>=◌}
 use Rattle.common.specs.Runs.{Table, placed}
@@ -40,7 +41,7 @@ use Rattle.aut_relations.specs.Lent.{nodes_in, states_in, members_in, exprs_in, 
 use Rattle.aut_union.specs.declared.Parts.{Parts as Gathered}
 use Rattle.aut_union.specs.Clauses.{parts_at, AddReady, Adds, ListAt}
 use Rattle.aut_union.proofs.Gather.{First, uniting, first_done, tables_after, behind_goes}
-use Rattle.aut_union.proofs.Calls.{left_then, not_done, handed, always, states_is, exprs_is, Written, written_asked, written_done, ListExits, OfList, several, PairExits, OfPair, union_asked}
+use Rattle.aut_union.proofs.Calls.{left_then, not_done, handed, missing, always, states_is, exprs_is, Written, written_asked, written_done, ListExits, OfList, several, PairExits, OfPair, union_asked}
 
 -- the list with the relation's state
 added_goes : {N : ℕ} {L : Limits} {σ : Aut} → WfAut N L σ → (p : Parts) → ValidAt σ.nodes N p.relation → All (λ x. x < states σ) p.others
@@ -159,16 +160,16 @@ module _ {c : Config} {x : Lent} {from k : ℕ} (R : Asked c x) (A : ListAt x.sc
     after_open : all_n (aut_in x) ≡ unite_opened c.fields (limits_of c.limits) (opened_of r1 s1 256) (aut_in x)
     after_open = several of_list c x from k h p ∙ ap (λ (o : Opened). unite_opened c.fields (limits_of c.limits) o (aut_in x)) O.is
 
-  module _ (h : k ≤ c.limits.list) (p : k ≡ 1 → ⊥) {s1 : List ℕ} where
-    pub too_long : {y : Lent} → OpenedUnion open_n None x.scratch.now s1 256 c.limits.list → Does c.fields 256 320 aut_in (λ i. i) all_n x (Err refusal.List) y
-    too_long O = not_done refusal.List (after_open h p O)
+  module _ (h : k ≤ c.limits.list) (p : k ≡ 1 → ⊥) {r1 : Option Answer} {s1 : List ℕ} (O : OpenedUnion open_n r1 x.scratch.now s1 256 c.limits.list) where
+    told : {v : Option Answer} → r1 ≡ v → OpenedUnion open_n v x.scratch.now s1 256 c.limits.list
+    told e = subst (λ (r : Option Answer). OpenedUnion open_n r x.scratch.now s1 256 c.limits.list) e O
 
-    module _ {o : Answer} (O : OpenedUnion open_n (Some o) x.scratch.now s1 256 c.limits.list) (len1 : length s1 ≡ length x.scratch.now) where
-      told : {v : Answer} → o ≡ v → OpenedUnion open_n (Some v) x.scratch.now s1 256 c.limits.list
-      told e = subst (λ (o : Answer). OpenedUnion open_n (Some o) x.scratch.now s1 256 c.limits.list) e O
+    pub too_long : {e : Refusal} → Err e ≡ ok_or r1 refusal.List → {r : Result ℕ Refusal} → IsErr r × IsErrAnd r (λ x. x ≡ e) → {y : Lent} → Does c.fields 256 320 aut_in (λ i. i) all_n x r y
+    too_long v q {y} = missing (λ (o : Option Answer) (r : Result ℕ Refusal). r1 ≡ o → Does c.fields 256 320 aut_in (λ i. i) all_n x r y) v q (λ e. not_done refusal.List (after_open h p (told e))) refl
 
+    module _ (len1 : length s1 ≡ length x.scratch.now) where
       -- Top is among them
-      pub meets_top : o ≡ answer.Top → (t : States) {r : Result ℕ Refusal} {y : Lent} → mk_top (states_in x) ≡ seen r (states_of t) → aut_in y ≡ aut (nodes_in x) (states_of t) (members_in x) → y.scratch.now ≡ s1
+      pub meets_top : r1 ≡ Some answer.Top → (t : States) {r : Result ℕ Refusal} {y : Lent} → mk_top (states_in x) ≡ seen r (states_of t) → aut_in y ≡ aut (nodes_in x) (states_of t) (members_in x) → y.scratch.now ≡ s1
           → Does c.fields 256 320 aut_in (λ i. i) all_n x r y
       meets_top e t {r} {y} q z s = record {
         is = after_open h p (told e) ∙ ap (placed put_states (aut_in x)) q ∙ states_is x y t r z;
@@ -177,7 +178,7 @@ module _ {c : Config} {x : Lent} {from k : ℕ} (R : Asked c x) (A : ListAt x.sc
       }
 
       -- a list
-      module _ {m : ℕ} (e : o ≡ answer.List m) where
+      module _ {m : ℕ} (e : r1 ≡ Some (answer.List m)) where
         few_m : m ≤ 64
         few_m = omega (arith, R.ready.list, (told e).few)
 

@@ -35,7 +35,7 @@ use Rattle.aut_states.specs.declared.Config.{Config}
 use Rattle.aut_states.specs.declared.States.{States}
 use Rattle.aut_states.specs.Clauses.{states_of}
 use Rattle.aut_relations.specs.Behind.{LISTS, Modifies}
-use Rattle.aut_relations.proofs.Kept.{exprs_refl, exprs_trans}
+use Rattle.aut_relations.proofs.Kept.{keeps_refl, keeps_trans}
 use Rattle.aut_relations.proofs.Behind.{left_any, left_kept, words_behind}
 use Rattle.aut_relations.specs.Clauses.{RelAt}
 use Rattle.aut_relations.specs.declared.Aut.{Aut as Lent}
@@ -123,7 +123,7 @@ module _ {N : ℕ} (G : Gathers N) where
 
     pub begin : (v : G.V) → G.see x.scratch.now to v ≡ G.start → G.many v ≡ 0 → Turned x from k to x v 0
     begin v e z = record {
-      keeps = exprs_refl x;
+      keeps = keeps_refl x;
       turn = subst (λ (a : G.A). Turn N (G.one st) (Held Any) G.start (nodes_in x) x.scratch.now from k to a (nodes_in x) x.scratch.now (G.many v) 0) (sym e)
           (subst (λ (m : ℕ). Turn N (G.one st) (Held Any) G.start (nodes_in x) x.scratch.now from k to G.start (nodes_in x) x.scratch.now m 0) (sym z)
           (turns.begin K G.start (nodes_in x) x.scratch.now from k to R.apart R.room R.backed (begun Any R.backed.wf R.backed.few)));
@@ -155,10 +155,10 @@ module _ {N : ℕ} (G : Gathers N) where
 
         pub again : {w : G.V} → KeepsExprs y z → Does N (to + G.many v) 1 nodes_in (G.see z.scratch.now to) One y (Ok w) z → G.many w ≤ G.many v + 1 → Turned x from k to z w (i + 1)
         again {w} E D f = record {
-          keeps = exprs_trans T.keeps E;
+          keeps = keeps_trans T.keeps E;
           turn = turns.again K G.start (nodes_in x) x.scratch.now from k to R.apart R.room a (nodes_in y) y.scratch.now (G.many v) i T.turn l (members_of_lem N st (nodes_in x) (words x.scratch.now from k) R.at)
               (G.see z.scratch.now to w) (nodes_in z) z.scratch.now (G.many w)
-              (subst (λ (s : _). G.one s.words.now (get_or y.scratch.now (from + i) 0) a (nodes_in y) ≡ given (nodes_in z) (G.see z.scratch.now to w)) T.keeps.states D.is) D.left f E.length;
+              (subst (λ (s : _). G.one s.words.now (get_or y.scratch.now (from + i) 0) a (nodes_in y) ≡ given (nodes_in z) (G.see z.scratch.now to w)) T.keeps.states D.is) D.left f E.scratch.length;
         }
 
       pub end : k ≤ i → Does N to k nodes_in (G.see y.scratch.now to) (All_of x from k) x (Ok v) y
@@ -194,7 +194,7 @@ module _ {c : Config} (G : Gathers c.fields) {x : Lent} (R : Asked c x) {from k 
     first_done = record {
       asked = record {
         fields = E.spp.fields ∙ R.fields;
-        ready = rw E.states (rw E.members (order.ready_after R.ready (grown_nodes grows.ext) (good_nodes R.ready.good grows.ext grows.wf) D.left E.length));
+        ready = rw E.states (rw E.members (order.ready_after R.ready (grown_nodes grows.ext) (good_nodes R.ready.good grows.ext grows.wf) D.left E.scratch.length));
       };
       holds = rw E.states grows.holds;
     }

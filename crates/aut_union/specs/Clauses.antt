@@ -57,7 +57,7 @@ pub record Adds (o : Step Table (List ℕ)) (x : States) (r : Result ℕ Refusal
 
 -- ---- what the constructors ask of their operands
 
--- the k words at from, which stand before `before`, are states
+-- the k words at `from`, which stand before `before`, are states
 pub record ListAt (s : List ℕ) (n from k before : ℕ) : Type 0 where
   pub states : All (λ x. x < n) (words s from k)
   pub apart : from + k ≤ before

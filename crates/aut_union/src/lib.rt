@@ -1,7 +1,8 @@
 // mk_union_n and mk_union of aut.rs. A list is k words of scratch (the map of scratch is aut_scratch's).
 #![tactic(auto)]
 
-ghost use Rattle.std.specs.Prelude.{◌≡◌, List, [], ◌+◌, ◌≤◌, ◌<◌};
+ghost use Rattle.std.specs.Prelude.{◌≡◌, [], ◌+◌, ◌≤◌};
+ghost use Rattle.slices.specs.Same.{SameSlice};
 ghost use Rattle.aut_steps.specs.Tables.{words, UNION};
 ghost use Rattle.aut_steps.specs.Relations.{zero_at};
 ghost use Rattle.aut_steps.specs.Constructors as C;
@@ -23,7 +24,7 @@ pub struct Parts {
     pub others: usize,
 }
 
-// x is united with the relation if it is one, or goes behind the others, which stand at to
+// x is united with the relation if it is one, or goes behind the others, which stand at `to`
 fn unite_one(aut: &mut Aut, config: Config, p: Parts, x: u32, to: usize) -> Result<Parts, Refusal>
     requires { UniteReady config.fields aut.old p.relation.0 x to p.others }
     ensures keeps { KeepsExprs aut.old aut.new }
@@ -44,7 +45,7 @@ fn unite_one(aut: &mut Aut, config: Config, p: Parts, x: u32, to: usize) -> Resu
     })
 }
 
-// the relations of the k states at from, united; the others go to to
+// the relations of the k states at `from`, united; the others go to `to`
 fn unite_each(
     aut: &mut Aut,
     config: Config,
@@ -71,7 +72,7 @@ fn unite_each(
     Ok(p)
 }
 
-// the relation goes behind the others, which stand at at, as a state, unless it is zero
+// the relation goes behind the others, which stand at `at`, as a state, unless it is zero
 fn add_relation(
     states: &mut States,
     scratch: &mut [u32],
@@ -80,7 +81,7 @@ fn add_relation(
     at: usize,
 ) -> Result<usize, Refusal>
     requires { AddReady config.fields states.old scratch.old at p.others }
-    ensures same { states.new.words.ghost_name ≡ states.old.words.ghost_name }
+    ensures same { SameSlice states.old.words states.new.words }
     ensures gives { Adds (C.add_relation config.fields (parts_at scratch.old at p)) states.old
         result states.new scratch.old scratch.new at p.others }
 {
@@ -100,18 +101,16 @@ fn finish(
     list: &[u32],
 ) -> Result<u32, Refusal>
     requires { ListAsked (exprs_of states.old members.old) UNION list.now × (config.fields ≤ 31) }
-    ensures same { states.new.words.ghost_name ≡ states.old.words.ghost_name }
-    ensures same_members { members.new.words.ghost_name ≡ members.old.words.ghost_name }
+    ensures same { SameSlice states.old.words states.new.words }
+    ensures same_members { SameSlice members.old.words members.new.words }
     ensures gives { C.finish config.fields (limits_of config.limits) list.now
         (exprs_of states.old members.old) ≡ seen result (exprs_of states.new members.new) }
 {
-    if list.len() == 1 {
-        return Ok(list[0]);
+    match list {
+        [] => states.mk_spp(spp::zero_at_depth(config.fields)),
+        [x] => Ok(*x),
+        _ => states.intern_list(members, config.limits, aut_states::kind::UNION, list),
     }
-    if list.len() == 0 {
-        return states.mk_spp(spp::zero_at_depth(config.fields));
-    }
-    states.intern_list(members, config.limits, aut_states::kind::UNION, list)
 }
 
 // the union of the k states at BASE, none of which is a Union or Top
@@ -127,11 +126,12 @@ fn unite(aut: &mut Aut, config: Config, k: usize) -> Result<u32, Refusal>
     let l = add_relation(&mut aut.states, aut.scratch, config, p, aut_scratch::OTHERS)?;
     let at = aut_scratch::SORTED;
     let r = aut_scratch::sorted(aut.scratch, aut_scratch::OTHERS, l, at);
+    // only read, but `&aut.scratch[..]` beside `&mut aut.states` is not covered by the borrow checker
     let list = &mut aut.scratch[at..at + r];
     finish(&mut aut.states, &mut aut.members, config, list)
 }
 
-// the union of the k states at from
+// the union of the k states at `from`
 pub fn mk_union_n(aut: &mut Aut, config: Config, from: usize, k: usize) -> Result<u32, Refusal>
     requires { Asked config aut.old × ListAt aut.old.scratch.now aut.old.states.count from k 256 }
     ensures keeps { Keeps aut.old aut.new }
@@ -145,7 +145,7 @@ pub fn mk_union_n(aut: &mut Aut, config: Config, from: usize, k: usize) -> Resul
     if k == 1 {
         return Ok(aut.scratch[from]);
     }
-    let Some(opened) = aut_scratch::open_union(
+    let opened = aut_scratch::open_union(
         &aut.states,
         &aut.members,
         aut.scratch,
@@ -153,9 +153,8 @@ pub fn mk_union_n(aut: &mut Aut, config: Config, from: usize, k: usize) -> Resul
         from,
         k,
         aut_scratch::BASE,
-    ) else {
-        return Err(Refusal::List);
-    };
+    )
+    .ok_or(Refusal::List)?;
     match opened {
         Opened::Top => aut.states.mk_top(),
         Opened::List(m) => unite(aut, config, m),

@@ -42,7 +42,7 @@ module _ {k : Config} {x : Lent} (R : Asked k x) {a b : Line} (q : LineReady k.f
   ready_by : (n : ℕ) (r : Result ℕ Refusal) → M.make k.fields (limits_of k.limits) (line_of x.scratch.now a) (aut_in x) ≡ outcome (λ i. i) r (aut_in y) → Unless r (Modifies k.fields 0 n (nodes_in y) x.scratch.now y.scratch.now) → ReadyBy k r y
   ready_by n (Ok z) e p =
       let i = came (subst (StepSpec k.fields (limits_of k.limits) (Is k.fields (In (M.means (rule k.fields (aut_in x)) (line_of x.scratch.now a)))) (aut_in x)) e (make_goes R.ready.good (line_of x.scratch.now a) q.asked)) in
-      (record { fields = K.spp.fields ∙ R.fields; ready = ready_after R.ready i.grown i.good p K.length }, i.holds.state)
+      (record { fields = K.spp.fields ∙ R.fields; ready = ready_after R.ready i.grown i.good p K.scratch.length }, i.holds.state)
   ready_by n (Err e) p l = tt
 
   pub ready : {n : ℕ} {r : Result ℕ Refusal} → Does k.fields 0 n aut_in (λ i. i) (M.make k.fields (limits_of k.limits) (line_of x.scratch.now b)) x r y → ReadyBy k r y

@@ -17,12 +17,12 @@ returns-then-k-eq1-clause-gives c =
 pub open-requires : goal.open-requires
 open-requires c = open_ready c.requires.0 c.requires.1 (omega arith)
 
-pub returns-in_default-clause-gives : goal.returns-in_default-clause-gives
-returns-in_default-clause-gives c = chain.too_long c.requires.0 c.requires.1 c.if-k-config.false c.if-k-eq1.false c.in_default.ensures
+pub returns-in_err-m-clause-gives : goal.returns-in_err-m-clause-gives
+returns-in_err-m-clause-gives c = chain.too_long c.requires.0 c.requires.1 c.if-k-config.false c.if-k-eq1.false c.«open».ensures c.in_err-m.ensures.value c.from_residual.ensures
 
 pub distribute-requires : goal.distribute-requires
-distribute-requires c = chain.distribute_asked c.requires.0 c.requires.1 c.if-k-config.false c.if-k-eq1.false c.in-Some.ensures c.«open».auto.scratch _ refl refl refl
+distribute-requires c = chain.distribute_asked c.requires.0 c.requires.1 c.if-k-config.false c.if-k-eq1.false c.«open».ensures c.in_ok-m.ensures.ok_part c.«open».auto.scratch _ refl refl refl
 
 pub returns-clause-gives : goal.returns-clause-gives
 returns-clause-gives c =
-    chain.distributed c.requires.0 c.requires.1 c.if-k-config.false c.if-k-eq1.false c.in-Some.ensures c.«open».auto.scratch _ refl refl refl c.distribute.ensures.gives
+    chain.distributed c.requires.0 c.requires.1 c.if-k-config.false c.if-k-eq1.false c.«open».ensures c.in_ok-m.ensures.ok_part c.«open».auto.scratch _ refl refl refl c.distribute.ensures.gives

@@ -20,4 +20,4 @@ meet_finish-requires c =
 
 pub returns-clause-gives : goal.returns-clause-gives
 returns-clause-gives c =
-    chain.done c.requires.0 c.requires.1 c.requires.2 c.in_ok-p.ensures.keeps c.in_ok-p.ensures.gives c.in_ok-p.ensures.few c.sorted-r.ensures c.sorted-r.auto.scratch _ refl refl c.meet_finish.ensures.nodes c.meet_finish.ensures.keeps.length c.meet_finish.ensures.gives
+    chain.done c.requires.0 c.requires.1 c.requires.2 c.in_ok-p.ensures.keeps c.in_ok-p.ensures.gives c.in_ok-p.ensures.few c.sorted-r.ensures c.sorted-r.auto.scratch _ refl refl c.meet_finish.ensures.nodes c.meet_finish.ensures.keeps.scratch.length c.meet_finish.ensures.gives

@@ -10,13 +10,13 @@ use Rattle.aut_intersect_base.proofs.mk_intersect_n_base.Goals as goal
 pub open-requires : goal.open-requires
 open-requires c = opening.open_ready c.requires.0 c.requires.1 (omega arith)
 
-pub returns-in_default-clause-gives : goal.returns-in_default-clause-gives
-returns-in_default-clause-gives c =
-    opening.too_long c.requires.0 c.requires.1 (omega arith) (meet_opened c.args.config.fields (limits_of c.args.config.limits)) (opens c.args.config c.args.aut.now c.args.from c.args.k) refusal.List refl c.in_default.ensures
+pub returns-in_err-m-clause-gives : goal.returns-in_err-m-clause-gives
+returns-in_err-m-clause-gives c =
+    opening.too_long c.requires.0 c.requires.1 (omega arith) (meet_opened c.args.config.fields (limits_of c.args.config.limits)) (opens c.args.config c.args.aut.now c.args.from c.args.k) refusal.List refl c.«open».ensures c.in_err-m.ensures.value c.from_residual.ensures
 
 pub meet-requires : goal.meet-requires
-meet-requires c = opening.next_ready c.requires.0 c.requires.1 (omega arith) c.in-Some.ensures c.«open».auto.scratch _ refl refl refl
+meet-requires c = opening.next_ready c.requires.0 c.requires.1 (omega arith) c.«open».ensures c.in_ok-m.ensures.ok_part c.«open».auto.scratch _ refl refl refl
 
 pub returns-clause-gives : goal.returns-clause-gives
 returns-clause-gives c =
-    opening.next_done c.requires.0 c.requires.1 (omega arith) c.in-Some.ensures c.«open».auto.scratch _ refl refl refl (meet_opened c.args.config.fields (limits_of c.args.config.limits)) (opens c.args.config c.args.aut.now c.args.from c.args.k) (omega arith) c.meet.ensures.gives
+    opening.next_done c.requires.0 c.requires.1 (omega arith) c.«open».ensures c.in_ok-m.ensures.ok_part c.«open».auto.scratch _ refl refl refl (meet_opened c.args.config.fields (limits_of c.args.config.limits)) (opens c.args.config c.args.aut.now c.args.from c.args.k) (omega arith) c.meet.ensures.gives

@@ -6,7 +6,4 @@ pub spp_of-requires : goal.spp_of-requires
 spp_of-requires c = tables.relations_ready c.requires (c.both_relations.ensures ∙ c.if-both_relations.true)
 
 pub intern2-requires : goal.intern2-requires
-intern2-requires c = tables.xor_ready c.requires
-
-pub intern2-requires-2 : goal.intern2-requires-2
-intern2-requires-2 c = tables.turned_ready c.requires
+intern2-requires c = tables.xor_ready c.requires c.min.ensures c.max.ensures

@@ -1,11 +1,10 @@
-use mathlib.Core.Path.{sym, ◌∙◌}
+use Rattle.std.proofs.Common.{◌≡◌, subst, rules}
+use Rattle.std.proofs.lemmas.Fn.{fold_over, slice_gives, fronts}
+use Rattle.aut_states.specs.Clauses.{above_l}
 use Rattle.aut_states.proofs.Scan as scan
 use Rattle.aut_states.proofs.above_list.Goals as goal
 
-pub loop-x-preserved : goal.loop-x-preserved
-loop-x-preserved c =
-    c.loop-x.invariant ∙ scan.above_on c.args.list.now c.loop-x.x-index c.loop-x.at c.loop-x-test.true c.above-at.ensures
-
 pub returns : goal.returns
-returns c =
-    sym (c.loop-x.invariant ∙ scan.above_done c.args.list.now c.loop-x.x-index c.loop-x.at c.loop-x-test.false)
+returns c = subst (λ l. c.fold.result ≡ above_l 0 l) c.iter.ensures.rest
+    (fold_over fronts (λ y. y.now) _ (λ ys n. n ≡ above_l 0 ys) _ (λ ys a x b f' j k. (scan.above_more x.now ys j (search rules), search rules))
+    _ _ _ _ (slice_gives c.iter.result) scan.above_none c.fold.ensures.ran)

@@ -1,3 +1,4 @@
+use Rattle.refusal.proofs.Passed.{passed}
 use Rattle.aut_states.specs.Clauses.{limits_of, exprs_of}
 use Rattle.aut_states.proofs.Intern as intern
 use Rattle.aut_states.proofs.Scan as scan
@@ -10,13 +11,13 @@ pub returns-in-Some-clause-gives : goal.returns-in-Some-clause-gives
 returns-in-Some-clause-gives c =
     intern.found_l (limits_of c.args.limits) (exprs_of c.args.self.now c.args.members.now) c.args.kind c.args.list.now c.in-Some.ensures
 
-pub nest_list-e-requires : goal.nest_list-e-requires
-nest_list-e-requires c = scan.inside c.args.list.now c.requires.push.fits c.requires.has
+pub nest_list-requires : goal.nest_list-requires
+nest_list-requires c = scan.inside c.args.list.now c.requires.push.fits c.requires.has
 
-pub returns-then-e-limits-clause-gives : goal.returns-then-e-limits-clause-gives
-returns-then-e-limits-clause-gives c =
-    intern.deep_l (limits_of c.args.limits) (exprs_of c.args.self.now c.args.members.now) c.args.kind c.args.list.now c.in_default.ensures c.nest_list-e.ensures c.if-e-limits.true
+pub returns-in_err-e-clause-gives : goal.returns-in_err-e-clause-gives
+returns-in_err-e-clause-gives c =
+    intern.deep_l (limits_of c.args.limits) (exprs_of c.args.self.now c.args.members.now) c.args.kind c.args.list.now c.in_default.ensures c.nest_list.ensures c.in_err-e.ensures (passed c.from_residual.ensures)
 
 pub returns-clause-gives : goal.returns-clause-gives
 returns-clause-gives c =
-    intern.new_l (limits_of c.args.limits) (exprs_of c.args.self.now c.args.members.now) c.args.kind c.args.list.now c.in_default.ensures c.nest_list-e.ensures c.if-e-limits.false c.push_list.ensures.gives
+    intern.new_l (limits_of c.args.limits) (exprs_of c.args.self.now c.args.members.now) c.args.kind c.args.list.now c.in_default.ensures c.nest_list.ensures c.in_ok-e.ensures c.push_list.ensures.gives
