@@ -9,6 +9,7 @@ use Rattle.netkat_steps.specs.ListSteps as St
 use Rattle.netkat_steps.specs.ListSteps.{Edge, edge}
 use Rattle.refusal.specs.declared.Refusal.{Refusal}
 use Rattle.refusal.specs.Numbers.{outcome}
+use Rattle.slices.specs.Same.{SameSlice}
 use Rattle.spp_steps.specs.Model as Spp
 use Rattle.spp.specs.declared.SPP.{SPP}
 use Rattle.aut_steps.specs.Tables.{Aut, on_nodes, on_states}
@@ -131,7 +132,7 @@ module _ {k : Config} {x : Lent} {z : Source} (R : OneAsked k x z) where
             edges_behind (rested K₃ D₃).post.then.frame RESULT n (omega arith) (omega (arith, few)) ∙ edges_behind D₂.post.then.frame RESULT n (omega arith) (omega (arith, few))
 
         -- and Top
-        module _ {s : States} {top : ℕ} (e₄ : s.words.ghost_name ≡ w.states.words.ghost_name) (D₄ : mk_top (states_in w) ≡ given (states_of s) top) where
+        module _ {s : States} {top : ℕ} (e₄ : SameSlice w.states.words s.words) (D₄ : mk_top (states_in w) ≡ given (states_of s) top) where
           topped_4 : Goes k 0 0 State (λ i. i) (on_states mk_top) w (Ok top) (stated w s)
           topped_4 = topped {r = Ok top} D₄
 

@@ -14,6 +14,7 @@ ghost use Rattle.aut_st_each.specs.Asked.{OneAsked};
 
 use aut_relations::Aut;
 use aut_st_each::Each;
+use aut_st_edges::Transition;
 use aut_st_source::Source;
 use aut_states::Config;
 use refusal::Refusal;
@@ -47,7 +48,7 @@ pub fn st_complement(aut: &mut Aut, config: Config, source: Source) -> Result<us
 {
     let n = aut_st_each::insert_each(aut, config, Each::Complement, source, 0)?;
     let sum = cover_all(aut, config, source)?;
-    let rest = aut.apply(config, Op::Not, sum, sum)?;
-    let top = aut.states.mk_top()?;
-    aut_st_insert::st_insert(aut, config, top, rest, n)
+    let label = aut.apply(config, Op::Not, sum, sum)?;
+    let target = aut.states.mk_top()?;
+    aut_st_insert::st_insert(aut, config, Transition { target, label }, n)
 }

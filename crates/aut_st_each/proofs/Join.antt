@@ -42,8 +42,8 @@ use Rattle.aut_stage.proofs.Rule.{Inside, all_of}
 use Rattle.aut_st_insert.specs.Clauses.{RESULT}
 use Rattle.aut_st_insert.specs.Asked.{ListAsked}
 use Rattle.aut_st_insert.proofs.Join.{edges_behind, list_few}
-use Rattle.aut_st_source.specs.declared.Transition.{Transition}
-use Rattle.aut_st_source.specs.Clauses.{edge_of}
+use Rattle.aut_st_edges.specs.declared.Transition.{Transition}
+use Rattle.aut_st_edges.specs.Clauses.{edge_of}
 use Rattle.aut_st_stage.proofs.Run.{Run, run_begin, run_next, run_as, run_done, run_finish, stated}
 use Rattle.aut_st_each.specs.declared.Each.{Each}
 use Rattle.aut_st_each.specs.Clauses.{each_of}
@@ -85,7 +85,7 @@ module _ {k : Config} {x : Lent} {a b : Each} {t : Transition} (q : a ≡ b) (R 
   -- a label
   pub by_label : {y : Lent} {o : Step Table ℕ} {h : SPP} → KeepsExprs x y → Does k.fields 0 0 nodes_in (λ h. h.0) o x (Ok h) y → told (aut_in x) ≡ after (on_nodes o (aut_in x)) (λ z. return (edge t.target z))
       → Goes k 0 576 (EdgeAt k.fields) edge_of makes x (Ok (record { target = t.target; label = h })) y
-  by_label {y} {o} K D is = let D' = on_all K D in one (λ z. edge t.target z) K.length (left_wide D'.left (omega arith) (omega arith)) D'.is is refl
+  by_label {y} {o} K D is = let D' = on_all K D in one (λ z. edge t.target z) K.scratch.length (left_wide D'.left (omega arith) (omega arith)) D'.is is refl
 
 -- ---- meet_of: the target is made before the label
 

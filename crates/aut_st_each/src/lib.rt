@@ -2,7 +2,6 @@
 #![tactic(auto)]
 
 ghost use Rattle.netkat_steps.specs.ListSteps as St;
-ghost use Rattle.netkat_steps.specs.ListSteps.{edge};
 ghost use Rattle.aut_st_steps.specs.Operations.{ops};
 ghost use Rattle.aut_st_steps.specs.Edges.{EdgeAt};
 ghost use Rattle.aut_st_steps.specs.ListSpec.{ListAt};
@@ -12,13 +11,15 @@ ghost use Rattle.aut_relations.specs.Lent.{Keeps};
 ghost use Rattle.aut_stage.specs.OnLent.{Goes};
 ghost use Rattle.aut_st_insert.specs.Clauses.{list_in};
 ghost use Rattle.aut_st_insert.specs.Asked.{ListAsked};
-ghost use Rattle.aut_st_source.specs.Clauses.{edge_of, source_of};
+ghost use Rattle.aut_st_edges.specs.Clauses.{edge_of};
+ghost use Rattle.aut_st_source.specs.Clauses.{source_of};
 ghost use Rattle.aut_st_each.specs.Clauses.{each_of};
 ghost use Rattle.aut_st_each.specs.Asked.{MakeAsked, EachAsked, PairsAsked};
 
 use aut_relations::Aut;
 use aut_sequence::Task;
-use aut_st_source::{Source, Transition};
+use aut_st_edges::Transition;
+use aut_st_source::Source;
 use aut_states::Config;
 use refusal::Refusal;
 use spp::{Op, SPP};
@@ -32,25 +33,24 @@ pub enum Each {
     Intersect(u32),
     Complement,
     Rest(SPP),
-    Meet(u32, SPP),
+    Meet(Transition),
 }
 
-// met with the transition to s with the label l: the target is made before the label
+// met with u: the target is made before the label
 fn meet_of(
     aut: &mut Aut,
     config: Config,
-    s: u32,
-    l: SPP,
+    u: Transition,
     t: Transition,
 ) -> Result<Transition, Refusal>
-    requires { MakeAsked config aut.old (M.meet (edge s l.0)) (edge_of t) }
+    requires { MakeAsked config aut.old (M.meet (edge_of u)) (edge_of t) }
     ensures keeps { Keeps aut.old aut.new }
     ensures gives { Goes config 0 576 (EdgeAt config.fields) edge_of
-        (M.made config.fields (limits_of config.limits) (M.meet (edge s l.0)) (edge_of t))
+        (M.made config.fields (limits_of config.limits) (M.meet (edge_of u)) (edge_of t))
         aut.old result aut.new }
 {
-    let target = aut_intersect::mk_intersect(aut, config, s, t.target)?;
-    let label = aut.apply(config, Op::Intersect, l, t.label)?;
+    let target = aut_intersect::mk_intersect(aut, config, u.target, t.target)?;
+    let label = aut.apply(config, Op::Intersect, u.label, t.label)?;
     Ok(Transition { target, label })
 }
 
@@ -88,7 +88,7 @@ fn make_edge(
             let label = aut.apply(config, Op::Difference, t.label, l)?;
             Ok(Transition { label, ..t })
         }
-        Each::Meet(s, l) => meet_of(aut, config, s, l, t),
+        Each::Meet(u) => meet_of(aut, config, u, t),
     }
 }
 
@@ -108,7 +108,7 @@ fn insert_made(
         (list_in aut.old m)) aut.old result aut.new }
 {
     let new = make_edge(aut, config, each, t)?;
-    aut_st_insert::st_insert(aut, config, new.target, new.label, m)
+    aut_st_insert::st_insert(aut, config, new, m)
 }
 
 // for each transition of the source, into the m at RESULT
@@ -157,7 +157,7 @@ pub fn insert_pairs(
     let mut n = m;
     for i in 0..first.length {
         let t = aut_st_source::read(aut, first, i);
-        n = insert_each(aut, config, Each::Meet(t.target, t.label), second, n)?;
+        n = insert_each(aut, config, Each::Meet(t), second, n)?;
     }
     Ok(n)
 }

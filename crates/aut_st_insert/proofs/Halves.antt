@@ -26,12 +26,33 @@ use Rattle.aut_relations.specs.declared.Aut.{Aut as Lent}
 use Rattle.aut_relations.specs.Lent.{nodes_in, aut_in, Keeps, KeepsExprs, Does, Handles, Asked}
 use Rattle.aut_stage.specs.OnLent.{Goes}
 use Rattle.aut_stage.proofs.OnLent.{lent_laws, made, asked_after}
-use Rattle.aut_stage.proofs.Rule.{all_of, begin, instead, next, stuck, finish, done}
+use Rattle.aut_stage.proofs.Rule.{Inside, all_of, begin, instead, next, stuck, finish, done}
 use Rattle.aut_union.specs.Clauses.{PairAt}
 use Rattle.aut_st_insert.specs.Clauses.{list_in, part_in}
 use Rattle.aut_st_insert.specs.Asked.{ListAsked, PlaceAsked, MeetAsked, RestAsked}
 use Rattle.aut_st_insert.proofs.Join.{list_same, list_after}
 use Rattle.aut_st_insert.proofs.Calls.{Run, anywhere, handles, unites, intersects, subtracts}
+
+-- ---- what both halves end with: the label u is made, and e is to be placed; the answer is u and the list
+
+pub record Half (k : Config) (a n : ℕ) (x : Lent) (m : ℕ) (whole : Step Aut Part) (u : SPP) (e : Edge) (z : Lent) : Type 0 where
+  pub asked : PlaceAsked k z m e
+  pub label : Label k.fields (aut_in z) u.0
+  pub inside : Inside a n 576 128
+  pub stage : Run k a n whole x (after (St.place (ops k.fields (limits_of k.limits)) e.target e.label (list_in z m) (aut_in z)) (λ fs. return (part u.0 fs))) z
+
+module _ {k : Config} {a n : ℕ} {x : Lent} {m : ℕ} {whole : Step Aut Part} {u : SPP} {e : Edge} {z : Lent} (H : Half k a n x m whole u e z) where
+  abbrev Placed : Result ℕ Refusal → Lent → Type 0
+  Placed r o = Goes k 576 128 (ListAt k.fields (limits_of k.limits)) (list_in o) (St.place (ops k.fields (limits_of k.limits)) e.target e.label (list_in z m)) z r o
+
+  pub half_stuck : {V : Type 0} {see : V → Part} {q : Refusal} {o o' : Lent} → Placed (Err q) o → Goes k a n (PartAt k.fields (limits_of k.limits)) see whole x (Err q) o'
+  half_stuck g = record { post = stuck (lent_laws k.fields k.limits) a n g.post (λ fs. return (part u.0 fs)) H.stage }
+
+  pub half_done : {q : ℕ} {o : Lent} → Placed (Ok q) o → Goes k a n (PartAt k.fields (limits_of k.limits)) (part_in o) whole x (Ok (u, q)) o
+  half_done g = record {
+    post = done (lent_laws k.fields k.limits) a n (next (lent_laws k.fields k.limits) a n g.post H.inside (λ fs. return (part u.0 fs)) H.stage)
+        (record { label = label_grown g.post.then.ext.grown H.label; list = g.post.then.holds });
+  }
 
 -- ---- meet_in
 
@@ -51,9 +72,6 @@ module _ {k : Config} {x : Lent} {m s h s2 h2 : ℕ} (R : MeetAsked k x m (edge 
   stage_0 : Run k 192 512 whole x (after (on_nodes (Rel.intersect k.fields h h2) (aut_in x)) second) x
   unfolding meet_in
   stage_0 = begin (lent_laws k.fields k.limits) 192 512 R.list.asked.ready refl
-
-  pub meet_handles : Handles k.fields x h h2
-  meet_handles = handles R.list.asked (relation_of R.new) (relation_of R.edge)
 
   module _ {y : Lent} (K : KeepsExprs x y) where
     call_1 : {r : Result SPP Refusal} → Does k.fields 0 0 nodes_in (λ (u : SPP). u.0) (Rel.intersect k.fields h h2) x r y → Goes k 0 0 (Label k.fields) (λ (u : SPP). u.0) (on_nodes (Rel.intersect k.fields h h2)) x r y
@@ -79,28 +97,15 @@ module _ {k : Config} {x : Lent} {m s h s2 h2 : ℕ} (R : MeetAsked k x m (edge 
         pub no_union : {V : Type 0} {see : V → Part} {e : Refusal} {o : Lent} → Does k.fields 192 384 aut_in (λ (i : ℕ). i) (mk_union k.fields L s s2) y (Err e) z → Goes k 192 512 (PartAt k.fields L) see whole x (Err e) o
         no_union E = record { post = stuck (lent_laws k.fields k.limits) 192 512 (call_2 E).post (third u.0 (list_in x m)) stage_1 }
 
-        module _ {both : ℕ} (E : Does k.fields 192 384 aut_in (λ i. i) (mk_union k.fields L s s2) y (Ok both) z) where
-          abbrev last : List Edge → Step Aut Part
-          last fs = return (part u.0 fs)
-
-          pub meet_placed : PlaceAsked k z m (edge both u.0)
-          meet_placed = record {
-            list = list_after list_1 (call_2 E) (omega arith) K2.spp;
-            edge = record { state = (call_2 E).post.then.holds; relation = (label_grown (call_2 E).post.then.ext.grown (call_1 D).post.then.holds).at };
-          }
-
-          stage_2 : Run k 192 512 whole x (after (St.place (ops k.fields L) both u.0 (list_in z m) (aut_in z)) last) z
-          stage_2 = instead (lent_laws k.fields k.limits) 192 512 (next (lent_laws k.fields k.limits) 192 512 (call_2 E).post (record { from = omega arith; to = omega arith }) (third u.0 (list_in x m)) stage_1)
-              (ap (λ (es : List Edge). after (St.place (ops k.fields L) both u.0 es (aut_in z)) last) (sym (list_same list_1 (call_2 E) (omega arith) ∙ list_same R.list (call_1 D) (omega arith))))
-
-          module _ {o : Lent} where
-            pub not_met : {V : Type 0} {see : V → Part} {e : Refusal} {o' : Lent} → Goes k 576 128 (ListAt k.fields L) (list_in o) (St.place (ops k.fields L) both u.0 (list_in z m)) z (Err e) o → Goes k 192 512 (PartAt k.fields L) see whole x (Err e) o'
-            not_met g = record { post = stuck (lent_laws k.fields k.limits) 192 512 g.post last stage_2 }
-
-            pub met_in : {n : ℕ} → Goes k 576 128 (ListAt k.fields L) (list_in o) (St.place (ops k.fields L) both u.0 (list_in z m)) z (Ok n) o → Goes k 192 512 (PartAt k.fields L) (part_in o) whole x (Ok (u, n)) o
-            met_in g = record {
-              post = done (lent_laws k.fields k.limits) 192 512 (next (lent_laws k.fields k.limits) 192 512 g.post (record { from = omega arith; to = omega arith }) last stage_2)
-                  (record { label = label_grown g.post.then.ext.grown (label_grown (call_2 E).post.then.ext.grown (call_1 D).post.then.holds); list = g.post.then.holds });
+        pub meet_half : {both : ℕ} → Does k.fields 192 384 aut_in (λ i. i) (mk_union k.fields L s s2) y (Ok both) z → Half k 192 512 x m whole u (edge both u.0) z
+        meet_half {both} E =
+            let label = label_grown (call_2 E).post.then.ext.grown (call_1 D).post.then.holds in
+            record {
+              asked = record { list = list_after list_1 (call_2 E) (omega arith) K2.spp; edge = record { state = (call_2 E).post.then.holds; relation = label.at } };
+              label = label;
+              inside = record { from = omega arith; to = omega arith };
+              stage = instead (lent_laws k.fields k.limits) 192 512 (next (lent_laws k.fields k.limits) 192 512 (call_2 E).post (record { from = omega arith; to = omega arith }) (third u.0 (list_in x m)) stage_1)
+                  (ap (λ (es : List Edge). after (St.place (ops k.fields L) both u.0 es (aut_in z)) (λ fs. return (part u.0 fs))) (sym (list_same list_1 (call_2 E) (omega arith) ∙ list_same R.list (call_1 D) (omega arith))));
             }
 
 -- ---- rest_in
@@ -121,9 +126,6 @@ module _ {k : Config} {x : Lent} {m total meet s2 h2 : ℕ} (R : RestAsked k x m
   stageʳ_0 : Run k 576 128 wholeʳ x (after (on_nodes (Rel.union k.fields total meet) (aut_in x)) secondʳ) x
   unfolding rest_in
   stageʳ_0 = begin (lent_laws k.fields k.limits) 576 128 R.list.asked.ready refl
-
-  pub sum_handles : Handles k.fields x total meet
-  sum_handles = handles R.list.asked R.at_total R.at_meet
 
   module _ {y : Lent} (K : KeepsExprs x y) where
     sum_call : {r : Result SPP Refusal} → Does k.fields 0 0 nodes_in (λ (u : SPP). u.0) (Rel.union k.fields total meet) x r y → Goes k 0 0 (Label k.fields) (λ (u : SPP). u.0) (on_nodes (Rel.union k.fields total meet)) x r y
@@ -155,29 +157,17 @@ module _ {k : Config} {x : Lent} {m total meet s2 h2 : ℕ} (R : RestAsked k x m
         pub no_rest : {V : Type 0} {see : V → Part} {e : Refusal} {o : Lent} → Does k.fields 0 0 nodes_in (λ (u : SPP). u.0) (Rel.difference k.fields h2 meet) y (Err e) z → Goes k 576 128 (PartAt k.fields Lʳ) see wholeʳ x (Err e) o
         no_rest E = record { post = stuck (lent_laws k.fields k.limits) 576 128 (rest_call E).post (thirdʳ u.0 (list_in x m)) stageʳ_1 }
 
-        module _ {v : SPP} (E : Does k.fields 0 0 nodes_in (λ (u : SPP). u.0) (Rel.difference k.fields h2 meet) y (Ok v) z) where
-          abbrev lastʳ : List Edge → Step Aut Part
-          lastʳ fs = return (part u.0 fs)
-
-          pub rest_placed : PlaceAsked k z m (edge s2 v.0)
-          rest_placed = record {
+        pub rest_half : {v : SPP} → Does k.fields 0 0 nodes_in (λ (u : SPP). u.0) (Rel.difference k.fields h2 meet) y (Ok v) z → Half k 576 128 x m wholeʳ u (edge s2 v.0) z
+        rest_half {v} E = record {
+          asked = record {
             list = list_after sum_list (rest_call E) (omega arith) K2.spp;
             edge = record { state = (edge_grown (rest_call E).post.then.ext.grown (edge_grown (sum_call D).post.then.ext.grown R.edge)).state; relation = (rest_call E).post.then.holds.at };
-          }
-
-          stageʳ_2 : Run k 576 128 wholeʳ x (after (St.place (ops k.fields Lʳ) s2 v.0 (list_in z m) (aut_in z)) lastʳ) z
-          stageʳ_2 = instead (lent_laws k.fields k.limits) 576 128 (next (lent_laws k.fields k.limits) 576 128 (anywhere 576 128 (omega arith) (rest_call E)).post (all_of 576 128) (thirdʳ u.0 (list_in x m)) stageʳ_1)
-              (ap (λ (es : List Edge). after (St.place (ops k.fields Lʳ) s2 v.0 es (aut_in z)) lastʳ) (sym (list_same sum_list (rest_call E) (omega arith) ∙ list_same R.list (sum_call D) (omega arith))))
-
-          module _ {o : Lent} where
-            pub not_rested : {V : Type 0} {see : V → Part} {e : Refusal} {o' : Lent} → Goes k 576 128 (ListAt k.fields Lʳ) (list_in o) (St.place (ops k.fields Lʳ) s2 v.0 (list_in z m)) z (Err e) o → Goes k 576 128 (PartAt k.fields Lʳ) see wholeʳ x (Err e) o'
-            not_rested g = record { post = stuck (lent_laws k.fields k.limits) 576 128 g.post lastʳ stageʳ_2 }
-
-            pub rested : {n : ℕ} → Goes k 576 128 (ListAt k.fields Lʳ) (list_in o) (St.place (ops k.fields Lʳ) s2 v.0 (list_in z m)) z (Ok n) o → Goes k 576 128 (PartAt k.fields Lʳ) (part_in o) wholeʳ x (Ok (u, n)) o
-            rested g = record {
-              post = done (lent_laws k.fields k.limits) 576 128 (next (lent_laws k.fields k.limits) 576 128 g.post (all_of 576 128) lastʳ stageʳ_2)
-                  (record { label = label_grown g.post.then.ext.grown (label_grown (rest_call E).post.then.ext.grown (sum_call D).post.then.holds); list = g.post.then.holds });
-            }
+          };
+          label = label_grown (rest_call E).post.then.ext.grown (sum_call D).post.then.holds;
+          inside = all_of 576 128;
+          stage = instead (lent_laws k.fields k.limits) 576 128 (next (lent_laws k.fields k.limits) 576 128 (anywhere 576 128 (omega arith) (rest_call E)).post (all_of 576 128) (thirdʳ u.0 (list_in x m)) stageʳ_1)
+              (ap (λ (es : List Edge). after (St.place (ops k.fields Lʳ) s2 v.0 es (aut_in z)) (λ fs. return (part u.0 fs))) (sym (list_same sum_list (rest_call E) (omega arith) ∙ list_same R.list (sum_call D) (omega arith))));
+        }
 
 -- ---- split_one
 

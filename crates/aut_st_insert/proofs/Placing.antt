@@ -42,7 +42,7 @@ use Rattle.aut_relations.specs.Lent.{nodes_in, states_in, aut_in, KeepsExprs, Do
 use Rattle.aut_stage.specs.OnLent.{Goes}
 use Rattle.aut_stage.proofs.OnLent.{lent_laws, by_law, on_all}
 use Rattle.aut_stage.proofs.Rule.{all_of, begin, instead, next, stuck, finish, done}
-use Rattle.aut_st_edges.specs.Clauses.{Seeks, Wrote}
+use Rattle.aut_st_edges.specs.Clauses.{Wrote}
 use Rattle.aut_st_insert.specs.Clauses.{RESULT, list_in}
 use Rattle.aut_st_insert.specs.Asked.{PlaceAsked}
 use Rattle.aut_relations.proofs.Kept.{same_refl}
@@ -88,55 +88,60 @@ module _ {k : Config} {a : Lent} {m x h : ℕ} (R : PlaceAsked k a m (edge x h))
   law : StepSpec k.fields L (ListAt k.fields L) (aut_in a) (step (aut_in a))
   law = place_in_goes R.list.asked.ready.good R.edge.state (relation_of R.edge) R.list.list
 
-  module _ {i : ℕ} (S : Seeks (seek_target x (list_in a m)) m i) where
-    module _ (lt : i < m) where
-      abbrev j : ℕ
-      j = 2 * (RESULT + i) + 1
+  module _ {i : ℕ} (S : (seek_target x (list_in a m) ≡ i) × (i < length (list_in a m))) where
+    pub lt : i < m
+    lt = omega (arith, S.1, edges_length a.scratch.now RESULT m)
 
-      pub place_handles : Handles k.fields a (get_or a.scratch.now j 0) h
-      place_handles = handles R.list.asked (relation_of (edge_at_lem a.scratch.now RESULT m i lt R.list.list.edges)) (relation_of R.edge)
+    abbrev j : ℕ
+    j = 2 * (RESULT + i) + 1
 
-      module _ {b : Lent} (K : KeepsExprs a b) where
-        pub full : {V : Type 0} {see : V → List Edge} {e : Refusal} {c : Lent} → Does k.fields 0 0 nodes_in (λ (u : SPP). u.0) (Rel.union k.fields (get_or a.scratch.now j 0) h) a (Err e) b → Goes k 576 128 (ListAt k.fields L) see step a (Err e) c
-        full {e = e} D = record { post = record { is = united k.fields L a.scratch.now m x h i (omega (arith, few, room)) S.is lt (aut_in a) (refused (number_of e)) (on_all K D).is; then = tt } }
+    pub place_handles : Handles k.fields a (get_or a.scratch.now j 0) h
+    place_handles = handles R.list.asked (relation_of (edge_at_lem a.scratch.now RESULT m i lt R.list.list.edges)) (relation_of R.edge)
 
-        module _ {u : SPP} (D : Does k.fields 0 0 nodes_in (λ (u : SPP). u.0) (Rel.union k.fields (get_or a.scratch.now j 0) h) a (Ok u) b) where
-          same : list_in b m ≡ list_in a m
-          same = edges_behind D.left RESULT m (omega arith) (omega (arith, few))
+    module _ {b : Lent} (K : KeepsExprs a b) where
+      pub full : {V : Type 0} {see : V → List Edge} {e : Refusal} {c : Lent} → Does k.fields 0 0 nodes_in (λ (u : SPP). u.0) (Rel.union k.fields (get_or a.scratch.now j 0) h) a (Err e) b → Goes k 576 128 (ListAt k.fields L) see step a (Err e) c
+      full {e = e} D = record { post = record { is = united k.fields L a.scratch.now m x h i (omega (arith, few, room)) S.0 lt (aut_in a) (refused (number_of e)) (on_all K D).is; then = tt } }
 
-          kept_2 : Kept 576 128 b.scratch.now (set b.scratch.now j u.0)
-          kept_2 = record {
-            below = λ p l. get_or-set_other b.scratch.now j p u.0 0 (λ q. omega arith);
-            above = λ p l. get_or-set_other b.scratch.now j p u.0 0 (λ q. omega (arith, few));
-          }
+      module _ {u : SPP} (D : Does k.fields 0 0 nodes_in (λ (u : SPP). u.0) (Rel.union k.fields (get_or a.scratch.now j 0) h) a (Ok u) b) where
+        same : list_in b m ≡ list_in a m
+        same = edges_behind D.left RESULT m (omega arith) (omega (arith, few))
 
-          relabels_is : step (aut_in a) ≡ given (aut_in b) (edges (set b.scratch.now j u.0) RESULT m)
-          relabels_is =
-              ap (λ (fs : List Edge). place_in k.fields L x h fs (aut_in a)) (sym same)
-              ∙ united k.fields L b.scratch.now m x h i (omega (arith, few, room, K.length)) (ap (seek_target x) same ∙ S.is) lt (aut_in a) (given (aut_in b) u.0)
-              (ap (λ (g : ℕ). on_nodes (Rel.union k.fields g h) (aut_in a)) (D.left.above j (omega arith) (omega (arith, few))) ∙ (on_all K D).is)
+        kept_2 : Kept 576 128 b.scratch.now (set b.scratch.now j u.0)
+        kept_2 = record {
+          below = λ p l. get_or-set_other b.scratch.now j p u.0 0 (λ q. omega arith);
+          above = λ p l. get_or-set_other b.scratch.now j p u.0 0 (λ q. omega (arith, few));
+        }
 
-          relabels_left : Modifies k.fields 576 128 (nodes_in b) a.scratch.now (set b.scratch.now j u.0)
-          relabels_left = left_trans (ext_refl (nodes_in b)) (left_any 576 128 D.left (omega arith)) (left_kept kept_2 (simp length-set) (omega arith))
+        relabels_is : step (aut_in a) ≡ given (aut_in b) (edges (set b.scratch.now j u.0) RESULT m)
+        relabels_is =
+            ap (λ (fs : List Edge). place_in k.fields L x h fs (aut_in a)) (sym same)
+            ∙ united k.fields L b.scratch.now m x h i (omega (arith, few, room, K.scratch.length)) (ap (seek_target x) same ∙ S.0) lt (aut_in a) (given (aut_in b) u.0)
+            (ap (λ (g : ℕ). on_nodes (Rel.union k.fields g h) (aut_in a)) (D.left.above j (omega arith) (omega (arith, few))) ∙ (on_all K D).is)
 
-          -- the label is written
-          pub relabels : {c : Lent} → aut_in c ≡ aut_in b → c.scratch.now ≡ set b.scratch.now j u.0 → Goes k 576 128 (ListAt k.fields L) (list_in c) step a (Ok m) c
-          relabels {c} e q = record {
-            post = by_law R.list.asked c (ap length q ∙ (simp length-set) ∙ K.length) law (Ok m) (relabels_is ∙ ap₂ (λ (τ : Aut) (s : List ℕ). given τ (edges s RESULT m)) (sym e) (sym q))
-                (subst (λ (τ : Aut). Modifies k.fields 576 128 τ.nodes a.scratch.now c.scratch.now) (sym e) (subst (λ (s : List ℕ). Modifies k.fields 576 128 (nodes_in b) a.scratch.now s) (sym q) relabels_left));
-          }
+        relabels_left : Modifies k.fields 576 128 (nodes_in b) a.scratch.now (set b.scratch.now j u.0)
+        relabels_left = left_trans (ext_refl (nodes_in b)) (left_any 576 128 D.left (omega arith)) (left_kept kept_2 (simp length-set) (omega arith))
 
-    module _ (le : m ≤ i) where
-      pub too_long : k.limits.transitions ≤ m → {V : Type 0} {see : V → List Edge} {c : Lent} → Goes k 576 128 (ListAt k.fields L) see step a (Err TransitionList) c
-      too_long f = record { post = record { is = new_one k.fields L a.scratch.now m x h i S.is le false (le-ltb m k.limits.transitions f) (aut_in a); then = tt } }
+        -- the label is written
+        pub relabels : {c : Lent} → aut_in c ≡ aut_in b → c.scratch.now ≡ set b.scratch.now j u.0 → Goes k 576 128 (ListAt k.fields L) (list_in c) step a (Ok m) c
+        relabels {c} e q = record {
+          post = by_law R.list.asked c (ap length q ∙ (simp length-set) ∙ K.scratch.length) law (Ok m) (relabels_is ∙ ap₂ (λ (τ : Aut) (s : List ℕ). given τ (edges s RESULT m)) (sym e) (sym q))
+              (subst (λ (τ : Aut). Modifies k.fields 576 128 τ.nodes a.scratch.now c.scratch.now) (sym e) (subst (λ (s : List ℕ). Modifies k.fields 576 128 (nodes_in b) a.scratch.now s) (sym q) relabels_left));
+        }
 
-      pub enters : m < k.limits.transitions → {c : Lent} → ((N : ℕ) (L : T.Limits) → Wrote RESULT (m + 1) (St.enter (ops N L) x h (list_in a m)) a.scratch.now c.scratch.now) → aut_in c ≡ aut_in a → length c.scratch.now ≡ length a.scratch.now
-          → Goes k 576 128 (ListAt k.fields L) (list_in c) step a (Ok (m + 1)) c
-      enters f {c} W e len = record {
-        post = by_law R.list.asked c len law (Ok (m + 1))
-            (new_one k.fields L a.scratch.now m x h i S.is le true (lt-ltb m k.limits.transitions f) (aut_in a) ∙ ap₂ (λ (τ : Aut) (fs : List Edge). given τ fs) (sym e) (sym (W k.fields L).is))
-            (left_kept (kept_wide (W k.fields L).kept (omega arith) (omega (arith, few, R.list.limit))) len (omega arith));
-      }
+  module _ (S : seek_target x (list_in a m) ≡ length (list_in a m)) where
+    none : seek_target x (list_in a m) ≡ m
+    none = S ∙ edges_length a.scratch.now RESULT m
+
+    pub too_long : k.limits.transitions ≤ m → {V : Type 0} {see : V → List Edge} {c : Lent} → Goes k 576 128 (ListAt k.fields L) see step a (Err TransitionList) c
+    too_long f = record { post = record { is = new_one k.fields L a.scratch.now m x h m none (omega arith) false (le-ltb m k.limits.transitions f) (aut_in a); then = tt } }
+
+    pub enters : m < k.limits.transitions → {c : Lent} → ((N : ℕ) (L : T.Limits) → Wrote RESULT (m + 1) (St.enter (ops N L) x h (list_in a m)) a.scratch.now c.scratch.now) → aut_in c ≡ aut_in a → length c.scratch.now ≡ length a.scratch.now
+        → Goes k 576 128 (ListAt k.fields L) (list_in c) step a (Ok (m + 1)) c
+    enters f {c} W e len = record {
+      post = by_law R.list.asked c len law (Ok (m + 1))
+          (new_one k.fields L a.scratch.now m x h m none (omega arith) true (lt-ltb m k.limits.transitions f) (aut_in a) ∙ ap₂ (λ (τ : Aut) (fs : List Edge). given τ fs) (sym e) (sym (W k.fields L).is))
+          (left_kept (kept_wide (W k.fields L).kept (omega arith) (omega (arith, few, R.list.limit))) len (omega arith));
+    }
 
 -- ---- place
 
@@ -151,12 +156,16 @@ module _ {k : Config} {a : Lent} {m x h : ℕ} (R : PlaceAsked k a m (edge x h))
   stage b q = begin (lent_laws k.fields k.limits) 576 128 R.list.asked.ready
       (place_is k.fields (limits_of k.limits) x h (list_in a m) (aut_in a) ∙ ap (λ (b : Bool). if b then given (aut_in a) (list_in a m) else after (on_states (mk_spp (Rel.zero_at k.fields)) (aut_in a)) behind) q)
 
-  pub no_label : h ≡ z → Goes k 576 128 (ListAt k.fields (limits_of k.limits)) (list_in a) all a (Ok m) a
-  no_label e = record { post = done (lent_laws k.fields k.limits) 576 128 (stage true (eq-eqb h (Rel.zero_at k.fields) (e ∙ sym z-is))) R.list.list }
+  -- the test of the label
+  test : {b : Bool} → eqb h z ≡ b → eqb h (Rel.zero_at k.fields) ≡ b
+  test e = ap (eqb h) z-is ∙ e
 
-  module _ (ne : h ≡ z → ⊥) where
+  pub no_label : eqb h z ≡ true → Goes k 576 128 (ListAt k.fields (limits_of k.limits)) (list_in a) all a (Ok m) a
+  no_label e = record { post = done (lent_laws k.fields k.limits) 576 128 (stage true (test e)) R.list.list }
+
+  module _ (ne : eqb h z ≡ false) where
     stage_0 : Run k 576 128 all a (after (on_states (mk_spp (Rel.zero_at k.fields)) (aut_in a)) behind) a
-    stage_0 = stage false (ne_eqb h (Rel.zero_at k.fields) (λ e. ne (e ∙ z-is)))
+    stage_0 = stage false (test ne)
 
     noted : {b : Lent} → StatesOnly a b → (r : Result ℕ Refusal) → mk_spp z (states_in a) ≡ outcome (λ i. i) r (states_in b) → Goes k 0 0 State (λ i. i) (on_states (mk_spp (Rel.zero_at k.fields))) a r b
     noted U r e = on_states_goes (mk_spp (Rel.zero_at k.fields)) (λ i. i) r R.list.asked (zero_state_goes R.list.asked.ready.good) U (ap (λ (g : ℕ). mk_spp g (states_in a)) z-is ∙ e)

@@ -84,29 +84,30 @@ module _ {k : Config} {x h m : ℕ} {b : Lent} where
     pub word_in : i < m → 2 * (TAKEN + i) + 1 < length now.scratch.now
     word_in lt = omega (arith, lt, taken_few v.begun, v.asked.ready.room)
 
-    module _ (lt : i < m) where
-      pub split_asked : MeetAsked k now n (edge x h) (edge_at now.scratch.now (TAKEN + i)) × Label k.fields (aut_in now) total
+    -- the transition that is read
+    module _ (lt : i < m) {u : Edge} (read : u ≡ edge_at now.scratch.now (TAKEN + i)) where
+      pub split_asked : MeetAsked k now n (edge x h) u × Label k.fields (aut_in now) total
       split_asked = (
         record {
           list = record { asked = v.asked; list = v.turned.holds.list; limit = v.begun.limit };
           new = edge_grown v.turned.stage.ext.grown v.begun.new;
-          edge = read_at (lent_laws k.fields k.limits) 192 512 (folds k.fields (limits_of k.limits) x h) (entries v.begun) v.turned lt refl;
+          edge = read_at (lent_laws k.fields k.limits) 192 512 (folds k.fields (limits_of k.limits) x h) (entries v.begun) v.turned lt read;
         },
         v.turned.holds.label,
       )
 
       module _ {next : Lent} where
-        pub walk_stuck : {V : Type 0} {see : V → Part} {e : Refusal} {z : Lent} → Goes k 192 512 (PartAt k.fields (limits_of k.limits)) (part_in next) (split_one k.fields (limits_of k.limits) x h (edge_at now.scratch.now (TAKEN + i)) (part total (list_in now n))) now (Err e) next
+        pub walk_stuck : {V : Type 0} {see : V → Part} {e : Refusal} {z : Lent} → Goes k 192 512 (PartAt k.fields (limits_of k.limits)) (part_in next) (split_one k.fields (limits_of k.limits) x h u (part total (list_in now n))) now (Err e) next
             → Goes k 192 512 (PartAt k.fields (limits_of k.limits)) see (walk k.fields (limits_of k.limits) x h (edges b.scratch.now TAKEN m) (part (Rel.zero_at k.fields) [])) b (Err e) z
-        walk_stuck g = record { post = read_stuck (lent_laws k.fields k.limits) 192 512 (folds k.fields (limits_of k.limits) x h) (entries v.begun) v.turned lt refl g.post }
+        walk_stuck g = record { post = read_stuck (lent_laws k.fields k.limits) 192 512 (folds k.fields (limits_of k.limits) x h) (entries v.begun) v.turned lt read g.post }
 
-        pub walk_again : {u : SPP} {p : ℕ} → Keeps now next → Goes k 192 512 (PartAt k.fields (limits_of k.limits)) (part_in next) (split_one k.fields (limits_of k.limits) x h (edge_at now.scratch.now (TAKEN + i)) (part total (list_in now n))) now (Ok (u, p)) next
-            → Walking k x h m b next u.0 p (i + 1)
+        pub walk_again : {w : SPP} {p : ℕ} → Keeps now next → Goes k 192 512 (PartAt k.fields (limits_of k.limits)) (part_in next) (split_one k.fields (limits_of k.limits) x h u (part total (list_in now n))) now (Ok (w, p)) next
+            → Walking k x h m b next w.0 p (i + 1)
         walk_again K g = record {
           begun = v.begun;
           keeps = keeps_trans v.keeps K;
           asked = asked_after v.asked K.spp g;
-          turned = read_again (lent_laws k.fields k.limits) 192 512 (folds k.fields (limits_of k.limits) x h) (entries v.begun) v.turned lt refl g.post;
+          turned = read_again (lent_laws k.fields k.limits) 192 512 (folds k.fields (limits_of k.limits) x h) (entries v.begun) v.turned lt read g.post;
         }
 
   pub walk_end : {now : Lent} {u : SPP} {n i : ℕ} → Walking k x h m b now u.0 n i → m ≤ i

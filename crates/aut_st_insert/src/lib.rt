@@ -6,7 +6,7 @@
 //     FIRST, SECOND   lists that an insertion leaves
 #![tactic(auto)]
 
-ghost use Rattle.std.specs.Prelude.{◌≡◌, [], ◌+◌, ◌*◌, ◌≤◌, length};
+ghost use Rattle.std.specs.Prelude.{◌≡◌, [], ◌+◌, ◌*◌, ◌≤◌, ◌<◌, length, get_or};
 ghost use Rattle.netkat_steps.specs.ListSteps as St;
 ghost use Rattle.netkat_steps.specs.ListSteps.{edge};
 ghost use Rattle.aut_steps.specs.Relations.{zero_at};
@@ -15,16 +15,16 @@ ghost use Rattle.aut_st_steps.specs.Edges.{edges, EdgeAt};
 ghost use Rattle.aut_st_steps.specs.ListSpec.{ListAt, Label};
 ghost use Rattle.aut_st_steps.specs.InsertSteps as M;
 ghost use Rattle.aut_st_steps.specs.InsertSteps.{part, PartAt};
-ghost use Rattle.aut_st_steps.specs.Places.{seek_target};
 ghost use Rattle.aut_states.specs.Clauses.{limits_of};
 ghost use Rattle.aut_relations.specs.Lent.{aut_in, Keeps, KeepsExprs};
 ghost use Rattle.aut_stage.specs.OnLent.{Goes};
-ghost use Rattle.aut_st_edges.specs.Clauses.{Seeks};
+ghost use Rattle.aut_st_edges.specs.Clauses.{edge_of, Finds};
 ghost use Rattle.aut_st_insert.specs.Clauses as Seen;
 ghost use Rattle.aut_st_insert.specs.Clauses.{list_in, part_in};
 ghost use Rattle.aut_st_insert.specs.Asked.{ListAsked, PlaceAsked, RestAsked, MeetAsked, WalkAsked};
 
 use aut_relations::Aut;
+use aut_st_edges::Transition;
 use aut_states::Config;
 use refusal::Refusal;
 use spp::{Op, SPP};
@@ -37,109 +37,105 @@ pub const FIRST: usize = 416;
 
 pub const SECOND: usize = 480;
 
-// the first of the m at RESULT whose target is s, or m
-fn place_of(aut: &Aut, s: u32, m: usize) -> usize
+// where the first of the m at RESULT to s is
+fn place_of(aut: &Aut, s: u32, m: usize) -> Option<usize>
     requires { 2 * (Seen.RESULT + m) ≤ length aut.now.scratch.now }
-    ensures { Seeks (seek_target s (list_in aut.now m)) m result }
+    ensures { Finds s (list_in aut.now m) result }
 {
-    aut_st_edges::seek_target(aut.scratch, s, RESULT, m)
+    aut_st_edges::seek_target(&aut.scratch[2 * RESULT..2 * (RESULT + m)], s)
 }
 
-// l is united with the label of the transition to s, or goes in as a new one
-fn place_in(aut: &mut Aut, config: Config, s: u32, l: SPP, m: usize) -> Result<usize, Refusal>
-    requires { PlaceAsked config aut.old m (edge s l.0) }
+// t's label is united with that of the transition to its target, or t goes in as a new one
+#[tactic(auto, using(crate::proofs::Placing::lt, crate::proofs::Placing::few, crate::proofs::Placing::room))]
+fn place_in(aut: &mut Aut, config: Config, t: Transition, m: usize) -> Result<usize, Refusal>
+    requires { PlaceAsked config aut.old m (edge_of t) }
     ensures keeps { KeepsExprs aut.old aut.new }
     ensures gives { Goes config 576 128 (ListAt config.fields (limits_of config.limits))
         (list_in aut.new)
-        (M.place_in config.fields (limits_of config.limits) s l.0 (list_in aut.old m)) aut.old result
+        (M.place_in config.fields (limits_of config.limits) t.target t.label.0 (list_in aut.old m)) aut.old result
         aut.new }
 {
-    let i = place_of(aut, s, m);
-    if i < m {
+    if let Some(i) = place_of(aut, t.target, m) {
         let j = 2 * (RESULT + i) + 1;
         let g = SPP(aut.scratch[j]);
-        let u = aut.apply(config, Op::Union, g, l)?;
+        let u = aut.apply(config, Op::Union, g, t.label)?;
         aut.scratch[j] = u.0;
         return Ok(m);
     }
     if m >= config.limits.transitions {
         return Err(Refusal::TransitionList);
     }
-    aut_st_edges::enter(aut.scratch, RESULT, m, s, l.0);
+    aut_st_edges::enter(aut.scratch, RESULT, m, t);
     Ok(m + 1)
 }
 
-// st_insert_helper
+// t goes in, unless its label is zero or its target the zero state
 fn st_insert_helper(
     aut: &mut Aut,
     config: Config,
-    s: u32,
-    l: SPP,
+    t: Transition,
     m: usize,
 ) -> Result<usize, Refusal>
-    requires { PlaceAsked config aut.old m (edge s l.0) }
+    requires { PlaceAsked config aut.old m (edge_of t) }
     ensures keeps { Keeps aut.old aut.new }
     ensures members { aut.new.members ≡ aut.old.members }
     ensures gives { Goes config 576 128 (ListAt config.fields (limits_of config.limits))
         (list_in aut.new)
-        (St.place (ops config.fields (limits_of config.limits)) s l.0 (list_in aut.old m)) aut.old
+        (St.place (ops config.fields (limits_of config.limits)) t.target t.label.0 (list_in aut.old m)) aut.old
         result aut.new }
 {
     let zero = spp::zero_at_depth(config.fields);
-    if l.0 == zero.0 {
+    if t.label == zero {
         return Ok(m);
     }
     let z = aut.states.mk_spp(zero)?;
-    if s == z {
+    if t.target == z {
         return Ok(m);
     }
-    place_in(aut, config, s, l, m)
+    place_in(aut, config, t, m)
 }
 
-// what the transition to target2 meets l in goes to the union of the targets
+// what u meets t in goes to the union of the targets
 fn meet_in(
     aut: &mut Aut,
     config: Config,
-    s: u32,
-    l: SPP,
-    target2: u32,
-    label2: SPP,
+    t: Transition,
+    u: Transition,
     m: usize,
 ) -> Result<(SPP, usize), Refusal>
-    requires { MeetAsked config aut.old m (edge s l.0) (edge target2 label2.0) }
+    requires { MeetAsked config aut.old m (edge_of t) (edge_of u) }
     ensures keeps { Keeps aut.old aut.new }
     ensures gives { Goes config 192 512 (PartAt config.fields (limits_of config.limits))
         (part_in aut.new)
-        (M.meet_in config.fields (limits_of config.limits) s l.0 (edge target2 label2.0)
+        (M.meet_in config.fields (limits_of config.limits) t.target t.label.0 (edge_of u)
         (list_in aut.old m)) aut.old result aut.new }
 {
-    let meet = aut.apply(config, Op::Intersect, l, label2)?;
-    let both = aut_union::mk_union(aut, config, s, target2)?;
-    let n = st_insert_helper(aut, config, both, meet, m)?;
-    Ok((meet, n))
+    let label = aut.apply(config, Op::Intersect, t.label, u.label)?;
+    let target = aut_union::mk_union(aut, config, t.target, u.target)?;
+    let n = st_insert_helper(aut, config, Transition { target, label }, m)?;
+    Ok((label, n))
 }
 
-// its rest stays with target2
+// its rest stays with u's target
 fn rest_in(
     aut: &mut Aut,
     config: Config,
     total: SPP,
     meet: SPP,
-    target2: u32,
-    label2: SPP,
+    u: Transition,
     m: usize,
 ) -> Result<(SPP, usize), Refusal>
-    requires { RestAsked config aut.old m total.0 meet.0 (edge target2 label2.0) }
+    requires { RestAsked config aut.old m total.0 meet.0 (edge_of u) }
     ensures keeps { Keeps aut.old aut.new }
     ensures members { aut.new.members ≡ aut.old.members }
     ensures gives { Goes config 576 128 (PartAt config.fields (limits_of config.limits))
         (part_in aut.new)
-        (M.rest_in config.fields (limits_of config.limits) total.0 meet.0 (edge target2 label2.0)
+        (M.rest_in config.fields (limits_of config.limits) total.0 meet.0 (edge_of u)
         (list_in aut.old m)) aut.old result aut.new }
 {
     let sum = aut.apply(config, Op::Union, total, meet)?;
-    let others = aut.apply(config, Op::Difference, label2, meet)?;
-    let n = st_insert_helper(aut, config, target2, others, m)?;
+    let label = aut.apply(config, Op::Difference, u.label, meet)?;
+    let n = st_insert_helper(aut, config, Transition { label, ..u }, m)?;
     Ok((sum, n))
 }
 
@@ -147,58 +143,63 @@ fn rest_in(
 fn split_one(
     aut: &mut Aut,
     config: Config,
-    s: u32,
-    l: SPP,
+    t: Transition,
     total: SPP,
-    target2: u32,
-    label2: SPP,
+    u: Transition,
     m: usize,
 ) -> Result<(SPP, usize), Refusal>
-    requires { MeetAsked config aut.old m (edge s l.0) (edge target2 label2.0) ×
+    requires { MeetAsked config aut.old m (edge_of t) (edge_of u) ×
         Label config.fields (aut_in aut.old) total.0 }
     ensures keeps { Keeps aut.old aut.new }
     ensures gives { Goes config 192 512 (PartAt config.fields (limits_of config.limits))
         (part_in aut.new)
-        (M.split_one config.fields (limits_of config.limits) s l.0 (edge target2 label2.0)
+        (M.split_one config.fields (limits_of config.limits) t.target t.label.0 (edge_of u)
         (part total.0 (list_in aut.old m))) aut.old result aut.new }
 {
-    let (meet, n) = meet_in(aut, config, s, l, target2, label2, m)?;
-    rest_in(aut, config, total, meet, target2, label2, n)
+    let (meet, n) = meet_in(aut, config, t, u, m)?;
+    rest_in(aut, config, total, meet, u, n)
+}
+
+// transition i at TAKEN
+fn taken(aut: &Aut, i: usize) -> Transition
+    requires { 2 * (Seen.TAKEN + i) + 1 < length aut.now.scratch.now }
+    ensures { edge_of result ≡ edge (get_or aut.now.scratch.now (2 * (Seen.TAKEN + i)) 0)
+        (get_or aut.now.scratch.now (2 * (Seen.TAKEN + i) + 1) 0) }
+{
+    aut_st_edges::entry(aut.scratch, TAKEN + i)
 }
 
 // the m transitions at TAKEN, one after the other; the new list begins empty
-fn walk(aut: &mut Aut, config: Config, s: u32, l: SPP, m: usize) -> Result<(SPP, usize), Refusal>
-    requires { WalkAsked config aut.old m (edge s l.0) }
+fn walk(aut: &mut Aut, config: Config, t: Transition, m: usize) -> Result<(SPP, usize), Refusal>
+    requires { WalkAsked config aut.old m (edge_of t) }
     ensures keeps { Keeps aut.old aut.new }
     ensures gives { Goes config 192 512 (PartAt config.fields (limits_of config.limits))
         (part_in aut.new)
-        (M.walk config.fields (limits_of config.limits) s l.0 (edges aut.old.scratch.now Seen.TAKEN m)
+        (M.walk config.fields (limits_of config.limits) t.target t.label.0 (edges aut.old.scratch.now Seen.TAKEN m)
         (part (zero_at config.fields) [])) aut.old result aut.new }
 {
     let mut total = spp::zero_at_depth(config.fields);
     let mut k = 0;
     for i in 0..m {
-        let j = 2 * (TAKEN + i);
-        let target2 = aut.scratch[j];
-        let label2 = SPP(aut.scratch[j + 1]);
-        let (sum, n) = split_one(aut, config, s, l, total, target2, label2, k)?;
+        let u = taken(aut, i);
+        let (sum, n) = split_one(aut, config, t, total, u, k)?;
         total = sum;
         k = n;
     }
     Ok((total, k))
 }
 
-// st_insert: a transition to s with the label l goes into the m at RESULT
-pub fn st_insert(aut: &mut Aut, config: Config, s: u32, l: SPP, m: usize) -> Result<usize, Refusal>
-    requires { ListAsked config aut.old m × EdgeAt config.fields (aut_in aut.old) (edge s l.0) }
+// t goes into the m at RESULT
+pub fn st_insert(aut: &mut Aut, config: Config, t: Transition, m: usize) -> Result<usize, Refusal>
+    requires { ListAsked config aut.old m × EdgeAt config.fields (aut_in aut.old) (edge_of t) }
     ensures keeps { Keeps aut.old aut.new }
     ensures gives { Goes config 0 832 (ListAt config.fields (limits_of config.limits))
         (list_in aut.new)
-        (St.insert (ops config.fields (limits_of config.limits)) s l.0 (list_in aut.old m)) aut.old
+        (St.insert (ops config.fields (limits_of config.limits)) t.target t.label.0 (list_in aut.old m)) aut.old
         result aut.new }
 {
     aut_st_edges::copy(aut.scratch, RESULT, m, TAKEN);
-    let (total, k) = walk(aut, config, s, l, m)?;
-    let rest = aut.apply(config, Op::Difference, l, total)?;
-    st_insert_helper(aut, config, s, rest, k)
+    let (total, k) = walk(aut, config, t, m)?;
+    let label = aut.apply(config, Op::Difference, t.label, total)?;
+    st_insert_helper(aut, config, Transition { label, ..t }, k)
 }

@@ -14,13 +14,13 @@ use Rattle.aut_st_steps.proofs.MinusSteps.{subtract_row_is, subtract_row_none, s
 use Rattle.aut_states.specs.Clauses.{limits_of}
 use Rattle.aut_states.specs.declared.Config.{Config}
 use Rattle.aut_relations.specs.declared.Aut.{Aut as Lent}
-use Rattle.spp.specs.declared.SPP.{SPP}
 use Rattle.aut_stage.specs.OnLent.{Goes}
 use Rattle.aut_stage.proofs.Rule.{Folds}
 use Rattle.aut_st_insert.specs.Clauses.{list_in}
 use Rattle.aut_st_insert.specs.Asked.{ListAsked}
 use Rattle.aut_st_source.specs.declared.Source.{Source}
 use Rattle.aut_st_stage.proofs.Turns.{source_in, WalkedIn, Turning, turn_row}
+use Rattle.aut_st_minus.specs.declared.Met.{Met}
 use Rattle.aut_st_minus.specs.Clauses.{sum_in}
 
 -- ---- subtract_row
@@ -50,7 +50,7 @@ module _ (k : Config) (us : List Edge) where
 -- ---- a turn
 
 -- from the tables b and the value y, i turns have come to the tables `now` and the value z
-abbrev pub Summing : Config → (Edge → Summed → Step Aut Summed) → (List Edge → Summed → Step Aut Summed) → Source → Lent → SPP × ℕ → Lent → SPP × ℕ → ℕ → Type 0
+abbrev pub Summing : Config → (Edge → Summed → Step Aut Summed) → (List Edge → Summed → Step Aut Summed) → Source → Lent → Met → Lent → Met → ℕ → Type 0
 Summing k one all x b y now z i = Turning k (SumAt k.fields (limits_of k.limits)) one all x b (sum_in b y) now (sum_in now z) i
 
 module _ {k : Config} {one : Edge → Summed → Step Aut Summed} {all : List Edge → Summed → Step Aut Summed} {x : Source} {b now : Lent} {y : Summed} where

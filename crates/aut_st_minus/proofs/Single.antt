@@ -37,6 +37,7 @@ use Rattle.aut_st_insert.specs.Asked.{ListAsked}
 use Rattle.aut_st_insert.proofs.Join.{list_same, list_after}
 use Rattle.aut_st_insert.proofs.Calls.{handles, intersects, unites}
 use Rattle.aut_st_stage.proofs.Run.{Run, run_begin, run_next, run_stuck, run_as, run_done}
+use Rattle.aut_st_minus.specs.declared.Met.{Met}
 use Rattle.aut_st_minus.specs.Clauses.{OneAsked, sum_in}
 
 -- a call that writes no list
@@ -62,7 +63,7 @@ module _ {k : Config} {x : Lent} {t u : Edge} {h m : ℕ} (R : OneAsked k x t u 
   abbrev second : ℕ → Step Aut Summed
   second a = on_nodes (Rel.intersect N t.label u.label) >>= third a
 
-  abbrev Done : Result (SPP × ℕ) Refusal → Lent → Type 0
+  abbrev Done : Result Met Refusal → Lent → Type 0
   Done r y = Goes k 0 832 (SumAt N L) (sum_in y) whole x r y
 
   run_0 : Run k 0 832 whole (λ σ. after (mk_difference N L t.target u.target σ) second) x x
@@ -75,7 +76,7 @@ module _ {k : Config} {x : Lent} {t u : Edge} {h m : ℕ} (R : OneAsked k x t u 
     differs : Goes k 0 0 State (λ i. i) (mk_difference N L t.target u.target) x r1 y1
     differs = made R.list.asked K1 (goes_map (mk_difference_goes R.list.asked.ready.good R.first.state R.second.state) (λ τ z w v i. i.state)) D1
 
-  pub stuck_1 : {y1 : Lent} {e : Refusal} {r : Result (SPP × ℕ) Refusal} → IsErr r × IsErrAnd r (λ z. z ≡ e) → Keeps x y1 → Does N 0 0 aut_in (λ i. i) (mk_difference N L t.target u.target) x (Err e) y1 → Done r y1
+  pub stuck_1 : {y1 : Lent} {e : Refusal} {r : Result Met Refusal} → IsErr r × IsErrAnd r (λ z. z ≡ e) → Keeps x y1 → Does N 0 0 aut_in (λ i. i) (mk_difference N L t.target u.target) x (Err e) y1 → Done r y1
   stuck_1 q K1 D1 = run_stuck second run_0 q (differs K1 D1)
 
   module _ {y1 : Lent} {a : ℕ} (K1 : Keeps x y1) (D1 : Does N 0 0 aut_in (λ i. i) (mk_difference N L t.target u.target) x (Ok a) y1) where
@@ -100,7 +101,7 @@ module _ {k : Config} {x : Lent} {t u : Edge} {h m : ℕ} (R : OneAsked k x t u 
       meets : Goes k 0 0 (Label N) (λ (l : SPP). l.0) (on_nodes (Rel.intersect N t.label u.label)) y1 r2 y2
       meets = intersects run_1.asked first_1 second_1 K2 D2
 
-    pub stuck_2 : {y2 : Lent} {e : Refusal} {r : Result (SPP × ℕ) Refusal} → IsErr r × IsErrAnd r (λ z. z ≡ e) → KeepsExprs y1 y2 → Does N 0 0 nodes_in (λ (l : SPP). l.0) (Rel.intersect N t.label u.label) y1 (Err e) y2 → Done r y2
+    pub stuck_2 : {y2 : Lent} {e : Refusal} {r : Result Met Refusal} → IsErr r × IsErrAnd r (λ z. z ≡ e) → KeepsExprs y1 y2 → Does N 0 0 nodes_in (λ (l : SPP). l.0) (Rel.intersect N t.label u.label) y1 (Err e) y2 → Done r y2
     stuck_2 q K2 D2 = run_stuck (third a) run_1 q (meets K2 D2)
 
     module _ {y2 : Lent} {v : SPP} (K2 : KeepsExprs y1 y2) (D2 : Does N 0 0 nodes_in (λ (l : SPP). l.0) (Rel.intersect N t.label u.label) y1 (Ok v) y2) where
@@ -125,7 +126,7 @@ module _ {k : Config} {x : Lent} {t u : Edge} {h m : ℕ} (R : OneAsked k x t u 
         sums : Goes k 0 0 (Label N) (λ (l : SPP). l.0) (on_nodes (Rel.union N h v.0)) y2 r3 y3
         sums = unites run_2.asked sum_2 meet_2 K3 D3
 
-      pub stuck_3 : {y3 : Lent} {e : Refusal} {r : Result (SPP × ℕ) Refusal} → IsErr r × IsErrAnd r (λ z. z ≡ e) → KeepsExprs y2 y3 → Does N 0 0 nodes_in (λ (l : SPP). l.0) (Rel.union N h v.0) y2 (Err e) y3 → Done r y3
+      pub stuck_3 : {y3 : Lent} {e : Refusal} {r : Result Met Refusal} → IsErr r × IsErrAnd r (λ z. z ≡ e) → KeepsExprs y2 y3 → Does N 0 0 nodes_in (λ (l : SPP). l.0) (Rel.union N h v.0) y2 (Err e) y3 → Done r y3
       stuck_3 q K3 D3 = run_stuck (fourth a v.0) run_2 q (sums K3 D3)
 
       module _ {y3 : Lent} {w : SPP} (K3 : KeepsExprs y2 y3) (D3 : Does N 0 0 nodes_in (λ (l : SPP). l.0) (Rel.union N h v.0) y2 (Ok w) y3) where
@@ -151,8 +152,8 @@ module _ {k : Config} {x : Lent} {t u : Edge} {h m : ℕ} (R : OneAsked k x t u 
             )
 
         module _ {y4 : Lent} where
-          pub stuck_4 : {e : Refusal} {r : Result (SPP × ℕ) Refusal} → IsErr r × IsErrAnd r (λ z. z ≡ e) → Goes k 0 832 (ListAt N L) (list_in y4) (put (list_in y3 m)) y3 (Err e) y4 → Done r y4
+          pub stuck_4 : {e : Refusal} {r : Result Met Refusal} → IsErr r × IsErrAnd r (λ z. z ≡ e) → Goes k 0 832 (ListAt N L) (list_in y4) (put (list_in y3 m)) y3 (Err e) y4 → Done r y4
           stuck_4 q G = run_stuck last run_3 q G
 
-          pub met : {n : ℕ} → Keeps y3 y4 → Goes k 0 832 (ListAt N L) (list_in y4) (put (list_in y3 m)) y3 (Ok n) y4 → Done (Ok (w, n)) y4
+          pub met : {n : ℕ} → Keeps y3 y4 → Goes k 0 832 (ListAt N L) (list_in y4) (put (list_in y3 m)) y3 (Ok n) y4 → Done (Ok (record { sum = w; count = n })) y4
           met K4 G = run_done (run_next last run_3 (all_of 0 832) K4 G) (record { sum = label_grown G.post.then.ext.grown (sums K3 D3).post.then.holds; result = G.post.then.holds })

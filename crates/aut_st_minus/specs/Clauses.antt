@@ -1,7 +1,6 @@
 -- 01, port order, step 3 (ST operations): what st_difference's loops ask, and their answer in the words of the steps. The list that is made stands at RESULT.
 use Rattle.std.specs.Prelude.{ℕ}
 use Rattle.netkat_steps.specs.ListSteps.{Edge, Summed}
-use Rattle.spp.specs.declared.SPP.{SPP}
 use Rattle.aut_st_steps.specs.Edges.{EdgeAt}
 use Rattle.aut_st_steps.specs.ListSpec.{Label}
 use Rattle.aut_states.specs.declared.Config.{Config}
@@ -11,6 +10,7 @@ use Rattle.aut_st_insert.specs.Clauses.{list_in}
 use Rattle.aut_st_insert.specs.Asked.{ListAsked}
 use Rattle.aut_st_source.specs.declared.Source.{Source}
 use Rattle.aut_st_source.specs.Clauses.{Walked}
+use Rattle.aut_st_minus.specs.declared.Met.{Met}
 
 -- ---- what is asked: the list at RESULT, the relation h, and of each list one transition, or the list
 
@@ -34,5 +34,5 @@ pub record RowsAsked (k : Config) (x : Lent) (u v : Source) (h m : ℕ) : Type 0
 
 -- ---- an answer: the labels met so far, and the list at RESULT by its length
 
-abbrev pub sum_in : Lent → SPP × ℕ → Summed
-sum_in x p = record { sum = p.0.0; result = list_in x p.1 }
+abbrev pub sum_in : Lent → Met → Summed
+sum_in x p = record { sum = p.sum.0; result = list_in x p.count }

@@ -8,36 +8,43 @@ ghost use Rattle.aut_st_steps.specs.ListSpec.{SumAt};
 ghost use Rattle.aut_states.specs.Clauses.{limits_of};
 ghost use Rattle.aut_relations.specs.Lent.{Keeps};
 ghost use Rattle.aut_stage.specs.OnLent.{Goes};
-ghost use Rattle.aut_st_source.specs.Clauses.{edge_of, source_of};
+ghost use Rattle.aut_st_edges.specs.Clauses.{edge_of};
+ghost use Rattle.aut_st_source.specs.Clauses.{source_of};
 ghost use Rattle.aut_st_minus.specs.Clauses.{OneAsked, RowAsked, RowsAsked, sum_in};
 
 use aut_relations::Aut;
-use aut_st_source::{Source, Transition};
+use aut_st_edges::Transition;
+use aut_st_source::Source;
 use aut_states::Config;
 use refusal::Refusal;
 use spp::{Op, SPP};
 
-// st_difference: the difference of t and u, where their labels meet. Given are the labels met so far, and the number of
-// transitions at RESULT
+// the labels met so far, united, and how many transitions stand at RESULT
+#[derive(Clone, Copy)]
+pub struct Met {
+    pub sum: SPP,
+    pub count: usize,
+}
+
+// st_difference: the difference of t and u, where their labels meet
 fn subtract_one(
     aut: &mut Aut,
     config: Config,
     t: Transition,
     u: Transition,
-    sum: SPP,
-    m: usize,
-) -> Result<(SPP, usize), Refusal>
-    requires { OneAsked config aut.old (edge_of t) (edge_of u) sum.0 m }
+    met: Met,
+) -> Result<Met, Refusal>
+    requires { OneAsked config aut.old (edge_of t) (edge_of u) met.sum.0 met.count }
     ensures keeps { Keeps aut.old aut.new }
     ensures gives { Goes config 0 832 (SumAt config.fields (limits_of config.limits)) (sum_in aut.new)
-        (M.subtract_one config.fields (limits_of config.limits) (edge_of t) (edge_of u) (sum_in aut.old (sum, m)))
+        (M.subtract_one config.fields (limits_of config.limits) (edge_of t) (edge_of u) (sum_in aut.old met))
         aut.old result aut.new }
 {
-    let x = aut_sequence::mk_difference(aut, config, t.target, u.target)?;
-    let meet = aut.apply(config, Op::Intersect, t.label, u.label)?;
-    let met = aut.apply(config, Op::Union, sum, meet)?;
-    let n = aut_st_insert::st_insert(aut, config, x, meet, m)?;
-    Ok((met, n))
+    let target = aut_sequence::mk_difference(aut, config, t.target, u.target)?;
+    let label = aut.apply(config, Op::Intersect, t.label, u.label)?;
+    let sum = aut.apply(config, Op::Union, met.sum, label)?;
+    let count = aut_st_insert::st_insert(aut, config, Transition { target, label }, met.count)?;
+    Ok(Met { sum, count })
 }
 
 fn subtract_row(
@@ -45,20 +52,19 @@ fn subtract_row(
     config: Config,
     t: Transition,
     second: Source,
-    sum: SPP,
-    m: usize,
-) -> Result<(SPP, usize), Refusal>
-    requires { RowAsked config aut.old (edge_of t) second sum.0 m }
+    met: Met,
+) -> Result<Met, Refusal>
+    requires { RowAsked config aut.old (edge_of t) second met.sum.0 met.count }
     ensures keeps { Keeps aut.old aut.new }
     ensures gives { Goes config 0 832 (SumAt config.fields (limits_of config.limits)) (sum_in aut.new)
         (St.subtract_row (ops config.fields (limits_of config.limits)) (edge_of t)
-        (source_of second aut.old.transitions.words.now aut.old.scratch.now) (sum_in aut.old (sum, m)))
+        (source_of second aut.old.transitions.words.now aut.old.scratch.now) (sum_in aut.old met))
         aut.old result aut.new }
 {
-    let mut met = (sum, m);
+    let mut met = met;
     for i in 0..second.length {
         let u = aut_st_source::read(aut, second, i);
-        met = subtract_one(aut, config, t, u, met.0, met.1)?;
+        met = subtract_one(aut, config, t, u, met)?;
     }
     Ok(met)
 }
@@ -68,21 +74,20 @@ pub fn subtract_rows(
     config: Config,
     first: Source,
     second: Source,
-    sum: SPP,
-    m: usize,
-) -> Result<(SPP, usize), Refusal>
-    requires { RowsAsked config aut.old first second sum.0 m }
+    met: Met,
+) -> Result<Met, Refusal>
+    requires { RowsAsked config aut.old first second met.sum.0 met.count }
     ensures keeps { Keeps aut.old aut.new }
     ensures gives { Goes config 0 832 (SumAt config.fields (limits_of config.limits)) (sum_in aut.new)
         (St.subtract_rows (ops config.fields (limits_of config.limits))
         (source_of first aut.old.transitions.words.now aut.old.scratch.now)
-        (source_of second aut.old.transitions.words.now aut.old.scratch.now) (sum_in aut.old (sum, m)))
+        (source_of second aut.old.transitions.words.now aut.old.scratch.now) (sum_in aut.old met))
         aut.old result aut.new }
 {
-    let mut met = (sum, m);
+    let mut met = met;
     for i in 0..first.length {
         let t = aut_st_source::read(aut, first, i);
-        met = subtract_row(aut, config, t, second, met.0, met.1)?;
+        met = subtract_row(aut, config, t, second, met)?;
     }
     Ok(met)
 }

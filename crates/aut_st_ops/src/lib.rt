@@ -13,6 +13,7 @@ ghost use Rattle.aut_st_ops.specs.Asked.{TwoAsked};
 
 use aut_relations::Aut;
 use aut_st_each::Each;
+use aut_st_minus::Met;
 use aut_st_source::Source;
 use aut_states::Config;
 use refusal::Refusal;
@@ -67,7 +68,7 @@ pub fn st_difference(
         (source_of first aut.old.transitions.words.now aut.old.scratch.now)
         (source_of second aut.old.transitions.words.now aut.old.scratch.now)) aut.old result aut.new }
 {
-    let zero = spp::zero_at_depth(config.fields);
-    let (sum, n) = aut_st_minus::subtract_rows(aut, config, first, second, zero, 0)?;
-    aut_st_each::insert_each(aut, config, Each::Rest(sum), first, n)
+    let sum = spp::zero_at_depth(config.fields);
+    let met = aut_st_minus::subtract_rows(aut, config, first, second, Met { sum, count: 0 })?;
+    aut_st_each::insert_each(aut, config, Each::Rest(met.sum), first, met.count)
 }

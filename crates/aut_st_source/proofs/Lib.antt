@@ -1,3 +1,2 @@
 -- Lemmas for the proofs of this crate.
-pub mod Contracts
 pub mod Sources

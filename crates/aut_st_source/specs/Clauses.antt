@@ -6,10 +6,6 @@ use Rattle.aut_st_steps.specs.Edges.{edges, EdgesAt}
 use Rattle.aut_st_source.specs.declared.Place.{Place}
 use Rattle.aut_st_source.specs.declared.Place.TheVariants as place
 use Rattle.aut_st_source.specs.declared.Source.{Source}
-use Rattle.aut_st_source.specs.declared.Transition.{Transition}
-
-abbrev pub edge_of : Transition → Edge
-edge_of t = edge t.target t.label.0
 
 -- ---- places
 
@@ -35,6 +31,9 @@ WithinAt tr (place.Scratch a) k = (416 ≤ a) × (a + k ≤ 544)
 -- a stored one, one in scratch
 abbrev pub stored : ℕ → ℕ → Source
 stored a k = record { place = place.Stored a; length = k }
+
+abbrev pub scratched : ℕ → ℕ → Source
+scratched a k = record { place = place.Scratch a; length = k }
 
 -- its transitions; its transition i
 abbrev pub source_of : Source → List ℕ → List ℕ → List Edge

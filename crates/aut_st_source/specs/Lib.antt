@@ -1,2 +1,3 @@
 -- Transition lists that are walked.
 pub mod Clauses
+pub mod Stored  -- where a state's list is

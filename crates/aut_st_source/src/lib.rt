@@ -3,10 +3,12 @@
 
 ghost use Rattle.std.specs.Prelude.{◌≡◌, ◌+◌, ◌*◌, ◌<◌, length, get_or};
 ghost use Rattle.netkat_steps.specs.ListSteps.{edge};
-ghost use Rattle.aut_st_source.specs.Clauses.{edge_of, entry_of, EntryIn};
+ghost use Rattle.aut_st_edges.specs.Clauses.{edge_of};
+ghost use Rattle.aut_st_source.specs.Clauses.{stored, scratched, entry_of, EntryIn};
+ghost use Rattle.aut_st_source.specs.Stored.{PreFind, PostFind};
 
 use aut_relations::Aut;
-use spp::SPP;
+use aut_st_edges::Transition;
 
 // a list's first record: among the stored transitions, or in scratch, from record FIRST of st on
 #[derive(Clone, Copy)]
@@ -22,19 +24,15 @@ pub struct Source {
     pub length: usize,
 }
 
-#[derive(Clone, Copy)]
-pub struct Transition {
-    pub target: u32,
-    pub label: SPP,
-}
-
-fn entry(words: &[u32], i: usize) -> Transition
-    requires { 2 * i + 1 < length words.now }
-    ensures { edge_of result ≡ edge (get_or words.now (2 * i) 0) (get_or words.now (2 * i + 1) 0) }
-{
-    Transition {
-        target: words[2 * i],
-        label: SPP(words[2 * i + 1]),
+impl Source {
+    // the n transitions of scratch from record `at` on
+    pub fn scratch(at: usize, n: usize) -> Source
+        ensures { result ≡ scratched at n }
+    {
+        Source {
+            place: Place::Scratch(at),
+            length: n,
+        }
     }
 }
 
@@ -44,7 +42,48 @@ pub fn read(aut: &Aut, source: Source, i: usize) -> Transition
     ensures { edge_of result ≡ entry_of source aut.now.transitions.words.now aut.now.scratch.now i }
 {
     match source.place {
-        Place::Stored(a) => entry(aut.transitions.words, a + i),
-        Place::Scratch(a) => entry(aut.scratch, a + i),
+        Place::Stored(a) => aut_st_edges::entry(aut.transitions.words, a + i),
+        Place::Scratch(a) => aut_st_edges::entry(aut.scratch, a + i),
+    }
+}
+
+// a list among the transitions: its first record, and how many
+#[derive(Clone, Copy)]
+pub struct Span {
+    pub start: usize,
+    pub count: usize,
+}
+
+impl Span {
+    // to be walked
+    pub fn source(self) -> Source
+        ensures { result ≡ stored self.start self.count }
+    {
+        Source {
+            place: Place::Stored(self.start),
+            length: self.count,
+        }
+    }
+
+    // its transition i
+    pub fn get(self, aut: &Aut, i: usize) -> Transition
+        requires { 2 * (self.start + i) + 1 < length aut.now.transitions.words.now }
+        ensures { edge_of result ≡ edge (get_or aut.now.transitions.words.now (2 * (self.start + i)) 0)
+            (get_or aut.now.transitions.words.now (2 * (self.start + i) + 1) 0) }
+    {
+        aut_st_edges::entry(aut.transitions.words, self.start + i)
+    }
+}
+
+// the list of state y
+#[tactic(auto, unfolding(aut_delta_steps::specs::Delta::start_of, aut_delta_steps::specs::Delta::count_of))]
+pub fn stored_list(aut: &Aut, y: u32) -> Span
+    requires { PreFind aut.now.states.words.now y }
+    ensures { PostFind aut.now.states.words.now y result }
+{
+    let i = aut_states::STATE * y as usize;
+    Span {
+        start: aut.states.words[i + aut_states::word::START] as usize,
+        count: aut.states.words[i + aut_states::word::COUNT] as usize - 1,
     }
 }

@@ -10,6 +10,8 @@ use mathlib.Core.List.{List}
 use Prim.Native.Nat.{ℕ, ◌+◌, ◌≤◌}
 use lib.ListN.{length}
 use borrow.Rule.Slice.Mut.{set_vals}
+use Rattle.slices.specs.Same.{SameSlice}
+use Rattle.slices.proofs.Same.{slice_refl}
 use Rattle.std.specs.Prelude.{Result, Ok, Err}
 use Rattle.std.specs.Result.{IsErr, IsErrAnd}
 use Rattle.common.specs.Outcome.{Step, return, after}
@@ -40,15 +42,15 @@ abbrev pub written : Lent → List ℕ → Lent
 written x w = record { sp = x.sp; spp = x.spp; states = x.states; members = x.members; transitions = x.transitions; pending = x.pending; scratch = set_vals w x.scratch }
 
 pub keeps_written : (x : Lent) {w : List ℕ} → length w ≡ length x.scratch.now → Keeps x (written x w)
-keeps_written x e = record { sp = refl; spp = same_refl x.spp; states = refl; members = refl; transitions = refl; pending = refl; scratch = refl; length = e }
+keeps_written x e = record { sp = refl; spp = same_refl x.spp; states = slice_refl x.states.words; count = tt; members = slice_refl x.members.words; transitions = refl; pending = refl; scratch = record { lent = refl; length = e } }
 
 -- the states are st
 abbrev pub stated : Lent → States → Lent
 stated x st = record { sp = x.sp; spp = x.spp; states = st; members = x.members; transitions = x.transitions; pending = x.pending; scratch = x.scratch }
 
 module _ {x : Lent} {st : States} where
-  pub keeps_stated : st.words.ghost_name ≡ x.states.words.ghost_name → Keeps x (stated x st)
-  keeps_stated e = record { sp = refl; spp = same_refl x.spp; states = e; members = refl; transitions = refl; pending = refl; scratch = refl; length = refl }
+  pub keeps_stated : SameSlice x.states.words st.words → Keeps x (stated x st)
+  keeps_stated e = record { sp = refl; spp = same_refl x.spp; states = e; count = tt; members = slice_refl x.members.words; transitions = refl; pending = refl; scratch = slice_refl x.scratch }
 
   -- a constructor that takes the states alone
   pub goes_stated : {k : Config} {P : Aut → ℕ → Type 0} (o : Step Table ℕ) {r : Result ℕ Refusal} → Asked k x → StepSpec k.fields (limits_of k.limits) P (aut_in x) (on_states o (aut_in x)) → o (states_in x) ≡ outcome (λ i. i) r (table st.words.now st.count)

@@ -28,8 +28,7 @@ use Rattle.aut_st_edges.specs.Clauses.{Wrote, CopyReady}
 use Rattle.aut_st_source.specs.declared.Place.{Place}
 use Rattle.aut_st_source.specs.declared.Place.TheVariants as place
 use Rattle.aut_st_source.specs.declared.Source.{Source}
-use Rattle.aut_st_source.specs.Clauses.{edges_at, source_of, Walked}
-use Rattle.aut_st_source.proofs.Contracts.{scratched}
+use Rattle.aut_st_source.specs.Clauses.{edges_at, scratched, source_of, Walked}
 use Rattle.aut_st_source.proofs.Sources.{source_kept, walked_later}
 use Rattle.aut_st_stage.proofs.Turns.{source_in, WalkedIn}
 use Rattle.aut_st_stage.proofs.Run.{Run, written, run_wrote}
@@ -53,6 +52,10 @@ module _ {k : Config} {x : Lent} {u : Source} where
     pub with_it : {A V : Type 0} {see : V → A} {P : Aut → A → Type 0} {a n : ℕ} {r : Result V Refusal} {y : Lent} (o : List Edge → Step Aut A) → Goes k a n P see (o (source_in u x)) x r y → Goes k a n P see (o es) x r y
     with_it {see = see} {P = P} {a = a} {n = n} {r = r} {y = y} o G = subst (λ (us : List Edge). Goes k a n P see (o us) x r y) W.is G
 
+    -- a source that is said to be u
+    pub waits_as : {v : Source} → v ≡ u → Waits k x v es
+    waits_as e = subst (λ (w : Source). Waits k x w es) (sym e) W
+
     -- it still waits after a call
     pub waits_later : {A V : Type 0} {see : V → A} {P : Aut → A → Type 0} {a n : ℕ} {o : Step Aut A} {v : V} {y : Lent} → Inside 0 832 a n → Keeps x y → Goes k a n P see o x (Ok v) y → Waits k y u es
     waits_later {a = a} {n = n} {y = y} i K G =
@@ -71,6 +74,11 @@ module _ {k : Config} {x : Lent} {u : Source} where
         go : (q : Place) (m : ℕ) → Before at q m → edges_at q x.transitions.words.now w m ≡ edges_at q x.transitions.words.now x.scratch.now m
         go (place.Stored a) m l = refl
         go (place.Scratch a) m l = edges_below a m p (omega (arith, l))
+
+-- what is done with two sources
+pub with_two : {k : Config} {x : Lent} {u v : Source} {es fs : List Edge} (W : Waits k x u es) (W' : Waits k x v fs) {A V : Type 0} {see : V → A} {P : Aut → A → Type 0} {a n : ℕ} {r : Result V Refusal} {y : Lent}
+    (o : List Edge → List Edge → Step Aut A) → Goes k a n P see (o (source_in u x) (source_in v x)) x r y → Goes k a n P see (o es fs) x r y
+with_two {x = x} {v = v} {es = es} W W' o G = with_it W' (λ us. o es us) (with_it W (λ ts. o ts (source_in v x)) G)
 
 -- ---- the list at RESULT is copied, to FIRST or to SECOND
 

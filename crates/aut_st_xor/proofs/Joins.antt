@@ -23,11 +23,11 @@ use Rattle.aut_stage.proofs.Rule.{Inside, all_of}
 use Rattle.aut_st_insert.specs.Clauses.{RESULT}
 use Rattle.aut_st_insert.proofs.Join.{list_few}
 use Rattle.aut_st_edges.specs.Clauses.{Wrote, CopyReady}
-use Rattle.aut_st_source.specs.Clauses.{stored}
-use Rattle.aut_st_source.proofs.Contracts.{scratched}
+use Rattle.aut_st_source.specs.declared.Source.{Source}
+use Rattle.aut_st_source.specs.Clauses.{stored, scratched}
 use Rattle.aut_st_stage.proofs.Turns.{source_in}
 use Rattle.aut_st_stage.proofs.Run.{Run, written, run_begin, run_next, run_stuck, run_finish}
-use Rattle.aut_st_stage.proofs.Waits.{Waits, with_it, waits_later, waits_copied, copy_ready, copy_waits, run_copied}
+use Rattle.aut_st_stage.proofs.Waits.{Waits, waits_as, with_two, waits_later, waits_copied, copy_ready, copy_waits, run_copied}
 use Rattle.aut_st_ops.specs.Asked.{TwoAsked}
 
 -- places, by record
@@ -102,8 +102,10 @@ module _ {k : Config} {x : Lent} {whole left right : Step Aut (List Edge)} (J : 
           right_4 : Waits k (written z v) (scratched SECOND m) (edges z.scratch.now RESULT m)
           right_4 = copy_waits z m J.limit G2.post.then.holds SECOND (omega arith) (omega arith) C2
 
-          pub join_asked : TwoAsked k (written z v) (scratched FIRST n) (scratched SECOND m)
-          join_asked = record { first = record { asked = run_4.asked; limit = J.limit; walked = left_4.walked }; second = right_4.walked }
+          -- the sources that are joined
+          module _ {s t : Source} (first : s ≡ scratched FIRST n) (second : t ≡ scratched SECOND m) where
+            pub join_asked : TwoAsked k (written z v) s t
+            join_asked = record { first = record { asked = run_4.asked; limit = J.limit; walked = (waits_as left_4 first).walked }; second = (waits_as right_4 second).walked }
 
-          pub joined : {r : Result ℕ Refusal} {u : Lent} → Lists (written z v) (join (source_in (scratched FIRST n) (written z v)) (source_in (scratched SECOND m) (written z v))) r u → Whole r u
-          joined G = run_finish run_4 first_in (with_it left_4 (λ ls. join ls (edges z.scratch.now RESULT m)) (with_it right_4 (λ us. join (source_in (scratched FIRST n) (written z v)) us) G))
+            pub joined : {r : Result ℕ Refusal} {u : Lent} → Lists (written z v) (join (source_in s (written z v)) (source_in t (written z v))) r u → Whole r u
+            joined G = run_finish run_4 first_in (with_two (waits_as left_4 first) (waits_as right_4 second) join G)

@@ -3,9 +3,13 @@ use mathlib.Core.Path.{◌≡◌, refl}
 use mathlib.Core.List.{List}
 use Prim.Native.Nat.{ℕ}
 use lib.ListN.{length}
-use Rattle.std.specs.Prelude.{Result, Ok}
+use Rattle.std.specs.Prelude.{Result, Ok, Err}
+use Rattle.std.specs.Result.{IsErr, IsErrAnd}
+use Rattle.common.specs.Outcome.{Step}
 use Rattle.refusal.specs.declared.Refusal.{Refusal}
 use Rattle.netkat_steps.specs.ListSteps as St
+use Rattle.netkat_steps.specs.ListSteps.{Edge}
+use Rattle.aut_steps.specs.Tables.{Aut}
 use Rattle.aut_st_steps.specs.Operations.{ops}
 use Rattle.aut_st_steps.specs.Edges.{edges}
 use Rattle.aut_st_steps.specs.ListSpec.{ListAt}
@@ -14,37 +18,90 @@ use Rattle.aut_states.specs.declared.Config.{Config}
 use Rattle.aut_relations.specs.declared.Aut.{Aut as Lent}
 use Rattle.aut_relations.specs.Lent.{Keeps}
 use Rattle.aut_stage.specs.OnLent.{Goes}
-use Rattle.aut_st_insert.specs.Clauses.{RESULT}
-use Rattle.aut_st_source.specs.Clauses.{stored}
+use Rattle.aut_st_insert.specs.Clauses.{RESULT, list_in}
+use Rattle.aut_st_source.specs.declared.Source.{Source}
+use Rattle.aut_st_source.specs.Clauses.{stored, scratched}
 use Rattle.aut_st_stage.proofs.Turns.{source_in}
-use Rattle.aut_st_edges.specs.Clauses.{Wrote}
+use Rattle.aut_st_edges.specs.Clauses.{Wrote, CopyReady}
 use Rattle.aut_st_stage.proofs.Run.{written}
-use Rattle.aut_st_stage.proofs.Waits.{Waits, waits, with_it}
+use Rattle.aut_st_stage.proofs.Waits.{Waits, waits, waits_as, with_two}
 use Rattle.aut_st_ops.specs.Asked.{TwoAsked}
 use Rattle.aut_st_xor.specs.Asked.{StoredAsked}
-use Rattle.aut_st_xor.proofs.Joins.{Joins, run_2, stored_waits}
+use Rattle.aut_st_xor.proofs.Joins as join
+use Rattle.aut_st_xor.proofs.Joins.{Joins}
 
-module _ {q : Config} {x : Lent} {a k b j : ℕ} (R : StoredAsked q x a k b j) where
-  pub xor_joins : Joins q x (St.st_xor (ops q.fields (limits_of q.limits)) (edges x.transitions.words.now a k) (edges x.transitions.words.now b j))
-      (St.st_difference (ops q.fields (limits_of q.limits)) (edges x.transitions.words.now a k) (edges x.transitions.words.now b j))
-      (St.st_difference (ops q.fields (limits_of q.limits)) (edges x.transitions.words.now b j) (edges x.transitions.words.now a k))
+-- u and v are the lists that are walked
+pub record Xors (q : Config) (x : Lent) (a k b j : ℕ) (u v : Source) : Type 0 where
+  pub asked : StoredAsked q x a k b j
+  pub first : u ≡ stored a k
+  pub second : v ≡ stored b j
+
+module _ {q : Config} {x : Lent} {a k b j : ℕ} {u v : Source} (R : Xors q x a k b j u v) where
+  abbrev minus : List Edge → List Edge → Step Aut (List Edge)
+  minus = St.st_difference (ops q.fields (limits_of q.limits))
+
+  abbrev ts : List Edge
+  ts = edges x.transitions.words.now a k
+
+  abbrev us : List Edge
+  us = edges x.transitions.words.now b j
+
+  -- a list made by the steps o, which stands at RESULT; the whole
+  abbrev Lists : Lent → Step Aut (List Edge) → Result ℕ Refusal → Lent → Type 0
+  Lists b o r y = Goes q 0 832 (ListAt q.fields (limits_of q.limits)) (list_in y) o b r y
+
+  abbrev Whole : Result ℕ Refusal → Lent → Type 0
+  Whole r y = Goes q 0 1088 (ListAt q.fields (limits_of q.limits)) (list_in y) (St.st_xor (ops q.fields (limits_of q.limits)) ts us) x r y
+
+  joins : Joins q x (St.st_xor (ops q.fields (limits_of q.limits)) ts us) (minus ts us) (minus us ts)
   unfolding St.st_xor
-  xor_joins = record { asked = R.first.asked; limit = R.first.limit; is = refl }
+  joins = record { asked = R.asked.first.asked; limit = R.asked.first.limit; is = refl }
 
-  module _ {y : Lent} {n : ℕ} (K : Keeps x y)
-      (G : Goes q 0 832 (ListAt q.fields (limits_of q.limits)) (λ i. edges y.scratch.now RESULT i) (St.st_difference (ops q.fields (limits_of q.limits)) (edges x.transitions.words.now a k) (edges x.transitions.words.now b j)) x (Ok n) y)
-      {w : List ℕ} (C : Wrote 416 n (edges y.scratch.now RESULT n) y.scratch.now w) (len : length w ≡ length y.scratch.now) where
-    first_later : Waits q (written y w) (stored a k) (edges x.transitions.words.now a k)
-    first_later = stored_waits xor_joins K G C len (waits R.first.walked)
+  first_0 : Waits q x u ts
+  first_0 = waits_as (waits R.asked.first.walked) R.first
 
-    second_later : Waits q (written y w) (stored b j) (edges x.transitions.words.now b j)
-    second_later = stored_waits xor_joins K G C len (waits R.second)
+  second_0 : Waits q x v us
+  second_0 = waits_as (waits R.asked.second) R.second
 
-    pub other_asked : TwoAsked q (written y w) (stored b j) (stored a k)
-    other_asked = record { first = record { asked = (run_2 xor_joins K G C len).asked; limit = R.first.limit; walked = second_later.walked }; second = first_later.walked }
+  abbrev One : Result ℕ Refusal → Lent → Type 0
+  One r y = Lists x (minus (source_in u x) (source_in v x)) r y
 
-    pub other_is : {V : Type 0} {see : V → List St.Edge} {r : Result V Refusal} {z : Lent}
-        → Goes q 0 832 (ListAt q.fields (limits_of q.limits)) see (St.st_difference (ops q.fields (limits_of q.limits)) (source_in (stored b j) (written y w)) (source_in (stored a k) (written y w))) (written y w) r z
-        → Goes q 0 832 (ListAt q.fields (limits_of q.limits)) see (St.st_difference (ops q.fields (limits_of q.limits)) (edges x.transitions.words.now b j) (edges x.transitions.words.now a k)) (written y w) r z
-    other_is H = with_it second_later (λ es. St.st_difference (ops q.fields (limits_of q.limits)) es (edges x.transitions.words.now a k))
-        (with_it first_later (λ es. St.st_difference (ops q.fields (limits_of q.limits)) (source_in (stored b j) (written y w)) es) H)
+  one : {r : Result ℕ Refusal} {y : Lent} → One r y → Lists x (minus ts us) r y
+  one G = with_two first_0 second_0 minus G
+
+  pub stuck_1 : {y : Lent} {e : Refusal} {r : Result ℕ Refusal} → IsErr r × IsErrAnd r (λ z. z ≡ e) → One (Err e) y → Whole r y
+  stuck_1 p G = join.stuck_1 joins p (one G)
+
+  module _ {y : Lent} {n : ℕ} (K1 : Keeps x y) (G1 : One (Ok n) y) where
+    pub copy_1 : CopyReady y.scratch.now RESULT n 416
+    copy_1 = join.copy_1 joins K1 (one G1)
+
+    module _ {w : List ℕ} (C1 : Wrote 416 n (edges y.scratch.now RESULT n) y.scratch.now w) (len1 : length w ≡ length y.scratch.now) where
+      first_2 : Waits q (written y w) u ts
+      first_2 = waits_as (join.stored_waits joins K1 (one G1) C1 len1 (waits R.asked.first.walked)) R.first
+
+      second_2 : Waits q (written y w) v us
+      second_2 = waits_as (join.stored_waits joins K1 (one G1) C1 len1 (waits R.asked.second)) R.second
+
+      pub other_asked : TwoAsked q (written y w) v u
+      other_asked = record { first = record { asked = (join.run_2 joins K1 (one G1) C1 len1).asked; limit = R.asked.first.limit; walked = second_2.walked }; second = first_2.walked }
+
+      abbrev Other : Result ℕ Refusal → Lent → Type 0
+      Other r z = Lists (written y w) (minus (source_in v (written y w)) (source_in u (written y w))) r z
+
+      other : {r : Result ℕ Refusal} {z : Lent} → Other r z → Lists (written y w) (minus us ts) r z
+      other G = with_two second_2 first_2 minus G
+
+      pub stuck_2 : {z : Lent} {e : Refusal} {r : Result ℕ Refusal} → IsErr r × IsErrAnd r (λ z. z ≡ e) → Other (Err e) z → Whole r z
+      stuck_2 p G = join.stuck_2 joins K1 (one G1) C1 len1 p (other G)
+
+      module _ {z : Lent} {m : ℕ} (K2 : Keeps (written y w) z) (G2 : Other (Ok m) z) where
+        pub copy_2 : CopyReady z.scratch.now RESULT m 480
+        copy_2 = join.copy_2 joins K1 (one G1) C1 len1 K2 (other G2)
+
+        module _ {w' : List ℕ} (C2 : Wrote 480 m (edges z.scratch.now RESULT m) z.scratch.now w') (len2 : length w' ≡ length z.scratch.now) {s t : Source} (first : s ≡ scratched 416 n) (second : t ≡ scratched 480 m) where
+          pub join_asked : TwoAsked q (written z w') s t
+          join_asked = join.join_asked joins K1 (one G1) C1 len1 K2 (other G2) C2 len2 first second
+
+          pub joined : {r : Result ℕ Refusal} {o : Lent} → Lists (written z w') (St.st_union (ops q.fields (limits_of q.limits)) (source_in s (written z w')) (source_in t (written z w'))) r o → Whole r o
+          joined G = join.joined joins K1 (one G1) C1 len1 K2 (other G2) C2 len2 first second G

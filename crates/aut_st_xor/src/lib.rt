@@ -12,48 +12,27 @@ ghost use Rattle.aut_st_insert.specs.Clauses.{list_in};
 ghost use Rattle.aut_st_xor.specs.Asked.{StoredAsked};
 
 use aut_relations::Aut;
-use aut_st_source::{Place, Source};
+use aut_st_insert::{FIRST, RESULT, SECOND};
+use aut_st_source::{Source, Span};
 use aut_states::Config;
 use refusal::Refusal;
 
-pub fn st_xor(
-    aut: &mut Aut,
-    config: Config,
-    first: usize,
-    k: usize,
-    second: usize,
-    j: usize,
-) -> Result<usize, Refusal>
-    requires { StoredAsked config aut.old first k second j }
+pub fn st_xor(aut: &mut Aut, config: Config, first: Span, second: Span) -> Result<usize, Refusal>
+    requires { StoredAsked config aut.old first.start first.count second.start second.count }
     ensures keeps { Keeps aut.old aut.new }
     ensures gives { Goes config 0 1088 (ListAt config.fields (limits_of config.limits))
         (list_in aut.new)
         (St.st_xor (ops config.fields (limits_of config.limits))
-        (edges aut.old.transitions.words.now first k)
-        (edges aut.old.transitions.words.now second j)) aut.old result aut.new }
+        (edges aut.old.transitions.words.now first.start first.count)
+        (edges aut.old.transitions.words.now second.start second.count)) aut.old result aut.new }
 {
-    let x = Source {
-        place: Place::Stored(first),
-        length: k,
-    };
-    let y = Source {
-        place: Place::Stored(second),
-        length: j,
-    };
+    let x = first.source();
+    let y = second.source();
     let n = aut_st_ops::st_difference(aut, config, x, y)?;
-    aut_st_edges::copy(aut.scratch, aut_st_insert::RESULT, n, aut_st_insert::FIRST);
+    aut_st_edges::copy(aut.scratch, RESULT, n, FIRST);
     let m = aut_st_ops::st_difference(aut, config, y, x)?;
-    aut_st_edges::copy(aut.scratch, aut_st_insert::RESULT, m, aut_st_insert::SECOND);
-    aut_st_ops::st_union(
-        aut,
-        config,
-        Source {
-            place: Place::Scratch(aut_st_insert::FIRST),
-            length: n,
-        },
-        Source {
-            place: Place::Scratch(aut_st_insert::SECOND),
-            length: m,
-        },
-    )
+    aut_st_edges::copy(aut.scratch, RESULT, m, SECOND);
+    let left = Source::scratch(FIRST, n);
+    let right = Source::scratch(SECOND, m);
+    aut_st_ops::st_union(aut, config, left, right)
 }

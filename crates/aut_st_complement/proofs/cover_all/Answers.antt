@@ -1,11 +1,11 @@
 use Rattle.refusal.proofs.Passed.{passed}
 use Rattle.aut_st_stage.proofs.Turns.{turn_read, turn_edge, turn_stuck, turn_again, turn_end}
-use Rattle.aut_relations.proofs.Kept.{keeps_of, exprs_refl, exprs_trans}
+use Rattle.aut_relations.proofs.Kept.{keeps_of, keeps_refl, keeps_trans}
 use Rattle.aut_st_complement.proofs.Cover.{cover_begin, both_labels, united}
 use Rattle.aut_st_complement.proofs.cover_all.Goals as goal
 
 pub loop-i-init : goal.loop-i-init
-loop-i-init c = (cover_begin c.requires (c.zero_at_depth-sum.ensures c.args.config.fields), exprs_refl c.args.aut.now)
+loop-i-init c = (cover_begin c.requires (c.zero_at_depth-sum.ensures c.args.config.fields), keeps_refl c.args.aut.now)
 
 pub read-t-requires : goal.read-t-requires
 read-t-requires c = turn_read c.loop-i.invariant.0 c.loop-i-test.true
@@ -24,7 +24,7 @@ pub loop-i-preserved : goal.loop-i-preserved
 loop-i-preserved c =
     let v = c.loop-i.invariant.0 in
     let K = c.in_ok-sum.ensures.keeps in
-    (turn_again v c.loop-i-test.true c.read-t.ensures (keeps_of K) (united v.asked v.turned.holds (turn_edge v c.loop-i-test.true c.read-t.ensures) K c.in_ok-sum.ensures.gives), exprs_trans c.loop-i.invariant.1 K)
+    (turn_again v c.loop-i-test.true c.read-t.ensures (keeps_of K) (united v.asked v.turned.holds (turn_edge v c.loop-i-test.true c.read-t.ensures) K c.in_ok-sum.ensures.gives), keeps_trans c.loop-i.invariant.1 K)
 
 pub returns-clause-gives : goal.returns-clause-gives
 returns-clause-gives c = turn_end c.loop-i.invariant.0 c.loop-i-test.false

@@ -20,24 +20,24 @@ pub apply-requires : goal.apply-requires
 apply-requires c =
     join.rest_asked c.requires c.in_ok-n.ensures.keeps c.in_ok-n.ensures.gives c.in_ok-sum.ensures.keeps c.in_ok-sum.ensures.gives
 
-pub returns-in_err-rest-clause-gives : goal.returns-in_err-rest-clause-gives
-returns-in_err-rest-clause-gives c =
-    run_stuck _ (join.run_2 c.requires c.in_ok-n.ensures.keeps c.in_ok-n.ensures.gives c.in_ok-sum.ensures.keeps c.in_ok-sum.ensures.gives) c.from_residual-in_err-rest.ensures
-    (join.rested c.requires c.in_ok-n.ensures.keeps c.in_ok-n.ensures.gives c.in_ok-sum.ensures.keeps c.in_ok-sum.ensures.gives c.in_err-rest.ensures.keeps c.in_err-rest.ensures.gives)
+pub returns-in_err-label-clause-gives : goal.returns-in_err-label-clause-gives
+returns-in_err-label-clause-gives c =
+    run_stuck _ (join.run_2 c.requires c.in_ok-n.ensures.keeps c.in_ok-n.ensures.gives c.in_ok-sum.ensures.keeps c.in_ok-sum.ensures.gives) c.from_residual-in_err-label.ensures
+    (join.rested c.requires c.in_ok-n.ensures.keeps c.in_ok-n.ensures.gives c.in_ok-sum.ensures.keeps c.in_ok-sum.ensures.gives c.in_err-label.ensures.keeps c.in_err-label.ensures.gives)
 
 pub mk_top-requires : goal.mk_top-requires
 mk_top-requires c =
-    join.top_asked c.requires c.in_ok-n.ensures.keeps c.in_ok-n.ensures.gives c.in_ok-sum.ensures.keeps c.in_ok-sum.ensures.gives c.in_ok-rest.ensures.keeps c.in_ok-rest.ensures.gives
+    join.top_asked c.requires c.in_ok-n.ensures.keeps c.in_ok-n.ensures.gives c.in_ok-sum.ensures.keeps c.in_ok-sum.ensures.gives c.in_ok-label.ensures.keeps c.in_ok-label.ensures.gives
 
-pub returns-in_err-top-clause-gives : goal.returns-in_err-top-clause-gives
-returns-in_err-top-clause-gives c =
-    run_stuck _ (join.run_3 c.requires c.in_ok-n.ensures.keeps c.in_ok-n.ensures.gives c.in_ok-sum.ensures.keeps c.in_ok-sum.ensures.gives c.in_ok-rest.ensures.keeps c.in_ok-rest.ensures.gives) c.from_residual-in_err-top.ensures
-    (join.topped c.requires c.in_ok-n.ensures.keeps c.in_ok-n.ensures.gives c.in_ok-sum.ensures.keeps c.in_ok-sum.ensures.gives c.in_ok-rest.ensures.keeps c.in_ok-rest.ensures.gives {r = Err c.in_err-top.field-0.0} c.in_err-top.ensures.gives)
+pub returns-in_err-target-clause-gives : goal.returns-in_err-target-clause-gives
+returns-in_err-target-clause-gives c =
+    run_stuck _ (join.run_3 c.requires c.in_ok-n.ensures.keeps c.in_ok-n.ensures.gives c.in_ok-sum.ensures.keeps c.in_ok-sum.ensures.gives c.in_ok-label.ensures.keeps c.in_ok-label.ensures.gives) c.from_residual-in_err-target.ensures
+    (join.topped c.requires c.in_ok-n.ensures.keeps c.in_ok-n.ensures.gives c.in_ok-sum.ensures.keeps c.in_ok-sum.ensures.gives c.in_ok-label.ensures.keeps c.in_ok-label.ensures.gives {r = Err c.in_err-target.field-0.0} c.in_err-target.ensures.gives)
 
 pub st_insert-requires : goal.st_insert-requires
 st_insert-requires c =
-    join.insert_asked c.requires c.in_ok-n.ensures.keeps c.in_ok-n.ensures.gives c.in_ok-sum.ensures.keeps c.in_ok-sum.ensures.gives c.in_ok-rest.ensures.keeps c.in_ok-rest.ensures.gives c.in_ok-top.ensures.same_table c.in_ok-top.ensures.gives
+    join.insert_asked c.requires c.in_ok-n.ensures.keeps c.in_ok-n.ensures.gives c.in_ok-sum.ensures.keeps c.in_ok-sum.ensures.gives c.in_ok-label.ensures.keeps c.in_ok-label.ensures.gives c.in_ok-target.ensures.same_table c.in_ok-target.ensures.gives
 
 pub returns-clause-gives : goal.returns-clause-gives
 returns-clause-gives c =
-    join.inserted c.requires c.in_ok-n.ensures.keeps c.in_ok-n.ensures.gives c.in_ok-sum.ensures.keeps c.in_ok-sum.ensures.gives c.in_ok-rest.ensures.keeps c.in_ok-rest.ensures.gives c.in_ok-top.ensures.same_table c.in_ok-top.ensures.gives c.st_insert.ensures.gives
+    join.inserted c.requires c.in_ok-n.ensures.keeps c.in_ok-n.ensures.gives c.in_ok-sum.ensures.keeps c.in_ok-sum.ensures.gives c.in_ok-label.ensures.keeps c.in_ok-label.ensures.gives c.in_ok-target.ensures.same_table c.in_ok-target.ensures.gives c.st_insert.ensures.gives

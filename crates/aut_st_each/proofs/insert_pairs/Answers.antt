@@ -3,7 +3,7 @@ use Rattle.aut_st_steps.specs.Edges.{edges}
 use Rattle.aut_st_steps.specs.EachSteps as M
 use Rattle.aut_st_insert.specs.Clauses.{RESULT}
 use Rattle.aut_st_stage.proofs.Turns.{source_in, turn_begin, turn_read, turn_edge, turn_list, turn_walked, turn_row, turn_stuck, turn_again, turn_end}
-use Rattle.aut_st_source.specs.Clauses.{edge_of}
+use Rattle.aut_st_edges.specs.Clauses.{edge_of}
 use Rattle.aut_st_each.proofs.Turns.{each_all, pairs_folds}
 use Rattle.aut_st_each.proofs.insert_pairs.Goals as goal
 

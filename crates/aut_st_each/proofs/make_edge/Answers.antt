@@ -12,7 +12,7 @@ mk_complement-requires c = (ready_complement c.requires.asked.ready.good c.requi
 pub returns-in_ok-target-in-Sequence-clause-gives :
     goal.returns-in_ok-target-in-Sequence-clause-gives
 returns-in_ok-target-in-Sequence-clause-gives c =
-    by_target c.in-Sequence.is c.requires c.mk_sequence.ensures.keeps.length c.in_ok-target-in-Sequence.ensures.gives (omega arith) refl
+    by_target c.in-Sequence.is c.requires c.mk_sequence.ensures.keeps.scratch.length c.in_ok-target-in-Sequence.ensures.gives (omega arith) refl
 
 pub returns-in_ok-label-in-After-clause-gives : goal.returns-in_ok-label-in-After-clause-gives
 returns-in_ok-label-in-After-clause-gives c =
@@ -21,7 +21,7 @@ returns-in_ok-label-in-After-clause-gives c =
 pub returns-in_ok-target-in-Intersect-clause-gives :
     goal.returns-in_ok-target-in-Intersect-clause-gives
 returns-in_ok-target-in-Intersect-clause-gives c =
-    by_target c.in-Intersect.is c.requires c.mk_intersect.ensures.keeps.length c.in_ok-target-in-Intersect.ensures.gives (omega arith) refl
+    by_target c.in-Intersect.is c.requires c.mk_intersect.ensures.keeps.scratch.length c.in_ok-target-in-Intersect.ensures.gives (omega arith) refl
 
 pub returns-in_ok-target-in-Complement-clause-gives :
     goal.returns-in_ok-target-in-Complement-clause-gives

@@ -1,4 +1,3 @@
-use native.Mathlib.Omega.{arith}
 use Rattle.refusal.proofs.Passed.{passed}
 use Rattle.aut_st_insert.proofs.Walking as walking
 use Rattle.aut_st_insert.proofs.walk.Goals as goal
@@ -6,35 +5,17 @@ use Rattle.aut_st_insert.proofs.walk.Goals as goal
 pub loop-i-init : goal.loop-i-init
 loop-i-init c = walking.walk_begin c.requires (c.zero_at_depth-total.ensures c.args.config.fields)
 
-pub overflow_add-j : goal.overflow_add-j
-overflow_add-j c = omega (arith, walking.taken_few c.requires, c.loop-i-test.true)
-
-pub overflow_mul-j : goal.overflow_mul-j
-overflow_mul-j c = omega (arith, walking.taken_few c.requires, c.loop-i-test.true)
-
-pub offset_bounds-aut-j : goal.offset_bounds-aut-j
-offset_bounds-aut-j c = omega (arith, walking.taken_few c.requires, c.loop-i-test.true)
-
-pub bounds-aut-j : goal.bounds-aut-j
-bounds-aut-j c = omega (arith, walking.word_in c.loop-i.invariant c.loop-i-test.true)
-
-pub overflow_add-label2 : goal.overflow_add-label2
-overflow_add-label2 c = omega (arith, walking.taken_few c.requires, c.loop-i-test.true)
-
-pub offset_bounds-aut-j-in-loop-i : goal.offset_bounds-aut-j-in-loop-i
-offset_bounds-aut-j-in-loop-i c = omega (arith, walking.taken_few c.requires, c.loop-i-test.true)
-
-pub bounds-aut-j-in-loop-i : goal.bounds-aut-j-in-loop-i
-bounds-aut-j-in-loop-i c = walking.word_in c.loop-i.invariant c.loop-i-test.true
+pub taken-u-requires : goal.taken-u-requires
+taken-u-requires c = walking.word_in c.loop-i.invariant c.loop-i-test.true
 
 pub split_one-requires : goal.split_one-requires
-split_one-requires c = walking.split_asked c.loop-i.invariant c.loop-i-test.true
+split_one-requires c = walking.split_asked c.loop-i.invariant c.loop-i-test.true c.taken-u.ensures
 
 pub returns-in_err-sum-clause-gives : goal.returns-in_err-sum-clause-gives
-returns-in_err-sum-clause-gives c = rw (passed c.from_residual.ensures) (walking.walk_stuck c.loop-i.invariant c.loop-i-test.true c.in_err-sum.ensures.gives)
+returns-in_err-sum-clause-gives c = rw (passed c.from_residual.ensures) (walking.walk_stuck c.loop-i.invariant c.loop-i-test.true c.taken-u.ensures c.in_err-sum.ensures.gives)
 
 pub loop-i-preserved : goal.loop-i-preserved
-loop-i-preserved c = walking.walk_again c.loop-i.invariant c.loop-i-test.true c.in_ok-sum.ensures.keeps c.in_ok-sum.ensures.gives
+loop-i-preserved c = walking.walk_again c.loop-i.invariant c.loop-i-test.true c.taken-u.ensures c.in_ok-sum.ensures.keeps c.in_ok-sum.ensures.gives
 
 pub returns-clause-gives : goal.returns-clause-gives
 returns-clause-gives c = walking.walk_end c.loop-i.invariant c.loop-i-test.false

@@ -1,6 +1,6 @@
 use Rattle.refusal.proofs.Passed.{passed}
 use Rattle.aut_st_steps.proofs.Edges.{edge_grown}
-use Rattle.aut_st_source.specs.Clauses.{edge_of}
+use Rattle.aut_st_edges.specs.Clauses.{edge_of}
 use Rattle.aut_st_stage.proofs.Turns.{turn_begin, turn_edge, turn_stuck, turn_again, turn_end}
 use Rattle.aut_st_minus.proofs.Loops.{row_folds, sum_list}
 use Rattle.aut_st_minus.proofs.subtract_row.Goals as goal

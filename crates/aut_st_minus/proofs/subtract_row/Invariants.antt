@@ -1,4 +1,4 @@
-use Rattle.aut_st_source.specs.Clauses.{edge_of}
+use Rattle.aut_st_edges.specs.Clauses.{edge_of}
 use Rattle.aut_st_minus.proofs.Loops.{row, row_one, Summing}
 use Rattle.aut_st_minus.proofs.subtract_row.Given as goal
 
