@@ -188,7 +188,7 @@ module _ {k : Config} {i : ℕ} {x : Lent} (F : FinishAsked k x i) where
                     ext = D.listed.went;
                     frame = subst (λ (s : List ℕ). Modifies N 0 1088 τ3.aut.nodes x.scratch.now s) at frame;
                     ready = subst (λ (s : List ℕ). Prepared N k.limits τ3 s) at (record {
-                      ready = ready_after F.store.prepared.ready D.listed.went.grown D.listed.worked.good frame (K2.length ∙ K1.length);
+                      ready = ready_after F.store.prepared.ready D.listed.went.grown D.listed.worked.good frame (K2.scratch.length ∙ K1.scratch.length);
                       worked = D.listed.worked;
                     });
                     holds = record { marked = D.stored.marked; reads = refl };

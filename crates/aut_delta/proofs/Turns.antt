@@ -1,9 +1,9 @@
 -- delta: states below x worked out one after another, each with all its operands' lists stored, and then x.
 use mathlib.Core.Path.{◌≡◌, refl, sym, ◌∙◌, ap, subst}
 use mathlib.Core.List.{List, []}
-use Prim.Native.Nat.{ℕ, ◌+◌, ◌*◌, ◌<◌}
+use Prim.Native.Nat.{ℕ, ◌<◌}
 use native.Mathlib.Omega.{arith}
-use lib.ListN.{length, get_or, drop}
+use lib.ListN.{drop}
 use Rattle.common.specs.Outcome.{Outcome, refused, given, Step, after}
 use Rattle.aut_steps.specs.Tables.{nest, Limits}
 use Rattle.aut_steps.specs.Ascending.{All}
@@ -28,15 +28,12 @@ use Rattle.aut_states.specs.Clauses.{limits_of}
 use Rattle.aut_states.specs.declared.Config.{Config}
 use Rattle.aut_relations.specs.declared.Aut.{Aut as Lent}
 use Rattle.aut_relations.specs.Lent.{Keeps}
-use Rattle.aut_relations.proofs.Order.{in_table}
 use Rattle.aut_stage.specs.Rule.{Laws, Stage}
-use Rattle.aut_stage.proofs.Rule as Rule
 use Rattle.aut_stage.proofs.Rule.{Inside, all_of, instead, next, finish, done}
 use Rattle.aut_delta_stage.specs.OnTables.{store_in, KeepsStore, StoreAsked, tables_layer}
-use Rattle.aut_delta_stage.proofs.Kept.{store_refl}
 use Rattle.aut_delta_stage.proofs.OnTables.{tables_laws, store_after, refused_goes}
 use Rattle.aut_delta.specs.Clauses.{DeltaAsked, Deltas}
-use Rattle.aut_delta.specs.Readings.{DescendAsked, EndsBy, FinishAsked}
+use Rattle.aut_delta.specs.Readings.{EndsBy, FinishAsked}
 use Rattle.aut_delta.proofs.Ways.{none_left}
 
 -- ---- the end of a way
@@ -80,13 +77,6 @@ module _ {k : Config} {i : ℕ} {x : Lent} (A : DeltaAsked k x i) where
   W : Laws (tables_layer N k.limits)
   W = tables_laws N k.limits
 
-  pub begin : Turn k i x x 0
-  begin = record {
-    keeps = store_refl x;
-    stage = Rule.begin W 0 1088 A.store.prepared refl;
-    rest = λ y ys v. refl;
-  }
-
   module _ {z : Lent} {e : ℕ} (v : Turn k i x z e) where
     abbrev τ : Store
     τ = store_in z
@@ -100,19 +90,9 @@ module _ {k : Config} {i : ℕ} {x : Lent} (A : DeltaAsked k x i) where
     asked : StoreAsked k z
     asked = record { fields = v.keeps.spp.fields ∙ A.store.fields; prepared = v.stage.ready }
 
-    pub look_ready : 12 * i + 11 < length z.states.words.now
-    look_ready = in_table V.good has
-
     -- the list is stored
-    pub listed : (get_or z.states.words.now (12 * i + 6) 0 ≡ 0 → ⊥) → Deltas k i x (Ok (tt {0})) z
-    unfolding count_of
-    listed q =
-        let h : Has τ i = omega arith in
-        record { post = done W 0 1088 {see = λ (u : Unit {0}). list_at τ i} (instead W 0 1088 v.stage (delta_stored V has h)) (record { marked = h; reads = refl }) }
-
-    pub descend_ready : get_or z.states.words.now (12 * i + 6) 0 ≡ 0 → DescendAsked k z i
-    unfolding count_of
-    descend_ready q = record { store = asked; has = has; not_yet = q }
+    pub listed : Has τ i → Deltas k i x (Ok (tt {0})) z
+    listed h = record { post = done W 0 1088 {see = λ (u : Unit {0}). list_at τ i} (instead W 0 1088 v.stage (delta_stored V has h)) (record { marked = h; reads = refl }) }
 
     module _ {z1 : Lent} where
       pub full : {q : Refusal} {r : Result (Unit {0}) Refusal} → r ≡ Err q → EndsBy k i e z (Err q) z1 → Deltas k i x r z1
@@ -147,8 +127,7 @@ module _ {k : Config} {i : ℕ} {x : Lent} (A : DeltaAsked k x i) where
           stays : τ ≡ τ1
           stays = given_store (sym nothing ∙ E.entered.post.is)
 
-          pub finish_ready : Keeps z z1 → get_or z.states.words.now (12 * i + 6) 0 ≡ 0 → FinishAsked k z1 i
-          unfolding count_of
+          pub finish_ready : Keeps z z1 → HasNot τ i → FinishAsked k z1 i
           finish_ready K p = record {
             store = asked1 K.spp;
             limit = A.limit;

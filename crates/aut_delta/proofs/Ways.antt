@@ -38,9 +38,9 @@ use Rattle.aut_relations.proofs.Kept.{keeps_refl, keeps_trans}
 use Rattle.aut_delta_stage.specs.OnTables.{store_in, StoreAsked, tables_layer}
 use Rattle.aut_delta_stage.proofs.OnTables.{tables_laws}
 use Rattle.aut_operands.specs.declared.Part.TheVariants as part
-use Rattle.aut_operands.specs.Clauses.{Looks, Next, none, some}
+use Rattle.aut_operands.specs.Clauses.{Looks}
 use Rattle.aut_operands.proofs.Down.{inside_of}
-use Rattle.aut_delta.specs.Readings.{EnterAsked, Enters, unless, unless_entered, DescendAsked, EndsBy}
+use Rattle.aut_delta.specs.Readings.{Enters, unless, unless_entered, DescendAsked, EndsBy}
 
 -- ---- a way down from each state that has no list
 
@@ -165,9 +165,6 @@ module _ {k : Config} {i : ℕ} {x : Lent} (p : DescendAsked k x i) where
     pub open_ready : Looks part.Delta z.states.words.now z.members.words.now y
     open_ready = looks v.came.ready.worked has
 
-    pub new_ready : EnterAsked k z y
-    new_ready = record { store = asked; has = has }
-
     same : list_operands τ y ≡ list_operands σ y
     same = same_list_operands V v.came.ext v.has
 
@@ -181,8 +178,8 @@ module _ {k : Config} {i : ℕ} {x : Lent} (p : DescendAsked k x i) where
     below f = first_of (Below σ.aut y) (first_has f) (list_operands_below V v.has)
 
     -- y is the end
-    pub arrived : {w : ℕ} → Next part.Delta z.states.words.now z.members.words.now y w → w ≡ y → EndsBy k i e x (Ok (y, n)) z
-    arrived (none q a) m =
+    pub arrived : All (Has τ) (list_operands τ y) → EndsBy k i e x (Ok (y, n)) z
+    arrived a =
         let b = v.back y [] (bottom v.not_yet (all_has a)) in
         record {
           above = b.above;
@@ -190,22 +187,11 @@ module _ {k : Config} {i : ℕ} {x : Lent} (p : DescendAsked k x i) where
           place = omega (arith, b.place);
           entered = record { post = record { is = b.is ∙ none_left N (e - n) τ; then = record { ext = v.came.ext; frame = v.came.frame; ready = v.came.ready; holds = tt } } };
         }
-    arrived (some f) m = absurd (omega (arith, (below f).lower, ap (nesting σ.aut) m))
 
     -- w is the first of its operands that has no list
-    module _ {w : ℕ} (g : Next part.Delta z.states.words.now z.members.words.now y w) (m : w ≡ y → ⊥) where
-      f : First (Has τ) (HasNot τ) w (list_operands τ y)
-      f = open_one g
-        where
-          open_one : Next part.Delta z.states.words.now z.members.words.now y w → First (Has τ) (HasNot τ) w (list_operands τ y)
-          open_one (none q a) = absurd (m q)
-          open_one (some f) = f
-
+    module _ {w : ℕ} (f : First (Has τ) (HasNot τ) w (list_operands τ y)) where
       pub falls : nest x.states.words.now w < nest x.states.words.now y
       falls = (below f).lower
-
-      pub place : n < i
-      place = omega (arith, v.deep, (below f).earlier)
 
       longer : (u : ℕ) (ys : List ℕ) → ListWay σ u ys w → Back N i e σ τ n u (y ∷ ys)
       longer u ys o = v.back u (y ∷ ys) (down v.not_yet (first_has f) o)

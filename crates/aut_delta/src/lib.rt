@@ -12,10 +12,8 @@ ghost use Rattle.aut_delta_steps.specs.DeltaReads as M;
 use aut_operands::Part;
 use aut_relations::Aut;
 use aut_sequence::Task;
-use aut_states::Config;
+use aut_states::{Config, kind};
 use refusal::Refusal;
-
-// ---- what is worked out before the operands' lists
 
 // the star of the epsilon of a
 fn enter_star(aut: &mut Aut, config: Config, a: u32) -> Result<(), Refusal>
@@ -30,7 +28,7 @@ fn enter_star(aut: &mut Aut, config: Config, a: u32) -> Result<(), Refusal>
     Ok(())
 }
 
-// of a Sequence the epsilon of its first operand, of a Star the star of it
+// before the operands' lists: of a Sequence the epsilon of its first operand, of a Star the star of it
 fn enter(aut: &mut Aut, config: Config, x: u32) -> Result<(), Refusal>
     requires { EnterAsked config aut.old x }
     ensures keeps { Keeps aut.old aut.new }
@@ -40,11 +38,11 @@ fn enter(aut: &mut Aut, config: Config, x: u32) -> Result<(), Refusal>
 {
     let a = aut.states.first(x);
     match aut.states.kind(x) {
-        aut_states::kind::SEQUENCE => {
+        kind::SEQUENCE => {
             aut_epsilon::epsilon(aut, config, a)?;
             Ok(())
         }
-        aut_states::kind::STAR => enter_star(aut, config, a),
+        kind::STAR => enter_star(aut, config, a),
         _ => Ok(()),
     }
 }
@@ -73,18 +71,13 @@ fn descend(aut: &mut Aut, config: Config, x: u32, entered: usize) -> Result<(u32
 {
     let mut y = x;
     let mut i = 0;
-    loop {
-        let z = aut_operands::open_operand(&aut.states, &aut.members, Part::Delta, y);
-        if z == y {
-            return Ok((y, i));
-        }
+    while let Some(z) = aut_operands::open_operand(&aut.states, &aut.members, Part::Delta, y) {
         enter_new(aut, config, y, i, entered)?;
         y = z;
         i += 1;
     }
+    Ok((y, i))
 }
-
-// ---- delta
 
 // the list is put together, and stored
 fn finish(aut: &mut Aut, config: Config, x: u32) -> Result<(), Refusal>
@@ -103,10 +96,9 @@ pub fn delta(aut: &mut Aut, config: Config, x: u32) -> Result<(), Refusal>
     ensures keeps { KeepsStore aut.old aut.new }
     ensures gives { Deltas config x aut.old result aut.new }
 {
-    let at = x as usize;
     let mut entered = 0;
     loop {
-        if aut.states.words[aut_states::STATE * at + aut_states::word::COUNT] != 0 {
+        if !aut_operands::is_open(&aut.states, Part::Delta, x) {
             return Ok(());
         }
         let (y, i) = descend(aut, config, x, entered)?;

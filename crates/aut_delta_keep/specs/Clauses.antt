@@ -6,6 +6,7 @@ use Rattle.refusal.specs.declared.Refusal.{Refusal}
 use Rattle.refusal.specs.Numbers.{number_of}
 use Rattle.aut_delta_steps.specs.Delta.{transition_cap, room_t, append}
 use Rattle.aut_relations.specs.declared.Aut.{Aut as Lent}
+use Rattle.aut_relations.specs.Lent.{KeepsBut}
 use Rattle.aut_relations.specs.declared.Transitions.{Transitions}
 use Rattle.aut_st_insert.specs.Clauses.{RESULT}
 
@@ -18,15 +19,9 @@ pub record KeepAsked (x : Lent) (i m : ℕ) : Type 0 where
   pub fit : 2 * x.transitions.count ≤ length x.transitions.words.now
   pub inside : 2 * (RESULT + m) ≤ length x.scratch.now
 
--- only states and transitions were written
-pub record KeepsOthers (x y : Lent) : Type 0 where
-  pub sp : y.sp ≡ x.sp
-  pub spp : y.spp ≡ x.spp
-  pub states : y.states.words.ghost_name ≡ x.states.words.ghost_name
-  pub members : y.members ≡ x.members
-  pub transitions : y.transitions.words.ghost_name ≡ x.transitions.words.ghost_name
-  pub pending : y.pending ≡ x.pending
-  pub scratch : y.scratch ≡ x.scratch
+-- states and transitions are written
+abbrev pub KeepsOthers : Lent → Lent → Type 0
+KeepsOthers x y = KeepsBut (record { sp = false; spp = false; states = true; count = true; members = false; transitions = true; pending = false; scratch = false }) x y
 
 -- es stands behind the transitions t
 pub record Appended (es : List Edge) (t u : Table) : Type 0 where

@@ -1,42 +1,35 @@
 // A finished list of delta (aut.rs) stored behind those already there.
 #![tactic(auto)]
 
-ghost use Rattle.std.specs.Prelude.{◌≡◌, ◌+◌, ◌*◌, ◌≤◌, length};
+ghost use Rattle.std.specs.Prelude.{◌≡◌, ◌*◌, ◌/◌, ◌≤◌, length};
+ghost use Rattle.slices.specs.Same.{SameSlice};
 ghost use Rattle.refusal.specs.Numbers.{outcome};
-ghost use Rattle.aut_st_steps.specs.Edges.{edges};
-ghost use Rattle.aut_st_insert.specs.Clauses.{RESULT, list_in};
+ghost use Rattle.aut_st_edges.specs.Clauses.{listed};
+ghost use Rattle.aut_st_insert.specs.Clauses.{list_in};
 ghost use Rattle.aut_delta_steps.specs.Delta as M;
 ghost use Rattle.aut_delta_stage.specs.OnTables.{store_in};
 ghost use Rattle.aut_delta_keep.specs.Clauses.{table_of, KeepAsked, KeepsOthers, Appends};
 
 use aut_relations::{Aut, Transitions};
+use aut_st_insert::RESULT;
+use aut_states::{STATE, word};
 use refusal::Refusal;
 
 // 01, "Lent tables": no more transitions than this, however large the table is
 const MOST: usize = 16777216;
 
-// the m transitions at RESULT stored behind those in use. Scratch is only read
-fn append(transitions: &mut Transitions, scratch: &mut [u32], m: usize) -> Result<(), Refusal>
-    requires { (2 * transitions.old.count ≤ length transitions.old.words.now) × (2 * (RESULT + m) ≤ length scratch.old) }
-    ensures same { scratch.new ≡ scratch.old }
-    ensures lent { transitions.new.words.ghost_name ≡ transitions.old.words.ghost_name }
-    ensures gives { Appends (edges scratch.old RESULT m) (table_of transitions.old) result (table_of transitions.new) }
+// a list stored behind the transitions in use
+fn append(transitions: &mut Transitions, list: &[u32]) -> Result<(), Refusal>
+    requires { (2 * transitions.old.count ≤ length transitions.old.words.now) × (2 * (length list.now / 2) ≡ length list.now) }
+    ensures lent { SameSlice transitions.old.words transitions.new.words }
+    ensures gives { Appends (listed list.now) (table_of transitions.old) result (table_of transitions.new) }
 {
-    let start = transitions.count;
-    let end = start + m;
-    if end > transitions.words.len() / 2 {
+    let end = transitions.count + list.len() / 2;
+    if end > transitions.words.len() / 2 || end > MOST {
         return Err(Refusal::Transitions);
     }
-    if end > MOST {
-        return Err(Refusal::Transitions);
-    }
-    aut_states::copy(
-        transitions.words,
-        2 * start,
-        scratch,
-        2 * aut_st_insert::RESULT,
-        2 * m,
-    );
+    let at = 2 * transitions.count;
+    transitions.words[at..at + list.len()].copy_from_slice(list);
     transitions.count = end;
     Ok(())
 }
@@ -48,9 +41,11 @@ pub fn keep_list(aut: &mut Aut, x: u32, m: usize) -> Result<(), Refusal>
     ensures gives { M.keep_list x (list_in aut.old m) (store_in aut.old) ≡ outcome (λ u. list_in aut.old m) result (store_in aut.new) }
 {
     let start = aut.transitions.count;
-    append(&mut aut.transitions, aut.scratch, m)?;
+    // only read, but `&aut.scratch[..]` beside `&mut aut.transitions` is not covered by the borrow checker
+    let list = &mut aut.scratch[2 * RESULT..2 * (RESULT + m)];
+    append(&mut aut.transitions, list)?;
     let i = x as usize;
-    aut.states.words[aut_states::STATE * i + aut_states::word::START] = start as u32;
-    aut.states.words[aut_states::STATE * i + aut_states::word::COUNT] = (m + 1) as u32;
+    aut.states.words[STATE * i + word::START] = start as u32;
+    aut.states.words[STATE * i + word::COUNT] = (m + 1) as u32;
     Ok(())
 }

@@ -24,7 +24,7 @@ use Rattle.aut_st_steps.proofs.Edges.{edges_grown}
 use Rattle.aut_st_steps.specs.ListSpec.{ListAt, Label}
 use Rattle.aut_st_steps.proofs.ListSpec.{list_empty}
 use Rattle.aut_delta_steps.specs.Epsilon.{value_of}
-use Rattle.aut_delta_steps.specs.Delta.{count_of, list_at, union_all, intersect_first, sequence_list, star_list, until_list, dup_list, top_list}
+use Rattle.aut_delta_steps.specs.Delta.{list_at, union_all, intersect_first, sequence_list, star_list, until_list, dup_list, top_list}
 use Rattle.aut_delta_steps.specs.DeltaReads.{together_with}
 use Rattle.aut_delta_steps.specs.EpsilonDown.{Known}
 use Rattle.aut_states.specs.Clauses.{limits_of}
@@ -40,17 +40,19 @@ use Rattle.aut_stage.proofs.Rule.{Inside, begin, next, stuck, finish, done, all_
 use Rattle.aut_stage.specs.OnLent.{lent_layer, Goes}
 use Rattle.aut_stage.proofs.OnLent.{lent_laws, related, asked_after}
 use Rattle.aut_st_insert.specs.Clauses.{RESULT}
-use Rattle.aut_st_source.specs.Clauses.{stored, Walked}
+use Rattle.aut_st_source.specs.declared.Source.{Source}
+use Rattle.aut_st_source.specs.declared.Span.{Span}
+use Rattle.aut_st_source.specs.Clauses.{stored, Walked, source_of}
+use Rattle.aut_st_source.specs.Stored.{PreFind, PostFind}
 use Rattle.aut_st_ops.specs.Asked.{TwoAsked}
 use Rattle.aut_st_each.specs.Asked.{OneAsked}
 use Rattle.aut_delta_stage.specs.OnTables.{store_in}
 use Rattle.aut_delta_many.specs.Clauses.{lists_at}
 use Rattle.aut_delta_many.specs.Asked.{ManyAsked}
+use Rattle.aut_delta_many.proofs.Lists.{found_is}
 use Rattle.aut_delta_lists.specs.Asked.{SequenceAsked, StarAsked, UntilAsked, AloneAsked}
-use Rattle.aut_delta_many.specs.declared.Span.{Span}
 use Rattle.aut_delta_kinds.specs.Clauses.{TogetherAsked, together_of, Two}
 use Rattle.aut_delta_kinds.proofs.Operands as operands
-use Rattle.aut_delta_kinds.proofs.Operands.{Spans}
 
 part : Inside 0 1088 0 832
 part = record { from = omega arith; to = omega arith }
@@ -161,18 +163,20 @@ module _ {k : Config} {x : Lent} {i : ℕ} (R : TogetherAsked k x i) where
 
     -- ---- one list
 
-    module _ {d : Span} (q : Spans st a d) (e : kind_of st i ≡ COMPLEMENT) where
-      pub complement_ready : OneAsked k x (stored d.start d.count)
-      complement_ready = record { asked = asked; limit = R.ready.limit; walked = operands.spanned R.ready (operands.complement_operand R.ready pa pb e) q }
+    -- u is the list that is found
+    module _ {d : Span} (q : PostFind st a d) (e : kind_of st i ≡ COMPLEMENT) {u : Source} (is-list : u ≡ stored d.start d.count) where
+      pub complement_ready : OneAsked k x u
+      complement_ready = subst (OneAsked k x) (sym is-list) (record { asked = asked; limit = R.ready.limit; walked = operands.walked R.ready (operands.complement_operand R.ready pa pb e) q })
 
-      pub of_complement : {r : Result ℕ Refusal} {y : Lent} → Gives 832 (St.st_complement (ops N (limits_of k.limits)) (edges tr d.start d.count)) r y → Gives 1088 whole r y
+      pub of_complement : {r : Result ℕ Refusal} {y : Lent} → Gives 832 (St.st_complement (ops N (limits_of k.limits)) (source_of u tr x.scratch.now)) r y → Gives 1088 whole r y
       unfolding together_with
-      of_complement g =
-          gives (St.st_complement (ops N (limits_of k.limits)) (edges tr d.start d.count)) part (at_kind COMPLEMENT e ∙ ap (λ (es : List Edge). St.st_complement (ops N (limits_of k.limits)) es σ) (operands.list_is R.ready q)) g
+      of_complement {r} {y} g =
+          gives (St.st_complement (ops N (limits_of k.limits)) (edges tr d.start d.count)) part (at_kind COMPLEMENT e ∙ ap (λ (es : List Edge). St.st_complement (ops N (limits_of k.limits)) es σ) (found_is (store_in x) q))
+          (subst (λ (u : Source). Gives 832 (St.st_complement (ops N (limits_of k.limits)) (source_of u tr x.scratch.now)) r y) is-list g)
 
     -- ---- two lists
 
-    module _ {d1 d2 : Span} (q1 : Spans st a d1) (q2 : Spans st b d2) where
+    module _ {d1 d2 : Span} (q1 : PostFind st a d1) (q2 : PostFind st b d2) where
       abbrev ts : List Edge
       ts = edges tr d1.start d1.count
 
@@ -180,16 +184,20 @@ module _ {k : Config} {x : Lent} {i : ℕ} (R : TogetherAsked k x i) where
       us = edges tr d2.start d2.count
 
       lists_are : (o : List Edge → List Edge → Step Aut (List Edge)) → o (v a) (v b) σ ≡ o ts us σ
-      lists_are o = ap₂ (λ (xs ys : List Edge). o xs ys σ) (operands.list_is R.ready q1) (operands.list_is R.ready q2)
+      lists_are o = ap₂ (λ (xs ys : List Edge). o xs ys σ) (found_is (store_in x) q1) (found_is (store_in x) q2)
 
       module _ {r : Result ℕ Refusal} {y : Lent} where
         pub of_xor : kind_of st i ≡ XOR → Gives 1088 (St.st_xor (ops N (limits_of k.limits)) ts us) r y → Gives 1088 whole r y
         unfolding together_with
         of_xor e g = gives (St.st_xor (ops N (limits_of k.limits)) ts us) (all_of 0 1088) (at_kind XOR e ∙ lists_are (St.st_xor (ops N (limits_of k.limits)))) g
 
-        pub of_difference : kind_of st i ≡ DIFFERENCE → Gives 832 (St.st_difference (ops N (limits_of k.limits)) ts us) r y → Gives 1088 whole r y
+        pub of_difference : kind_of st i ≡ DIFFERENCE → {u v : Source} → u ≡ stored d1.start d1.count → v ≡ stored d2.start d2.count
+            → Gives 832 (St.st_difference (ops N (limits_of k.limits)) (source_of u tr x.scratch.now) (source_of v tr x.scratch.now)) r y → Gives 1088 whole r y
         unfolding together_with
-        of_difference e g = gives (St.st_difference (ops N (limits_of k.limits)) ts us) part (at_kind DIFFERENCE e ∙ lists_are (St.st_difference (ops N (limits_of k.limits)))) g
+        of_difference e {u} {v} is-first is-second g =
+            gives (St.st_difference (ops N (limits_of k.limits)) ts us) part (at_kind DIFFERENCE e ∙ lists_are (St.st_difference (ops N (limits_of k.limits))))
+            (subst (λ (w : Source). Gives 832 (St.st_difference (ops N (limits_of k.limits)) ts (source_of w tr x.scratch.now)) r y) is-second
+            (subst (λ (w : Source). Gives 832 (St.st_difference (ops N (limits_of k.limits)) (source_of w tr x.scratch.now) (source_of v tr x.scratch.now)) r y) is-first g))
 
         pub of_until : kind_of st i ≡ UNTIL → Gives 1088 (until_list N (limits_of k.limits) a b ts us) r y → Gives 1088 whole r y
         unfolding together_with
@@ -206,21 +214,24 @@ module _ {k : Config} {x : Lent} {i : ℕ} (R : TogetherAsked k x i) where
         p = operands.two_operands R.ready pa pb t
 
         pub two_ready : TwoAsked k x (stored d1.start d1.count) (stored d2.start d2.count)
-        two_ready = record { first = record { asked = asked; limit = R.ready.limit; walked = operands.spanned R.ready p.0 q1 }; second = operands.spanned R.ready p.1 q2 }
+        two_ready = record { first = record { asked = asked; limit = R.ready.limit; walked = operands.walked R.ready p.0 q1 }; second = operands.walked R.ready p.1 q2 }
 
-        pub until_ready : UntilAsked k x a b d1.start d1.count d2.start d2.count
-        until_ready = record { asked = asked; limit = R.ready.limit; first = operands.spanned R.ready p.0 q1; second = operands.spanned R.ready p.1 q2; left = p.0.0; right = p.1.0 }
+        pub difference_ready : {u v : Source} → u ≡ stored d1.start d1.count → v ≡ stored d2.start d2.count → TwoAsked k x u v
+        difference_ready {v = v} is-first is-second = subst (λ (w : Source). TwoAsked k x w v) (sym is-first) (subst (λ (w : Source). TwoAsked k x (stored d1.start d1.count) w) (sym is-second) two_ready)
+
+        pub until_ready : UntilAsked k x a b d1 d2
+        until_ready = record { asked = asked; limit = R.ready.limit; first = operands.walked R.ready p.0 q1; second = operands.walked R.ready p.1 q2; left = p.0.0; right = p.1.0 }
 
         module _ (e : kind_of st i ≡ SEQUENCE) where
           pub sequence_value : (12 * a + 11 < length st) × Known st a
           sequence_value = operands.value_ask R.ready pa pb (omega (arith, e)) (omega (arith, e)) p.0
 
-          pub sequence_ready : {h : ℕ} → value_of st a ≡ h → SequenceAsked k x b h d1.start d1.count d2.start d2.count
+          pub sequence_ready : {h : ℕ} → value_of st a ≡ h → SequenceAsked k x b h d1 d2
           sequence_ready w = record {
             asked = asked;
             limit = R.ready.limit;
-            first = operands.spanned R.ready p.0 q1;
-            second = operands.spanned R.ready p.1 q2;
+            first = operands.walked R.ready p.0 q1;
+            second = operands.walked R.ready p.1 q2;
             state = p.1.0;
             label = operands.epsilon_label R.ready pa pb (omega (arith, e)) (omega (arith, e)) p.0 w;
           }
@@ -231,13 +242,13 @@ module _ {k : Config} {x : Lent} {i : ℕ} (R : TogetherAsked k x i) where
     star_has : operands.Operand R.ready a
     star_has = operands.star_operand R.ready pa refl e
 
-    pub star_ask : (12 * a + 11 < length st) × (0 < count_of st a)
-    star_ask = operands.stored_ask R.ready star_has
+    pub star_ask : PreFind st a
+    star_ask = operands.find_ready R.ready star_has
 
     pub star_value : (12 * a + 11 < length st) × Known st a
     star_value = operands.value_ask R.ready pa refl (omega (arith, e)) (omega (arith, e)) star_has
 
-    module _ {d : Span} (q : Spans st a d) {c : ℕ} (w : value_of st a ≡ c) where
+    module _ {d : Span} (q : PostFind st a d) {c : ℕ} (w : value_of st a ≡ c) where
       at_c : Label N σ c
       at_c = operands.epsilon_label R.ready pa refl (omega (arith, e)) (omega (arith, e)) star_has w
 
@@ -250,7 +261,7 @@ module _ {k : Config} {x : Lent} {i : ℕ} (R : TogetherAsked k x i) where
       star_0 : Stage (lent_layer N k.limits) 0 1088 (whole σ) (after (on_nodes (Rel.star N c) σ) then_list) σ σ x.scratch.now x.scratch.now
       unfolding together_with
       star_0 = begin W 0 1088 asked.ready
-          (at_kind pa refl STAR e ∙ ap₂ (λ (c : ℕ) (es : List Edge). after (on_nodes (Rel.star N c) σ) (λ h. star_list N (limits_of k.limits) i h es)) w (operands.list_is R.ready q))
+          (at_kind pa refl STAR e ∙ ap₂ (λ (c : ℕ) (es : List Edge). after (on_nodes (Rel.star N c) σ) (λ h. star_list N (limits_of k.limits) i h es)) w (found_is (store_in x) q))
 
       module _ {y : Lent} (K : KeepsExprs x y) where
         -- what `relate` answers
@@ -267,10 +278,10 @@ module _ {k : Config} {x : Lent} {i : ℕ} (R : TogetherAsked k x i) where
           star_1 : Stage (lent_layer N k.limits) 0 1088 (whole σ) (then_list h.0 (aut_in y)) σ (aut_in y) x.scratch.now y.scratch.now
           star_1 = next W 0 1088 (starred D).post no_list then_list star_0
 
-          pub star_ready : StarAsked k y i h.0 d.start d.count
+          pub star_ready : StarAsked k y i h.0 d
           star_ready =
               let g = (starred D).post.then in
-              let u = operands.spanned R.ready star_has q in
+              let u = operands.walked R.ready star_has q in
               record {
                 asked = asked_after asked K.spp (starred D);
                 limit = R.ready.limit;

@@ -1,6 +1,6 @@
 -- What the operands of a state have: lists among the transitions, and of a Sequence and a Star the first one's epsilon.
 use Rattle.std.specs.Prelude.{if◌then◌else◌}
-use mathlib.Core.Path.{◌≡◌, refl, sym, ap, ap₂, subst}
+use mathlib.Core.Path.{◌≡◌, refl, sym, ap, subst}
 use mathlib.Core.Bool.{false}
 use mathlib.Core.List.{List, [], ◌∷◌}
 use Prim.Native.Nat.{ℕ, ◌+◌, ◌*◌, ◌-◌, ◌≤◌, ◌<◌}
@@ -17,37 +17,22 @@ use Rattle.aut_steps.specs.Ascending.{All}
 use Rattle.aut_steps.proofs.ListLaws.{all_with}
 use Rattle.aut_steps.specs.Wf.{WfAut}
 use Rattle.aut_steps.proofs.Wf.{ok_as}
-use Rattle.aut_st_steps.specs.Edges.{edges}
 use Rattle.aut_st_steps.specs.ListSpec.{Label}
 use Rattle.aut_delta_steps.specs.Epsilon.{epsilon_of, value_of}
-use Rattle.aut_delta_steps.specs.Delta.{start_of, count_of, Store, list_at}
+use Rattle.aut_delta_steps.specs.Delta.{count_of, Store}
 use Rattle.aut_delta_steps.specs.DeltaReads.{list_operands_with, list_operands}
 use Rattle.aut_delta_steps.proofs.DeltaReads.{list_operands_below}
 use Rattle.aut_delta_steps.specs.EpsilonDown.{Known}
 use Rattle.aut_delta_steps.proofs.EpsilonDown.{known_means}
-use Rattle.aut_delta_steps.proofs.ListGoes.{list_at_lem}
 use Rattle.aut_delta_steps.proofs.Operands.{below_one, last_kind, no_kind}
-use Rattle.aut_delta_steps.specs.Wf.{Lists, Held}
 use Rattle.aut_states.specs.Clauses.{limits_of}
 use Rattle.aut_states.specs.declared.Limits.{Limits}
 use Rattle.aut_relations.proofs.Order.{in_table}
 use Rattle.aut_st_source.specs.Clauses.{stored, Walked}
-use Rattle.aut_delta_many.specs.declared.Span.{Span}
-use Rattle.aut_delta_many.specs.Joins.{PreFind, PostFind}
+use Rattle.aut_st_source.specs.declared.Span.{Span}
+use Rattle.aut_st_source.specs.Stored.{PreFind, PostFind}
+use Rattle.aut_delta_many.proofs.Lists as Found
 use Rattle.aut_delta_kinds.specs.Clauses.{PreTogether, Two}
-
--- ---- a stored list, as it is found
-
--- that of state y: its first record, and how many
-pub record Spans (st : List ℕ) (y : ℕ) (r : Span) : Type 0 where
-  pub start : start_of st y ≡ r.start
-  pub count : count_of st y - 1 ≡ r.count
-
-pub spans : {st : List ℕ} {y : ℕ} {r : Span} → PostFind st y r → Spans st y r
-spans p = record { start = p.start; count = omega (arith, p.count) }
-
-pub to_find : {st : List ℕ} {y : ℕ} → (12 * y + 11 < length st) × (0 < count_of st y) → PreFind st y
-to_find p = record { state = p.0; has = p.1 }
 
 -- ---- an epsilon, as it is read
 
@@ -98,24 +83,11 @@ module _ {N : ℕ} {l : Limits} {σ : Store} {s : List ℕ} {x : ℕ} (W : PreTo
   abbrev pub Operand : ℕ → Type 0
   Operand y = (y < σ.aut.states.count) × (0 < count_of st y)
 
-  pub stored_ask : {y : ℕ} → Operand y → (12 * y + 11 < length st) × (0 < count_of st y)
-  stored_ask p = (in_table good p.0, p.1)
+  pub find_ready : {y : ℕ} → Operand y → PreFind st y
+  find_ready p = Found.find_ready W.prepared p.0 p.1
 
-  walked : (y : ℕ) → Operand y → Walked N σ.aut σ.transitions.words s (stored (start_of st y) (count_of st y - 1))
-  unfolding list_at
-  walked y p =
-      let H : Lists N (limits_of l) σ = W.prepared.worked.lists in
-      let h : Held N (limits_of l) σ y = H.held y p.0 in
-      record { within = omega (arith, h.inside (count_of st y - 1) (omega (arith, p.1)), H.fit); edges = list_at_lem (limits_of l) (h.list p.1) }
-
-  pub spanned : {y : ℕ} {r : Span} → Operand y → Spans st y r → Walked N σ.aut σ.transitions.words s (stored r.start r.count)
-  spanned {y} {r} p q =
-      subst (λ (k : ℕ). Walked N σ.aut σ.transitions.words s (stored r.start k)) q.count
-      (subst (λ (a : ℕ). Walked N σ.aut σ.transitions.words s (stored a (count_of st y - 1))) q.start (walked y p))
-
-  pub list_is : {y : ℕ} {r : Span} → Spans st y r → list_at σ y ≡ edges σ.transitions.words r.start r.count
-  unfolding list_at
-  list_is q = ap₂ (λ (a k : ℕ). edges σ.transitions.words a k) q.start q.count
+  pub walked : {y : ℕ} {r : Span} → Operand y → PostFind st y r → Walked N σ.aut σ.transitions.words s (stored r.start r.count)
+  walked p F = record { within = Found.found_in W.prepared p.0 p.1 F; edges = Found.found_at W.prepared p.0 p.1 F }
 
   -- ---- the operands are such
 

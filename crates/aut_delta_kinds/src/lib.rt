@@ -1,4 +1,4 @@
-// The list of a state by kind (delta of aut.rs), from the stored lists of its operands. It calls neither delta nor epsilon.
+// The list of a state by kind (delta of aut.rs), put together at RESULT from the stored lists of its operands. Neither delta nor epsilon is called.
 #![tactic(auto)]
 
 ghost use Rattle.std.specs.Prelude.{◌≡◌};
@@ -11,14 +11,11 @@ ghost use Rattle.aut_st_insert.specs.Clauses.{list_in};
 ghost use Rattle.aut_delta_stage.specs.OnTables.{store_in};
 ghost use Rattle.aut_delta_kinds.specs.Clauses.{TogetherAsked, together_of, Two};
 
-use aut_delta_many::stored_list;
 use aut_relations::Aut;
 use aut_sequence::Task;
-use aut_st_source::{Place, Source};
-use aut_states::Config;
+use aut_st_source::stored_list;
+use aut_states::{Config, kind};
 use refusal::Refusal;
-
-// ---- by kind: the list stands at RESULT
 
 // a Star: first the star of its operand's epsilon
 fn together_star(aut: &mut Aut, config: Config, x: u32) -> Result<usize, Refusal>
@@ -31,7 +28,7 @@ fn together_star(aut: &mut Aut, config: Config, x: u32) -> Result<usize, Refusal
     let one = stored_list(aut, a);
     let e = aut_epsilon::value(&aut.states, a);
     let h = aut_sequence::relate(aut, config, Task::Star, e, e)?;
-    aut_delta_lists::star_list(aut, config, x, h, one.start, one.count)
+    aut_delta_lists::star_list(aut, config, x, h, one)
 }
 
 // the kinds of two stored lists
@@ -46,28 +43,12 @@ fn together_two(aut: &mut Aut, config: Config, x: u32) -> Result<usize, Refusal>
     let one = stored_list(aut, a);
     let two = stored_list(aut, b);
     match aut.states.kind(x) {
-        aut_states::kind::XOR => aut_st_xor::st_xor(
-            aut, config, one.start, one.count, two.start, two.count,
-        ),
-        aut_states::kind::DIFFERENCE => {
-            let left = Source {
-                place: Place::Stored(one.start),
-                length: one.count,
-            };
-            let right = Source {
-                place: Place::Stored(two.start),
-                length: two.count,
-            };
-            aut_st_ops::st_difference(aut, config, left, right)
-        }
-        aut_states::kind::UNTIL => aut_delta_lists::until_list(
-            aut, config, a, b, one.start, one.count, two.start, two.count,
-        ),
+        kind::XOR => aut_st_xor::st_xor(aut, config, one, two),
+        kind::DIFFERENCE => aut_st_ops::st_difference(aut, config, one.source(), two.source()),
+        kind::UNTIL => aut_delta_lists::until_list(aut, config, a, b, one, two),
         _ => {
             let e = aut_epsilon::value(&aut.states, a);
-            aut_delta_lists::sequence_list(
-                aut, config, b, e, one.start, one.count, two.start, two.count,
-            )
+            aut_delta_lists::sequence_list(aut, config, b, e, one, two)
         }
     }
 }
@@ -81,25 +62,17 @@ pub fn together(aut: &mut Aut, config: Config, x: u32) -> Result<usize, Refusal>
     let a = aut.states.first(x);
     let b = aut.states.second(x);
     match aut.states.kind(x) {
-        aut_states::kind::SPP => Ok(0),
-        aut_states::kind::UNION => {
-            aut_delta_many::union_all(aut, config, a as usize, b as usize)
-        }
-        aut_states::kind::INTERSECT => {
-            aut_delta_many::intersect_all(aut, config, a as usize, b as usize)
-        }
-        aut_states::kind::COMPLEMENT => {
+        kind::SPP => Ok(0),
+        kind::UNION => aut_delta_many::union_all(aut, config, a as usize, b as usize),
+        kind::INTERSECT => aut_delta_many::intersect_all(aut, config, a as usize, b as usize),
+        kind::COMPLEMENT => {
             let one = stored_list(aut, a);
-            let source = Source {
-                place: Place::Stored(one.start),
-                length: one.count,
-            };
-            aut_st_complement::st_complement(aut, config, source)
+            aut_st_complement::st_complement(aut, config, one.source())
         }
-        aut_states::kind::STAR => together_star(aut, config, x),
-        aut_states::kind::DUP => aut_delta_lists::dup_list(aut, config),
-        aut_states::kind::NEXT => aut_delta_lists::next_list(aut, config, a),
-        aut_states::kind::TOP => aut_delta_lists::top_list(aut, config),
+        kind::STAR => together_star(aut, config, x),
+        kind::DUP => aut_delta_lists::dup_list(aut, config),
+        kind::NEXT => aut_delta_lists::next_list(aut, config, a),
+        kind::TOP => aut_delta_lists::top_list(aut, config),
         _ => together_two(aut, config, x),
     }
 }

@@ -11,6 +11,7 @@ use Rattle.std.specs.Prelude.{Result, Ok, Err}
 use Rattle.std.specs.Result.{IsErr, IsErrAnd}
 use Rattle.common.specs.Outcome.{given, Step, return, after, ◌>>=◌}
 use Rattle.common.specs.Runs.{Table, table}
+use Rattle.slices.specs.Same.{SameSlice}
 use Rattle.refusal.specs.declared.Refusal.{Refusal}
 use Rattle.refusal.specs.Numbers.{outcome}
 use Rattle.netkat_steps.specs.ListSteps as St
@@ -63,17 +64,17 @@ module _ {k : Config} {x : Lent} {t h : ℕ} (A : AloneAsked k x) (E : EdgeAt k.
   no_edge : {y : Lent} → Run k 0 832 single (return []) x y → GoesList k 832 single x (Ok 0) y
   no_edge {y} g = run_done (run_as g (ap (given (aut_in y)) (sym (none_at y.scratch.now)))) (subst (ListAt k.fields (limits_of k.limits) (aut_in y)) (sym (none_at y.scratch.now)) (list_empty (aut_in y)))
 
-  pub label_zero : h ≡ zero → GoesList k 832 single x (Ok 0) x
+  pub label_zero : eqb h zero ≡ true → GoesList k 832 single x (Ok 0) x
   unfolding St.st_singleton
   label_zero e =
-      let q : eqb h (Rel.zero_at k.fields) ≡ true = eq-eqb h (Rel.zero_at k.fields) (e ∙ sym zero_is) in
+      let q : eqb h (Rel.zero_at k.fields) ≡ true = ap (eqb h) zero_is ∙ e in
       no_edge (run_begin A.asked (simp q))
 
-  module _ (apart : h ≡ zero → ⊥) where
+  module _ (apart : eqb h zero ≡ false) where
     single_0 : Run k 0 832 single (λ σ. after (on_states (mk_spp zero) σ) rest) x x
     unfolding St.st_singleton
     single_0 =
-        let q : eqb h (Rel.zero_at k.fields) ≡ false = ne_eqb h (Rel.zero_at k.fields) (λ e. apart (e ∙ zero_is)) in
+        let q : eqb h (Rel.zero_at k.fields) ≡ false = ap (eqb h) zero_is ∙ apart in
         let w : single (aut_in x) ≡ after (on_states (mk_spp (Rel.zero_at k.fields)) (aut_in x)) rest = simp q in
         run_begin A.asked (w ∙ ap (λ (z : ℕ). after (on_states (mk_spp z) (aut_in x)) rest) zero_is)
 
@@ -84,7 +85,7 @@ module _ {k : Config} {x : Lent} {t h : ℕ} (A : AloneAsked k x) (E : EdgeAt k.
       pub single_stuck : (e : Refusal) {r : Result ℕ Refusal} → IsErr r × IsErrAnd r (λ x. x ≡ e) → mk_spp zero (states_in x) ≡ outcome (λ i. i) (Err e) (table st.words.now st.count) → GoesList k 832 single x r (stated x st)
       single_stuck e q p = run_stuck rest single_0 q (zero_made (Err e) p)
 
-      module _ {z : ℕ} (same : st.words.ghost_name ≡ x.states.words.ghost_name) (p : mk_spp zero (states_in x) ≡ outcome (λ i. i) (Ok z) (table st.words.now st.count)) where
+      module _ {z : ℕ} (same : SameSlice x.states.words st.words) (p : mk_spp zero (states_in x) ≡ outcome (λ i. i) (Ok z) (table st.words.now st.count)) where
         single_1 : Run k 0 832 single (rest z) x (stated x st)
         single_1 = run_next rest single_0 no_list (keeps_stated same) (zero_made (Ok z) p)
 
@@ -122,7 +123,7 @@ module _ {k : Config} {x : Lent} (A : AloneAsked k x) {whole : Step Aut (List Ed
     pub made_stuck : (e : Refusal) {r : Result ℕ Refusal} → IsErr r × IsErrAnd r (λ x. x ≡ e) → o (states_in x) ≡ outcome (λ i. i) (Err e) (table st.words.now st.count) → GoesList k 832 whole x r (stated x st)
     made_stuck e q p = run_stuck then_single made_0 q (goes_stated o {r = Err e} A.asked M.state p)
 
-    module _ {i : ℕ} (same : st.words.ghost_name ≡ x.states.words.ghost_name) (p : o (states_in x) ≡ outcome (λ i. i) (Ok i) (table st.words.now st.count)) where
+    module _ {i : ℕ} (same : SameSlice x.states.words st.words) (p : o (states_in x) ≡ outcome (λ i. i) (Ok i) (table st.words.now st.count)) where
       state_made : Goes k 0 0 State (λ i. i) (on_states o) x (Ok i) (stated x st)
       state_made = goes_stated o A.asked M.state p
 

@@ -8,6 +8,7 @@ use Rattle.std.specs.Prelude.{Result, Ok, Err}
 use Rattle.std.specs.Result.{IsErr, IsErrAnd}
 use Rattle.common.specs.Outcome.{Step, after}
 use Rattle.common.specs.Runs.{table}
+use Rattle.slices.specs.Same.{SameSlice}
 use Rattle.refusal.specs.declared.Refusal.{Refusal}
 use Rattle.refusal.specs.Numbers.{outcome}
 use Rattle.netkat_steps.specs.ListSteps as St
@@ -31,13 +32,14 @@ use Rattle.aut_stage.specs.OnLent.{Goes}
 use Rattle.aut_stage.proofs.Rule.{Inside}
 use Rattle.aut_st_insert.specs.Clauses.{RESULT, list_in}
 use Rattle.aut_st_edges.specs.Clauses.{Wrote, CopyReady}
-use Rattle.aut_st_source.specs.Clauses.{stored}
-use Rattle.aut_st_source.proofs.Contracts.{scratched}
+use Rattle.aut_st_source.specs.declared.Source.{Source}
+use Rattle.aut_st_source.specs.declared.Span.{Span}
+use Rattle.aut_st_source.specs.Clauses.{stored, scratched}
 use Rattle.aut_st_each.specs.Asked.{OneAsked}
 use Rattle.aut_st_ops.specs.Asked.{TwoAsked}
 use Rattle.aut_st_stage.proofs.Turns.{source_in}
 use Rattle.aut_st_stage.proofs.Run.{Run, written, stated, keeps_stated, goes_stated, run_begin, run_next, run_stuck, run_finish}
-use Rattle.aut_st_stage.proofs.Waits.{Waits, waits, with_it, waits_later, waits_copied}
+use Rattle.aut_st_stage.proofs.Waits.{Waits, waits, waits_as, with_it, with_two, waits_later, waits_copied}
 use Rattle.aut_st_xor.proofs.Joins as join
 use Rattle.aut_st_xor.proofs.Joins.{Joins}
 use Rattle.aut_delta_lists.specs.Asked.{SequenceAsked, StarAsked, UntilAsked}
@@ -46,11 +48,14 @@ use Rattle.aut_delta_lists.proofs.Waiting.{part, all, GoesList, list_stuck, list
 abbrev FIRST : ℕ
 FIRST = 416
 
+abbrev SECOND : ℕ
+SECOND = 480
+
 -- ---- a Star
 
-module _ {k : Config} {x : Lent} {y ε a m : ℕ} (S : StarAsked k x y ε a m) where
+module _ {k : Config} {x : Lent} {y ε : ℕ} {list : Span} (S : StarAsked k x y ε list) where
   abbrev ts : List Edge
-  ts = edges x.transitions.words.now a m
+  ts = edges x.transitions.words.now list.start list.count
 
   abbrev star : Step Aut (List Edge)
   star = star_list k.fields (limits_of k.limits) y ε ts
@@ -65,65 +70,127 @@ module _ {k : Config} {x : Lent} {y ε a m : ℕ} (S : StarAsked k x y ε a m) w
   unfolding star_list
   star_0 = run_begin S.asked refl
 
-  pub star_stuck : {x1 : Lent} {e : Refusal} {z : Result ℕ Refusal} → IsErr z × IsErrAnd z (λ x. x ≡ e) → GoesList k 832 (late ts) x (Err e) x1 → GoesList k 1088 star x z x1
-  star_stuck q G = list_stuck S.limit late early star_0 (waits S.list) q G
+  -- u is the stored list
+  module _ {u : Source} (is-list : u ≡ stored list.start list.count) where
+    there : Waits k x u ts
+    there = waits_as (waits S.list) is-list
 
-  module _ {x1 : Lent} {n : ℕ} (K : Keeps x x1) (G : GoesList k 832 (late ts) x (Ok n) x1) where
-    pub star_copy : CopyReady x1.scratch.now RESULT n FIRST
-    star_copy = list_copy S.limit late early star_0 (waits S.list) K G FIRST (omega arith) (omega arith)
+    pub star_stuck : {x1 : Lent} {e : Refusal} {z : Result ℕ Refusal} → IsErr z × IsErrAnd z (λ x. x ≡ e) → GoesList k 832 (late (source_in u x)) x (Err e) x1 → GoesList k 1088 star x z x1
+    star_stuck q G = list_stuck S.limit late early star_0 there q G
 
-    module _ {w : List ℕ} (C : Wrote FIRST n (list_in x1 n) x1.scratch.now w) (len : length w ≡ length x1.scratch.now) where
-      star_1 : Run k 0 1088 star (early (list_in x1 n)) x (written x1 w)
-      star_1 = list_next S.limit late early star_0 (waits S.list) K G FIRST (omega arith) (omega arith) C len
+    module _ {x1 : Lent} {n : ℕ} (K : Keeps x x1) (G : GoesList k 832 (late (source_in u x)) x (Ok n) x1) where
+      pub star_copy : CopyReady x1.scratch.now RESULT n FIRST
+      star_copy = list_copy S.limit late early star_0 there K G FIRST (omega arith) (omega arith)
 
-      star_waits : Waits k (written x1 w) (scratched FIRST n) (list_in x1 n)
-      star_waits = list_waits S.limit late early star_0 (waits S.list) K G FIRST (omega arith) (omega arith) C
+      module _ {w : List ℕ} (C : Wrote FIRST n (list_in x1 n) x1.scratch.now w) (len : length w ≡ length x1.scratch.now) where
+        star_1 : Run k 0 1088 star (early (list_in x1 n)) x (written x1 w)
+        star_1 = list_next S.limit late early star_0 there K G FIRST (omega arith) (omega arith) C len
 
-      pub star_ready : OneAsked k (written x1 w) (scratched FIRST n) × Label k.fields (aut_in (written x1 w)) ε
-      star_ready = (record { asked = star_1.asked; limit = S.limit; walked = star_waits.walked }, label_grown star_1.stage.ext.grown S.label)
+        -- v is the list at FIRST
+        module _ {v : Source} (is-first : v ≡ scratched FIRST n) where
+          star_waits : Waits k (written x1 w) v (list_in x1 n)
+          star_waits = waits_as (list_waits S.limit late early star_0 there K G FIRST (omega arith) (omega arith) C) is-first
 
-      pub star_done : {r : Result ℕ Refusal} {x2 : Lent} → GoesList k 832 (early (source_in (scratched FIRST n) (written x1 w))) (written x1 w) r x2 → GoesList k 1088 star x r x2
-      star_done E = run_finish star_1 part (with_it star_waits early E)
+          pub star_ready : OneAsked k (written x1 w) v × Label k.fields (aut_in (written x1 w)) ε
+          star_ready = (record { asked = star_1.asked; limit = S.limit; walked = star_waits.walked }, label_grown star_1.stage.ext.grown S.label)
+
+          pub star_done : {r : Result ℕ Refusal} {x2 : Lent} → GoesList k 832 (early (source_in v (written x1 w))) (written x1 w) r x2 → GoesList k 1088 star x r x2
+          star_done E = run_finish star_1 part (with_it star_waits early E)
 
 -- ---- a Sequence: two lists made and joined (aut_st_xor)
 
-module _ {k : Config} {x : Lent} {y ε a m b j : ℕ} (S : SequenceAsked k x y ε a m b j) where
-  pub seq_joins : Joins k x (sequence_list k.fields (limits_of k.limits) y ε (edges x.transitions.words.now a m) (edges x.transitions.words.now b j)) (St.st_postcompose (ops k.fields (limits_of k.limits)) (edges x.transitions.words.now a m) y)
-      (St.st_precompose (ops k.fields (limits_of k.limits)) ε (edges x.transitions.words.now b j))
+module _ {k : Config} {x : Lent} {y ε : ℕ} {first second : Span} (S : SequenceAsked k x y ε first second) where
+  abbrev seq_ts : List Edge
+  seq_ts = edges x.transitions.words.now first.start first.count
+
+  abbrev seq_us : List Edge
+  seq_us = edges x.transitions.words.now second.start second.count
+
+  abbrev seq : Step Aut (List Edge)
+  seq = sequence_list k.fields (limits_of k.limits) y ε seq_ts seq_us
+
+  abbrev seq_late : List Edge → Step Aut (List Edge)
+  seq_late es = St.st_postcompose (ops k.fields (limits_of k.limits)) es y
+
+  abbrev seq_early : List Edge → Step Aut (List Edge)
+  seq_early = St.st_precompose (ops k.fields (limits_of k.limits)) ε
+
+  joins : Joins k x seq (seq_late seq_ts) (seq_early seq_us)
   unfolding sequence_list
-  seq_joins = record { asked = S.asked; limit = S.limit; is = refl }
+  joins = record { asked = S.asked; limit = S.limit; is = refl }
 
-  module _ {x1 : Lent} {n : ℕ} (K : Keeps x x1) (G : GoesList k 832 (St.st_postcompose (ops k.fields (limits_of k.limits)) (edges x.transitions.words.now a m) y) x (Ok n) x1) {w : List ℕ}
-      (C : Wrote FIRST n (list_in x1 n) x1.scratch.now w) where
-    second_stored : Waits k (written x1 w) (stored b j) (edges x.transitions.words.now b j)
-    second_stored = waits_copied (waits_later (waits S.second) all K G) FIRST n tt C.kept
+  -- u is the first list
+  module _ {u : Source} (is-first : u ≡ stored first.start first.count) where
+    first_there : Waits k x u seq_ts
+    first_there = waits_as (waits S.first) is-first
 
-    pub seq_ready : length w ≡ length x1.scratch.now → OneAsked k (written x1 w) (stored b j) × Label k.fields (aut_in (written x1 w)) ε
-    seq_ready len =
-        let g = join.run_2 seq_joins K G C len in
-        (record { asked = g.asked; limit = S.limit; walked = second_stored.walked }, label_grown g.stage.ext.grown S.label)
+    abbrev Left : Result ℕ Refusal → Lent → Type 0
+    Left r x1 = GoesList k 832 (seq_late (source_in u x)) x r x1
 
-    pub seq_early : {r : Result ℕ Refusal} {x2 : Lent} → GoesList k 832 (St.st_precompose (ops k.fields (limits_of k.limits)) ε (source_in (stored b j) (written x1 w))) (written x1 w) r x2
-        → GoesList k 832 (St.st_precompose (ops k.fields (limits_of k.limits)) ε (edges x.transitions.words.now b j)) (written x1 w) r x2
-    seq_early E = with_it second_stored (St.st_precompose (ops k.fields (limits_of k.limits)) ε) E
+    left : {r : Result ℕ Refusal} {x1 : Lent} → Left r x1 → GoesList k 832 (seq_late seq_ts) x r x1
+    left G = with_it first_there seq_late G
+
+    pub seq_stuck_1 : {x1 : Lent} {e : Refusal} {z : Result ℕ Refusal} → IsErr z × IsErrAnd z (λ x. x ≡ e) → Left (Err e) x1 → GoesList k 1088 seq x z x1
+    seq_stuck_1 q G = join.stuck_1 joins q (left G)
+
+    module _ {x1 : Lent} {n : ℕ} (K : Keeps x x1) (G : Left (Ok n) x1) where
+      pub seq_copy_1 : CopyReady x1.scratch.now RESULT n FIRST
+      seq_copy_1 = join.copy_1 joins K (left G)
+
+      -- v is the second list
+      module _ {w : List ℕ} (C : Wrote FIRST n (list_in x1 n) x1.scratch.now w) (len : length w ≡ length x1.scratch.now) {v : Source} (is-second : v ≡ stored second.start second.count) where
+        second_there : Waits k (written x1 w) v seq_us
+        second_there = waits_as (waits_copied (waits_later (waits S.second) all K (left G)) FIRST n tt C.kept) is-second
+
+        pub seq_ready : OneAsked k (written x1 w) v × Label k.fields (aut_in (written x1 w)) ε
+        seq_ready =
+            let g = join.run_2 joins K (left G) C len in
+            (record { asked = g.asked; limit = S.limit; walked = second_there.walked }, label_grown g.stage.ext.grown S.label)
+
+        abbrev Right : Result ℕ Refusal → Lent → Type 0
+        Right r x2 = GoesList k 832 (seq_early (source_in v (written x1 w))) (written x1 w) r x2
+
+        right : {r : Result ℕ Refusal} {x2 : Lent} → Right r x2 → GoesList k 832 (seq_early seq_us) (written x1 w) r x2
+        right E = with_it second_there seq_early E
+
+        pub seq_stuck_2 : {x2 : Lent} {e : Refusal} {z : Result ℕ Refusal} → IsErr z × IsErrAnd z (λ x. x ≡ e) → Right (Err e) x2 → GoesList k 1088 seq x z x2
+        seq_stuck_2 q E = join.stuck_2 joins K (left G) C len q (right E)
+
+        module _ {x2 : Lent} {m : ℕ} (K2 : Keeps (written x1 w) x2) (E : Right (Ok m) x2) where
+          pub seq_copy_2 : CopyReady x2.scratch.now RESULT m SECOND
+          seq_copy_2 = join.copy_2 joins K (left G) C len K2 (right E)
+
+          -- the two that are joined
+          module _ {w2 : List ℕ} (C2 : Wrote SECOND m (list_in x2 m) x2.scratch.now w2) (len2 : length w2 ≡ length x2.scratch.now) {s t : Source} (is-left : s ≡ scratched FIRST n) (is-right : t ≡ scratched SECOND m) where
+            pub seq_join : TwoAsked k (written x2 w2) s t
+            seq_join = join.join_asked joins K (left G) C len K2 (right E) C2 len2 is-left is-right
+
+            pub seq_done : {r : Result ℕ Refusal} {x3 : Lent} → GoesList k 832 (St.st_union (ops k.fields (limits_of k.limits)) (source_in s (written x2 w2)) (source_in t (written x2 w2))) (written x2 w2) r x3 → GoesList k 1088 seq x r x3
+            seq_done J = join.joined joins K (left G) C len K2 (right E) C2 len2 is-left is-right J
 
 -- ---- an LtlUntil: its state first
 
 no_list : Inside 0 832 0 0
 no_list = record { from = omega arith; to = omega arith }
 
-module _ {k : Config} {x : Lent} {y z a m b j : ℕ} (S : UntilAsked k x y z a m b j) where
+module _ {k : Config} {x : Lent} {y z : ℕ} {first second : Span} (S : UntilAsked k x y z first second) where
+  abbrev until_ts : List Edge
+  until_ts = edges x.transitions.words.now first.start first.count
+
+  abbrev until_us : List Edge
+  until_us = edges x.transitions.words.now second.start second.count
+
   abbrev until : Step Aut (List Edge)
-  until = until_list k.fields (limits_of k.limits) y z (edges x.transitions.words.now a m) (edges x.transitions.words.now b j)
+  until = until_list k.fields (limits_of k.limits) y z until_ts until_us
 
   abbrev meet : ℕ → List Edge → Step Aut (List Edge)
   meet u es = St.st_intersect_expr (ops k.fields (limits_of k.limits)) es u
 
-  abbrev unite : List Edge → Step Aut (List Edge)
-  unite = St.st_union (ops k.fields (limits_of k.limits)) (edges x.transitions.words.now b j)
+  abbrev unite : List Edge → List Edge → Step Aut (List Edge)
+  unite = St.st_union (ops k.fields (limits_of k.limits))
 
   abbrev meet_unite : ℕ → Step Aut (List Edge)
-  meet_unite u σ = after (meet u (edges x.transitions.words.now a m) σ) unite
+  meet_unite u σ = after (meet u until_ts σ) (unite until_us)
 
   until_0 : Run k 0 1088 until (λ σ. after (on_states (mk_until (limits_of k.limits) y z) σ) meet_unite) x x
   unfolding until_list
@@ -139,39 +206,40 @@ module _ {k : Config} {x : Lent} {y z a m b j : ℕ} (S : UntilAsked k x y z a m
     pub until_stuck_1 : (e : Refusal) {r : Result ℕ Refusal} → IsErr r × IsErrAnd r (λ x. x ≡ e) → mk_until (limits_of k.limits) y z (states_in x) ≡ outcome (λ i. i) (Err e) (table st.words.now st.count) → GoesList k 1088 until x r (stated x st)
     until_stuck_1 e q p = run_stuck meet_unite until_0 q (until_made (Err e) p)
 
-    module _ {u : ℕ} (same : st.words.ghost_name ≡ x.states.words.ghost_name) (p : mk_until (limits_of k.limits) y z (states_in x) ≡ outcome (λ i. i) (Ok u) (table st.words.now st.count)) where
-      until_1 : Run k 0 1088 until (meet_unite u) x (stated x st)
-      until_1 = run_next meet_unite until_0 (record { from = omega arith; to = omega arith }) (keeps_stated same) (until_made (Ok u) p)
+    -- u is the first list
+    module _ {i : ℕ} (same : SameSlice x.states.words st.words) (p : mk_until (limits_of k.limits) y z (states_in x) ≡ outcome (λ i. i) (Ok i) (table st.words.now st.count)) {u : Source} (is-first : u ≡ stored first.start first.count) where
+      until_1 : Run k 0 1088 until (meet_unite i) x (stated x st)
+      until_1 = run_next meet_unite until_0 (record { from = omega arith; to = omega arith }) (keeps_stated same) (until_made (Ok i) p)
 
-      first_there : Waits k (stated x st) (stored a m) (edges x.transitions.words.now a m)
-      first_there = waits_later (waits S.first) no_list (keeps_stated same) (until_made (Ok u) p)
+      until_first : Waits k (stated x st) u until_ts
+      until_first = waits_as (waits_later (waits S.first) no_list (keeps_stated same) (until_made (Ok i) p)) is-first
 
-      second_there : Waits k (stated x st) (stored b j) (edges x.transitions.words.now b j)
-      second_there = waits_later (waits S.second) no_list (keeps_stated same) (until_made (Ok u) p)
+      pub until_meet : OneAsked k (stated x st) u × State (aut_in (stated x st)) i
+      until_meet = (record { asked = until_1.asked; limit = S.limit; walked = until_first.walked }, (until_made (Ok i) p).post.then.holds)
 
-      pub until_meet : OneAsked k (stated x st) (stored a m) × State (aut_in (stated x st)) u
-      until_meet = (record { asked = until_1.asked; limit = S.limit; walked = first_there.walked }, (until_made (Ok u) p).post.then.holds)
+      abbrev Met : Result ℕ Refusal → Lent → Type 0
+      Met r x1 = GoesList k 832 (meet i (source_in u (stated x st))) (stated x st) r x1
 
-      pub until_stuck_2 : {x1 : Lent} {e : Refusal} {r : Result ℕ Refusal} → IsErr r × IsErrAnd r (λ x. x ≡ e) → GoesList k 832 (meet u (source_in (stored a m) (stated x st))) (stated x st) (Err e) x1 → GoesList k 1088 until x r x1
-      until_stuck_2 q G = list_stuck S.limit (meet u) unite until_1 first_there q G
+      pub until_stuck_2 : {x1 : Lent} {e : Refusal} {r : Result ℕ Refusal} → IsErr r × IsErrAnd r (λ x. x ≡ e) → Met (Err e) x1 → GoesList k 1088 until x r x1
+      until_stuck_2 q G = list_stuck S.limit (meet i) (unite until_us) until_1 until_first q G
 
-      module _ {x1 : Lent} {n : ℕ} (K : Keeps (stated x st) x1) (G : GoesList k 832 (meet u (source_in (stored a m) (stated x st))) (stated x st) (Ok n) x1) where
+      module _ {x1 : Lent} {n : ℕ} (K : Keeps (stated x st) x1) (G : Met (Ok n) x1) where
         pub until_copy : CopyReady x1.scratch.now RESULT n FIRST
-        until_copy = list_copy S.limit (meet u) unite until_1 first_there K G FIRST (omega arith) (omega arith)
+        until_copy = list_copy S.limit (meet i) (unite until_us) until_1 until_first K G FIRST (omega arith) (omega arith)
 
-        module _ {w : List ℕ} (C : Wrote FIRST n (list_in x1 n) x1.scratch.now w) (len : length w ≡ length x1.scratch.now) where
-          until_2 : Run k 0 1088 until (unite (list_in x1 n)) x (written x1 w)
-          until_2 = list_next S.limit (meet u) unite until_1 first_there K G FIRST (omega arith) (omega arith) C len
+        -- the two that are joined
+        module _ {w : List ℕ} (C : Wrote FIRST n (list_in x1 n) x1.scratch.now w) (len : length w ≡ length x1.scratch.now) {s t : Source} (is-second : s ≡ stored second.start second.count) (is-met : t ≡ scratched FIRST n) where
+          until_2 : Run k 0 1088 until (unite until_us (list_in x1 n)) x (written x1 w)
+          until_2 = list_next S.limit (meet i) (unite until_us) until_1 until_first K G FIRST (omega arith) (omega arith) C len
 
-          met_waits : Waits k (written x1 w) (scratched FIRST n) (list_in x1 n)
-          met_waits = list_waits S.limit (meet u) unite until_1 first_there K G FIRST (omega arith) (omega arith) C
+          until_met : Waits k (written x1 w) t (list_in x1 n)
+          until_met = waits_as (list_waits S.limit (meet i) (unite until_us) until_1 until_first K G FIRST (omega arith) (omega arith) C) is-met
 
-          second_later : Waits k (written x1 w) (stored b j) (edges x.transitions.words.now b j)
-          second_later = waits_copied (waits_later second_there all K G) FIRST n tt C.kept
+          until_second : Waits k (written x1 w) s until_us
+          until_second = waits_as (waits_copied (waits_later (waits_later (waits S.second) no_list (keeps_stated same) (until_made (Ok i) p)) all K G) FIRST n tt C.kept) is-second
 
-          pub until_join : TwoAsked k (written x1 w) (stored b j) (scratched FIRST n)
-          until_join = record { first = record { asked = until_2.asked; limit = S.limit; walked = second_later.walked }; second = met_waits.walked }
+          pub until_join : TwoAsked k (written x1 w) s t
+          until_join = record { first = record { asked = until_2.asked; limit = S.limit; walked = until_second.walked }; second = until_met.walked }
 
-          pub until_done : {r : Result ℕ Refusal} {x2 : Lent}
-              → GoesList k 832 (St.st_union (ops k.fields (limits_of k.limits)) (source_in (stored b j) (written x1 w)) (source_in (scratched FIRST n) (written x1 w))) (written x1 w) r x2 → GoesList k 1088 until x r x2
-          until_done E = run_finish until_2 part (with_it met_waits unite (with_it second_later (λ es. St.st_union (ops k.fields (limits_of k.limits)) es (source_in (scratched FIRST n) (written x1 w))) E))
+          pub until_done : {r : Result ℕ Refusal} {x2 : Lent} → GoesList k 832 (unite (source_in s (written x1 w)) (source_in t (written x1 w))) (written x1 w) r x2 → GoesList k 1088 until x r x2
+          until_done E = run_finish until_2 part (with_two until_second until_met unite E)

@@ -20,7 +20,7 @@ use Rattle.aut_stage.proofs.Rule.{Inside}
 use Rattle.aut_st_insert.specs.Clauses.{RESULT, list_in}
 use Rattle.aut_st_edges.specs.Clauses.{Wrote, CopyReady}
 use Rattle.aut_st_source.specs.declared.Source.{Source}
-use Rattle.aut_st_source.proofs.Contracts.{scratched}
+use Rattle.aut_st_source.specs.Clauses.{scratched}
 use Rattle.aut_st_stage.proofs.Turns.{source_in}
 use Rattle.aut_st_stage.proofs.Run.{Run, written, run_next, run_stuck}
 use Rattle.aut_st_stage.proofs.Waits.{Waits, with_it, copy_ready, copy_waits, run_copied}

@@ -20,7 +20,7 @@ ghost use Rattle.aut_delta_lists.specs.Asked.{SequenceAsked, StarAsked, UntilAsk
 use aut_relations::Aut;
 use aut_st_each::Each;
 use aut_st_insert::{FIRST, RESULT, SECOND};
-use aut_st_source::{Place, Source};
+use aut_st_source::{Source, Span};
 use aut_states::Config;
 use refusal::Refusal;
 use spp::SPP;
@@ -101,7 +101,7 @@ pub fn st_singleton(
         aut.old result aut.new }
 {
     let zero = spp::zero_at_depth(config.fields);
-    if label.0 == zero.0 {
+    if label == zero {
         return Ok(0);
     }
     let z = aut.states.mk_spp(zero)?;
@@ -121,50 +121,26 @@ pub fn sequence_list(
     config: Config,
     y: u32,
     eps: SPP,
-    first: usize,
-    k: usize,
-    second: usize,
-    j: usize,
+    first: Span,
+    second: Span,
 ) -> Result<usize, Refusal>
-    requires { SequenceAsked config aut.old y eps.0 first k second j }
+    requires { SequenceAsked config aut.old y eps.0 first second }
     ensures keeps { Keeps aut.old aut.new }
     ensures gives { Goes config 0 1088 (ListAt config.fields (limits_of config.limits))
         (list_in aut.new)
         (Delta.sequence_list config.fields (limits_of config.limits) y eps.0
-        (edges aut.old.transitions.words.now first k)
-        (edges aut.old.transitions.words.now second j)) aut.old result aut.new }
+        (edges aut.old.transitions.words.now first.start first.count)
+        (edges aut.old.transitions.words.now second.start second.count)) aut.old result aut.new }
 {
-    let n = st_postcompose(
-        aut,
-        config,
-        Source {
-            place: Place::Stored(first),
-            length: k,
-        },
-        y,
-    )?;
+    let n = st_postcompose(aut, config, first.source(), y)?;
     aut_st_edges::copy(aut.scratch, RESULT, n, FIRST);
-    let m = st_precompose(
-        aut,
-        config,
-        eps,
-        Source {
-            place: Place::Stored(second),
-            length: j,
-        },
-    )?;
+    let m = st_precompose(aut, config, eps, second.source())?;
     aut_st_edges::copy(aut.scratch, RESULT, m, SECOND);
     aut_st_ops::st_union(
         aut,
         config,
-        Source {
-            place: Place::Scratch(FIRST),
-            length: n,
-        },
-        Source {
-            place: Place::Scratch(SECOND),
-            length: m,
-        },
+        Source::scratch(FIRST, n),
+        Source::scratch(SECOND, m),
     )
 }
 
@@ -174,35 +150,18 @@ pub fn star_list(
     config: Config,
     x: u32,
     eps: SPP,
-    first: usize,
-    k: usize,
+    list: Span,
 ) -> Result<usize, Refusal>
-    requires { StarAsked config aut.old x eps.0 first k }
+    requires { StarAsked config aut.old x eps.0 list }
     ensures keeps { Keeps aut.old aut.new }
     ensures gives { Goes config 0 1088 (ListAt config.fields (limits_of config.limits))
         (list_in aut.new)
         (Delta.star_list config.fields (limits_of config.limits) x eps.0
-        (edges aut.old.transitions.words.now first k)) aut.old result aut.new }
+        (edges aut.old.transitions.words.now list.start list.count)) aut.old result aut.new }
 {
-    let n = st_postcompose(
-        aut,
-        config,
-        Source {
-            place: Place::Stored(first),
-            length: k,
-        },
-        x,
-    )?;
+    let n = st_postcompose(aut, config, list.source(), x)?;
     aut_st_edges::copy(aut.scratch, RESULT, n, FIRST);
-    st_precompose(
-        aut,
-        config,
-        eps,
-        Source {
-            place: Place::Scratch(FIRST),
-            length: n,
-        },
-    )
+    st_precompose(aut, config, eps, Source::scratch(FIRST, n))
 }
 
 // of the LtlUntil of a and b
@@ -211,42 +170,21 @@ pub fn until_list(
     config: Config,
     a: u32,
     b: u32,
-    first: usize,
-    k: usize,
-    second: usize,
-    j: usize,
+    first: Span,
+    second: Span,
 ) -> Result<usize, Refusal>
-    requires { UntilAsked config aut.old a b first k second j }
+    requires { UntilAsked config aut.old a b first second }
     ensures keeps { Keeps aut.old aut.new }
     ensures gives { Goes config 0 1088 (ListAt config.fields (limits_of config.limits))
         (list_in aut.new)
         (Delta.until_list config.fields (limits_of config.limits) a b
-        (edges aut.old.transitions.words.now first k)
-        (edges aut.old.transitions.words.now second j)) aut.old result aut.new }
+        (edges aut.old.transitions.words.now first.start first.count)
+        (edges aut.old.transitions.words.now second.start second.count)) aut.old result aut.new }
 {
     let u = aut.states.mk_until(config.limits, a, b)?;
-    let n = st_intersect_expr(
-        aut,
-        config,
-        Source {
-            place: Place::Stored(first),
-            length: k,
-        },
-        u,
-    )?;
+    let n = st_intersect_expr(aut, config, first.source(), u)?;
     aut_st_edges::copy(aut.scratch, RESULT, n, FIRST);
-    aut_st_ops::st_union(
-        aut,
-        config,
-        Source {
-            place: Place::Stored(second),
-            length: j,
-        },
-        Source {
-            place: Place::Scratch(FIRST),
-            length: n,
-        },
-    )
+    aut_st_ops::st_union(aut, config, second.source(), Source::scratch(FIRST, n))
 }
 
 pub fn dup_list(aut: &mut Aut, config: Config) -> Result<usize, Refusal>

@@ -38,17 +38,18 @@ use Rattle.aut_stage.proofs.Rule.{Inside, Folds, Turned, begin, stuck, done, tur
 use Rattle.aut_st_insert.specs.Clauses.{RESULT, list_in}
 use Rattle.aut_relations.proofs.Kept.{keeps_refl, keeps_trans}
 use Rattle.aut_st_edges.specs.Clauses.{Wrote, CopyReady}
-use Rattle.aut_st_source.specs.Clauses.{stored}
-use Rattle.aut_st_source.proofs.Contracts.{scratched}
+use Rattle.aut_st_source.specs.declared.Source.{Source}
+use Rattle.aut_st_source.specs.Clauses.{stored, scratched}
 use Rattle.aut_st_ops.specs.Asked.{TwoAsked}
 use Rattle.aut_st_stage.proofs.Turns.{source_in}
 use Rattle.aut_st_stage.proofs.Run.{Run, written, run_begin, run_wrote, run_finish}
-use Rattle.aut_st_stage.proofs.Waits.{Waits, with_it, waits_copied, copy_ready, copy_waits, run_copied}
+use Rattle.aut_st_stage.proofs.Waits.{Waits, waits_as, with_two, waits_copied, copy_ready, copy_waits, run_copied}
 use Rattle.aut_delta_many.specs.declared.Join.{Join}
 use Rattle.aut_delta_many.specs.declared.Join.TheVariants as join
-use Rattle.aut_delta_many.specs.declared.Span.{Span}
+use Rattle.aut_st_source.specs.declared.Span.{Span}
 use Rattle.aut_delta_many.specs.Clauses.{lists_at}
-use Rattle.aut_delta_many.specs.Joins.{join_one, join_all, PreFind, PostFind}
+use Rattle.aut_st_source.specs.Stored.{PreFind, PostFind}
+use Rattle.aut_delta_many.specs.Joins.{join_one, join_all}
 use Rattle.aut_delta_many.specs.Asked.{NextAsked, AllAsked, ManyAsked}
 use Rattle.aut_delta_many.proofs.Lists.{find_ready, found_is, found_in, found_at, found_few, found_list, words_first}
 
@@ -75,30 +76,31 @@ module _ {k : Config} {x : Lent} {n y : ℕ} (W : NextAsked k x n y) where
   next_copy = copy_ready x n W.limit W.list FIRST (omega arith) (omega arith) (asked W.asked)
 
   module _ {p : Span} (F : PostFind x.states.words.now y p) {w : List ℕ} (C : Wrote FIRST n (list_in x n) x.scratch.now w) (len : length w ≡ length x.scratch.now) where
-    so_far : Waits k (written x w) (scratched FIRST n) (list_in x n)
-    so_far = copy_waits x n W.limit W.list FIRST (omega arith) (omega arith) C
+    -- the sources that are joined
+    module _ {u v : Source} (first : u ≡ scratched FIRST n) (second : v ≡ stored p.start p.count) where
+      so_far : Waits k (written x w) u (list_in x n)
+      so_far = waits_as (copy_waits x n W.limit W.list FIRST (omega arith) (omega arith) C) first
 
-    found : Waits k (written x w) (stored p.start p.count) (list_at (store_in x) y)
-    found = waits_copied
-        (record { is = sym (found_is W.asked.prepared W.state W.has F); walked = record { within = found_in W.asked.prepared W.state W.has F; edges = found_at W.asked.prepared W.state W.has F } })
-        FIRST n tt C.kept
+      found : Waits k (written x w) v (list_at (store_in x) y)
+      found =
+          let P = W.asked.prepared in
+          waits_as (waits_copied (record { is = sym (found_is (store_in x) F); walked = record { within = found_in P W.state W.has F; edges = found_at P W.state W.has F } }) FIRST n tt C.kept) second
 
-    module _ (j : Join) where
-      abbrev one : List Edge → List Edge → Step Aut (List Edge)
-      one = join_one k.fields (limits_of k.limits) j
+      module _ (j : Join) where
+        abbrev one : List Edge → List Edge → Step Aut (List Edge)
+        one = join_one k.fields (limits_of k.limits) j
 
-      next_1 : Run k 0 1088 (one (list_in x n) (list_at (store_in x) y)) (one (list_in x n) (list_at (store_in x) y)) x (written x w)
-      next_1 = run_copied x n W.limit W.list FIRST (omega arith) (omega arith) C len (run_begin (asked W.asked) refl)
+        next_1 : Run k 0 1088 (one (list_in x n) (list_at (store_in x) y)) (one (list_in x n) (list_at (store_in x) y)) x (written x w)
+        next_1 = run_copied x n W.limit W.list FIRST (omega arith) (omega arith) C len (run_begin (asked W.asked) refl)
 
-      pub next_ready : TwoAsked k (written x w) (scratched FIRST n) (stored p.start p.count)
-      next_ready = record { first = record { asked = next_1.asked; limit = W.limit; walked = so_far.walked }; second = found.walked }
+        pub next_ready : TwoAsked k (written x w) u v
+        next_ready = record { first = record { asked = next_1.asked; limit = W.limit; walked = so_far.walked }; second = found.walked }
 
-      pub next_done : (i : Join) → j ≡ i → {r : Result ℕ Refusal} {z : Lent}
-          → GoesList k 832 (join_one k.fields (limits_of k.limits) i (source_in (scratched FIRST n) (written x w)) (source_in (stored p.start p.count) (written x w))) (written x w) r z
-          → GoesList k 1088 (one (list_in x n) (list_at (store_in x) y)) x r z
-      next_done i q {r} {z} G = run_finish next_1 part
-          (with_it found (one (list_in x n)) (with_it so_far (λ es. one es (source_in (stored p.start p.count) (written x w)))
-          (subst (λ (i : Join). GoesList k 832 (join_one k.fields (limits_of k.limits) i (source_in (scratched FIRST n) (written x w)) (source_in (stored p.start p.count) (written x w))) (written x w) r z) (sym q) G)))
+        pub next_done : (i : Join) → j ≡ i → {r : Result ℕ Refusal} {z : Lent}
+            → GoesList k 832 (join_one k.fields (limits_of k.limits) i (source_in u (written x w)) (source_in v (written x w))) (written x w) r z
+            → GoesList k 1088 (one (list_in x n) (list_at (store_in x) y)) x r z
+        next_done i q {r} {z} G = run_finish next_1 part
+            (with_two so_far found one (subst (λ (i : Join). GoesList k 832 (join_one k.fields (limits_of k.limits) i (source_in u (written x w)) (source_in v (written x w))) (written x w) r z) (sym q) G))
 
 -- ---- join_all
 
@@ -246,7 +248,7 @@ module _ {c : Config} {x : Lent} {from k : ℕ} (W : ManyAsked c x from k) where
       first_1 = run_wrote
           (run_begin (record { fields = W.fields; ready = W.prepared.ready })
           (ap (λ (xs : List ℕ). intersect_first c.fields (limits_of c.limits) (map (list_at σ) xs) (aut_in x)) split
-          ∙ ap (λ (es : List Edge). intersect_all c.fields (limits_of c.limits) (lists_at σ (from + 1) (k - 1)) es (aut_in x)) (found_is W.prepared states_in.0 lists_in_lem.0 F ∙ sym C.is)))
+          ∙ ap (λ (es : List Edge). intersect_all c.fields (limits_of c.limits) (lists_at σ (from + 1) (k - 1)) es (aut_in x)) (found_is σ F ∙ sym C.is)))
           (record { from = omega arith; to = omega (arith, first_few) }) (omega (arith, first_few)) C.kept len
 
       pub rest_asked : AllAsked c (written x w) p.count (from + 1) (k - 1)

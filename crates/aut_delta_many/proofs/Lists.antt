@@ -1,5 +1,5 @@
 -- The stored list of a state: where it is found, that it is a list, and that its words, copied into scratch, are the same list.
-use mathlib.Core.Path.{◌≡◌, refl, sym, ◌∙◌, ap, ap₂, subst}
+use mathlib.Core.Path.{◌≡◌, sym, ◌∙◌, ap, ap₂, subst}
 use mathlib.Core.List.{List, ◌∷◌}
 use Prim.Native.Nat.{ℕ, zero, suc, ◌+◌, ◌*◌, ◌-◌, ◌≤◌, ◌<◌}
 use native.Mathlib.Omega.{arith}
@@ -18,13 +18,18 @@ use Rattle.aut_delta_steps.specs.DeltaDown.{Has}
 use Rattle.aut_delta_steps.proofs.ListGoes.{list_at_lem}
 use Rattle.aut_delta_steps.proofs.Extends.{edges_sets}
 use Rattle.aut_delta_stage.specs.OnTables.{Prepared}
+use Rattle.aut_delta_stage.proofs.Copied.{flat_edges}
 use Rattle.aut_states.specs.Clauses.{limits_of}
 use Rattle.aut_states.specs.declared.Limits.{Limits}
 use Rattle.aut_st_edges.specs.Clauses.{Wrote}
-use Rattle.aut_delta_many.specs.declared.Span.{Span}
-use Rattle.aut_delta_many.specs.Joins.{PreFind, PostFind}
+use Rattle.aut_st_source.specs.declared.Span.{Span}
+use Rattle.aut_st_source.specs.Stored.{PreFind, PostFind}
 
 -- ---- where it is
+
+pub found_is : (σ : Store) {y : ℕ} {p : Span} → PostFind σ.aut.states.words y p → list_at σ y ≡ edges σ.transitions.words p.start p.count
+unfolding list_at
+found_is σ F = ap₂ (edges σ.transitions.words) F.start (ap (λ (j : ℕ). j - 1) F.count ∙ omega arith)
 
 module _ {N : ℕ} {l : Limits} {σ : Store} {s : List ℕ} (P : Prepared N l σ s) {y : ℕ} (k : y < states σ.aut) (has : Has σ y) where
   pub find_ready : PreFind σ.aut.states.words y
@@ -34,15 +39,11 @@ module _ {N : ℕ} {l : Limits} {σ : Store} {s : List ℕ} (P : Prepared N l σ
     abbrev found : List Edge
     found = edges σ.transitions.words p.start p.count
 
-    pub found_is : list_at σ y ≡ found
-    unfolding list_at
-    found_is = ap₂ (edges σ.transitions.words) F.start (ap (λ (j : ℕ). j - 1) F.count ∙ omega arith)
-
     pub found_in : 2 * (p.start + p.count) ≤ length σ.transitions.words
     found_in = omega (arith, P.worked.lists.fit, (P.worked.lists.held y k).inside p.count F.count, F.start)
 
     pub found_at : EdgesAt N σ.aut found
-    found_at = subst (EdgesAt N σ.aut) found_is (list_at_lem (limits_of l) ((P.worked.lists.held y k).list has))
+    found_at = subst (EdgesAt N σ.aut) (found_is σ F) (list_at_lem (limits_of l) ((P.worked.lists.held y k).list has))
 
     pub found_few : p.count ≤ l.transitions
     found_few = omega (arith, F.count, (P.worked.lists.held y k).short)
@@ -51,13 +52,6 @@ module _ {N : ℕ} {l : Limits} {σ : Store} {s : List ℕ} (P : Prepared N l σ
     found_list = record { edges = found_at; short = omega (arith, found_few, edges_length σ.transitions.words p.start p.count) }
 
 -- ---- its words
-
-flat_edges : (s : List ℕ) (a k : ℕ) → flat (edges s a k) ≡ words s (2 * a) (2 * k)
-unfolding flat edges words
-flat_edges s a zero = refl
-flat_edges s a (suc k) =
-    ap (λ (l : List ℕ). get_or s (2 * a) 0 ∷ get_or s (2 * a + 1) 0 ∷ l) (flat_edges s (a + 1) k ∙ ap (λ (b : ℕ). words s b (2 * k)) {x = 2 * (a + 1)} {y = 2 * a + 1 + 1} (omega arith))
-    ∙ ap (words s (2 * a)) {x = suc (suc (2 * k))} {y = 2 * suc k} (omega arith)
 
 -- k transitions of another slice, written at a
 pub copied : (s u : List ℕ) (a b k : ℕ) {s' : List ℕ} → 2 * (a + k) ≤ length s → sets s (2 * a) (words u (2 * b) (2 * k)) ≡ s' → Wrote a k (edges u b k) s s'

@@ -14,12 +14,12 @@ ghost use Rattle.aut_st_insert.specs.Clauses.{list_in};
 ghost use Rattle.aut_st_edges.specs.Clauses.{Wrote};
 ghost use Rattle.aut_delta_stage.specs.OnTables.{store_in};
 ghost use Rattle.aut_delta_many.specs.Clauses.{lists_at};
-ghost use Rattle.aut_delta_many.specs.Joins.{join_one, join_all, PreFind, PostFind};
+ghost use Rattle.aut_delta_many.specs.Joins.{join_one, join_all};
 ghost use Rattle.aut_delta_many.specs.Asked.{NextAsked, AllAsked, ManyAsked};
 
 use aut_relations::{Aut, Transitions};
 use aut_st_insert::{FIRST, RESULT};
-use aut_st_source::{Place, Source};
+use aut_st_source::{Source, Span, stored_list};
 use aut_states::Config;
 use refusal::Refusal;
 
@@ -30,27 +30,7 @@ enum Join {
     Intersect,
 }
 
-// a list among the transitions: its first record, and how many
-#[derive(Clone, Copy)]
-pub struct Span {
-    pub start: usize,
-    pub count: usize,
-}
-
-// the list of state y
-#[tactic(auto, unfolding(aut_delta_steps::specs::Delta::start_of, aut_delta_steps::specs::Delta::count_of))]
-pub fn stored_list(aut: &Aut, y: u32) -> Span
-    requires { PreFind aut.now.states.words.now y }
-    ensures { PostFind aut.now.states.words.now y result }
-{
-    let i = aut_states::STATE * y as usize;
-    Span {
-        start: aut.states.words[i + aut_states::word::START] as usize,
-        count: aut.states.words[i + aut_states::word::COUNT] as usize - 1,
-    }
-}
-
-// it goes to RESULT
+// a stored list goes to RESULT
 fn take(scratch: &mut [u32], transitions: &Transitions, list: Span)
     requires { (2 * (Seen.RESULT + list.count) ≤ length scratch.old) ×
         (2 * (list.start + list.count) ≤ length transitions.now.words.now) }
@@ -75,14 +55,8 @@ fn join_next(aut: &mut Aut, config: Config, join: Join, n: usize, y: u32) -> Res
 {
     let list = stored_list(aut, y);
     aut_st_edges::copy(aut.scratch, RESULT, n, FIRST);
-    let first = Source {
-        place: Place::Scratch(FIRST),
-        length: n,
-    };
-    let second = Source {
-        place: Place::Stored(list.start),
-        length: list.count,
-    };
+    let first = Source::scratch(FIRST, n);
+    let second = list.source();
     match join {
         Join::Union => aut_st_ops::st_union(aut, config, first, second),
         Join::Intersect => aut_st_ops::st_intersect(aut, config, first, second),

@@ -1,9 +1,8 @@
 -- All tables that are lent, with what is worked out (words 4 to 6 of states, transitions), as a layer of the rule for a run of calls (aut_stage): how the steps see them, what a call on them keeps, what is
 -- asked, and what a function promises.
-use Rattle.std.specs.Prelude.{◌≡◌, List, ℕ, length, Result}
+use Rattle.std.specs.Prelude.{◌≡◌, true, false, List, ℕ, Result}
 use Rattle.common.specs.Outcome.{Step}
 use Rattle.refusal.specs.declared.Refusal.{Refusal}
-use Rattle.spp.specs.Clauses.{SameStore}
 use Rattle.aut_delta_steps.specs.Delta.{Store, store}
 use Rattle.aut_delta_steps.specs.Wf.{WfStore}
 use Rattle.aut_delta_steps.specs.Extends.{ExtStore}
@@ -13,7 +12,7 @@ use Rattle.aut_states.specs.declared.Limits.{Limits}
 use Rattle.aut_relations.specs.declared.Aut.{Aut as Lent}
 use Rattle.aut_relations.specs.Behind.{LISTS, Modifies}
 use Rattle.aut_relations.specs.Clauses.{Ready}
-use Rattle.aut_relations.specs.Lent.{aut_in, transitions_in}
+use Rattle.aut_relations.specs.Lent.{aut_in, transitions_in, KeepsBut}
 use Rattle.aut_stage.specs.Rule.{Layer, Post}
 
 abbrev pub store_in : Lent → Store
@@ -21,16 +20,9 @@ store_in x = store (aut_in x) (transitions_in x)
 
 -- ---- what a call keeps: x before, y after
 
--- of all tables and of scratch the same words are lent; sp and pending are as they were
-pub record KeepsStore (x y : Lent) : Type 0 where
-  pub sp : y.sp ≡ x.sp
-  pub spp : SameStore x.spp y.spp
-  pub states : y.states.words.ghost_name ≡ x.states.words.ghost_name
-  pub members : y.members.words.ghost_name ≡ x.members.words.ghost_name
-  pub transitions : y.transitions.words.ghost_name ≡ x.transitions.words.ghost_name
-  pub pending : y.pending ≡ x.pending
-  pub scratch : y.scratch.ghost_name ≡ x.scratch.ghost_name
-  pub length : length y.scratch.now ≡ length x.scratch.now
+-- all tables but packet nodes and pending entries are written, and scratch
+abbrev pub KeepsStore : Lent → Lent → Type 0
+KeepsStore x y = KeepsBut (record { sp = false; spp = true; states = true; count = true; members = true; transitions = true; pending = false; scratch = true }) x y
 
 -- ---- what is asked
 

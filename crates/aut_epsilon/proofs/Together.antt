@@ -1,10 +1,10 @@
 -- Values put together: what the calls ask, and what they come to.
 use mathlib.Core.Path.{◌≡◌, refl, sym, ◌∙◌, ap, ap₂, subst}
 use mathlib.Core.List.{List, [], ◌∷◌}
+use mathlib.Core.Logic.{◌⊎◌, inl, inr}
 use Prim.Native.Nat.{ℕ, suc, ◌+◌, ◌*◌, ◌-◌, ◌≤◌, ◌<◌}
 use native.Mathlib.Omega.{arith}
 use lib.ListN.{length, get_or}
-use borrow.Author.Tests.{ne_eqb}
 use Rattle.std.specs.Prelude.{Result, Ok, Err}
 use Rattle.common.specs.Packets.{Relation}
 use Rattle.common.specs.Outcome.{Outcome, given, Step, after, Gives, refusal, gives}
@@ -18,7 +18,7 @@ use Rattle.spp_steps.proofs.Apply.{apply_exact}
 use Rattle.spp.specs.declared.SPP.{SPP}
 use Rattle.aut_steps.specs.Relations as Rel
 use Rattle.aut_steps.proofs.RelationLaws as RelationLaws
-use Rattle.aut_steps.specs.Tables.{UNION, INTERSECT, XOR, DIFFERENCE, COMPLEMENT, SEQUENCE, STAR, UNTIL, TOP, kind_of, op1, op2, words}
+use Rattle.aut_steps.specs.Tables.{UNION, INTERSECT, XOR, DIFFERENCE, COMPLEMENT, SEQUENCE, STAR, kind_of, op1, op2, words}
 use Rattle.aut_steps.specs.Ascending.{All}
 use Rattle.aut_steps.specs.Constructors.{each}
 use Rattle.aut_steps.proofs.Scratch.{words_on, words_done, from_0, all_word}
@@ -31,7 +31,7 @@ use Rattle.aut_relations.specs.Behind.{Modifies, CacheReady}
 use Rattle.aut_relations.proofs.Behind.{left_refl, left_trans, backed_left}
 use Rattle.aut_relations.specs.declared.Aut.{Aut as Lent}
 use Rattle.aut_relations.specs.Lent.{nodes_in, KeepsExprs, Does, Handles}
-use Rattle.aut_relations.proofs.Kept.{exprs_refl, exprs_trans}
+use Rattle.aut_relations.proofs.Kept.{keeps_refl, keeps_trans}
 use Rattle.aut_relations.proofs.Each.{Grows, Keeps as KeepsStep, makes_gives}
 use Rattle.aut_epsilon.specs.Clauses.{ValueAt, ValuesReady, EachReady, CombineReady}
 
@@ -43,10 +43,6 @@ readable v = (v.state, v.known)
 -- steps that come to others
 pub does_as : {N a n : ℕ} {V A : Type 0} {see : V → A} {p o : Step Table A} {x y : Lent} {r : Result V Refusal} → p (nodes_in x) ≡ o (nodes_in x) → Does N a n nodes_in see o x r y → Does N a n nodes_in see p x r y
 does_as e D = record { is = e ∙ D.is; left = D.left }
-
--- .. to a value, with no call
-pub stays : {N : ℕ} {p : Step Table ℕ} {x : Lent} {h : SPP} → p (nodes_in x) ≡ given (nodes_in x) h.0 → Does N 0 0 nodes_in (λ h. h.0) p x (Ok h) x
-stays {x} e = record { is = e; left = left_refl 0 0 (nodes_in x) x.scratch.now }
 
 -- ---- combine_each: i members are done
 
@@ -86,7 +82,7 @@ module _ {N : ℕ} (o : Spp.Op) {h from k : ℕ} {x₀ : Lent} (p : EachReady N 
 
   pub begin : Turn N o h from k x₀ x₀ h 0
   begin = record {
-    keeps = exprs_refl x₀;
+    keeps = keeps_refl x₀;
     left = left_refl 0 0 (nodes_in x₀) x₀.scratch.now;
     ext = ext_refl (nodes_in x₀);
     backed = p.list.backed;
@@ -128,10 +124,10 @@ module _ {N : ℕ} (o : Spp.Op) {h from k : ℕ} {x₀ : Lent} (p : EachReady N 
           again K D =
               let d = given_of ((keeps N o st).step (nodes_in x) (get_or mem (from + i) 0) g v.backed.wf v.at_g value_then) (ap (λ (b : ℕ). Spp.apply N o N g b (nodes_in x)) then ∙ D.is) in
               record {
-                keeps = exprs_trans v.keeps K;
+                keeps = keeps_trans v.keeps K;
                 left = left_trans d.ext v.left D.left;
                 ext = ext_trans v.ext d.ext;
-                backed = backed_left v.backed d.ext d.wf D.left K.length;
+                backed = backed_left v.backed d.ext d.wf D.left K.scratch.length;
                 at_g = d.holds;
                 is = step D.is;
               }
@@ -139,6 +135,10 @@ module _ {N : ℕ} (o : Spp.Op) {h from k : ℕ} {x₀ : Lent} (p : EachReady N 
     pub end : k ≤ i → {r : SPP} → g ≡ r.0 → Does N 0 0 nodes_in (λ (h : SPP). h.0) (each (one N o st) (words mem from k) h) x₀ (Ok r) x
     unfolding each
     end l e = record { is = v.is ∙ ap (λ (ys : List ℕ). each (one N o st) ys g (nodes_in x)) (words_done mem (from + i) k i l) ∙ ap (given (nodes_in x)) e; left = v.left }
+
+-- one state twice
+pub twice : {N : ℕ} {x : Lent} {y : ℕ} → ValuesReady N x (y ∷ []) → ValuesReady N x (y ∷ y ∷ [])
+twice r = record { fields = r.fields; backed = r.backed; values = (r.values.0, (r.values.0, tt)) }
 
 -- ---- combine: i is of kind k, with the operands a and b
 
@@ -163,12 +163,18 @@ module _ {N : ℕ} {x : Lent} {i : ℕ} (p : CombineReady N x i) {kd a b : ℕ} 
         values = subst (λ (a : ℕ). A k a b) (sym f) (subst (λ (b : ℕ). A k (op1 x.states.words.now i) b) (sym g) (subst (λ (k : ℕ). A k (op1 x.states.words.now i) (op2 x.states.words.now i)) (sym w ∙ e) p.operands.values));
       }
 
-  -- a kind without operands
-  pub by_default : (kd ≡ UNION → ⊥) → (kd ≡ INTERSECT → ⊥) → (kd ≡ XOR → ⊥) → (kd ≡ DIFFERENCE → ⊥) → (kd ≡ COMPLEMENT → ⊥) → (kd ≡ SEQUENCE → ⊥) → (kd ≡ STAR → ⊥) → (kd ≡ UNTIL → ⊥) → (kd ≡ TOP → ⊥)
-      → combine_on N x.states.words.now x.members.words.now i (nodes_in x) ≡ given (nodes_in x) (Rel.zero_at N)
-  unfolding combine_by
-  by_default n2 n3 n4 n5 n6 n7 n8 n11 n12 =
-      by refl ∙ simp (ne_eqb kd UNION n2, ne_eqb kd INTERSECT n3, ne_eqb kd XOR n4, ne_eqb kd DIFFERENCE n5, ne_eqb kd COMPLEMENT n6, ne_eqb kd SEQUENCE n7, ne_eqb kd STAR n8, ne_eqb kd UNTIL n11, ne_eqb kd TOP n12)
+  -- ---- two operands, or one
+
+  pub two_ready : (kd ≡ XOR) ⊎ (kd ≡ DIFFERENCE) ⊎ (kd ≡ SEQUENCE) → ValuesReady N x (a ∷ b ∷ [])
+  unfolding operands_with
+  two_ready (inl e) = operands e
+  two_ready (inr (inl e)) = operands e
+  two_ready (inr (inr e)) = operands e
+
+  pub one_ready : (kd ≡ COMPLEMENT) ⊎ (kd ≡ STAR) → ValuesReady N x (a ∷ a ∷ [])
+  unfolding operands_with
+  one_ready (inl e) = twice (operands e)
+  one_ready (inr e) = twice (operands e)
 
   -- ---- a list
 
@@ -216,7 +222,3 @@ module _ {N : ℕ} {x : Lent} {i : ℕ} (p : CombineReady N x i) {kd a b : ℕ} 
       intersect_is =
           by e ∙ ap (λ (ys : List ℕ). meet_values N v ys (nodes_in x)) split
           ∙ ap (λ (h : ℕ). each (one N Spp.intersect x.states.words.now) (words x.members.words.now (a + 1) (b - 1)) h (nodes_in x)) q
-
--- one state twice
-pub twice : {N : ℕ} {x : Lent} {y : ℕ} → ValuesReady N x (y ∷ []) → ValuesReady N x (y ∷ y ∷ [])
-twice r = record { fields = r.fields; backed = r.backed; values = (r.values.0, (r.values.0, tt)) }

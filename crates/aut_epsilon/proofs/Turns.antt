@@ -115,7 +115,7 @@ module _ {N : ℕ} {i : ℕ} {x : Lent} (f : FinishAsked N x i) where
     pub handle_small : {h : SPP} → Combined (Ok h) y → h.0 < 16777218
     unfolding keep_epsilon
     handle_small {h} D =
-        let s = after_law f.asked.epsilons f.asked.has f.asked.ready (run D.is) D.left K.length in
+        let s = after_law f.asked.epsilons f.asked.has f.asked.ready (run D.is) D.left K.scratch.length in
         omega (arith, at_below (nodes_in y) N h.0 s.law.found.means.den.at, s.law.found.good.nodes.nodes.small)
 
     pub marked : {h : SPP} → Combined (Ok h) y → epsilon N i (aut_in x) ≡ given (aut (nodes_in y) (table (set y.states.words.now (12 * i + 4) (h.0 + 1)) y.states.count) (members_in y)) h.0

@@ -90,6 +90,7 @@ fn combine_each(
     Ok(g)
 }
 
+#[tactic(auto, unfolding(aut_delta_steps::specs::EpsilonReads::combine_by, spp_steps::specs::Model::complement))]
 fn combine(aut: &mut Aut, config: Config, x: u32) -> Result<SPP, Refusal>
     requires { CombineReady config.fields aut.old x }
     ensures keeps { KeepsExprs aut.old aut.new }
@@ -142,8 +143,6 @@ fn finish(aut: &mut Aut, config: Config, x: u32) -> Result<SPP, Refusal>
     aut.states.words[STATE * x as usize + word::EPSILON] = h.0 + 1;
     Ok(h)
 }
-
-// ---- epsilon
 
 // The tables say how far a run has come: it goes down by reading, and calls itself on a state whose operands are all worked out, so it is
 // at most two deep, however x is nested

@@ -7,8 +7,8 @@ use Rattle.aut_delta.proofs.+delta.Given as goal
 abbrev pub decreases-delta : goal.decreases-delta
 decreases-delta l = nest l.aut.now.states.words.now l.x
 
-abbrev pub invariant-loop-aut : goal.invariant-loop-aut
-invariant-loop-aut l = Turn l.config l.x l.initial.aut l.aut l.entered
+abbrev pub invariant-loop-config : goal.invariant-loop-config
+invariant-loop-config l = Turn l.config l.x l.initial.aut l.aut l.entered
 
-abbrev pub decreases-loop-aut : goal.decreases-loop-aut
-decreases-loop-aut l = opens (count_of l.aut.states.words.now) l.initial.aut.states.count
+abbrev pub decreases-loop-config : goal.decreases-loop-config
+decreases-loop-config l = opens (count_of l.aut.states.words.now) l.initial.aut.states.count

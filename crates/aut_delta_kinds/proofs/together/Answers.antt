@@ -20,13 +20,13 @@ pub returns-in-3-clause-gives : goal.returns-in-3-clause-gives
 returns-in-3-clause-gives c = kinds.of_intersect c.requires c.first-a.ensures c.second-b.ensures (sym c.kind.ensures ∙ c.in-3.is) c.intersect_all.ensures.gives
 
 pub stored_list-one-requires : goal.stored_list-one-requires
-stored_list-one-requires c = operands.to_find (operands.stored_ask c.requires.ready (operands.complement_operand c.requires.ready c.first-a.ensures c.second-b.ensures (sym c.kind.ensures ∙ c.in-6.is)))
+stored_list-one-requires c = operands.find_ready c.requires.ready (operands.complement_operand c.requires.ready c.first-a.ensures c.second-b.ensures (sym c.kind.ensures ∙ c.in-6.is))
 
 pub st_complement-requires : goal.st_complement-requires
-st_complement-requires c = kinds.complement_ready c.requires c.first-a.ensures c.second-b.ensures (operands.spans c.stored_list-one.ensures) (sym c.kind.ensures ∙ c.in-6.is)
+st_complement-requires c = kinds.complement_ready c.requires c.first-a.ensures c.second-b.ensures c.stored_list-one.ensures (sym c.kind.ensures ∙ c.in-6.is) c.source.ensures
 
 pub returns-in-6-clause-gives : goal.returns-in-6-clause-gives
-returns-in-6-clause-gives c = kinds.of_complement c.requires c.first-a.ensures c.second-b.ensures (operands.spans c.stored_list-one.ensures) (sym c.kind.ensures ∙ c.in-6.is) c.st_complement.ensures.gives
+returns-in-6-clause-gives c = kinds.of_complement c.requires c.first-a.ensures c.second-b.ensures c.stored_list-one.ensures (sym c.kind.ensures ∙ c.in-6.is) c.source.ensures c.st_complement.ensures.gives
 
 pub returns-in-9-clause-gives : goal.returns-in-9-clause-gives
 returns-in-9-clause-gives c = kinds.of_dup c.requires c.first-a.ensures c.second-b.ensures (sym c.kind.ensures ∙ c.in-9.is) c.dup_list.ensures.gives

@@ -9,15 +9,15 @@ pub copy-requires : goal.copy-requires
 copy-requires c = joins.next_copy c.requires
 
 pub st_union-requires : goal.st_union-requires
-st_union-requires c = joins.next_ready c.requires c.stored_list-list.ensures c.copy.ensures c.copy.auto.words c.args.join
+st_union-requires c = joins.next_ready c.requires c.stored_list-list.ensures c.copy.ensures c.copy.auto.words c.scratch-first.ensures c.source-second.ensures c.args.join
 
 pub st_intersect-requires : goal.st_intersect-requires
-st_intersect-requires c = joins.next_ready c.requires c.stored_list-list.ensures c.copy.ensures c.copy.auto.words c.args.join
+st_intersect-requires c = joins.next_ready c.requires c.stored_list-list.ensures c.copy.ensures c.copy.auto.words c.scratch-first.ensures c.source-second.ensures c.args.join
 
 pub returns-in-Union-clause-gives : goal.returns-in-Union-clause-gives
 returns-in-Union-clause-gives c =
-    joins.next_done c.requires c.stored_list-list.ensures c.copy.ensures c.copy.auto.words c.args.join join.Union c.in-Union.is c.st_union.ensures.gives
+    joins.next_done c.requires c.stored_list-list.ensures c.copy.ensures c.copy.auto.words c.scratch-first.ensures c.source-second.ensures c.args.join join.Union c.in-Union.is c.st_union.ensures.gives
 
 pub returns-in-Intersect-clause-gives : goal.returns-in-Intersect-clause-gives
 returns-in-Intersect-clause-gives c =
-    joins.next_done c.requires c.stored_list-list.ensures c.copy.ensures c.copy.auto.words c.args.join join.Intersect c.in-Intersect.is c.st_intersect.ensures.gives
+    joins.next_done c.requires c.stored_list-list.ensures c.copy.ensures c.copy.auto.words c.scratch-first.ensures c.source-second.ensures c.args.join join.Intersect c.in-Intersect.is c.st_intersect.ensures.gives

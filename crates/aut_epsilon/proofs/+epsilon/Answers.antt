@@ -16,10 +16,10 @@ pub finish-requires : goal.finish-requires
 finish-requires t c = turns.finish_ready c.loop-aut.invariant c.lowest-y.ensures c.if-y-x.true
 
 pub returns-then-y-x-clause-gives : goal.returns-then-y-x-clause-gives
-returns-then-y-x-clause-gives t c = turns.done c.loop-aut.invariant c.finish.ensures.keeps.length c.finish.ensures.gives
+returns-then-y-x-clause-gives t c = turns.done c.loop-aut.invariant c.finish.ensures.keeps.scratch.length c.finish.ensures.gives
 
 pub returns-then-y-x-clause-after : goal.returns-then-y-x-clause-after
-returns-then-y-x-clause-after t c = turns.later c.requires (c.finish.ensures.keeps.length ∙ c.loop-aut.invariant.keeps.length) (returns-then-y-x-clause-gives t c)
+returns-then-y-x-clause-after t c = turns.later c.requires (c.finish.ensures.keeps.scratch.length ∙ c.loop-aut.invariant.keeps.scratch.length) (returns-then-y-x-clause-gives t c)
 
 pub epsilon-requires : goal.epsilon-requires
 epsilon-requires t c = turns.call_ready c.loop-aut.invariant c.lowest-y.ensures c.if-y-x.false c.decreases c.requires.has
