@@ -37,7 +37,7 @@ use Rattle.aut_free.proofs.Clearing.{is_clear, clear_rest}
 use Rattle.aut_query_calls.specs.Working.{clear_in, Working, WorkingIn}
 use Rattle.aut_query_calls.proofs.Works.{prepared, working_begin, clear_end, marks_clear}
 use Rattle.aut_empty_words.specs.Words.{entry_at, entries_of, seen_in, Stack, Puts, Rested, Emptied}
-use Rattle.aut_sets.proofs.Kept.{lent_refl, lent_trans}
+use Rattle.aut_relations.proofs.Kept.{keeps_refl, keeps_trans}
 use Rattle.aut_empty_words.proofs.Stacks.{entries_pop, entries_none, entries_put, stack_put, fits_in, seen_none, same_tables}
 use Rattle.aut_empty_walk.specs.Clauses.{search_in}
 use Rattle.aut_empty_pair.specs.Clauses.{Over, SeekingIn, turn_of}
@@ -87,7 +87,7 @@ module _ {k : Config} {x₀ : Lent} {n₀ : ℕ} (R : SeekingIn k x₀ n₀) (bu
 
   pub sought_begin : Sought k x₀ budget n₀ x₀ n₀ 0
   sought_begin = record {
-    keeps = lent_refl x₀;
+    keeps = keeps_refl x₀;
     within = omega arith;
     stage = begin L 0 1088 R.seeking.working.ready (ap (λ (b : ℕ). Handles.run M b (entries_of x₀.pending.now n₀) (seen_in N x₀.states.words.now) 0 (clear_in x₀)) {x = budget} {y = budget - 0} (omega arith));
     search = R;
@@ -142,7 +142,7 @@ module _ {k : Config} {x₀ : Lent} {n₀ : ℕ} (R : SeekingIn k x₀ n₀) (bu
           came : {r : Result (Option ℕ) Refusal} → Turns k n x r y → Post (query_layer k.fields k.limits) 0 1088 (λ τ v. Unit) (turn_of k (length x₀.pending.now / 2) y.states.words.now y.pending.now)
               (Handles.turn M (entry_at p (n - 1)) (entries_of p (n - 1)) (seen_in N st) (clear_in x)) (clear_in x) r (clear_in y) x.scratch.now y.scratch.now
           came {r} Z = subst (λ (c : ℕ). Post (query_layer k.fields k.limits) 0 1088 (λ τ v. Unit) (turn_of k (c / 2) y.states.words.now y.pending.now)
-              (Handles.turn (machine k.fields (limits_of k.limits) (c / 2)) (entry_at p (n - 1)) (entries_of p (n - 1)) (seen_in N st) (clear_in x)) (clear_in x) r (clear_in y) x.scratch.now y.scratch.now) I.keeps.entries Z.post.post
+              (Handles.turn (machine k.fields (limits_of k.limits) (c / 2)) (entry_at p (n - 1)) (entries_of p (n - 1)) (seen_in N st) (clear_in x)) (clear_in x) r (clear_in y) x.scratch.now y.scratch.now) I.keeps.pending.length Z.post.post
 
           pub sought_stuck : {e : Refusal} {r : Result (Verdict × ℕ × ℕ) Refusal} {z : Lent} → r ≡ Err e → Turns k n x (Err e) y → Searches k budget n₀ x₀ r z
           sought_stuck {e} {r} {z} q Z = subst (λ (r : Result (Verdict × ℕ × ℕ) Refusal). Searches k budget n₀ x₀ r z) (sym q) (record {
@@ -165,7 +165,7 @@ module _ {k : Config} {x₀ : Lent} {n₀ : ℕ} (R : SeekingIn k x₀ n₀) (bu
 
             pub sought_again : {m : ℕ} → o ≡ Some m → SameLent x y → Sought k x₀ budget n₀ y m (count + 1)
             sought_again {m} q K = record {
-              keeps = lent_trans I.keeps K;
+              keeps = keeps_trans I.keeps K;
               within = omega arith;
               stage = instead L 0 1088 (next L 0 1088 (came (turned q)) (all_of 0 1088) rest taking)
                   (ap (λ (c : ℕ). Handles.run M (budget - (count + 1)) (entries_of y.pending.now m) (seen_in N y.states.words.now) c (clear_in y)) {x = suc count} {y = count + 1} (omega arith));
@@ -269,7 +269,7 @@ module _ {k : Config} {x : Lent} {i : ℕ} (R : QueryAsked k x i) {h : ℕ} (one
           ∙ ap (λ (g : ℕ). running (length w0) (record { state = i; packets = g } ∷ []) (λ z. Sp.zero_at k.fields) (tables_in x)) (sym one_is)
           ∙ ap (λ (es : List (Entry ℕ)). running (length w0) es (λ z. Sp.zero_at k.fields) (tables_in x)) (sym entries1)
           ∙ ap (λ (f : ℕ → ℕ). running (length w0) (entries_of y.pending.now m) f (tables_in x)) (sym none ∙ rw same refl)
-          ∙ ap (λ (c : ℕ). running c (entries_of y.pending.now m) (seen_in k.fields y.states.words.now) (tables_in x)) (sym K1.entries)
+          ∙ ap (λ (c : ℕ). running c (entries_of y.pending.now m) (seen_in k.fields y.states.words.now) (tables_in x)) (sym K1.pending.length)
           ∙ ap (running (length y.pending.now) (entries_of y.pending.now m) (seen_in k.fields y.states.words.now)) (sym tables1)
 
       module _ {y2 : Lent} where
@@ -294,7 +294,7 @@ module _ {k : Config} {x : Lent} {i : ℕ} (R : QueryAsked k x i) {h : ℕ} (one
                 (λ e. X.kept z w b (eqb-false w 8 e) ∙ Z.held.spare z w (omega (arith, eqb-false w 8 e)) b)
 
             cleared : clear y3.states.words.now ≡ clear y2.states.words.now
-            cleared = clear_rest y3.states.words.now at_rest ∙ is_clear y3.states.words.now y2.states.words.now K3.words (λ z w a. X.kept z w (omega arith) (λ e. omega arith)) at_rest
+            cleared = clear_rest y3.states.words.now at_rest ∙ is_clear y3.states.words.now y2.states.words.now K3.states.length (λ z w a. X.kept z w (omega arith) (λ e. omega arith)) at_rest
 
             module _ {y4 : Lent} (K4 : OnlyMarks y3 y4) (same4 : y4.states ≡ y3.states) (E : Emptied y3.pending.now n y4.pending.now) where
               tables4 : tables_in y4 ≡ clear_in y2

@@ -37,9 +37,8 @@ fn search(
         if count >= budget {
             return Ok((Verdict::Spent, count, n));
         }
-        let turned = aut_empty_turn::turn(aut, config, n)?;
         count += 1;
-        let Some(m) = turned else {
+        let Some(m) = aut_empty_turn::turn(aut, config, n)? else {
             return Ok((Verdict::No, count, n - 1));
         };
         n = m;

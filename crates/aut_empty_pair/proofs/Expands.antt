@@ -42,7 +42,7 @@ use Rattle.aut_query_calls.proofs.Ran.{Ran}
 use Rattle.aut_query_calls.proofs.Works.{prepared, asks_epsilon, next_working, clear_written, working_written}
 use Rattle.aut_query_calls.proofs.Calls.{asks_sets, asks_lead, union_ran, has_ran, epsilon_ran}
 use Rattle.aut_empty_words.specs.Words.{entries_of, seen_in}
-use Rattle.aut_sets.proofs.Kept.{set_small}
+use Rattle.aut_sets.proofs.Small.{set_small}
 use Rattle.aut_empty_words.proofs.Stacks.{after_after, stack_later, seen_same, seen_set}
 use Rattle.aut_empty_walk.specs.Clauses.{search_in, spread_of, SpreadAsked, Spreads}
 use Rattle.aut_empty_walk.proofs.Spreads.{none_of}

@@ -86,7 +86,7 @@ module _ {k : Config} {x : Lent} {n : ℕ} (R : TurnAsked k x n) where
     back : (r : Result (Option ℕ) Refusal) (y : Lent) → Turning (length x1.pending.now) entry (entries_of x1.pending.now (n - 1)) (seen_in N x1.states.words.now) (tables_in x1) x1.scratch.now r y
         → Turning (length p) (entry_at p (n - 1)) (entries_of p (n - 1)) (seen_in N x.states.words.now) (tables_in x) x.scratch.now r y
     back r y P =
-        subst (λ (c : ℕ). Turning c (entry_at p (n - 1)) (entries_of p (n - 1)) (seen_in N x.states.words.now) (tables_in x) x.scratch.now r y) K1.entries
+        subst (λ (c : ℕ). Turning c (entry_at p (n - 1)) (entries_of p (n - 1)) (seen_in N x.states.words.now) (tables_in x) x.scratch.now r y) K1.pending.length
         (subst (λ (e : Entry ℕ). Turning (length x1.pending.now) e (entries_of p (n - 1)) (seen_in N x.states.words.now) (tables_in x) x.scratch.now r y) entry_is
         (subst (λ (es : List (Entry ℕ)). Turning (length x1.pending.now) entry es (seen_in N x.states.words.now) (tables_in x) x.scratch.now r y) rest1
         (subst (λ (τ : Tables). Turning (length x1.pending.now) entry (entries_of x1.pending.now (n - 1)) (seen_in N x.states.words.now) τ x.scratch.now r y) tables1

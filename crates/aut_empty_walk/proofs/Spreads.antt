@@ -9,7 +9,7 @@ use Rattle.common.specs.Outcome.{Outcome, Step, return, after}
 use Rattle.refusal.specs.declared.Refusal.{Refusal}
 use Rattle.netkat_steps.specs.ListSteps.{Edge}
 use Rattle.netkat_steps.specs.Handles as Handles
-use Rattle.netkat_steps.specs.Handles.{Entry, Link}
+use Rattle.netkat_steps.specs.Handles.{Entry}
 use Rattle.sp_steps.proofs.Laws as SpLaws
 use Rattle.aut_steps.proofs.Wf.{state_grown}
 use Rattle.aut_delta_steps.specs.Delta.{list_at, delta}

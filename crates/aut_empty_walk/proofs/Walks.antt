@@ -2,27 +2,32 @@
 use Rattle.std.specs.Prelude.{if◌then◌else◌, Result, Ok, Err, Option, Some, None, ok_or}
 use mathlib.Core.Path.{◌≡◌, refl, sym, ◌∙◌, ap, ap₂, subst}
 use mathlib.Core.Bool.{Bool, true, false}
-use mathlib.Core.List.{List, [], ◌∷◌, map, Memᴰ}
-use Prim.Native.Nat.{ℕ, zero, suc, ◌+◌, ◌*◌, ◌-◌, ◌/◌, ◌≤◌, ◌<◌}
+use mathlib.Core.List.{List, ◌∷◌, map}
+use Prim.Native.Nat.{ℕ, ◌+◌, ◌*◌, ◌-◌, ◌/◌, ◌≤◌, ◌<◌}
 use native.Mathlib.Omega.{arith}
-use lib.Dec.{eqb, ltb}
-use lib.ListN.{length, get_or, set}
-use borrow.Author.Tests.{eqb-true, eqb-false, lt-ltb, le-ltb}
+use lib.Dec.{ltb}
+use lib.ListN.{length, set}
+use borrow.Author.Tests.{lt-ltb, le-ltb}
 use Rattle.common.specs.Outcome.{Outcome, refused, given, Step, return, after}
 use Rattle.refusal.specs.declared.Refusal.{Refusal}
 use Rattle.refusal.specs.Numbers.{number_of}
-use Rattle.netkat_steps.specs.ListSteps.{edge}
+use Rattle.netkat_steps.specs.ListSteps.{Edge, edge}
 use Rattle.netkat_steps.specs.Handles as Handles
 use Rattle.netkat_steps.specs.Handles.{Entry, Link}
 use Rattle.sp_steps.specs.Model as Sp
 use Rattle.sp_steps.proofs.Laws as SpLaws
 use Rattle.sp.specs.declared.SP.{SP}
-use Rattle.spp_steps.proofs.Laws.{at_ext, by_test}
+use Rattle.spp_steps.proofs.Laws.{at_ext}
 use Rattle.spp_steps.specs.ImageModel as Images
 use Rattle.spp.specs.declared.SPPstore.{SPPstore}
 use Rattle.spp_image.specs.Reuse.{Written}
 use Rattle.aut_steps.proofs.Wf.{state_grown}
 use Rattle.aut_st_steps.specs.Edges.{edges}
+use Rattle.aut_st_steps.proofs.Places.{edge_at, edges_on, edges_done}
+use Rattle.aut_st_edges.specs.Clauses.{edge_of}
+use Rattle.aut_st_edges.specs.declared.Transition.{Transition}
+use Rattle.aut_st_source.specs.declared.Span.{Span}
+use Rattle.aut_st_source.specs.Stored.{PreFind, PostFind}
 use Rattle.aut_delta_steps.specs.Delta.{start_of, count_of, list_at}
 use Rattle.aut_delta_stage.specs.OnTables.{store_in}
 use Rattle.aut_query_steps.specs.Tables.{Tables, making_sets}
@@ -34,6 +39,7 @@ use Rattle.aut_states.specs.declared.Config.{Config}
 use Rattle.aut_stage.specs.Rule.{Laws, Post, Stage}
 use Rattle.aut_stage.proofs.Rule.{begin, next, instead, done, all_of, Folds, Turned, turn, over, again}
 use Rattle.aut_free.specs.Clear.{clear_tables}
+use Rattle.aut_free.proofs.Clearing.{clear_kept}
 use Rattle.aut_relations.specs.declared.Aut.{Aut as Lent}
 use Rattle.aut_relations.specs.declared.Transitions.{Transitions}
 use Rattle.aut_sets.specs.Lent.{diagrams_in, OnlySets, OnlyMarks, OnlySearch}
@@ -43,7 +49,8 @@ use Rattle.aut_query_calls.specs.Working.{SetIn}
 use Rattle.aut_query_calls.proofs.Works.{prepared}
 use Rattle.aut_query_calls.proofs.Calls.{asks_lead, push_ran}
 use Rattle.aut_query_calls.proofs.Ran.{Ran}
-use Rattle.aut_sets.proofs.Kept.{search_refl, search_trans}
+use Rattle.aut_query_calls.proofs.Listed.{edge_in}
+use Rattle.aut_relations.proofs.Kept.{keeps_refl, keeps_trans}
 use Rattle.aut_empty_words.specs.Words.{entries_of, Stack, Puts}
 use Rattle.aut_empty_words.proofs.Stacks.{after_after, entries_length, entries_put, stack_put, stack_later, fits_in, same_tables}
 use Rattle.aut_empty_walk.specs.Clauses.{search_in, Walks, along, FollowAsked, Follows, WalkAsked, WalksAll}
@@ -135,29 +142,6 @@ module _ {k : Config} {x : Lent} {n fresh target label : ℕ} (R : FollowAsked k
         pub follow_put : (o : Option ℕ) {r : Result ℕ Refusal} → Puts o y.pending.now n target h.0 z.pending.now → r ≡ ok_or o Refusal.Pending → Follows k n fresh target label x r z
         follow_put o {r} P e = subst (λ (r : Result ℕ Refusal). Follows k n fresh target label x r z) (sym e) (placed o (rw K.pending at P))
 
--- ---- the list
-
-pub edges_next : (tr : List ℕ) (a k : ℕ) → 0 < k → edges tr a k ≡ edge (get_or tr (2 * a) 0) (get_or tr (2 * a + 1) 0) ∷ edges tr (a + 1) (k - 1)
-unfolding edges
-edges_next tr a zero l = absurd (omega arith)
-edges_next tr a (suc k) l = ap (λ (j : ℕ). edge (get_or tr (2 * a) 0) (get_or tr (2 * a + 1) 0) ∷ edges tr (a + 1) j) {x = k} {y = suc k - 1} (omega arith)
-
-pub edges_none : (tr : List ℕ) (a k : ℕ) → k ≤ 0 → edges tr a k ≡ []
-unfolding edges
-edges_none tr a zero l = refl
-edges_none tr a (suc k) l = absurd (omega arith)
-
-pub nth_edge : (tr : List ℕ) (k a i : ℕ) → i < k → Memᴰ (edge (get_or tr (2 * (a + i)) 0) (get_or tr (2 * (a + i) + 1) 0)) (edges tr a k)
-unfolding edges
-nth_edge tr zero a i l = absurd (omega arith)
-nth_edge tr (suc k) a i l = go (nth_edge tr k (a + 1) (i - 1))
-  where
-    go : (i - 1 < k → Memᴰ (edge (get_or tr (2 * (a + 1 + (i - 1))) 0) (get_or tr (2 * (a + 1 + (i - 1)) + 1) 0)) (edges tr (a + 1) k))
-        → Memᴰ (edge (get_or tr (2 * (a + i)) 0) (get_or tr (2 * (a + i) + 1) 0)) (edge (get_or tr (2 * a) 0) (get_or tr (2 * a + 1) 0) ∷ edges tr (a + 1) k)
-    go rec = by_test (eqb i 0)
-        (λ b. Memᴰ.head (ap (λ (j : ℕ). edge (get_or tr (2 * j) 0) (get_or tr (2 * j + 1) 0)) {x = a + i} {y = a} (omega (arith, eqb-true i 0 b))))
-        (λ b. Memᴰ.tail (subst (λ (j : ℕ). Memᴰ (edge (get_or tr (2 * j) 0) (get_or tr (2 * j + 1) 0)) (edges tr (a + 1) k)) {x = a + 1 + (i - 1)} {y = a + i} (omega (arith, eqb-false i 0 b)) (rec (omega (arith, eqb-false i 0 b)))))
-
 -- ---- walk
 
 -- the links from place j on
@@ -172,11 +156,11 @@ folds k x fresh = record { none = λ es σ. refl; some = λ e es pending σ. sym
 abbrev Whole : Config → Lent → (n i fresh : ℕ) → Outcome Tables (List (Entry ℕ))
 Whole k x n i fresh = Handles.walk (search_in k x) fresh (map link (list_at (store_in x) i)) (entries_of x.pending.now n) (clear_in x)
 
--- from x₀ on, j - 1 transitions are walked
+-- from x₀ on, j transitions are walked
 pub record Along (k : Config) (x₀ : Lent) (n i fresh : ℕ) (x : Lent) (m j : ℕ) : Type 0 where
   pub keeps : OnlySearch x₀ x
   pub states : x.states ≡ x₀.states
-  pub turned : Turned (query_layer k.fields k.limits) 0 0 (Handles.walk (search_in k x₀) fresh) (links_on x₀ i) (count_of x₀.states.words.now i - 1) (λ τ es. Unit) (Whole k x₀ n i fresh) (clear_in x₀) (clear_in x) x₀.scratch.now x.scratch.now (entries_of x.pending.now m) (j - 1)
+  pub turned : Turned (query_layer k.fields k.limits) 0 0 (Handles.walk (search_in k x₀) fresh) (links_on x₀ i) (count_of x₀.states.words.now i - 1) (λ τ es. Unit) (Whole k x₀ n i fresh) (clear_in x₀) (clear_in x) x₀.scratch.now x.scratch.now (entries_of x.pending.now m) j
   pub working : WorkingIn k x
   pub stack : Stack k.fields (clear_in x) x.pending.now m
 
@@ -193,99 +177,85 @@ module _ {k : Config} {x₀ : Lent} {n i fresh : ℕ} (R : WalkAsked k x₀ n i 
   F : Folds (λ (e : Link ℕ) (pending : List (Entry ℕ)). along k.fields (limits_of k.limits) (length x₀.pending.now / 2) fresh e pending) (Handles.walk (search_in k x₀) fresh)
   F = folds k x₀ fresh
 
-  pub walk_begin : Along k x₀ n i fresh x₀ n 1
+  pub walk_find : PreFind st i
+  unfolding count_of
+  walk_find = record {
+    state = omega (arith, R.asked.has, (prepared x₀ R.asked.working.working).worked.good.fits);
+    has = omega (arith, R.list.stored.marked, clear_kept st i 6 (omega arith));
+  }
+
+  pub walk_begin : Along k x₀ n i fresh x₀ n 0
   unfolding list_at
   walk_begin = record {
-    keeps = search_refl x₀;
+    keeps = keeps_refl x₀;
     states = refl;
     turned = record {
       most = omega arith;
       stage = begin Q 0 0 R.asked.working.working.ready
-          (ap (λ (a : ℕ). Handles.walk (search_in k x₀) fresh (map link (edges tr a (count_of st i - 1))) (entries_of x₀.pending.now n) (clear_in x₀)) {x = start_of st i} {y = start_of st i + (1 - 1)} (omega arith)
-          ∙ ap (λ (b : ℕ). Handles.walk (search_in k x₀) fresh (map link (edges tr (start_of st i + (1 - 1)) b)) (entries_of x₀.pending.now n) (clear_in x₀)) {x = count_of st i - 1} {y = count_of st i - 1 - (1 - 1)} (omega arith));
+          (ap₂ (λ (a b : ℕ). Handles.walk (search_in k x₀) fresh (map link (edges tr a b)) (entries_of x₀.pending.now n) (clear_in x₀))
+          {x = start_of st i} {y = start_of st i + 0} {u = count_of st i - 1} {v = count_of st i - 1 - 0} (omega arith) (omega arith));
       holds = tt;
     };
     working = R.asked.working;
     stack = R.asked.stack;
   }
 
-  -- the words of the state, and of the list
-  pub state_in : 12 * i + 11 < length st
-  state_in = omega (arith, R.asked.has, (prepared x₀ R.asked.working.working).worked.good.fits)
-
-  list_in : {j : ℕ} → 1 ≤ j → j < count_of st i → 2 * (start_of st i + (j - 1)) + 1 < length tr
-  list_in {j} a b = omega (arith, ((prepared x₀ R.asked.working.working).worked.lists.held i R.asked.has).inside (count_of st i - 1) (omega arith), (prepared x₀ R.asked.working.working).worked.lists.fit)
-
-  -- start and marked are words of the state
-  module _ {start marked : ℕ} (e-start : start ≡ get_or st (12 * i + 5) 0) (e-marked : marked ≡ get_or st (12 * i + 6) 0) {x : Lent} {m j : ℕ} (I : Along k x₀ n i fresh x m j) where
-    over_all : marked ≤ j → count_of st i - 1 ≤ j - 1
-    unfolding count_of
-    over_all b = omega (arith, e-marked)
-
-    pub walk_end : marked ≤ j → WalksAll k n i fresh x₀ (Ok m) x
+  -- the list where it is stored
+  module _ {list : Span} (S : PostFind st i list) {x : Lent} {m j : ℕ} (I : Along k x₀ n i fresh x m j) where
+    pub walk_end : list.count ≤ j → WalksAll k n i fresh x₀ (Ok m) x
     walk_end b = record {
       post = record {
-        post = done Q 0 0 (over Q 0 0 F I.turned (ap (map link) (edges_none tr (start_of st i + (j - 1)) (count_of st i - 1 - (j - 1)) (omega (arith, over_all b))))) tt;
+        post = done Q 0 0 (over Q 0 0 F I.turned (ap (map link) (edges_done tr (start_of st i + j) (count_of st i - 1) j (omega (arith, b, S.count))))) tt;
       };
       held = (I.working.working, I.stack);
     }
 
-    module _ (a : 1 ≤ j) (b : j < marked) where
-      fewer : j < count_of st i
-      unfolding count_of
-      fewer = omega (arith, e-marked)
+    module _ (b : j < list.count) where
+      fewer : j < count_of st i - 1
+      fewer = omega (arith, b, S.count)
 
-      place : 2 * (start + j - 1) ≡ 2 * (start_of st i + (j - 1))
-      unfolding start_of
-      place = omega (arith, e-start)
+      pub walk_in : 2 * (list.start + j) + 1 < length x.transitions.words.now
+      walk_in = rw I.keeps.transitions (omega (
+        arith,
+        fewer,
+        S.start,
+        ((prepared x₀ R.asked.working.working).worked.lists.held i R.asked.has).inside (count_of st i - 1) (omega (arith, fewer)),
+        (prepared x₀ R.asked.working.working).worked.lists.fit,
+      ))
 
-      same : get_or x.transitions.words.now ≡ get_or tr
-      same = ap (λ (t : Transitions). get_or t.words.now) I.keeps.transitions
+      -- the transition that is read
+      module _ {t : Transition} (e : edge_of t ≡ edge_at x.transitions.words.now (list.start + j)) where
+        is : edge_of t ≡ edge_at tr (start_of st i + j)
+        is = e ∙ ap (λ (w : Transitions). edge_at w.words.now (list.start + j)) I.keeps.transitions ∙ ap (λ (a : ℕ). edge_at tr (a + j)) (sym S.start)
 
-      pub walk_in : 2 * (start + j - 1) + 1 < length x.transitions.words.now
-      walk_in = rw I.keeps.transitions (omega (arith, place, list_in a fewer))
-
-      -- the words that are read
-      module _ {target label : ℕ} (e1 : target ≡ get_or x.transitions.words.now (2 * (start + j - 1)) 0) (e2 : label ≡ get_or x.transitions.words.now (2 * (start + j - 1) + 1) 0) where
-        is1 : target ≡ get_or tr (2 * (start_of st i + (j - 1))) 0
-        is1 = e1 ∙ ap (λ (f : ℕ → ℕ → ℕ). f (2 * (start + j - 1)) 0) same ∙ ap (λ (a : ℕ). get_or tr a 0) place
-
-        is2 : label ≡ get_or tr (2 * (start_of st i + (j - 1)) + 1) 0
-        is2 = e2 ∙ ap (λ (f : ℕ → ℕ → ℕ). f (2 * (start + j - 1) + 1) 0) same ∙ ap (λ (a : ℕ). get_or tr (a + 1) 0) place
-
-        edge_in : EdgeIn k.fields (clear_in x₀) (edge target label)
+        known : EdgeIn k.fields (clear_in x₀) (edge_of t)
         unfolding list_at
-        edge_in = subst (EdgeIn k.fields (clear_in x₀)) (ap₂ edge (sym is1) (sym is2)) (R.list.edges _ (nth_edge tr (count_of st i - 1) (start_of st i) (j - 1) (omega (arith, fewer))))
+        known = subst (EdgeIn k.fields (clear_in x₀)) (sym is) (R.list.edges _ (edge_in tr (start_of st i) (count_of st i - 1) j fewer))
 
-        pub follow_asks : FollowAsked k x m fresh target label
+        pub follow_asks : FollowAsked k x m fresh t.target t.label.0
         follow_asks = record {
           working = I.working;
           stack = I.stack;
           at = SpLaws.at_ext I.turned.stage.ext.sets k.fields fresh R.asked.at;
-          edge = record { known = state_grown I.turned.stage.ext.grown edge_in.known; at = at_ext I.turned.stage.ext.grown.nodes k.fields label edge_in.at };
+          edge = record { known = state_grown I.turned.stage.ext.grown known.known; at = at_ext I.turned.stage.ext.grown.nodes k.fields t.label.0 known.at };
         }
 
-        on_next : links_on x₀ i (j - 1) ≡ record { target = target; label = label } ∷ links_on x₀ i (j - 1 + 1)
-        on_next =
-            ap (map link) (edges_next tr (start_of st i + (j - 1)) (count_of st i - 1 - (j - 1)) (omega (arith, fewer)))
-            ∙ ap₂ (λ (u v : ℕ). record { target = u; label = v } ∷ map link (edges tr (start_of st i + (j - 1) + 1) (count_of st i - 1 - (j - 1) - 1))) (sym is1) (sym is2)
-            ∙ ap (λ (u : ℕ). record { target = target; label = label } ∷ map link (edges tr u (count_of st i - 1 - (j - 1) - 1))) {x = start_of st i + (j - 1) + 1} {y = start_of st i + (j - 1 + 1)} (omega arith)
-            ∙ ap (λ (v : ℕ). record { target = target; label = label } ∷ map link (edges tr (start_of st i + (j - 1 + 1)) v)) {x = count_of st i - 1 - (j - 1) - 1} {y = count_of st i - 1 - (j - 1 + 1)} (omega arith)
+        on_next : links_on x₀ i j ≡ link (edge_of t) ∷ links_on x₀ i (j + 1)
+        on_next = ap (map link) (edges_on tr (start_of st i) (count_of st i - 1) j fewer) ∙ ap (λ (g : Edge). link g ∷ links_on x₀ i (j + 1)) (sym is)
 
         module _ {y : Lent} where
           -- what `follow` did, with as many entries lent as at the beginning
-          came : {r : Result ℕ Refusal} → Follows k m fresh target label x r y → Walks k (along k.fields (limits_of k.limits) (length x₀.pending.now / 2) fresh (record { target = target; label = label }) (entries_of x.pending.now m)) x r y
-          came {r} G = subst (λ (c : ℕ). Walks k (along k.fields (limits_of k.limits) (c / 2) fresh (record { target = target; label = label }) (entries_of x.pending.now m)) x r y) I.keeps.entries G
+          came : {r : Result ℕ Refusal} → Follows k m fresh t.target t.label.0 x r y → Walks k (along k.fields (limits_of k.limits) (length x₀.pending.now / 2) fresh (link (edge_of t)) (entries_of x.pending.now m)) x r y
+          came {r} G = subst (λ (c : ℕ). Walks k (along k.fields (limits_of k.limits) (c / 2) fresh (link (edge_of t)) (entries_of x.pending.now m)) x r y) I.keeps.pending.length G
 
-          pub walk_stuck : {e : Refusal} {r : Result ℕ Refusal} {z : Lent} → r ≡ Err e → Follows k m fresh target label x (Err e) y → WalksAll k n i fresh x₀ r z
-          walk_stuck q G = refused_walks q ((turn Q 0 0 F I.turned on_next).is ∙ ap (λ (o : Outcome Tables (List (Entry ℕ))). after o (Handles.walk (search_in k x₀) fresh (links_on x₀ i (j - 1 + 1)))) (came G).post.post.is)
+          pub walk_stuck : {e : Refusal} {r : Result ℕ Refusal} {z : Lent} → r ≡ Err e → Follows k m fresh t.target t.label.0 x (Err e) y → WalksAll k n i fresh x₀ r z
+          walk_stuck q G = refused_walks q ((turn Q 0 0 F I.turned on_next).is ∙ ap (λ (o : Outcome Tables (List (Entry ℕ))). after o (Handles.walk (search_in k x₀) fresh (links_on x₀ i (j + 1)))) (came G).post.post.is)
 
-          pub walk_again : {m1 : ℕ} → OnlySearch x y → y.states ≡ x.states → Follows k m fresh target label x (Ok m1) y → Along k x₀ n i fresh y m1 (j + 1)
+          pub walk_again : {m1 : ℕ} → OnlySearch x y → y.states ≡ x.states → Follows k m fresh t.target t.label.0 x (Ok m1) y → Along k x₀ n i fresh y m1 (j + 1)
           walk_again {m1} K s G = record {
-            keeps = search_trans I.keeps K;
+            keeps = keeps_trans I.keeps K;
             states = s ∙ I.states;
-            turned = subst (λ (c : ℕ). Turned (query_layer k.fields k.limits) 0 0 (Handles.walk (search_in k x₀) fresh) (links_on x₀ i) (count_of st i - 1) (λ τ es. Unit) (Whole k x₀ n i fresh) (clear_in x₀) (clear_in y) x₀.scratch.now y.scratch.now (entries_of y.pending.now m1) c) {x = j - 1 + 1} {y = j + 1 - 1} (omega arith)
-                (again Q 0 0 F I.turned (omega (arith, fewer)) on_next (came G).post.post (all_of 0 0));
+            turned = again Q 0 0 F I.turned (omega (arith, fewer)) on_next (came G).post.post (all_of 0 0);
             working = record { fields = ap (λ (t : SPPstore). t.fields) K.spp ∙ I.working.fields; working = G.held.0 };
             stack = G.held.1;
           }

@@ -6,10 +6,10 @@ ghost use Rattle.aut_sets.specs.Lent.{OnlySearch, SameLent};
 ghost use Rattle.aut_empty_walk.specs.Clauses.{FollowAsked, Follows, WalkAsked, WalksAll, SpreadAsked, Spreads};
 
 use aut_relations::Aut;
-use aut_states::{Config, STATE, word};
+use aut_st_edges::Transition;
+use aut_states::Config;
 use refusal::Refusal;
 use sp::SP;
-use spp::SPP;
 
 // the fresh packets along a transition
 fn follow(
@@ -17,19 +17,18 @@ fn follow(
     config: Config,
     n: usize,
     fresh: SP,
-    target: u32,
-    label: SPP,
+    t: Transition,
 ) -> Result<usize, Refusal>
-    requires { FollowAsked config aut.old n fresh.0 target label.0 }
+    requires { FollowAsked config aut.old n fresh.0 t.target t.label.0 }
     ensures keeps { OnlySearch aut.old aut.new }
     ensures states { aut.new.states ≡ aut.old.states }
-    ensures gives { Follows config n fresh.0 target label.0 aut.old result aut.new }
+    ensures gives { Follows config n fresh.0 t.target t.label.0 aut.old result aut.new }
 {
-    let next = aut_sets::push(aut, config, fresh, label)?;
+    let next = aut_sets::push(aut, config, fresh, t.label)?;
     if sp::is_zero(config.fields, next) {
         return Ok(n);
     }
-    aut_empty_words::put(aut, n, target, next).ok_or(Refusal::Pending)
+    aut_empty_words::put(aut, n, t.target, next).ok_or(Refusal::Pending)
 }
 
 // the fresh packets along the stored list of a state
@@ -39,15 +38,11 @@ fn walk(aut: &mut Aut, config: Config, n: usize, x: u32, fresh: SP) -> Result<us
     ensures states { aut.new.states ≡ aut.old.states }
     ensures gives { WalksAll config n x fresh.0 aut.old result aut.new }
 {
-    let i = x as usize;
-    let start = aut.states.words[STATE * i + word::START] as usize;
-    let marked = aut.states.words[STATE * i + word::COUNT] as usize;
+    let list = aut_st_source::stored_list(aut, x);
     let mut m = n;
-    for j in 1..marked {
-        let at = 2 * (start + j - 1);
-        let target = aut.transitions.words[at];
-        let label = SPP(aut.transitions.words[at + 1]);
-        m = follow(aut, config, m, fresh, target, label)?;
+    for j in 0..list.count {
+        let t = list.get(aut, j);
+        m = follow(aut, config, m, fresh, t)?;
     }
     Ok(m)
 }

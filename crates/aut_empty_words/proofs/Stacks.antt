@@ -12,7 +12,6 @@ use lib.ListN.{length, get_or, set, length-set}
 use lib.Seq.{get_or-set_same, get_or-set_other}
 use borrow.Author.Tests.{eqb-true, eqb-false, ne_eqb}
 use Rattle.common.specs.Outcome.{Outcome, refused, given, Step, after}
-use Rattle.common.specs.Runs.{Table}
 use Rattle.netkat_steps.specs.Handles.{Entry}
 use Rattle.sp_steps.specs.Model as Sp
 use Rattle.sp_steps.specs.Wf as SpLaws
@@ -131,14 +130,6 @@ seen_same N st st' f = fun_ext (λ x. ap (λ (w : ℕ). if eqb w 0 then Sp.zero_
 pub seen_none : (N : ℕ) (st : List ℕ) → ((x : ℕ) → get_or st (12 * x + 8) 0 ≡ 0) → seen_in N st ≡ (λ x. Sp.zero_at N)
 unfolding seen_in
 seen_none N st f = fun_ext (λ x. ap (λ (w : ℕ). if eqb w 0 then Sp.zero_at N else w - 1) (f x))
-
-pub seen_zero : (N : ℕ) (st : List ℕ) (x : ℕ) → get_or st (12 * x + 8) 0 ≡ 0 → Sp.zero_at N ≡ seen_in N st x
-unfolding seen_in
-seen_zero N st x e = sym (ap (λ (w : ℕ). if eqb w 0 then Sp.zero_at N else w - 1) e)
-
-pub seen_word : (N : ℕ) (st : List ℕ) (x : ℕ) → (get_or st (12 * x + 8) 0 ≡ 0 → ⊥) → get_or st (12 * x + 8) 0 - 1 ≡ seen_in N st x
-unfolding seen_in
-seen_word N st x n = sym (ap (λ (b : Bool). if b then Sp.zero_at N else get_or st (12 * x + 8) 0 - 1) (ne_eqb (get_or st (12 * x + 8) 0) 0 n))
 
 pub seen_set : (N : ℕ) (st : List ℕ) (x h : ℕ) → 12 * x + 8 < length st → seen_in N (set st (12 * x + 8) (h + 1)) ≡ (λ y. if eqb x y then h else seen_in N st y)
 unfolding seen_in

@@ -16,10 +16,8 @@ pub fn seen_at(aut: &Aut, config: Config, x: u32) -> SP
     ensures { result.0 ≡ seen_in config.fields aut.now.states.words.now x }
 {
     let word = aut.states.words[STATE * x as usize + word::SEEN];
-    if word == 0 {
-        return sp::zero_at_depth(config.fields);
-    }
-    SP(word - 1)
+    word.checked_sub(1)
+        .map_or(sp::zero_at_depth(config.fields), SP)
 }
 
 // one more pending entry: n + 1, or None if no entry is left

@@ -52,7 +52,7 @@ use Rattle.aut_free.proofs.Free.{clear_keep_lives}
 use Rattle.aut_query_calls.specs.Working.{clear_in}
 use Rattle.aut_query_calls.specs.Working.{SetIn}
 use Rattle.aut_query_calls.proofs.Works.{working_begin}
-use Rattle.aut_sets.proofs.Kept.{marks_trans}
+use Rattle.aut_relations.proofs.Kept.{keeps_trans}
 use Rattle.aut_live_words.specs.Work.{work_of, live_by, seconds, stack, Held, Doubled, Reaches, there, new, full, keep_words, clear_words}
 use Rattle.aut_live_words.specs.Clauses.{PreReach, PreKeep, PostClear}
 use Rattle.aut_live_words.proofs.Words.{seconds_same, seconds_split, seconds_one}
@@ -200,7 +200,7 @@ module _ {k : Config} {x : Lent} {i : ℕ} (Q : QueryAsked k x i) where
         stack_is = doubled_stack z.pending.now m X.doubled
 
         lent_is : length z.pending.now ≡ length p₀
-        lent_is = S.entries ∙ K.entries
+        lent_is = S.pending.length ∙ K.pending.length
 
         pub sets_settle : SettleAsked k z m
         sets_settle = record {
@@ -298,14 +298,14 @@ module _ {k : Config} {x : Lent} {i : ℕ} (Q : QueryAsked k x i) where
   live_word = (sets_reach Q).state
 
   -- a set that is stored
-  pub live_stored : 0 < word → Lives k i x (Ok (record { 0 = word - 1 })) x
+  pub live_stored : 0 < word → {h : SP} → h.0 ≡ word - 1 → Lives k i x (Ok h) x
   unfolding live_packets live_of
-  live_stored a = record {
+  live_stored a q = rw q (record {
     post = done (query_laws k.fields k.limits) 0 1088
         (begin (query_laws k.fields k.limits) 0 1088 Q.query.ready
         (ap (λ (b : Bool). if b then given (tables_in x) (word - 1) else anew_by) (lt-ltb 0 word a)))
         (Q.query.ready.ordered.lives.kept i Q.query.has (word - 1) (omega (arith, a))).den.at;
-  }
+  })
 
   abbrev then_kept : Found → Step Tables ℕ
   then_kept f τ = given (keep_lives f.states f.live τ) (f.live i)
@@ -332,12 +332,9 @@ module _ {k : Config} {x : Lent} {i : ℕ} (Q : QueryAsked k x i) where
       here : 0 < work_of st1 i
       here = held_reached S.held i reach.has
 
-      pub live_there : 12 * i + 11 < length st1
-      live_there = held_there S.held i here
-
-      pub live_marked : 1 ≤ get_or st1 (12 * i + 9) 0
+      pub live_set : (12 * i + 9 < length st1) × (0 < get_or st1 (12 * i + 9) 0)
       unfolding work_of
-      live_marked = here
+      live_set = (omega (arith, held_there S.held i here), here)
 
       pub live_keeps : PreKeep st1 y.pending.now n
       live_keeps = record { fits = omega (arith, S.held.room); states = λ j a. held_there S.held (get_or y.pending.now (2 * j + 1) 0) (held_second S.held j a) }
@@ -347,7 +344,7 @@ module _ {k : Config} {x : Lent} {i : ℕ} (Q : QueryAsked k x i) where
         st2 = z.states.words.now
 
         pub live_clears : PreKeep z.states.words.now z.pending.now n
-        live_clears = rw same (record { fits = live_keeps.fits; states = λ j a. omega (arith, live_keeps.states j a, K.words) })
+        live_clears = rw same (record { fits = live_keeps.fits; states = λ j a. omega (arith, live_keeps.states j a, K.states.length) })
 
         module _ {u : Lent} (K' : OnlyMarks z u) (E' : PostClear n z.states.words.now z.pending.now u.states.words.now u.pending.now) where
           abbrev st3 : List ℕ
@@ -358,7 +355,7 @@ module _ {k : Config} {x : Lent} {i : ℕ} (Q : QueryAsked k x i) where
 
           -- from the live sets on
           marks : OnlyMarks y u
-          marks = marks_trans K K'
+          marks = keeps_trans K K'
 
           word_same : (v w : ℕ) → 8 ≤ w → w < 12 → get_or st2 (12 * v + w) 0 ≡ get_or st1 (12 * v + w) 0
           word_same v w a b = ap (λ (u : List ℕ). get_or u (12 * v + w) 0) G ∙ keep_other xs st1 v w a b
@@ -369,7 +366,7 @@ module _ {k : Config} {x : Lent} {i : ℕ} (Q : QueryAsked k x i) where
               (λ b9. let q : w ≡ 9 = eqb-true w 9 b9 in
               subst (λ (w : ℕ). get_or (clear_words xs st2) (12 * v + w) 0 ≡ 0) (sym q)
               (by_test (ltb 0 (get_or st1 (12 * v + 9) 0))
-              (λ t. let m = ltb-true 0 (get_or st1 (12 * v + 9) 0) t in clear_members xs st2 v (held_listed S.held v m) (omega (arith, held_there S.held v m, K.words)))
+              (λ t. let m = ltb-true 0 (get_or st1 (12 * v + 9) 0) t in clear_members xs st2 v (held_listed S.held v m) (omega (arith, held_there S.held v m, K.states.length)))
               (λ t. clear_stays xs st2 v (word_same v 9 (omega arith) (omega arith) ∙ omega (arith, ltb-false 0 (get_or st1 (12 * v + 9) 0) t)))))
               (λ b9. let q : (w ≡ 9 → ⊥) = eqb-false w 9 b9 in clear_other xs st2 v w b (λ e. q e) ∙ word_same v w a b ∙ S.held.rest v w a b (λ e. q e))
 
@@ -403,18 +400,18 @@ module _ {k : Config} {x : Lent} {i : ℕ} (Q : QueryAsked k x i) where
           frame = let f = S.post.then.frame in
               subst (λ (τ : Tables). Leaves k.fields 0 1088 τ x.scratch.now u.scratch.now) (sym (tables_marked marks)) (rw marks.scratch (record { below = f.below; above = f.above; notes = f.notes }))
 
-          pub live_done : SameLent x y → Lives k i x (Ok (record { 0 = get_or st1 (12 * i + 9) 0 - 1 })) u
+          pub live_done : SameLent x y → {h : SP} → h.0 ≡ get_or st1 (12 * i + 9) 0 - 1 → Lives k i x (Ok h) u
           unfolding work_of
-          live_done C =
+          live_done C q =
               let v : live_by k.fields st1 i ≡ get_or st1 (12 * i + 9) 0 - 1 = live_reached k.fields st1 i here in
-              record {
+              rw q (record {
                 post = record {
                   is = whole_is ∙ ap (λ (w : ℕ). given (tables_in u) w) v;
                   then = record {
                     ext = law_live.later;
                     frame = frame;
-                    ready = query_ready Q.query.ready law_live.later law_live.ordered frame (rw marks.scratch C.length);
+                    ready = query_ready Q.query.ready law_live.later law_live.ordered frame (rw marks.scratch C.scratch.length);
                     holds = subst (λ (w : ℕ). SpLaws.ValidAt (tables_in u).sets k.fields w) v law_live.set.den.at;
                   };
                 };
-              }
+              })

@@ -10,8 +10,9 @@ ghost use Rattle.aut_sets.specs.Lent.{SameLent};
 ghost use Rattle.aut_query_calls.specs.Working.{SetIn};
 ghost use Rattle.aut_live.specs.Clauses.{SetsAt};
 
+use aut_live_words::set_at;
 use aut_relations::Aut;
-use aut_states::Config;
+use aut_states::{Config, STATE, word};
 use refusal::Refusal;
 use sp::SP;
 
@@ -35,13 +36,11 @@ pub fn live_packets(aut: &mut Aut, config: Config, x: u32) -> Result<SP, Refusal
         (M.live_packets config.fields (limits_of config.limits)
         (length aut.old.pending.now / 2) x) aut.old result aut.new }
 {
-    let at = aut_states::STATE * (x as usize);
-    let kept = aut.states.words[at + aut_states::word::LIVE];
-    if kept > 0 {
-        return Ok(SP(kept - 1));
+    if aut.states.words[STATE * x as usize + word::LIVE] > 0 {
+        return Ok(set_at(aut, x, word::LIVE));
     }
     let n = live_sets(aut, config, x)?;
-    let live = SP(aut.states.words[at + aut_states::word::WORK] - 1);
+    let live = set_at(aut, x, word::WORK);
     aut_live_words::keep(aut, n);
     aut_live_words::clear(aut, n);
     Ok(live)

@@ -12,7 +12,6 @@ use borrow.Author.Tests.{eq-eqb, ne_eqb, eqb-true, eqb-false, lt-ltb, le-ltb}
 use Rattle.std.specs.Result.{IsErr, IsErrAnd}
 use Rattle.common.specs.Packets.{any}
 use Rattle.common.specs.Outcome.{Outcome, refused, given, Step, return, after, ◌>>=◌}
-use Rattle.common.specs.Runs.{Table}
 use Rattle.refusal.specs.declared.Refusal.{Refusal}
 use Rattle.refusal.specs.declared.Refusal.TheVariants.{Pending}
 use Rattle.refusal.proofs.Passed.{passed}
@@ -50,7 +49,8 @@ use Rattle.aut_free.proofs.Clearing.{clear_kept}
 use Rattle.aut_query_calls.specs.Working.{clear_in}
 use Rattle.aut_query_calls.specs.Working.{SetIn}
 use Rattle.aut_query_calls.proofs.Ran.{Ran}
-use Rattle.aut_sets.proofs.Kept.{sets_trans, set_small}
+use Rattle.aut_relations.proofs.Kept.{keeps_trans}
+use Rattle.aut_sets.proofs.Small.{set_small}
 use Rattle.aut_live_words.specs.Work.{work_of, live_by, seconds, stack, Held, Enlarges}
 use Rattle.aut_live_words.specs.Clauses.{Listed, PreEnlarge}
 use Rattle.aut_live_pull.specs.Clauses.{HeldIn, work_in, Source, Pulled, pulling}
@@ -302,96 +302,104 @@ module _ {k : Config} {x : Lent} {n m t s : ℕ} (S : Source k x n m t s) where
     lists = λ u. refl;
   }
 
-  module _ (lab : ℕ) (q : Labels (M.by lab)) where
+  -- the set of t, as it is read
+  module _ (lab : ℕ) (q : Labels (M.by lab)) {ahead : ℕ} (a : ahead ≡ get_or words (12 * t + 9) 0 - 1) where
     lab_at : ValidAt (nodes_in x) N lab
     lab_at = held_label S.held t s S.source S.listed (ap (label_to t) (list_is S.held s) ∙ q)
 
-    ahead_at : SpLaws.ValidAt (sets_in x) N (work_of words t - 1)
-    ahead_at = S.held.sets t S.target
+    ahead_is : work_of words t - 1 ≡ ahead
+    unfolding work_of
+    ahead_is = sym a
 
-    pub pull_asks : PreLead N (diagrams_in x) x.scratch.now (work_of words t - 1) lab
-    pull_asks = asks_lead x S.held.working (work_of words t - 1) ahead_at lab lab_at
+    ahead_at : SpLaws.ValidAt (sets_in x) N ahead
+    ahead_at = subst (SpLaws.ValidAt (sets_in x) N) ahead_is (S.held.sets t S.target)
+
+    pub pull_asks : PreLead N (diagrams_in x) x.scratch.now ahead lab
+    pull_asks = asks_lead x S.held.working ahead ahead_at lab lab_at
 
     abbrev united : ℕ → ℕ → Step Tables M.Work
     united here accepted = on_sets (Sp.union N here accepted) >>= λ combined. M.enlarge (capacity lent) s combined (work_in k x m)
 
-    stage_0 : Stage (query_layer N l) 0 0 whole (after (making_sets (Images.pull N N lab (work_of words t - 1)) κ) (united (work_of words s - 1))) κ κ x.scratch.now x.scratch.now
+    stage_0 : Stage (query_layer N l) 0 0 whole (after (making_sets (Images.pull N N lab ahead) κ) (united (work_of words s - 1))) κ κ x.scratch.now x.scratch.now
     unfolding M.pull_back
     stage_0 = begin (query_laws N l) 0 0 S.held.working.ready
-        (whole_is (M.by lab) q ∙ ap₂ (λ (a b : ℕ). after (making_sets (Images.pull N N lab a) κ) (united b)) (live_reached N words t S.target) (live_reached N words s S.source))
+        (whole_is (M.by lab) q ∙ ap₂ (λ (a b : ℕ). after (making_sets (Images.pull N N lab a) κ) (united b)) (live_reached N words t S.target ∙ ahead_is) (live_reached N words s S.source))
 
     abbrev Pulls : Result SP Refusal → Lent → Type 0
-    Pulls r y = Gives (Written N) (λ h. h.0) (Images.pull N N lab (work_of words t - 1)) (diagrams_in x) r (diagrams_in y) x.scratch.now y.scratch.now
+    Pulls r y = Gives (Written N) (λ h. h.0) (Images.pull N N lab ahead) (diagrams_in x) r (diagrams_in y) x.scratch.now y.scratch.now
 
     module _ {y : Lent} (K1 : OnlySets x y) where
-      ran_1 : {r : Result SP Refusal} → Pulls r y → Ran k 0 0 (SetIn N) (λ h. h.0) (making_sets (Images.pull N N lab (work_of words t - 1))) x r y
-      ran_1 G = pull_ran S.held.working (work_of words t - 1) ahead_at lab lab_at K1 G
+      ran_1 : {r : Result SP Refusal} → Pulls r y → Ran k 0 0 (SetIn N) (λ h. h.0) (making_sets (Images.pull N N lab ahead)) x r y
+      ran_1 G = pull_ran S.held.working ahead ahead_at lab lab_at K1 G
 
       pub pull_stuck : {e : Refusal} {r : Result ℕ Refusal} → IsErr r × IsErrAnd r (λ a. a ≡ e) → Pulls (Err e) y → Pulled k n (pulling k x t s m) x r y
       pull_stuck q G = subst (λ (r : Result ℕ Refusal). Pulled k n (pulling k x t s m) x r y) (sym (passed q))
           (record { post = record { post = stuck (query_laws N l) 0 0 (ran_1 G).post (united (work_of words s - 1)) stage_0 }; held = tt; second = tt; lists = tt })
 
-      module _ {a : SP} (G1 : Pulls (Ok a) y) where
+      module _ {g : SP} (G1 : Pulls (Ok g) y) where
         source_1 : Source k y n m t s
         source_1 = source_kept K1 S (held_made K1 S.held (ran_1 G1))
-
-        -- the set of s, as it is read
-        abbrev own : ℕ
-        own = work_of y.states.words.now s - 1
-
-        stage_1 : Stage (query_layer N l) 0 0 whole (united own a.0 (clear_in y)) κ (clear_in y) x.scratch.now y.scratch.now
-        stage_1 = instead (query_laws N l) 0 0 (next (query_laws N l) 0 0 (ran_1 G1).post (all_of 0 0) (united (work_of words s - 1)) stage_0)
-            (ap (λ (u : List ℕ). united (work_of u s - 1) a.0 (clear_in y)) (rw K1.states refl))
 
         pub pull_source : 12 * s + 11 < length y.states.words.now
         pull_source = held.held_there source_1.held s source_1.source
 
-        pub pull_reached : 0 < work_of y.states.words.now s
+        pub pull_reached : 0 < get_or y.states.words.now (12 * s + 9) 0
+        unfolding work_of
         pull_reached = source_1.source
 
-        here_at : SpLaws.ValidAt (sets_in y) N own
-        here_at = source_1.held.sets s source_1.source
+        -- the set of s, as it is read
+        module _ {own : ℕ} (is : own ≡ get_or y.states.words.now (12 * s + 9) 0 - 1) where
+          own_is : work_of y.states.words.now s - 1 ≡ own
+          unfolding work_of
+          own_is = sym is
 
-        pub union_asks : PreSets N (sets_in y) y.scratch.now own a.0
-        union_asks = asks_sets y source_1.held.working own here_at a.0 (ran_1 G1).post.then.holds
+          stage_1 : Stage (query_layer N l) 0 0 whole (united own g.0 (clear_in y)) κ (clear_in y) x.scratch.now y.scratch.now
+          stage_1 = instead (query_laws N l) 0 0 (next (query_laws N l) 0 0 (ran_1 G1).post (all_of 0 0) (united (work_of words s - 1)) stage_0)
+              (ap (λ (u : List ℕ). united (work_of u s - 1) g.0 (clear_in y)) (rw K1.states refl) ∙ ap (λ (o : ℕ). united o g.0 (clear_in y)) own_is)
 
-        abbrev Unites : Result SP Refusal → Lent → Type 0
-        Unites r z = Gives SpNoted (λ h. h.0) (Sp.union N own a.0) (sets_in y) r (sets_in z) y.scratch.now z.scratch.now
+          here_at : SpLaws.ValidAt (sets_in y) N own
+          here_at = subst (SpLaws.ValidAt (sets_in y) N) own_is (source_1.held.sets s source_1.source)
 
-        module _ {z : Lent} (K2 : OnlySets y z) where
-          ran_2 : {r : Result SP Refusal} → Unites r z → Ran k 0 0 (SetIn N) (λ h. h.0) (on_sets (Sp.union N own a.0)) y r z
-          ran_2 G = union_ran source_1.held.working own here_at a.0 (ran_1 G1).post.then.holds K2 G
+          pub union_asks : PreSets N (sets_in y) y.scratch.now own g.0
+          union_asks = asks_sets y source_1.held.working own here_at g.0 (ran_1 G1).post.then.holds
 
-          pub union_stuck : {e : Refusal} {r : Result ℕ Refusal} → IsErr r × IsErrAnd r (λ a. a ≡ e) → Unites (Err e) z → Pulled k n (pulling k x t s m) x r z
-          union_stuck q G = subst (λ (r : Result ℕ Refusal). Pulled k n (pulling k x t s m) x r z) (sym (passed q))
-              (record { post = record { post = stuck (query_laws N l) 0 0 (ran_2 G).post (λ combined. M.enlarge (capacity lent) s combined (work_in k x m)) stage_1 }; held = tt; second = tt; lists = tt })
+          abbrev Unites : Result SP Refusal → Lent → Type 0
+          Unites r z = Gives SpNoted (λ h. h.0) (Sp.union N own g.0) (sets_in y) r (sets_in z) y.scratch.now z.scratch.now
 
-          module _ {b : SP} (G2 : Unites (Ok b) z) where
-            source_2 : Source k z n m t s
-            source_2 = source_kept K2 source_1 (held_made K2 source_1.held (ran_2 G2))
+          module _ {z : Lent} (K2 : OnlySets y z) where
+            ran_2 : {r : Result SP Refusal} → Unites r z → Ran k 0 0 (SetIn N) (λ h. h.0) (on_sets (Sp.union N own g.0)) y r z
+            ran_2 G = union_ran source_1.held.working own here_at g.0 (ran_1 G1).post.then.holds K2 G
 
-            kept : OnlySets x z
-            kept = sets_trans K1 K2
+            pub union_stuck : {e : Refusal} {r : Result ℕ Refusal} → IsErr r × IsErrAnd r (λ a. a ≡ e) → Unites (Err e) z → Pulled k n (pulling k x t s m) x r z
+            union_stuck q G = subst (λ (r : Result ℕ Refusal). Pulled k n (pulling k x t s m) x r z) (sym (passed q))
+                (record { post = record { post = stuck (query_laws N l) 0 0 (ran_2 G).post (λ combined. M.enlarge (capacity lent) s combined (work_in k x m)) stage_1 }; held = tt; second = tt; lists = tt })
 
-            stage_2 : Stage (query_layer N l) 0 0 whole (enlarging k z m s b.0 (clear_in z)) κ (clear_in z) x.scratch.now z.scratch.now
-            stage_2 = instead (query_laws N l) 0 0 (next (query_laws N l) 0 0 (ran_2 G2).post (all_of 0 0) (λ combined. M.enlarge (capacity lent) s combined (work_in k x m)) stage_1)
-                (ap₂ (λ (c : ℕ) (w : M.Work). M.enlarge (capacity c) s b.0 w (clear_in z)) (rw kept.pending refl) (sym (same_work kept k m)))
+            module _ {b : SP} (G2 : Unites (Ok b) z) where
+              source_2 : Source k z n m t s
+              source_2 = source_kept K2 source_1 (held_made K2 source_1.held (ran_2 G2))
 
-            pub enlarge_ready : PreEnlarge z.states.words.now z.pending.now m s b.0
-            enlarge_ready = enlarge_asks source_2 b.0 (ran_2 G2).post.then.holds
+              kept : OnlySets x z
+              kept = keeps_trans K1 K2
 
-            with_all : {u : Lent} (r : Result ℕ Refusal) → Pulled k n (enlarging k z m s b.0) z r u → Pulled k n (pulling k x t s m) x r u
-            with_all (Ok v) D = record {
-              post = record { post = finish (query_laws N l) 0 0 stage_2 (Ok v) D.post.post (all_of 0 0) };
-              held = D.held;
-              second = λ i. D.second i ∙ rw kept.pending refl;
-              lists = λ v. D.lists v ∙ rw kept.states refl;
-            }
-            with_all (Err e) D = record { post = record { post = finish (query_laws N l) 0 0 stage_2 (Err e) D.post.post (all_of 0 0) }; held = tt; second = tt; lists = tt }
+              stage_2 : Stage (query_layer N l) 0 0 whole (enlarging k z m s b.0 (clear_in z)) κ (clear_in z) x.scratch.now z.scratch.now
+              stage_2 = instead (query_laws N l) 0 0 (next (query_laws N l) 0 0 (ran_2 G2).post (all_of 0 0) (λ combined. M.enlarge (capacity lent) s combined (work_in k x m)) stage_1)
+                  (ap₂ (λ (c : ℕ) (w : M.Work). M.enlarge (capacity c) s b.0 w (clear_in z)) (rw kept.pending refl) (sym (same_work kept k m)))
 
-            module _ {u : Lent} (K3 : OnlyMarks z u) where
-              abbrev Grows : Option ℕ → Type 0
-              Grows r = Enlarges (capacity (length z.pending.now / 2)) m s b.0 z.states.words.now z.pending.now r u.states.words.now u.pending.now
+              pub enlarge_ready : PreEnlarge z.states.words.now z.pending.now m s b.0
+              enlarge_ready = enlarge_asks source_2 b.0 (ran_2 G2).post.then.holds
 
-              pub enlarged : (o : Option ℕ) {r : Result ℕ Refusal} → Grows o → r ≡ ok_or o Pending → Pulled k n (pulling k x t s m) x r u
-              enlarged o E q = subst (λ (r : Result ℕ Refusal). Pulled k n (pulling k x t s m) x r u) (sym q) (with_all (ok_or o Pending) (enlarge_pulled source_2 b.0 (ran_2 G2).post.then.holds K3 E))
+              with_all : {u : Lent} (r : Result ℕ Refusal) → Pulled k n (enlarging k z m s b.0) z r u → Pulled k n (pulling k x t s m) x r u
+              with_all (Ok v) D = record {
+                post = record { post = finish (query_laws N l) 0 0 stage_2 (Ok v) D.post.post (all_of 0 0) };
+                held = D.held;
+                second = λ i. D.second i ∙ rw kept.pending refl;
+                lists = λ v. D.lists v ∙ rw kept.states refl;
+              }
+              with_all (Err e) D = record { post = record { post = finish (query_laws N l) 0 0 stage_2 (Err e) D.post.post (all_of 0 0) }; held = tt; second = tt; lists = tt }
+
+              module _ {u : Lent} (K3 : OnlyMarks z u) where
+                abbrev Grows : Option ℕ → Type 0
+                Grows r = Enlarges (capacity (length z.pending.now / 2)) m s b.0 z.states.words.now z.pending.now r u.states.words.now u.pending.now
+
+                pub enlarged : (o : Option ℕ) {r : Result ℕ Refusal} → Grows o → r ≡ ok_or o Pending → Pulled k n (pulling k x t s m) x r u
+                enlarged o E q = subst (λ (r : Result ℕ Refusal). Pulled k n (pulling k x t s m) x r u) (sym q) (with_all (ok_or o Pending) (enlarge_pulled source_2 b.0 (ran_2 G2).post.then.holds K3 E))

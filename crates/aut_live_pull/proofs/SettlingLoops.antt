@@ -11,6 +11,7 @@ use lib.Seq.{get_or-set_same, get_or-set_other}
 use borrow.Author.Tests.{eqb-true, eqb-false, ltb-true, ltb-false, lt-ltb}
 use borrow.Rule.Slice.Mut.{set_vals}
 use Rattle.std.specs.Result.{IsErr, IsErrAnd}
+use Rattle.slices.proofs.Same.{slice_refl}
 use Rattle.common.specs.Packets.{Set, packets, any}
 use Rattle.common.proofs.PacketLaws.{any_of}
 use Rattle.common.specs.Outcome.{Outcome, given, Step, after}
@@ -41,7 +42,7 @@ use Rattle.aut_stage.specs.Rule.{Stage}
 use Rattle.aut_stage.proofs.Rule.{begin, next, stuck, instead, done, all_of}
 use Rattle.aut_sets.specs.Lent.{OnlySearch}
 use Rattle.aut_query_calls.specs.Working.{clear_in}
-use Rattle.aut_sets.proofs.Kept.{search_refl, search_trans}
+use Rattle.aut_relations.proofs.Kept.{keeps_refl, keeps_trans}
 use Rattle.aut_live_words.specs.Work.{work_of, live_by, seconds, stack, Held}
 use Rattle.aut_live_pull.specs.Clauses.{HeldIn, work_in, Source, Pulled, pulling, Target, pulling_all, SettleAsked, settling, Settles}
 use Rattle.aut_live_pull.proofs.Settling.{capacity_lent, stack_length, stack_below, odd_kept, clear_count}
@@ -78,7 +79,7 @@ module _ {k : Config} {x : Lent} {n t m₀ : ℕ} where
   pub all_begin : Target k x n m₀ t → AllPulled k x n t m₀ x m₀ 0
   all_begin R = record {
     start = R;
-    keeps = search_refl x;
+    keeps = keeps_refl x;
     stage = begin (query_laws k.fields k.limits) 0 0 R.held.working.ready (ap (λ (j : ℕ). M.pull_all k.fields (limits_of k.limits) (length x.pending.now / 2) t (seconds x.pending.now 0 j) (work_in k x m₀) (clear_in x)) {x = n} {y = n - 0} (omega arith));
     held = R.held;
     second = λ j. refl;
@@ -122,7 +123,7 @@ module _ {k : Config} {x : Lent} {n t m₀ : ℕ} where
       unfolding M.pull_all
       turned = instead (query_laws k.fields k.limits) 0 0 v.stage
           (ap (λ (ss : List ℕ). M.pull_all k.fields (limits_of k.limits) (length x.pending.now / 2) t ss (work_in k now m) (clear_in now)) on_next
-          ∙ ap (λ (j : ℕ). after (M.pull_from k.fields (limits_of k.limits) (j / 2) t s (work_in k now m) (clear_in now)) (rest_from k x n t (i + 1))) (sym v.keeps.entries))
+          ∙ ap (λ (j : ℕ). after (M.pull_from k.fields (limits_of k.limits) (j / 2) t s (work_in k now m) (clear_in now)) (rest_from k x n t (i + 1))) (sym v.keeps.pending.length))
 
       module _ {then : Lent} where
         pub all_stuck : {e : Refusal} {r : Result ℕ Refusal} → IsErr r × IsErrAnd r (λ a. a ≡ e) → Pulled k n (pulling k now t s m) now (Err e) then → Pulled k n (pulling_all k x t n m₀) x r then
@@ -132,7 +133,7 @@ module _ {k : Config} {x : Lent} {n t m₀ : ℕ} where
         pub all_again : {m2 : ℕ} → OnlySearch now then → Pulled k n (pulling k now t s m) now (Ok m2) then → AllPulled k x n t m₀ then m2 (i + 1)
         all_again K G = record {
           start = v.start;
-          keeps = search_trans v.keeps K;
+          keeps = keeps_trans v.keeps K;
           stage = next (query_laws k.fields k.limits) 0 0 G.post.post (all_of 0 0) (rest_from k x n t (i + 1)) turned;
           held = G.held;
           second = λ j. G.second j ∙ v.second j;
@@ -203,7 +204,7 @@ abbrev pub popped : Lent → ℕ → Lent
 popped x m = record { sp = x.sp; spp = x.spp; states = x.states; members = x.members; transitions = x.transitions; pending = set_vals (set x.pending.now (2 * (m - 1)) 0) x.pending; scratch = x.scratch }
 
 popped_keeps : (x : Lent) (m : ℕ) → OnlySearch x (popped x m)
-popped_keeps x m = record { sp = refl; spp = refl; states = refl; count = refl; words = refl; members = refl; transitions = refl; pending = refl; entries = length-set x.pending.now (2 * (m - 1)) 0; scratch = refl; length = refl }
+popped_keeps x m = record { sp = slice_refl x.sp.nodes; spp = refl; states = slice_refl x.states.words; count = refl; members = refl; transitions = refl; pending = record { lent = refl; length = length-set x.pending.now (2 * (m - 1)) 0 }; scratch = slice_refl x.scratch }
 
 -- what is left while m states are on the list
 abbrev left_in : Config → (x : Lent) (n : ℕ) → (now : Lent) (m : ℕ) → ℕ
@@ -229,7 +230,7 @@ module _ {k : Config} {x : Lent} {n : ℕ} where
       let Q = pulls_left (clear_in x).base S.held.working.ready.ordered.worked (seconds x.pending.now 0 n) S.links x.states.words.now (stack_length x.pending.now n) S.pulls in
       record {
         start = S;
-        keeps = search_refl x;
+        keeps = keeps_refl x;
         stage = begin (query_laws k.fields k.limits) 0 0 S.held.working.ready
             (settle_more (clear_in x).base S.held.working.ready.ordered.worked (seconds x.pending.now 0 n) S.links (length x.pending.now / 2) (takes k.fields (limits_of k.limits) (length x.pending.now / 2) (seconds x.pending.now 0 n)) (left_in k x n x n) (clear_in x) (work_in k x n) S.pulls Q);
         pulls = Q;
@@ -279,7 +280,7 @@ module _ {k : Config} {x : Lent} {n : ℕ} where
       cut = popped now m
 
       len_2 : length cut.pending.now ≡ length x.pending.now
-      len_2 = length-set now.pending.now (2 * (m - 1)) 0 ∙ v.keeps.entries
+      len_2 = length-set now.pending.now (2 * (m - 1)) 0 ∙ v.keeps.pending.length
 
       second_2 : (j : ℕ) → get_or cut.pending.now (2 * j + 1) 0 ≡ get_or x.pending.now (2 * j + 1) 0
       second_2 j = odd_kept now.pending.now (m - 1) 0 j ∙ v.second j
@@ -344,7 +345,7 @@ module _ {k : Config} {x : Lent} {n : ℕ} where
               let Q = pulls_left b W ss v.start.links then.states.words.now (stack_length then.pending.now m2) pulls_2 in
               record {
                 start = v.start;
-                keeps = search_trans v.keeps (search_trans (popped_keeps now m) K);
+                keeps = keeps_trans v.keeps (keeps_trans (popped_keeps now m) K);
                 stage = instead (query_laws k.fields k.limits) 0 0 (next (query_laws k.fields k.limits) 0 0 G.post.post (all_of 0 0) (settle_by k x n (left - 1)) taken)
                     (settle_more b W ss v.start.links lent (left - 1) (left_in k x n then m2) (clear_in then) (work_in k then m2) pulls_2 Q);
                 pulls = Q;

@@ -4,10 +4,10 @@
 ghost use Rattle.aut_sets.specs.Lent.{OnlySearch};
 ghost use Rattle.aut_live_pull.specs.Clauses.{PullAsked, PullsFrom, Target, pulling_all, Pulled, SettleAsked, Settles};
 
+use aut_live_words::{enlarge, label_to, set_at, state_at};
 use aut_relations::Aut;
-use aut_states::Config;
+use aut_states::{Config, word};
 use refusal::Refusal;
-use sp::SP;
 
 // s as a predecessor of t, if its list leads there; how many wait in the list then
 fn pull_from(aut: &mut Aut, config: Config, t: u32, s: u32, m: usize) -> Result<usize, Refusal>
@@ -15,16 +15,14 @@ fn pull_from(aut: &mut Aut, config: Config, t: u32, s: u32, m: usize) -> Result<
     ensures keeps { OnlySearch aut.old aut.new }
     ensures gives { PullsFrom config t s m aut.old result aut.new }
 {
-    let Some(label) = aut_live_words::label_to(aut, t, s) else {
+    let Some(label) = label_to(aut, t, s) else {
         return Ok(m);
     };
-    let i = aut_states::STATE * (t as usize) + aut_states::word::WORK;
-    let ahead = SP(aut.states.words[i] - 1);
+    let ahead = set_at(aut, t, word::WORK);
     let accepted = aut_sets::pull(aut, config, label, ahead)?;
-    let j = aut_states::STATE * (s as usize) + aut_states::word::WORK;
-    let here = SP(aut.states.words[j] - 1);
+    let here = set_at(aut, s, word::WORK);
     let combined = aut_sets::union(aut, config, here, accepted)?;
-    aut_live_words::enlarge(aut, m, s, combined).ok_or(Refusal::Pending)
+    enlarge(aut, m, s, combined).ok_or(Refusal::Pending)
 }
 
 // the predecessors of t among the n states, in the order of their visits
@@ -35,7 +33,7 @@ fn pull_all(aut: &mut Aut, config: Config, t: u32, n: usize, m: usize) -> Result
 {
     let mut m = m;
     for i in 0..n {
-        let s = aut.pending[2 * i + 1];
+        let s = state_at(aut, i);
         m = pull_from(aut, config, t, s, m)?;
     }
     Ok(m)

@@ -5,7 +5,7 @@ ghost use Rattle.aut_sets.specs.Lent.{SameLent};
 ghost use Rattle.aut_live_reach.specs.Clauses.{VisitAsked, Visits, ExploreAsked, Explores};
 
 use aut_relations::Aut;
-use aut_states::Config;
+use aut_states::{Config, STATE, word};
 use refusal::Refusal;
 
 // the state of entry `head`: its set, its list, and the targets of that
@@ -14,10 +14,10 @@ fn visit(aut: &mut Aut, config: Config, head: usize, n: usize) -> Result<usize, 
     ensures keeps { SameLent aut.old aut.new }
     ensures gives { Visits config head n aut.old result aut.new }
 {
-    let x = aut.pending[2 * head + 1];
+    let x = aut_live_words::state_at(aut, head);
     let e = aut_epsilon::epsilon(aut, config, x)?;
     let ends = aut_sets::bwd(aut, config, e)?;
-    aut.states.words[aut_states::STATE * x as usize + aut_states::word::WORK] = ends.0 + 1;
+    aut.states.words[STATE * x as usize + word::WORK] = ends.0 + 1;
     aut_delta::delta(aut, config, x)?;
     aut_live_words::enqueue(aut, config, n, x).ok_or(Refusal::Pending)
 }

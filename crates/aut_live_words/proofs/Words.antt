@@ -5,7 +5,7 @@ use mathlib.Core.List.{List, [], ◌∷◌, ◌++◌, Memᴰ}
 use Prim.Native.Nat.{ℕ, zero, suc, ◌+◌, ◌*◌, ◌-◌, ◌/◌, ◌≤◌, ◌<◌}
 use native.Mathlib.Omega.{arith}
 use lib.Dec.{eqb}
-use lib.ListN.{length, get_or, set}
+use lib.ListN.{length, get_or, set, take, drop}
 use lib.Seq.{get_or-set_same, get_or-set_other}
 use borrow.Author.Tests.{eqb-true, eqb-false}
 use Rattle.netkat_steps.specs.ListSteps.{Edge}
@@ -13,8 +13,13 @@ use Rattle.sp_steps.specs.Model as Sp
 use Rattle.spp_steps.proofs.Laws.{by_test}
 use Rattle.aut_st_steps.specs.Edges.{edges}
 use Rattle.aut_st_steps.specs.Places.{put_edge, seek_edge, seek_target}
-use Rattle.aut_st_steps.proofs.Places.{edge_at, edges_on, edges_done}
+use Rattle.aut_st_steps.proofs.Places.{edge_at, edges_length, edges_on, edges_done}
 use Rattle.aut_delta_steps.specs.Delta.{start_of, count_of}
+use Rattle.aut_st_edges.specs.Clauses.{edge_of, listed, Finds}
+use Rattle.aut_st_edges.specs.declared.Transition.{Transition}
+use Rattle.aut_st_edges.proofs.Parts.{found}
+use Rattle.aut_st_source.specs.declared.Span.{Span}
+use Rattle.aut_st_source.specs.Stored.{PostFind}
 use Rattle.aut_query_steps.specs.Search.{capacity}
 use Rattle.aut_live_words.specs.Work.{work_of, seconds, Reaches, there, new, full, Enqueues, none, one, over, keep_words, clear_words}
 use Rattle.aut_live_words.specs.Clauses.{PreReach, Listed, PreEnqueue, PostEnqueue, PostClear}
@@ -85,57 +90,59 @@ reach_fits f (new w l) = omega (arith, l)
 
 -- ---- a stored list
 
-module _ {st tr : List ℕ} {x : ℕ} (P : Listed st tr x) where
-  pub listed_some : 1 ≤ get_or st (12 * x + 6) 0
-  unfolding count_of
-  listed_some = P.some
+-- where the list of x is
+module _ {st tr : List ℕ} {x : ℕ} (P : Listed st tr x) {list : Span} (F : PostFind st x list) where
+  pub listed_inside : 2 * (list.start + list.count) ≤ length tr
+  listed_inside = omega (arith, P.inside, F.start, F.count)
 
-  pub listed_inside : 2 * (get_or st (12 * x + 5) 0 + (get_or st (12 * x + 6) 0 - 1)) ≤ length tr
-  unfolding count_of start_of
-  listed_inside = P.inside
+  pub listed_edges : edges tr (start_of st x) (count_of st x - 1) ≡ edges tr list.start list.count
+  listed_edges = ap₂ (λ (a k : ℕ). edges tr a k) F.start (omega (arith, F.count))
 
 -- ---- enqueue
 
 -- i targets are reached, n states are there
-pub record Enqueueing (N : ℕ) (start k n₀ : ℕ) (st₀ tr p₀ st p : List ℕ) (n i : ℕ) : Type 0 where
-  pub comes : (r : Option ℕ) (st' p' : List ℕ) → Enqueues N (capacity (length p₀ / 2)) (edges tr (start + i) (k - i)) n st p r st' p' → Enqueues N (capacity (length p₀ / 2)) (edges tr start k) n₀ st₀ p₀ r st' p'
+pub record Enqueueing (N : ℕ) (list : Span) (n₀ : ℕ) (st₀ tr p₀ st p : List ℕ) (n i : ℕ) : Type 0 where
+  pub comes : (r : Option ℕ) (st' p' : List ℕ) → Enqueues N (capacity (length p₀ / 2)) (edges tr (list.start + i) (list.count - i)) n st p r st' p' → Enqueues N (capacity (length p₀ / 2)) (edges tr list.start list.count) n₀ st₀ p₀ r st' p'
   pub fits : n ≤ length p₀ / 2
   pub len_st : length st ≡ length st₀
   pub len_p : length p ≡ length p₀
 
-module _ {N : ℕ} {st₀ tr p₀ : List ℕ} {n₀ x : ℕ} (P : PreEnqueue N st₀ tr p₀ n₀ x) where
-  pub enqueue_begin : Enqueueing N (get_or st₀ (12 * x + 5) 0) (get_or st₀ (12 * x + 6) 0 - 1) n₀ st₀ tr p₀ st₀ p₀ n₀ 0
+module _ {N : ℕ} {st₀ tr p₀ : List ℕ} {n₀ x : ℕ} (P : PreEnqueue N st₀ tr p₀ n₀ x) {list : Span} (F : PostFind st₀ x list) where
+  pub enqueue_begin : Enqueueing N list n₀ st₀ tr p₀ st₀ p₀ n₀ 0
   enqueue_begin = record {
     comes = λ r st' p' e. subst (λ (es : List Edge). Enqueues N (capacity (length p₀ / 2)) es n₀ st₀ p₀ r st' p')
-        (ap₂ (λ (a k : ℕ). edges tr a k) {x = get_or st₀ (12 * x + 5) 0 + 0} {y = get_or st₀ (12 * x + 5) 0} {u = get_or st₀ (12 * x + 6) 0 - 1 - 0} {v = get_or st₀ (12 * x + 6) 0 - 1} (omega arith) (omega arith)) e;
+        (ap₂ (λ (a k : ℕ). edges tr a k) {x = list.start + 0} {y = list.start} {u = list.count - 0} {v = list.count} (omega arith) (omega arith)) e;
     fits = P.fits;
     len_st = refl;
     len_p = refl;
   }
 
-  module _ {st p : List ℕ} {n i : ℕ} (v : Enqueueing N (get_or st₀ (12 * x + 5) 0) (get_or st₀ (12 * x + 6) 0 - 1) n₀ st₀ tr p₀ st p n i) where
-    module _ (lt : i < get_or st₀ (12 * x + 6) 0 - 1) where
-      abbrev y : ℕ
-      y = get_or tr (2 * (get_or st₀ (12 * x + 5) 0 + i)) 0
+  whole : {r : Option ℕ} {st' p' : List ℕ} → Enqueues N (capacity (length p₀ / 2)) (edges tr list.start list.count) n₀ st₀ p₀ r st' p' → PostEnqueue N n₀ x r st₀ tr p₀ st' p'
+  whole {r} {st'} {p'} A = subst (λ (es : List Edge). Enqueues N (capacity (length p₀ / 2)) es n₀ st₀ p₀ r st' p') (sym (listed_edges P.listed F)) A
 
-      pub enqueue_asks : PreReach N st p n y
-      unfolding start_of count_of
-      enqueue_asks = record { few = P.few; state = omega (arith, P.targets i lt, v.len_st); fits = subst (λ (m : ℕ). n ≤ m / 2) (sym v.len_p) v.fits }
+  module _ {st p : List ℕ} {n i : ℕ} (v : Enqueueing N list n₀ st₀ tr p₀ st p n i) where
+    -- t is transition i
+    module _ (lt : i < list.count) {t : Transition} (e : edge_of t ≡ edge_at tr (list.start + i)) where
+      pub enqueue_asks : PreReach N st p n t.target
+      enqueue_asks = record {
+        few = P.few;
+        state = subst (λ (g : Edge). 12 * g.target + 11 < length st) (sym e)
+            (omega (arith, subst (λ (a : ℕ). 12 * get_or tr (2 * (a + i)) 0 + 11 < length st₀) F.start (P.targets i (omega (arith, lt, F.count))), v.len_st));
+        fits = subst (λ (m : ℕ). n ≤ m / 2) (sym v.len_p) v.fits;
+      }
 
-      here : edges tr (get_or st₀ (12 * x + 5) 0 + i) (get_or st₀ (12 * x + 6) 0 - 1 - i) ≡ edge_at tr (get_or st₀ (12 * x + 5) 0 + i) ∷ edges tr (get_or st₀ (12 * x + 5) 0 + (i + 1)) (get_or st₀ (12 * x + 6) 0 - 1 - (i + 1))
-      here = edges_on tr (get_or st₀ (12 * x + 5) 0) (get_or st₀ (12 * x + 6) 0 - 1) i lt
+      here : edges tr (list.start + i) (list.count - i) ≡ edge_of t ∷ edges tr (list.start + (i + 1)) (list.count - (i + 1))
+      here = edges_on tr list.start list.count i lt ∙ ap (λ (g : Edge). g ∷ edges tr (list.start + (i + 1)) (list.count - (i + 1))) (sym e)
 
       module _ {st1 p1 : List ℕ} where
-        as_first : {z : Option ℕ} → Reaches N (capacity (length p / 2)) n y st p z st1 p1 → Reaches N (capacity (length p₀ / 2)) n y st p z st1 p1
-        as_first {z} A = subst (λ (m : ℕ). Reaches N (capacity (m / 2)) n y st p z st1 p1) v.len_p A
+        as_first : {z : Option ℕ} → Reaches N (capacity (length p / 2)) n t.target st p z st1 p1 → Reaches N (capacity (length p₀ / 2)) n t.target st p z st1 p1
+        as_first {z} A = subst (λ (m : ℕ). Reaches N (capacity (m / 2)) n t.target st p z st1 p1) v.len_p A
 
-        pub enqueue_full : {r : Option ℕ} → r ≡ None → Reaches N (capacity (length p / 2)) n y st p None st1 p1 → PostEnqueue N n₀ x r st₀ tr p₀ st1 p1
-        unfolding start_of count_of
+        pub enqueue_full : {r : Option ℕ} → r ≡ None → Reaches N (capacity (length p / 2)) n t.target st p None st1 p1 → PostEnqueue N n₀ x r st₀ tr p₀ st1 p1
         enqueue_full {r} q A = subst (λ (r : Option ℕ). PostEnqueue N n₀ x r st₀ tr p₀ st1 p1) (sym q)
-            (v.comes None st1 p1 (subst (λ (es : List Edge). Enqueues N (capacity (length p₀ / 2)) es n st p None st1 p1) (sym here) (over (as_first A))))
+            (whole (v.comes None st1 p1 (subst (λ (es : List Edge). Enqueues N (capacity (length p₀ / 2)) es n st p None st1 p1) (sym here) (over (as_first A)))))
 
-        pub enqueue_again : {m : ℕ} → Reaches N (capacity (length p / 2)) n y st p (Some m) st1 p1 → length st1 ≡ length st → length p1 ≡ length p
-            → Enqueueing N (get_or st₀ (12 * x + 5) 0) (get_or st₀ (12 * x + 6) 0 - 1) n₀ st₀ tr p₀ st1 p1 m (i + 1)
+        pub enqueue_again : {m : ℕ} → Reaches N (capacity (length p / 2)) n t.target st p (Some m) st1 p1 → length st1 ≡ length st → length p1 ≡ length p → Enqueueing N list n₀ st₀ tr p₀ st1 p1 m (i + 1)
         enqueue_again {m} A l1 l2 = record {
           comes = λ r' st' p' e. v.comes r' st' p' (subst (λ (es : List Edge). Enqueues N (capacity (length p₀ / 2)) es n st p r' st' p') (sym here) (one (as_first A) e));
           fits = subst (λ (k : ℕ). m ≤ k / 2) v.len_p (reach_fits (subst (λ (k : ℕ). n ≤ k / 2) (sym v.len_p) v.fits) A);
@@ -143,9 +150,8 @@ module _ {N : ℕ} {st₀ tr p₀ : List ℕ} {n₀ x : ℕ} (P : PreEnqueue N s
           len_p = l2 ∙ v.len_p;
         }
 
-    pub enqueue_end : get_or st₀ (12 * x + 6) 0 - 1 ≤ i → PostEnqueue N n₀ x (Some n) st₀ tr p₀ st p
-    unfolding start_of count_of
-    enqueue_end le = v.comes (Some n) st p (subst (λ (es : List Edge). Enqueues N (capacity (length p₀ / 2)) es n st p (Some n) st p) (sym (edges_done tr (get_or st₀ (12 * x + 5) 0 + i) (get_or st₀ (12 * x + 6) 0 - 1) i le)) none)
+    pub enqueue_end : list.count ≤ i → PostEnqueue N n₀ x (Some n) st₀ tr p₀ st p
+    enqueue_end le = whole (v.comes (Some n) st p (subst (λ (es : List Edge). Enqueues N (capacity (length p₀ / 2)) es n st p (Some n) st p) (sym (edges_done tr (list.start + i) list.count i le)) none))
 
 -- ---- keep
 
@@ -226,3 +232,27 @@ label_none t tr a (suc k) l =
     (λ b. absurd (omega (arith, ap (λ (c : Bool). if c then 0 else suc (seek_edge (eqb t) (edges tr (a + 1) k))) b)))
     (λ b. ap (λ (c : Bool). if c then M.by (get_or tr (2 * a + 1) 0) else label_to t (edges tr (a + 1) k)) b
     ∙ label_none t tr (a + 1) k (omega (arith, ap (λ (c : Bool). if c then 0 else suc (seek_edge (eqb t) (edges tr (a + 1) k))) b)))
+
+-- of the list of s, found or not in the part where it stands
+module _ {st tr : List ℕ} {s : ℕ} (P : Listed st tr s) {list : Span} (F : PostFind st s list) (t : ℕ) where
+  abbrev to : ℕ
+  to = 2 * (list.start + list.count) - 2 * list.start
+
+  abbrev Found : Option ℕ → Type 0
+  Found r = Finds t (listed (take to (drop (2 * list.start) tr))) r
+
+  in_list : (r : Option ℕ) → Found r → Finds t (edges tr list.start list.count) r
+  in_list r f = found tr list.start list.count to (omega arith) (listed_inside P F) t r f
+
+  module _ {i : ℕ} (f : Found (Some i)) where
+    pub label_inside : i < list.count
+    label_inside = omega (arith, (in_list (Some i) f).1, edges_length tr list.start list.count)
+
+    pub label_some : {g : Transition} → edge_of g ≡ edge_at tr (list.start + i) → label_to t (edges tr (start_of st s) (count_of st s - 1)) ≡ M.by g.label.0
+    label_some {g} e =
+        ap (label_to t) (listed_edges P F)
+        ∙ label_found t tr list.start list.count i (in_list (Some i) f).0 label_inside
+        ∙ ap (λ (u : Edge). M.by u.label) (sym e)
+
+  pub label_without : Found None → label_to t (edges tr (start_of st s) (count_of st s - 1)) ≡ M.none
+  label_without f = ap (label_to t) (listed_edges P F) ∙ label_none t tr list.start list.count (omega (arith, in_list None f, edges_length tr list.start list.count))

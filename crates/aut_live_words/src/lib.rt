@@ -2,16 +2,33 @@
 // i-th state reached, its first word the i-th of the states to be looked at, the last on top.
 #![tactic(auto)]
 
-ghost use Rattle.std.specs.Prelude.{◌≡◌, ◌/◌, length};
+ghost use Rattle.std.specs.Prelude.{◌≡◌, ◌+◌, ◌*◌, ◌-◌, ◌/◌, ◌<◌, length, get_or};
 ghost use Rattle.aut_query_steps.specs.Search as M;
 ghost use Rattle.aut_sets.specs.Lent.{OnlyMarks};
 ghost use Rattle.aut_live_words.specs.Work.{seconds, keep_words, Reaches, Enlarges};
 ghost use Rattle.aut_live_words.specs.Clauses.{PreReach, PreEnqueue, PostEnqueue, PreLabel, PostLabel, PreEnlarge, PreKeep, PostClear};
 
 use aut_relations::Aut;
-use aut_states::Config;
+use aut_states::{Config, STATE, word};
 use sp::SP;
 use spp::SPP;
+
+// the set that word w of state x holds, as its handle + 1
+pub fn set_at(aut: &Aut, x: u32, w: usize) -> SP
+    requires { (12 * x + w < length aut.now.states.words.now) ×
+        (0 < get_or aut.now.states.words.now (12 * x + w) 0) }
+    ensures { result.0 ≡ get_or aut.now.states.words.now (12 * x + w) 0 - 1 }
+{
+    SP(aut.states.words[STATE * x as usize + w] - 1)
+}
+
+// the i-th state reached
+pub fn state_at(aut: &Aut, i: usize) -> u32
+    requires { 2 * i + 1 < length aut.now.pending.now }
+    ensures { result ≡ get_or aut.now.pending.now (2 * i + 1) 0 }
+{
+    aut.pending[2 * i + 1]
+}
 
 // y goes behind the n states, unless it is there; how many there are then, or None if no entry is left
 pub fn reach(aut: &mut Aut, config: Config, n: usize, y: u32) -> Option<usize>
@@ -21,7 +38,7 @@ pub fn reach(aut: &mut Aut, config: Config, n: usize, y: u32) -> Option<usize>
         aut.old.states.words.now aut.old.pending.now result aut.new.states.words.now
         aut.new.pending.now }
 {
-    let i = aut_states::STATE * y as usize + aut_states::word::WORK;
+    let i = STATE * y as usize + word::WORK;
     if aut.states.words[i] > 0 {
         return Some(n);
     }
@@ -35,7 +52,7 @@ pub fn reach(aut: &mut Aut, config: Config, n: usize, y: u32) -> Option<usize>
     None
 }
 
-// the targets of x's stored list
+// each target of x's stored list goes behind the n states
 pub fn enqueue(aut: &mut Aut, config: Config, n: usize, x: u32) -> Option<usize>
     requires { PreEnqueue config.fields aut.old.states.words.now
         aut.old.transitions.words.now aut.old.pending.now n x }
@@ -44,13 +61,11 @@ pub fn enqueue(aut: &mut Aut, config: Config, n: usize, x: u32) -> Option<usize>
         aut.old.transitions.words.now aut.old.pending.now aut.new.states.words.now
         aut.new.pending.now }
 {
-    let j = x as usize;
-    let start = aut.states.words[aut_states::STATE * j + aut_states::word::START] as usize;
-    let k = aut.states.words[aut_states::STATE * j + aut_states::word::COUNT] as usize - 1;
+    let list = aut_st_source::stored_list(aut, x);
     let mut n = n;
-    for i in 0..k {
-        let y = aut.transitions.words[2 * (start + i)];
-        n = reach(aut, config, n, y)?;
+    for i in 0..list.count {
+        let t = list.get(aut, i);
+        n = reach(aut, config, n, t.target)?;
     }
     Some(n)
 }
@@ -60,17 +75,14 @@ pub fn label_to(aut: &Aut, t: u32, s: u32) -> Option<SPP>
     requires { PreLabel aut.now.states.words.now aut.now.transitions.words.now s }
     ensures { PostLabel aut.now.states.words.now aut.now.transitions.words.now t s result }
 {
-    let j = s as usize;
-    let start = aut.states.words[aut_states::STATE * j + aut_states::word::START] as usize;
-    let k = aut.states.words[aut_states::STATE * j + aut_states::word::COUNT] as usize - 1;
-    let i = aut_st_edges::seek_target(aut.transitions.words, t, start, k);
-    if i < k {
-        return Some(SPP(aut.transitions.words[2 * (start + i) + 1]));
-    }
-    None
+    let list = aut_st_source::stored_list(aut, s);
+    let (from, to) = (2 * list.start, 2 * (list.start + list.count));
+    let i = aut_st_edges::seek_target(&aut.transitions.words[from..to], t)?;
+    Some(list.get(aut, i).label)
 }
 
 // where the set of s grew, s is looked at again; how many wait then, or None if no entry is left
+#[tactic(auto, unfolding(crate::specs::Work::work_of))]
 pub fn enlarge(aut: &mut Aut, m: usize, s: u32, combined: SP) -> Option<usize>
     requires { PreEnlarge aut.old.states.words.now aut.old.pending.now m s combined.0 }
     ensures keeps { OnlyMarks aut.old aut.new }
@@ -78,12 +90,11 @@ pub fn enlarge(aut: &mut Aut, m: usize, s: u32, combined: SP) -> Option<usize>
         aut.old.states.words.now aut.old.pending.now result aut.new.states.words.now
         aut.new.pending.now }
 {
-    let i = aut_states::STATE * s as usize + aut_states::word::WORK;
-    if combined.0 == aut.states.words[i] - 1 {
+    if combined == set_at(aut, s, word::WORK) {
         return Some(m);
     }
     if m < aut_query_calls::capacity(aut) {
-        aut.states.words[i] = combined.0 + 1;
+        aut.states.words[STATE * s as usize + word::WORK] = combined.0 + 1;
         aut.pending[2 * m] = s;
         return Some(m + 1);
     }
@@ -99,9 +110,8 @@ pub fn keep(aut: &mut Aut, n: usize)
         keep_words (seconds aut.old.pending.now 0 n) aut.old.states.words.now }
 {
     for i in 0..n {
-        let at = aut_states::STATE * aut.pending[2 * i + 1] as usize;
-        let live = aut.states.words[at + aut_states::word::WORK];
-        aut.states.words[at + aut_states::word::LIVE] = live;
+        let at = STATE * state_at(aut, i) as usize;
+        aut.states.words[at + word::LIVE] = aut.states.words[at + word::WORK];
     }
 }
 
@@ -113,7 +123,7 @@ pub fn clear(aut: &mut Aut, n: usize)
         aut.new.states.words.now aut.new.pending.now }
 {
     for i in 0..n {
-        let at = aut_states::STATE * aut.pending[2 * i + 1] as usize + aut_states::word::WORK;
+        let at = STATE * state_at(aut, i) as usize + word::WORK;
         aut.states.words[at] = 0;
         aut.pending[2 * i + 1] = 0;
     }

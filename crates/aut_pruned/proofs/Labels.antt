@@ -1,17 +1,18 @@
 -- One label cut; and a transition that goes behind those kept.
 use Rattle.std.specs.Prelude.{if◌then◌else◌}
-use mathlib.Core.Path.{◌≡◌, refl, sym, ◌∙◌, ap}
-use mathlib.Core.Bool.{Bool}
+use mathlib.Core.Path.{◌≡◌, sym, ◌∙◌, ap, subst}
+use mathlib.Core.Bool.{Bool, true, false}
 use mathlib.Core.List.{List, [], ◌∷◌, ◌++◌}
 use Prim.Native.Nat.{ℕ, ◌+◌, ◌*◌, ◌-◌, ◌<◌}
 use native.Mathlib.Omega.{arith}
-use lib.ListN.{get_or}
-use borrow.Author.Tests.{eq-eqb, ne_eqb}
+use lib.ListN.{length, get_or}
 use Rattle.std.specs.Prelude.{Result, Ok, Err}
 use Rattle.common.specs.Outcome.{after}
 use Rattle.refusal.specs.declared.Refusal.{Refusal}
 use Rattle.cache.specs.Cache.{OnlyCodes}
 use Rattle.netkat_steps.specs.ListSteps.{edge}
+use Rattle.sp_steps.specs.Wf as SpLaws
+use Rattle.spp_steps.specs.Model as Spp
 use Rattle.spp_steps.specs.Wf.{ValidAt}
 use Rattle.spp_steps.proofs.Laws.{at_ext}
 use Rattle.spp_steps.specs.ImageModel as Images
@@ -33,7 +34,7 @@ use Rattle.aut_relations.specs.declared.Aut.{Aut as Lent}
 use Rattle.aut_relations.specs.Lent.{nodes_in, KeepsExprs, Does, Handles}
 use Rattle.aut_stage.specs.Rule.{Stage}
 use Rattle.aut_stage.proofs.Rule.{begin, next, stuck, finish, all_of}
-use Rattle.aut_sets.specs.Lent.{diagrams_in}
+use Rattle.aut_sets.specs.Lent.{sets_in, diagrams_in}
 use Rattle.aut_sets.specs.Clauses.{Gives, PreLift}
 use Rattle.aut_query_calls.specs.Working.{Working}
 use Rattle.aut_query_calls.specs.Working.{RelIn}
@@ -45,30 +46,38 @@ use Rattle.aut_pruned.specs.Clauses.{ViableAsked, PreKeep, PostKeep}
 -- ---- viable
 
 module _ {k : Config} {x : Lent} {i g : ℕ} (P : ViableAsked k x i g) where
-  pub viable_marked : 0 < get_or x.states.words.now (12 * i + 7) 0
+  pub viable_set : (12 * i + 7 < length x.states.words.now) × (0 < get_or x.states.words.now (12 * i + 7) 0)
   unfolding live_of
-  viable_marked = P.marked
+  viable_set = (omega (arith, P.has, P.ready.ready.good.fits), P.marked)
 
-  pub viable_lift : (x.spp.fields ≡ k.fields) × PreLift k.fields (diagrams_in x) x.scratch.now (get_or x.states.words.now (12 * i + 7) 0 - 1)
+-- live is the set of the target, as it is read
+module _ {k : Config} {x : Lent} {i g : ℕ} (P : ViableAsked k x i g) {live : ℕ} (q : live ≡ get_or x.states.words.now (12 * i + 7) 0 - 1) where
+  live_is : live_of x.states.words.now i - 1 ≡ live
   unfolding live_of
-  viable_lift = (P.fields, asks_lift x (working_rest x P.ready) _ P.at_live)
+  live_is = sym q
 
-  stage_0 : Stage (query_layer k.fields k.limits) 0 0 (M.viable k.fields (edge i g) (tables_in x)) (after (making_relations (Images.ifwd k.fields (live_of x.states.words.now i - 1)) (tables_in x)) (λ h. on_base (on_aut (on_nodes (Rel.intersect k.fields g h)))))
+  at_live : SpLaws.ValidAt (sets_in x) k.fields live
+  at_live = subst (SpLaws.ValidAt (sets_in x) k.fields) live_is P.at_live
+
+  pub viable_lift : (x.spp.fields ≡ k.fields) × PreLift k.fields (diagrams_in x) x.scratch.now live
+  viable_lift = (P.fields, asks_lift x (working_rest x P.ready) live at_live)
+
+  stage_0 : Stage (query_layer k.fields k.limits) 0 0 (M.viable k.fields (edge i g) (tables_in x)) (after (making_relations (Images.ifwd k.fields live) (tables_in x)) (λ h. on_base (on_aut (on_nodes (Rel.intersect k.fields g h)))))
       (tables_in x) (tables_in x) x.scratch.now x.scratch.now
   unfolding M.viable
-  stage_0 = begin (query_laws k.fields k.limits) 0 0 P.ready refl
+  stage_0 = begin (query_laws k.fields k.limits) 0 0 P.ready
+      (ap (λ (s : ℕ). after (making_relations (Images.ifwd k.fields s) (tables_in x)) (λ h. on_base (on_aut (on_nodes (Rel.intersect k.fields g h))))) live_is)
 
   module _ {y : Lent} (K : KeepsExprs x y) where
-    lifted : {r : Result SPP Refusal} → Gives (λ σ. OnlyCodes 10 15 (Kept k.fields σ)) (λ (h : SPP). h.0) (Images.ifwd k.fields (get_or x.states.words.now (12 * i + 7) 0 - 1)) (diagrams_in x) r (diagrams_in y) x.scratch.now y.scratch.now
-        → GoesQuery k 0 0 tables_in (RelIn k.fields) (λ (h : SPP). h.0) (making_relations (Images.ifwd k.fields (live_of x.states.words.now i - 1))) x r y
-    unfolding live_of
-    lifted G = at_rest P.ready (ifwd_ran (working_rest x P.ready) _ P.at_live K G)
+    lifted : {r : Result SPP Refusal} → Gives (λ σ. OnlyCodes 10 15 (Kept k.fields σ)) (λ (h : SPP). h.0) (Images.ifwd k.fields live) (diagrams_in x) r (diagrams_in y) x.scratch.now y.scratch.now
+        → GoesQuery k 0 0 tables_in (RelIn k.fields) (λ (h : SPP). h.0) (making_relations (Images.ifwd k.fields live)) x r y
+    lifted G = at_rest P.ready (ifwd_ran (working_rest x P.ready) live at_live K G)
 
-    pub viable_stuck : {e : Refusal} → Gives (λ σ. OnlyCodes 10 15 (Kept k.fields σ)) (λ (h : SPP). h.0) (Images.ifwd k.fields (get_or x.states.words.now (12 * i + 7) 0 - 1)) (diagrams_in x) (Err e) (diagrams_in y) x.scratch.now y.scratch.now
+    pub viable_stuck : {e : Refusal} → Gives (λ σ. OnlyCodes 10 15 (Kept k.fields σ)) (λ (h : SPP). h.0) (Images.ifwd k.fields live) (diagrams_in x) (Err e) (diagrams_in y) x.scratch.now y.scratch.now
         → GoesQuery k 0 0 tables_in (RelIn k.fields) (λ (h : SPP). h.0) (M.viable k.fields (edge i g)) x (Err e) y
     viable_stuck G = record { post = stuck (query_laws k.fields k.limits) 0 0 (lifted G).post _ stage_0 }
 
-    module _ {h : SPP} (G : Gives (λ σ. OnlyCodes 10 15 (Kept k.fields σ)) (λ (h : SPP). h.0) (Images.ifwd k.fields (get_or x.states.words.now (12 * i + 7) 0 - 1)) (diagrams_in x) (Ok h) (diagrams_in y) x.scratch.now y.scratch.now) where
+    module _ {h : SPP} (G : Gives (λ σ. OnlyCodes 10 15 (Kept k.fields σ)) (λ (h : SPP). h.0) (Images.ifwd k.fields live) (diagrams_in x) (Ok h) (diagrams_in y) x.scratch.now y.scratch.now) where
       W : Working k.fields k.limits (tables_in y) y.scratch.now
       W = working_rest y (lifted G).post.then.ready
 
@@ -87,18 +96,19 @@ module _ {k : Config} {x : Lent} {i g : ℕ} (P : ViableAsked k x i g) where
 
 -- ---- keep
 
-module _ {N : ℕ} {s : List ℕ} {m : ℕ} (P : PreKeep N s m) (t g : ℕ) {z : ℕ} (zero_is : Rel.zero_at N ≡ z) where
-  pub keep_none : g ≡ z → PostKeep N m t g m s s
+module _ {N : ℕ} {s : List ℕ} {m : ℕ} (P : PreKeep N s m) (t g : ℕ) where
+  pub keep_none : Spp.is_zero N N g ≡ true → PostKeep N m t g m s s
+  unfolding Spp.is_zero
   keep_none q = record {
-    is = sym (ap (λ (b : Bool). if b then edges s RESULT m else (edges s RESULT m ++ edge t g ∷ [])) (eq-eqb g (Rel.zero_at N) (q ∙ sym zero_is)));
+    is = sym (ap (λ (b : Bool). if b then edges s RESULT m else (edges s RESULT m ++ edge t g ∷ [])) q);
     kept = kept_refl 576 128 s;
     most = omega arith;
   }
 
-  pub keep_some : (g ≡ z → ⊥) → PostKeep N m t g (m + 1) s (put_edge s (RESULT + m) t g)
-  keep_some n = record {
-    is = edges_snoc s RESULT m t g (omega (arith, P.room, P.least))
-        ∙ sym (ap (λ (b : Bool). if b then edges s RESULT m else (edges s RESULT m ++ edge t g ∷ [])) (ne_eqb g (Rel.zero_at N) (λ q. n (q ∙ zero_is))));
+  pub keep_some : Spp.is_zero N N g ≡ false → PostKeep N m t g (m + 1) s (put_edge s (RESULT + m) t g)
+  unfolding Spp.is_zero
+  keep_some q = record {
+    is = edges_snoc s RESULT m t g (omega (arith, P.room, P.least)) ∙ sym (ap (λ (b : Bool). if b then edges s RESULT m else (edges s RESULT m ++ edge t g ∷ [])) q);
     kept = kept_wide (put_kept s (RESULT + m) t g) (omega arith) (omega (arith, P.least));
     most = omega arith;
   }

@@ -2,48 +2,46 @@
 #![tactic(auto)]
 
 ghost use Rattle.std.specs.Prelude.{OnOk};
-ghost use Rattle.netkat_steps.specs.ListSteps.{edge};
 ghost use Rattle.aut_query_steps.specs.Pruned as M;
 ghost use Rattle.aut_query_stage.specs.Layer.{Zeroed};
 ghost use Rattle.aut_query_stage.specs.Lent.{tables_in, QueryAsked, GoesQuery};
 ghost use Rattle.aut_relations.specs.Lent.{KeepsExprs};
+ghost use Rattle.aut_st_edges.specs.Clauses.{edge_of};
 ghost use Rattle.aut_sets.specs.Lent.{OnlyScratch, SameLent};
 ghost use Rattle.aut_query_calls.specs.Working.{RelIn};
 ghost use Rattle.aut_pruned.specs.Clauses.{Prunes, PrunesAll, ViableAsked, PreKeep, PostKeep, PruneAsked};
 
 use aut_relations::Aut;
-use aut_states::Config;
+use aut_st_edges::Transition;
+use aut_states::{Config, word};
 use refusal::Refusal;
-use sp::SP;
 use spp::{Op, SPP};
 
 // the label cut, by the live set of its target
-fn viable(aut: &mut Aut, config: Config, target: u32, label: SPP) -> Result<SPP, Refusal>
-    requires { ViableAsked config aut.old target label.0 }
+fn viable(aut: &mut Aut, config: Config, t: Transition) -> Result<SPP, Refusal>
+    requires { ViableAsked config aut.old t.target t.label.0 }
     ensures keeps { KeepsExprs aut.old aut.new }
     ensures gives { GoesQuery config 0 0 tables_in (RelIn config.fields) (λ h. h.0)
-        (M.viable config.fields (edge target label.0)) aut.old result aut.new }
+        (M.viable config.fields (edge_of t)) aut.old result aut.new }
 {
-    let i = target as usize;
-    let live = SP(aut.states.words[aut_states::STATE * i + aut_states::word::LIVE] - 1);
+    let live = aut_live_words::set_at(aut, t.target, word::LIVE);
     let allowed = aut_sets::ifwd(aut, config, live)?;
-    aut.apply(config, Op::Intersect, label, allowed)
+    aut.apply(config, Op::Intersect, t.label, allowed)
 }
 
 // a transition behind the m at RESULT, unless its label is empty
-fn keep(aut: &mut Aut, config: Config, m: usize, target: u32, label: SPP) -> usize
+fn keep(aut: &mut Aut, config: Config, m: usize, t: Transition) -> usize
     requires { PreKeep config.fields aut.old.scratch.now m }
     ensures keeps { OnlyScratch aut.old aut.new }
-    ensures kept { PostKeep config.fields m target label.0 result aut.old.scratch.now
+    ensures kept { PostKeep config.fields m t.target t.label.0 result aut.old.scratch.now
         aut.new.scratch.now }
 {
-    let zero = spp::zero_at_depth(config.fields);
-    if label.0 == zero.0 {
+    if spp::is_zero(config.fields, t.label) {
         return m;
     }
     let at = 2 * (aut_st_insert::RESULT + m);
-    aut.scratch[at] = target;
-    aut.scratch[at + 1] = label.0;
+    aut.scratch[at] = t.target;
+    aut.scratch[at + 1] = t.label.0;
     m + 1
 }
 
@@ -53,15 +51,12 @@ fn prune(aut: &mut Aut, config: Config, x: u32) -> Result<usize, Refusal>
     ensures keeps { KeepsExprs aut.old aut.new }
     ensures gives { PrunesAll config x aut.old result aut.new }
 {
-    let j = aut_states::STATE * (x as usize);
-    let start = aut.states.words[j + aut_states::word::START] as usize;
-    let k = aut.states.words[j + aut_states::word::COUNT] as usize - 1;
+    let list = aut_st_source::stored_list(aut, x);
     let mut m = 0;
-    for i in 0..k {
-        let target = aut.transitions.words[2 * (start + i)];
-        let label = SPP(aut.transitions.words[2 * (start + i) + 1]);
-        let cut = viable(aut, config, target, label)?;
-        m = keep(aut, config, m, target, cut);
+    for i in 0..list.count {
+        let t = list.get(aut, i);
+        let label = viable(aut, config, t)?;
+        m = keep(aut, config, m, Transition { label, ..t });
     }
     Ok(m)
 }

@@ -167,11 +167,11 @@ images_left N y s s' (Err z) p = tt
 module _ {k : Config} {x y : Lent} {r : Result SP Refusal} (W : Working k.fields k.limits (tables_in x) x.scratch.now) where
   by_sets : {o : Step Table ℕ} → Ends k.fields (limits_of k.limits) 0 (Steps k.fields (limits_of k.limits) (SetIn k.fields) (clear_in x)) (clear_in x) (on_sets o (clear_in x)) → OnlySets x y
       → Gives SpNoted (λ (h : SP). h.0) o (sets_in x) r (sets_in y) x.scratch.now y.scratch.now → Ran k 0 0 (SetIn k.fields) (λ (h : SP). h.0) (on_sets o) x r y
-  by_sets {o} E K G = ran_beside W E K.length K.states r (on_sets_is K o r G.is) (sets_left k.fields y x.scratch.now y.scratch.now r G.left)
+  by_sets {o} E K G = ran_beside W E K.scratch.length K.states r (on_sets_is K o r G.is) (sets_left k.fields y x.scratch.now y.scratch.now r G.left)
 
   by_images : {o : Step Stores ℕ} → Ends k.fields (limits_of k.limits) 0 (Steps k.fields (limits_of k.limits) (SetIn k.fields) (clear_in x)) (clear_in x) (making_sets o (clear_in x)) → OnlySets x y
       → Gives (Written k.fields) (λ (h : SP). h.0) o (diagrams_in x) r (diagrams_in y) x.scratch.now y.scratch.now → Ran k 0 0 (SetIn k.fields) (λ (h : SP). h.0) (making_sets o) x r y
-  by_images {o} E K G = ran_beside W E K.length K.states r (making_sets_is K o r G.is) (images_left k.fields y x.scratch.now y.scratch.now r G.left)
+  by_images {o} E K G = ran_beside W E K.scratch.length K.states r (making_sets_is K o r G.is) (images_left k.fields y x.scratch.now y.scratch.now r G.left)
 
   module _ (a : ℕ) (at : SpLaws.ValidAt (sets_in x) k.fields a) where
     module _ (b : ℕ) (bt : SpLaws.ValidAt (sets_in x) k.fields b) where
@@ -205,7 +205,7 @@ module _ {k : Config} {x y : Lent} {r : Result SP Refusal} (W : Working k.fields
 -- whether some packet of a set is related to some packet: a step that always gives
 module _ {k : Config} {x y : Lent} (W : Working k.fields k.limits (tables_in x) x.scratch.now) {a e : ℕ} {b : Bool} where
   pub has_ran : OnlyScratch x y → PostHas k.fields (diagrams_in x) a e b x.scratch.now y.scratch.now → Ran k 0 0 (λ τ b. Unit) (λ (b : Bool). b) (λ τ. given τ (Images.has_image k.fields k.fields a e (diagrams τ))) x (Ok b) y
-  has_ran K A = ran_beside W (comes (record { gone = gone_refl (clear_in x); ordered = W.ready.ordered; holds = tt })) K.length K.states (Ok b)
+  has_ran K A = ran_beside W (comes (record { gone = gone_refl (clear_in x); ordered = W.ready.ordered; holds = tt })) K.scratch.length K.states (Ok b)
       (ap (λ (b : Bool). given (clear_in x) b) (sym A.is) ∙ ap (λ (σ : Tables). given σ b) same) (subst (λ (σ : Tables). Leaves k.fields 0 0 σ x.scratch.now y.scratch.now) same (has_leaves x A))
     where
       same : clear_in x ≡ clear_in y
@@ -240,13 +240,13 @@ module _ {k : Config} {x y : Lent} {r : Result SPP Refusal} (W : Working k.field
   ifwd_ran a at K G = ran_beside W
       (ends_map (λ τ h v. record { gone = v.gone; ordered = v.ordered; holds = v.holds.at })
       (relations_step (order x W) (λ u v. Denotes u k.fields v _) (ifwd_exact k.fields k.fields (diagrams_in x) a _ (both_wf (order x W)) (SpLawsProofs.den_mem at))))
-      K.length K.states r (making_relations_is K (Images.ifwd k.fields a) r G.is) (lifts_left k.fields y x.scratch.now y.scratch.now r G.left)
+      K.scratch.length K.states r (making_relations_is K (Images.ifwd k.fields a) r G.is) (lifts_left k.fields y x.scratch.now y.scratch.now r G.left)
 
   pub intersect_ran : (e : ℕ) → ValidAt (nodes_in x) k.fields e → (f : ℕ) → ValidAt (nodes_in x) k.fields f → KeepsExprs x y → Does k.fields 0 0 nodes_in (λ (h : SPP). h.0) (Rel.intersect k.fields e f) x r y
       → Ran k 0 0 (RelIn k.fields) (λ (h : SPP). h.0) (on_base (on_aut (on_nodes (Rel.intersect k.fields e f)))) x r y
   intersect_ran e et f ft K D = ran_beside W
       (ends_map (λ τ h v. record { gone = v.gone; ordered = v.ordered; holds = v.holds.at }) (goes_ends (order x W) (nodes_goes (order x W).worked.good (intersect_made k.fields (nodes_in x) (order x W).worked.good.nodes e f et ft))))
-      K.length K.states r (on_nodes_is K (Rel.intersect k.fields e f) r D.is) (modifies_left k.fields 0 0 y x.scratch.now y.scratch.now r D.left)
+      K.scratch.length K.states r (on_nodes_is K (Rel.intersect k.fields e f) r D.is) (modifies_left k.fields 0 0 y x.scratch.now y.scratch.now r D.left)
 
 -- ---- epsilon and delta, which are worked out on the tables as they are
 
@@ -275,10 +275,10 @@ module _ {x y : Lent} (N i : ℕ) where
 module _ {k : Config} {x y : Lent} (V : WorkingIn k x) {i : ℕ} (has : i < x.states.count) where
   module _ {r : Result SPP Refusal} (K : Keeps x y) (D : Does k.fields 0 0 aut_in (λ (h : SPP). h.0) (epsilon k.fields i) x r y) (L : Later k.fields i x r y) where
     pub epsilon_ran : Ran k 0 0 (RelIn k.fields) (λ (h : SPP). h.0) (on_base (on_aut (epsilon k.fields i))) x r y
-    epsilon_ran = ran V.working (ends_map (λ τ e w. record { gone = w.gone; ordered = w.ordered; holds = w.holds.den.at }) (epsilon_ends (order x V.working) has)) K.length r
+    epsilon_ran = ran V.working (ends_map (λ τ e w. record { gone = w.gone; ordered = w.ordered; holds = w.holds.den.at }) (epsilon_ends (order x V.working) has)) K.scratch.length r
         (epsilon_is k.fields i K r D.is) (modifies_left k.fields 0 0 y x.scratch.now y.scratch.now r D.left) (beyond r (epsilon_goes (asks_store V) K i D L))
 
   module _ {U : Type 0} {r : Result U Refusal} {Q : Store → List Edge → Type 0} (K : KeepsStore x y) (D : GoesStore k 0 1088 Q (λ (v : U). list_at (store_in y) i) (delta k.fields (limits_of k.limits) i) x r y) where
     pub delta_ran : Ran k 0 1088 (ListIn k.fields i) (λ (v : U). list_at (store_in y) i) (on_base (delta k.fields (limits_of k.limits) i)) x r y
-    delta_ran = ran V.working (ends_map (λ τ e w. record { gone = w.gone; ordered = w.ordered; holds = record { stored = w.holds.0; edges = links_in w.holds.1.are } }) (delta_ends (order x V.working) has)) K.length r
+    delta_ran = ran V.working (ends_map (λ τ e w. record { gone = w.gone; ordered = w.ordered; holds = record { stored = w.holds.0; edges = links_in w.holds.1.are } }) (delta_ends (order x V.working) has)) K.scratch.length r
         (delta_is k.fields i (limits_of k.limits) (λ (v : U). list_at (store_in y) i) K r D.post.is) (store_left r D) (beyond r D)

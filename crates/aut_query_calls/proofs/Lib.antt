@@ -2,3 +2,4 @@
 pub mod Ran  -- what a call came to
 pub mod Works  -- the tables from a query's beginning to its end
 pub mod Calls  -- what each callee asks, and what it came to
+pub mod Listed  -- a transition of a list

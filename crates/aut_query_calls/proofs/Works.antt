@@ -122,7 +122,7 @@ module _ {k : Config} {x : Lent} (V : WorkingIn k x) where
 
 pub kept_working : {N a n : ℕ} {l : Limits} {x y : Lent} → Working N l (tables_in x) x.scratch.now → OnlyScratch x y → Leaves N a n (clear_in x) x.scratch.now y.scratch.now → Working N l (tables_in y) y.scratch.now
 kept_working {N} {l = l} {x = x} {y = y} W K p =
-    subst (λ (σ : Tables). Working N l σ y.scratch.now) same (record { ready = query_ready W.ready (later_refl (clear_in x)) W.ready.ordered p K.length; fresh = W.fresh })
+    subst (λ (σ : Tables). Working N l σ y.scratch.now) same (record { ready = query_ready W.ready (later_refl (clear_in x)) W.ready.ordered p K.scratch.length; fresh = W.fresh })
   where
     same : tables_in x ≡ tables_in y
     same = rw (sym K.sp) (rw (sym K.spp) (rw (sym K.states) (rw (sym K.members) (rw (sym K.transitions) refl))))

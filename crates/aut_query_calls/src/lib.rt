@@ -13,9 +13,5 @@ const ENTRIES: usize = 16777216;
 pub fn capacity(aut: &Aut) -> usize
     ensures { result ≡ M.capacity (length aut.now.pending.now / 2) }
 {
-    let entries = aut.pending.len() / 2;
-    if entries < ENTRIES {
-        return entries;
-    }
-    ENTRIES
+    (aut.pending.len() / 2).min(ENTRIES)
 }

@@ -11,6 +11,7 @@ use Rattle.common.specs.Outcome.{Step}
 use Rattle.common.specs.Runs.{Table, table}
 use Rattle.cache.specs.Cache.{Valid, OnCodes, OnlyCodes, Sound, WritesValid}
 use Rattle.cache.proofs.Cache.{sound_map}
+use Rattle.sp_steps.specs.Reuse.{SpNoted}
 use Rattle.sp_steps.proofs.Laws.{wf_down}
 use Rattle.sp.specs.Clauses as Sets
 use Rattle.sp.specs.declared.SP.{SP}
@@ -24,7 +25,7 @@ use Rattle.spp_image.specs.Clauses as Img
 use Rattle.spp_query.specs.Clauses as Lifts
 use Rattle.aut_relations.specs.Behind.{LISTS, cached}
 use Rattle.aut_relations.proofs.Behind.{lent, back, lent_is}
-use Rattle.aut_sets.specs.Clauses.{NotesBehind, Gives, PreSet, PostSize, PostHas, PostCount}
+use Rattle.aut_sets.specs.Clauses.{NotesBehind, Gives, PreSet, PreSets, PostSize, PostHas, PostCount}
 
 pub notes_back : {P : Valid} (s m : List ℕ) → LISTS ≤ length s → WritesValid P (lent s) m → NotesBehind P s (back s m)
 notes_back {P} s m l n = record {
@@ -44,6 +45,13 @@ lent_sound {P} s v = subst (Sound P) (sym (lent_is s)) v
 -- .. for what reads no packet sets' slots
 pub lent_images : {N : ℕ} {σ : Stores} (s : List ℕ) → Sound (Held N σ) (cached s) → Sound (OnCodes 10 15 (Kept N σ)) (lent s)
 lent_images s v = sound_map (λ op x y r h. h.images) (lent_sound s v)
+
+-- what `union` and `difference` ask, and their answer
+pub sets_asked : {N a b : ℕ} {t : Table} {s : List ℕ} → PreSets N t s a b → Sets.Asked t (lent s) N a b
+sets_asked {s = s} R = record { ready = record { deep = R.first.few; wf = wf_down R.first.wf (omega arith); at_a = R.first.at_a; at_b = R.at_b }; sound = lent_sound s R.first.sound }
+
+pub sets_back : {c : Step Table ℕ} {σ τ : Table} {s m : List ℕ} {h : SP} → LISTS ≤ length s → Sets.Answer c σ (lent s) (Ok h) τ m → Gives SpNoted (λ (h : SP). h.0) c σ (Ok h) τ s (back s m)
+sets_back {s = s} {m = m} l A = record { is = A.gives; left = notes_back s m l A.notes }
 
 -- packet nodes that were lent to be read
 module _ (v : SPview) {t : List ℕ} {n : ℕ} (e : (v.nodes.now ≡ t) × (v.count ≡ n)) where

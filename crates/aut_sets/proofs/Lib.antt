@@ -1,3 +1,3 @@
--- The cache given back; what calls keep.
+-- The cache given back; room for a handle + 1.
 pub mod Back
-pub mod Kept
+pub mod Small

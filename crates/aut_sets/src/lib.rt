@@ -13,29 +13,19 @@ ghost use Rattle.aut_sets.specs.Lent.{sets_in, diagrams_in, OnlyScratch, OnlySet
 ghost use Rattle.aut_sets.specs.Clauses.{Gives, PreSets, PreSet, PreImage, PreLead, PostHas, PreLift, PostSize, PreCount, PostCount};
 
 use aut_relations::Aut;
+use aut_scratch::LISTS;
 use aut_states::Config;
 use refusal::Refusal;
-use sp::{SP, SPstore, SPview};
+use sp::SP;
 use spp::{SPP, SPPstore, SPPview};
-
-// the packet nodes, to be read
-fn sets_of<'a>(sp: &'a SPstore) -> SPview<'a>
-    ensures { (result.nodes.now ≡ sp.now.nodes.now) × (result.count ≡ sp.now.count) }
-{
-    SPview {
-        nodes: sp.nodes,
-        count: sp.count,
-    }
-}
 
 // the relation nodes, to be read, for so many fields
 fn relations_of<'a>(spp: &'a SPPstore, fields: u32) -> SPPview<'a>
     ensures { (result.nodes.now ≡ spp.now.nodes.now) × (result.count ≡ spp.now.count) × (result.fields ≡ fields) }
 {
     SPPview {
-        nodes: spp.nodes,
-        count: spp.count,
         fields,
+        ..spp.view()
     }
 }
 
@@ -46,10 +36,9 @@ pub fn difference(aut: &mut Aut, config: Config, a: SP, b: SP) -> Result<SP, Ref
     ensures gives { Gives SpNoted (λ h. h.0) (Sp.difference config.fields a.0 b.0) (sets_in aut.old)
         result (sets_in aut.new) aut.old.scratch.now aut.new.scratch.now }
 {
-    let at = aut_scratch::LISTS;
     Ok(
         aut.sp
-            .difference(&mut aut.scratch[at..], config.fields, a, b)?,
+            .difference(&mut aut.scratch[LISTS..], config.fields, a, b)?,
     )
 }
 
@@ -60,8 +49,10 @@ pub fn union(aut: &mut Aut, config: Config, a: SP, b: SP) -> Result<SP, Refusal>
     ensures gives { Gives SpNoted (λ h. h.0) (Sp.union config.fields a.0 b.0) (sets_in aut.old)
         result (sets_in aut.new) aut.old.scratch.now aut.new.scratch.now }
 {
-    let at = aut_scratch::LISTS;
-    Ok(aut.sp.union(&mut aut.scratch[at..], config.fields, a, b)?)
+    Ok(
+        aut.sp
+            .union(&mut aut.scratch[LISTS..], config.fields, a, b)?,
+    )
 }
 
 // the packets that a relation leads to from a packet of the set
@@ -73,12 +64,11 @@ pub fn push(aut: &mut Aut, config: Config, s: SP, r: SPP) -> Result<SP, Refusal>
         (Images.push config.fields config.fields s.0 r.0) (diagrams_in aut.old) result
         (diagrams_in aut.new) aut.old.scratch.now aut.new.scratch.now }
 {
-    let at = aut_scratch::LISTS;
     let relations = relations_of(&aut.spp, config.fields);
     Ok(spp_image::push(
         &mut aut.sp,
         relations,
-        &mut aut.scratch[at..],
+        &mut aut.scratch[LISTS..],
         config.fields,
         s,
         r,
@@ -94,12 +84,11 @@ pub fn pull(aut: &mut Aut, config: Config, r: SPP, s: SP) -> Result<SP, Refusal>
         (Images.pull config.fields config.fields r.0 s.0) (diagrams_in aut.old) result
         (diagrams_in aut.new) aut.old.scratch.now aut.new.scratch.now }
 {
-    let at = aut_scratch::LISTS;
     let relations = relations_of(&aut.spp, config.fields);
     Ok(spp_image::pull(
         &mut aut.sp,
         relations,
-        &mut aut.scratch[at..],
+        &mut aut.scratch[LISTS..],
         config.fields,
         r,
         s,
@@ -115,12 +104,11 @@ pub fn bwd(aut: &mut Aut, config: Config, r: SPP) -> Result<SP, Refusal>
         (diagrams_in aut.old) result (diagrams_in aut.new) aut.old.scratch.now
         aut.new.scratch.now }
 {
-    let at = aut_scratch::LISTS;
     let relations = relations_of(&aut.spp, config.fields);
     Ok(spp_image::bwd(
         &mut aut.sp,
         relations,
-        &mut aut.scratch[at..],
+        &mut aut.scratch[LISTS..],
         config.fields,
         r,
     )?)
@@ -133,10 +121,16 @@ pub fn has_image(aut: &mut Aut, config: Config, s: SP, r: SPP) -> bool
     ensures has { PostHas config.fields (diagrams_in aut.old) s.0 r.0 result aut.old.scratch.now
         aut.new.scratch.now }
 {
-    let at = aut_scratch::LISTS;
-    let sets = sets_of(&aut.sp);
+    let sets = aut.sp.view();
     let relations = relations_of(&aut.spp, config.fields);
-    spp_query::has_image(sets, relations, &mut aut.scratch[at..], config.fields, s, r)
+    spp_query::has_image(
+        sets,
+        relations,
+        &mut aut.scratch[LISTS..],
+        config.fields,
+        s,
+        r,
+    )
 }
 
 // the pairs whose second packet is in the set
@@ -149,9 +143,14 @@ pub fn ifwd(aut: &mut Aut, config: Config, s: SP) -> Result<SPP, Refusal>
         (Images.ifwd config.fields s.0) (diagrams_in aut.old) result (diagrams_in aut.new)
         aut.old.scratch.now aut.new.scratch.now }
 {
-    let at = aut_scratch::LISTS;
-    let sets = sets_of(&aut.sp);
-    Ok(spp_query::ifwd(&mut aut.spp, sets, &mut aut.scratch[at..], config.fields, s)?)
+    let sets = aut.sp.view();
+    Ok(spp_query::ifwd(
+        &mut aut.spp,
+        sets,
+        &mut aut.scratch[LISTS..],
+        config.fields,
+        s,
+    )?)
 }
 
 // the number of packets in a set
@@ -161,9 +160,8 @@ pub fn size(aut: &mut Aut, config: Config, s: SP) -> u64
     ensures size { PostSize config.fields (sets_in aut.old) s.0 result aut.old.scratch.now
         aut.new.scratch.now }
 {
-    let at = aut_scratch::LISTS;
-    let sets = sets_of(&aut.sp);
-    sets.size(&mut aut.scratch[at..], config.fields, s)
+    let sets = aut.sp.view();
+    sets.size(&mut aut.scratch[LISTS..], config.fields, s)
 }
 
 // the number of packet pairs in a relation
@@ -173,7 +171,6 @@ pub fn pairs(aut: &mut Aut, config: Config, r: SPP) -> u64
     ensures pairs { PostCount config.fields (nodes_in aut.old) r.0 result aut.old.scratch.now
         aut.new.scratch.now }
 {
-    let at = aut_scratch::LISTS;
     let relations = relations_of(&aut.spp, config.fields);
-    spp_query::size(relations, &mut aut.scratch[at..], config.fields, r)
+    spp_query::size(relations, &mut aut.scratch[LISTS..], config.fields, r)
 }

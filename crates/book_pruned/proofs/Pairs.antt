@@ -1,5 +1,5 @@
 -- The lines of `pruned`, one transition at a time.
-use mathlib.Core.Path.{◌≡◌, refl, sym, ◌∙◌, ap, subst}
+use mathlib.Core.Path.{◌≡◌, refl, sym, ◌∙◌, ap, ap₂, subst}
 use mathlib.Core.List.{List, [], ◌∷◌, ◌++◌, append_assoc, append-nil}
 use Prim.Native.Nat.{ℕ, suc, ◌+◌, ◌*◌, ◌-◌, ◌≤◌, ◌<◌}
 use native.Mathlib.Omega.{arith}
@@ -23,10 +23,10 @@ use Rattle.aut_relations.specs.Lent.{nodes_in}
 use Rattle.aut_sets.specs.Lent.{OnlyScratch}
 use Rattle.spp.specs.declared.SPPstore.{SPPstore}
 use Rattle.book_writer.specs.declared.Output.{Output}
-use Rattle.book_writer.specs.Clauses.{PutAt, Put, pair_line, pruned_head}
+use Rattle.book_writer.specs.Clauses.{Room, PutAt, Put, pair_line, pruned_head}
 use Rattle.book_writer.proofs.Contracts.{put_append, pairs_are}
 use Rattle.std.specs.Prelude.{Result, Ok, Err}
-use Rattle.book_pruned.specs.Clauses.{told, PrePairs, PostNumber, PostLength, PrePut, PostPairs, PostPruned}
+use Rattle.book_pruned.specs.Clauses.{told, PrePairs, PostPair, PostLength, PrePut, PostPairs, PostPruned}
 
 pub notes_none : {P : Valid} {s : List ℕ} → NotesBehind P s s
 notes_none = record { below = λ i l. refl; notes = notes_refl }
@@ -84,18 +84,19 @@ module _ (N : ℕ) (t : Table) (m : ℕ) where
   pub summed_begin : {s : List ℕ} → PrePairs N t s m → Summed s s 0 0
   summed_begin {s} p = record { pairs = p; left = notes_none; is = omega (arith, ap length (from_all s)); most = omega arith }
 
-  pub summed_again : {s₀ s s' : List ℕ} {total i n r : ℕ} → Summed s₀ s total i → i < m → length s' ≡ length s → PostNumber N t i n s s'
-      → (r ≡ length (pair_line (get_or s (2 * (RESULT + i)) 0) n)) × (r ≤ 47) → Summed s₀ s' (total + r) (i + 1)
-  summed_again {s₀} {s} {s'} {total} {i} {n} {r} v l len P (a, b) = record {
+  -- with the transition that comes next
+  next_is : {s₀ s s' : List ℕ} {i u n : ℕ} → PrePairs N t s m → noted s₀ s → i < m → PostPair N t i u n s s' → from s₀ i ≡ pair_line u n ++ from s₀ (i + 1)
+  next_is {s₀} {s} {s'} {i} {u} {n} p w l P =
+      sym (from_noted i p.most (omega arith) w) ∙ from_next s i l ∙ ap₂ (λ (a b : ℕ). pair_line a b ++ from s (i + 1)) (sym P.target) (sym P.is)
+      ∙ ap (λ (bs : List ℕ). pair_line u n ++ bs) (from_noted (i + 1) p.most (omega arith) w)
+
+  pub summed_again : {s₀ s s' : List ℕ} {total i u n r : ℕ} → Summed s₀ s total i → i < m → length s' ≡ length s → PostPair N t i u n s s' → (r ≡ length (pair_line u n)) × (r ≤ 47) → Summed s₀ s' (total + r) (i + 1)
+  summed_again {s₀} {s} {s'} {total} {i} {u} {n} {r} v l len P (a, b) = record {
     pairs = pairs_later v.pairs P.left len;
     left = notes_on v.left P.left;
-    is = v.is ∙ omega (arith, ap length this, length-append (pair_line (get_or s (2 * (RESULT + i)) 0) n) (from s₀ (i + 1)), a);
+    is = v.is ∙ omega (arith, ap length (next_is v.pairs v.left l P), length-append (pair_line u n) (from s₀ (i + 1)), a);
     most = omega (arith, v.most, b);
   }
-    where
-      this : from s₀ i ≡ pair_line (get_or s (2 * (RESULT + i)) 0) n ++ from s₀ (i + 1)
-      this = sym (from_noted i v.pairs.most (omega arith) v.left) ∙ from_next s i l ∙ ap (λ (k : ℕ). pair_line (get_or s (2 * (RESULT + i)) 0) k ++ from s (i + 1)) (sym P.is)
-          ∙ ap (λ (bs : List ℕ). pair_line (get_or s (2 * (RESULT + i)) 0) n ++ bs) (from_noted (i + 1) v.pairs.most (omega arith) v.left)
 
   pub summed_end : {s₀ s : List ℕ} {total i : ℕ} → Summed s₀ s total i → i ≤ m → m ≤ i → PostLength N t m total s₀ s
   summed_end {s₀} {s} {total} {i} v d l = record {
@@ -124,16 +125,12 @@ module _ (N : ℕ) (t : Table) (m : ℕ) where
     pub line_fits : o.at ≤ length o.bytes.now
     line_fits = omega (arith, v.put.room, v.put.wrote.len)
 
-    module _ (l : i < m) {n : ℕ} {s' : List ℕ} (P : PostNumber N t i n s s') where
+    module _ (l : i < m) {u n : ℕ} {s' : List ℕ} (P : PostPair N t i u n s s') where
       abbrev row : List ℕ
-      row = pair_line (get_or s (2 * (RESULT + i)) 0) n
-
-      next : from s₀ i ≡ row ++ from s₀ (i + 1)
-      next = sym (from_noted i v.pairs.most (omega arith) v.left) ∙ from_next s i l ∙ ap (λ (k : ℕ). pair_line (get_or s (2 * (RESULT + i)) 0) k ++ from s (i + 1)) (sym P.is)
-          ∙ ap (λ (bs : List ℕ). row ++ bs) (from_noted (i + 1) v.pairs.most (omega arith) v.left)
+      row = pair_line u n
 
       whole : all s₀ ≡ (v.bytes ++ row) ++ from s₀ (i + 1)
-      whole = v.is ∙ ap (λ (bs : List ℕ). v.bytes ++ bs) next ∙ sym (append_assoc v.bytes row (from s₀ (i + 1)))
+      whole = v.is ∙ ap (λ (bs : List ℕ). v.bytes ++ bs) (next_is v.pairs v.left l P) ∙ sym (append_assoc v.bytes row (from s₀ (i + 1)))
 
       pub row_fits : o.at + length row ≤ length o.bytes.now
       row_fits = omega (arith, p.fits, ap length whole, length-append (v.bytes ++ row) (from s₀ (i + 1)), length-append v.bytes row, v.put.behind, v.put.wrote.len)
@@ -170,10 +167,10 @@ module _ (N : ℕ) (t : Table) (name : List ℕ) (m : ℕ) (s : List ℕ) (o : O
     whole_size : length (pruned_answer name (told N t (edges s RESULT m))) ≡ h + n
     whole_size = ap length head_is ∙ omega (arith, length-append (pruned_head name m) (pair_lines (told N t (edges s RESULT m))), H.0, L.is)
 
-    pub pruned_short : o.at ≤ length o.bytes.now → length o.bytes.now - o.at < h + n → PostPruned N t name m (Err OutputFull) s s' o o
-    pruned_short f l = record { answers = (refl, omega (arith, whole_size), refl); left = L.left }
+    pub pruned_short : {e : Refusal} → (e ≡ OutputFull) × (length o.bytes.now < o.at + (h + n)) → PostPruned N t name m (Err e) s s' o o
+    pruned_short f = record { answers = (f.0, omega (arith, f.1, whole_size), refl); left = L.left }
 
-    module _ (f : o.at ≤ length o.bytes.now) (room : h + n ≤ length o.bytes.now - o.at) where
+    module _ (room : Room (h + n) o) where
       pub head_fits : length o.bytes.now < o.at + length (pruned_head name m) → ⊥
       head_fits l = omega (arith, H.0)
 
@@ -204,8 +201,8 @@ module _ {x y : Lent} (k : OnlyScratch x y) where
   pub put_in : {N m : ℕ} {s : List ℕ} {o : Output} → PrePut N (nodes_in x) s o m → PrePut N (nodes_in y) s o m
   put_in {N} {m} {s} {o} p = subst (λ (t : SPPstore). PrePut N (table t.nodes.now t.count) s o m) (sym k.spp) p
 
-  pub number_in : {N i r : ℕ} {s s' : List ℕ} → PostNumber N (nodes_in y) i r s s' → PostNumber N (nodes_in x) i r s s'
-  number_in {N} {i} {r} {s} {s'} p = subst (λ (t : SPPstore). PostNumber N (table t.nodes.now t.count) i r s s') k.spp p
+  pub pair_in : {N i u r : ℕ} {s s' : List ℕ} → PostPair N (nodes_in y) i u r s s' → PostPair N (nodes_in x) i u r s s'
+  pair_in {N} {i} {u} {r} {s} {s'} p = subst (λ (t : SPPstore). PostPair N (table t.nodes.now t.count) i u r s s') k.spp p
 
   pub told_in : {N m : ℕ} {r : Result Unit Refusal} {s s' : List ℕ} {o o' : Output} → PostPairs N (nodes_in y) m r s s' o o' → PostPairs N (nodes_in x) m r s s' o o'
   told_in {N} {m} {r} {s} {s'} {o} {o'} p = subst (λ (t : SPPstore). PostPairs N (table t.nodes.now t.count) m r s s' o o') k.spp p

@@ -28,7 +28,9 @@ pub record PrePairs (N : ℕ) (t : Table) (s : List ℕ) (m : ℕ) : Type 0 wher
   pub most : m ≤ 64
   pub labels : (i : ℕ) → i < m → ValidAt t N (get_or s (2 * (RESULT + i) + 1) 0)
 
-pub record PostNumber (N : ℕ) (t : Table) (i r : ℕ) (s s' : List ℕ) : Type 0 where
+-- u is the target of transition i, r the number of packet pairs in its label
+pub record PostPair (N : ℕ) (t : Table) (i u r : ℕ) (s s' : List ℕ) : Type 0 where
+  pub target : u ≡ get_or s (2 * (RESULT + i)) 0
   pub is : r ≡ Spp.size t.words N (get_or s (2 * (RESULT + i) + 1) 0)
   pub left : NotesBehind (OnlyCodes 17 17 (Counted t)) s s'
 

@@ -11,17 +11,17 @@ returns-then-count-budget-clause-gives c = runs.sought_spent c.requires c.args.b
 pub turn-requires : goal.turn-requires
 turn-requires c = runs.turn_asks c.requires c.args.budget c.loop-n.invariant c.loop-n-test.true
 
-pub returns-in_err-turned-clause-gives : goal.returns-in_err-turned-clause-gives
-returns-in_err-turned-clause-gives c =
-    runs.sought_stuck c.requires c.args.budget c.loop-n.invariant c.loop-n-test.true c.if-count-budget.false (passed c.from_residual.ensures) c.in_err-turned.ensures.gives
+pub returns-in_err-m-clause-gives : goal.returns-in_err-m-clause-gives
+returns-in_err-m-clause-gives c =
+    runs.sought_stuck c.requires c.args.budget c.loop-n.invariant c.loop-n-test.true c.if-count-budget.false (passed c.from_residual.ensures) c.in_err-m.ensures.gives
 
 pub returns-in_default-clause-gives : goal.returns-in_default-clause-gives
 returns-in_default-clause-gives c =
-    runs.sought_found c.requires c.args.budget c.loop-n.invariant c.loop-n-test.true c.if-count-budget.false c.in_ok-turned.ensures.gives c.in_default.is
+    runs.sought_found c.requires c.args.budget c.loop-n.invariant c.loop-n-test.true c.if-count-budget.false c.in_ok-m.ensures.gives c.in_default.is
 
 pub loop-n-preserved : goal.loop-n-preserved
 loop-n-preserved c =
-    let t = c.in_ok-turned.ensures in
+    let t = c.in_ok-m.ensures in
     runs.sought_again c.requires c.args.budget c.loop-n.invariant c.loop-n-test.true c.if-count-budget.false t.gives c.in-Some.is t.keeps
 
 pub returns-clause-gives : goal.returns-clause-gives

@@ -72,4 +72,4 @@ returns-clause-gives c =
     let e = c.in_ok-ends.ensures in
     let h = c.has_image.ensures in
     let s = c.in_ok-m.ensures in
-    expands.expand_goes c.requires c.seen_at-seen.ensures u.keeps u.gives e.keeps e.gives e.after h.keeps h.has c.if-has_image.false s.gives (record { sp = refl; spp = refl; states = refl; count = refl; words = length-set _ _ _; members = refl; transitions = refl; pending = refl; entries = refl; scratch = refl }) refl refl
+    expands.expand_goes c.requires c.seen_at-seen.ensures u.keeps u.gives e.keeps e.gives e.after h.keeps h.has c.if-has_image.false s.gives (record { sp = refl; spp = refl; states = record { lent = refl; length = length-set _ _ _ }; count = refl; members = refl; transitions = refl; pending = record { lent = refl; length = refl }; scratch = refl }) refl refl

@@ -1,9 +1,7 @@
-use mathlib.Core.Path.{◌∙◌}
-use Rattle.aut_empty_words.proofs.Stacks as stacks
+use Rattle.std.proofs.Common.{of_calls}
+use Rattle.aut_empty_words.specs.Words.{seen_in}
 use Rattle.aut_empty_words.proofs.seen_at.Goals as goal
 
-pub returns-then-word-eq0 : goal.returns-then-word-eq0
-returns-then-word-eq0 c = c.zero_at_depth.ensures ∙ stacks.seen_zero c.args.config.fields c.args.aut.now.states.words.now c.args.x c.if-word-eq0.true
-
 pub returns : goal.returns
-returns c = stacks.seen_word c.args.config.fields c.args.aut.now.states.words.now c.args.x c.if-word-eq0.false
+unfolding seen_in
+returns c = search of_calls

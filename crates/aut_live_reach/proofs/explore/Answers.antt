@@ -17,7 +17,7 @@ pub overflow_add-head : goal.overflow_add-head
 overflow_add-head c = omega (arith, c.loop-head.invariant.held.room, c.loop-head-test.true)
 
 pub loop-head-smaller : goal.loop-head-smaller
-loop-head-smaller c = omega (arith, c.loop-head.invariant.held.room, c.loop-head.invariant.keeps.entries, c.loop-head-test.true)
+loop-head-smaller c = omega (arith, c.loop-head.invariant.held.room, c.loop-head.invariant.keeps.pending.length, c.loop-head-test.true)
 
 pub loop-head-preserved : goal.loop-head-preserved
 loop-head-preserved c =

@@ -1,12 +1,8 @@
-use native.Mathlib.Omega.{arith}
-use Rattle.sp_steps.proofs.Laws.{wf_down}
 use Rattle.aut_sets.proofs.Back as back
 use Rattle.aut_sets.proofs.union.Goals as goal
 
 pub union-requires : goal.union-requires
-union-requires c =
-    record { ready = record { deep = c.requires.first.few; wf = wf_down c.requires.first.wf (omega arith); at_a = c.requires.first.at_a; at_b = c.requires.at_b }; sound = back.lent_sound c.args.aut.now.scratch.now c.requires.first.sound }
+union-requires c = back.sets_asked c.requires
 
 pub returns-clause-gives : goal.returns-clause-gives
-returns-clause-gives c =
-    record { is = c.in_ok-union.ensures.answer.gives; left = back.notes_back c.args.aut.now.scratch.now _ c.requires.first.room c.in_ok-union.ensures.answer.notes }
+returns-clause-gives c = back.sets_back c.requires.first.room c.in_ok-union.ensures.answer

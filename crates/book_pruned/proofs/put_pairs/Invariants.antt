@@ -1,4 +1,4 @@
-use mathlib.Core.Path.{◌≡◌}
+use Rattle.slices.specs.Same.{SameSlice}
 use Rattle.aut_relations.specs.Lent.{nodes_in}
 use Rattle.aut_sets.specs.Lent.{OnlyScratch}
 use Rattle.book_pruned.proofs.Pairs as pairs
@@ -6,4 +6,4 @@ use Rattle.book_pruned.proofs.put_pairs.Given as goal
 
 abbrev pub invariant-loop-i : goal.invariant-loop-i
 invariant-loop-i l =
-    OnlyScratch l.initial.aut l.aut × (l.out.bytes.ghost_name ≡ l.initial.out.bytes.ghost_name) × pairs.Placed l.config.fields (nodes_in l.initial.aut) l.m l.initial.aut.scratch.now l.initial.out l.aut.scratch.now l.out l.i
+    OnlyScratch l.initial.aut l.aut × SameSlice l.initial.out.bytes l.out.bytes × pairs.Placed l.config.fields (nodes_in l.initial.aut) l.m l.initial.aut.scratch.now l.initial.out l.aut.scratch.now l.out l.i
