@@ -1,5 +1,5 @@
 -- Round after round: one more, the fewest hops, and the loop, whose bound is that of the steps.
-use Rattle.std.specs.Prelude.{not, Option, Some, None, Result, Ok, Err, is_some, if◌then◌else◌}
+use Rattle.std.specs.Prelude.{not, Option, Some, None, Result, Ok, Err, if◌then◌else◌}
 use mathlib.Core.Path.{◌≡◌, refl, sym, ◌∙◌, ap, subst}
 use mathlib.Core.Bool.{Bool, true, false}
 use mathlib.Core.List.{List, [], ◌∷◌, ◌++◌, Memᴰ}
@@ -124,22 +124,6 @@ module _ (N x : ℕ) where
       (λ b.
       ap hops_of (hops_cons k v (ws ++ w ∷ []) false b)
       ∙ sym (ap (λ (o : Fewest ℕ). hops_after N (w x) (k + suc (length ws)) (hops_of o)) (hops_cons k v ws false b)))
-
--- by which way it is told
-module _ (N h k : ℕ) where
-  pub hops_there : (f : Option ℕ) → is_some f ≡ true → f ≡ hops_after N h k f
-  hops_there (Some j) e = refl
-  hops_there None e = absurd (no_test false e refl)
-
-  hops_by : (f : Option ℕ) → is_some f ≡ false → (b : Bool) → Sp.is_zero N h ≡ b → (if b then None else Some k) ≡ hops_after N h k f
-  hops_by (Some j) e b q = absurd (no_test true refl e)
-  hops_by None e b q = sym (ap (λ (c : Bool). if c then None else Some k) q)
-
-  pub hops_none : (f : Option ℕ) → is_some f ≡ false → {b : Bool} → b ≡ Sp.is_zero N h → b ≡ true → None ≡ hops_after N h k f
-  hops_none f e q t = hops_by f e true (sym q ∙ t)
-
-  pub hops_first : (f : Option ℕ) → is_some f ≡ false → {b : Bool} → b ≡ Sp.is_zero N h → b ≡ false → Some k ≡ hops_after N h k f
-  hops_first f e q t = hops_by f e false (sym q ∙ t)
 
 -- ---- until none changes
 

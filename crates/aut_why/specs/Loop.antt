@@ -1,5 +1,5 @@
 -- 02 (i): "k rising from 0 until none changes": what one round more and the loop over rounds in code ask and promise.
-use Rattle.std.specs.Prelude.{◌≡◌, Bool, true, false, not, ℕ, ◌+◌, ◌*◌, ◌-◌, ◌≤◌, ◌<◌, length, get_or, if◌then◌else◌, Option, Some, None, Result, IfOk}
+use Rattle.std.specs.Prelude.{◌≡◌, Bool, true, false, not, ℕ, ◌+◌, ◌*◌, ◌≤◌, ◌<◌, length, get_or, if◌then◌else◌, Option, Some, None, Result, IfOk}
 use mathlib.Core.List.{List, [], Memᴰ}
 use Rattle.common.specs.Outcome.{Step, after}
 use Rattle.refusal.specs.declared.Refusal.{Refusal}

@@ -10,11 +10,11 @@ ghost use Rattle.aut_why.specs.Loop.{NextGives, PreHops, hops_after, RoundsAsked
 ghost use Rattle.aut_why.specs.Clauses.{WhyAt};
 
 use aut_relations::Aut;
-use aut_states::{Config, STATE};
+use aut_states::Config;
+use aut_why_words::word;
 use refusal::Refusal;
-use sp::SP;
 
-// one round more; if it changed a set, it goes into words 8. Whether it did
+// one round more; if it changed a set, it goes into words BEFORE. Whether it did
 fn next_round(aut: &mut Aut, config: Config, n: usize) -> Result<bool, Refusal>
     requires { RoundAsked config false aut.old n }
     ensures keeps { OnlySearch aut.old aut.new }
@@ -26,22 +26,19 @@ fn next_round(aut: &mut Aut, config: Config, n: usize) -> Result<bool, Refusal>
     if aut_why_words::same_sets(aut, n) {
         return Ok(false);
     }
-    aut_why_words::copy_sets(aut, n, 9, 8);
+    aut_why_words::copy_sets(aut, n, word::UNDER, word::BEFORE);
     Ok(true)
 }
 
-// the fewest hops of a string of x: f, or k if round k, in words 8, is the first with a set that is not empty
+// the fewest hops of a string of x: f, or k if round k, in words BEFORE, is the first with a set that is not empty
 fn hops_after(aut: &Aut, config: Config, x: u32, k: usize, f: Option<usize>) -> Option<usize>
     requires { PreHops config.fields aut.now.states.words.now x }
     ensures { result ≡ hops_after config.fields (get_or aut.now.states.words.now (12 * x + 8) 0 - 1)
         k f }
 {
-    if f.is_some() {
+    let set = aut_live_words::set_at(aut, x, word::BEFORE);
+    if f.is_some() || sp::is_zero(config.fields, set) {
         return f;
-    }
-    let set = SP(aut.states.words[STATE * (x as usize) + 8] - 1);
-    if sp::is_zero(config.fields, set) {
-        return None;
     }
     Some(k)
 }
@@ -57,8 +54,7 @@ fn rounds(aut: &mut Aut, config: Config, n: usize, x: u32) -> Result<Option<usiz
     let mut k = 0;
     loop {
         f = hops_after(aut, config, x, k, f);
-        let changed = next_round(aut, config, n)?;
-        if !changed {
+        if !next_round(aut, config, n)? {
             return Ok(f);
         }
         k += 1;
@@ -73,7 +69,7 @@ fn all_rounds(aut: &mut Aut, config: Config, n: usize, x: u32) -> Result<Option<
     ensures gives { AllAt config n x aut.old result aut.new }
 {
     aut_why_rounds::round(aut, config, true, n)?;
-    aut_why_words::copy_sets(aut, n, 9, 8);
+    aut_why_words::copy_sets(aut, n, word::UNDER, word::BEFORE);
     rounds(aut, config, n, x)
 }
 

@@ -111,11 +111,11 @@ module _ (g : Config) (x : Lent) {n : ℕ} {ws : List Sets} (S : StandingIn g x 
           others = λ i w h f. by_test (eqb w 9)
               (λ t. let q : w ≡ 9 = eqb-true w 9 t in D.under.walk.rest i w (omega arith) h (λ m. f q (among i m)) ∙ sym (S.walk.rest i w (omega arith) h (f q)))
               (λ t. D.under.others i w h (eqb-false w 9 t));
-          len = K.words;
+          len = K.states.length;
         };
       };
       frame = subst (λ (τ : Tables). Leaves N 0 0 τ x.scratch.now y.scratch.now) (store_same same) D.post.post.then.frame;
-      len = K.length;
+      len = K.scratch.length;
     }
       where
         same : given (clear_in y) D.next ≡ given (clear_in x) stands.0

@@ -14,23 +14,22 @@ use Rattle.sp.specs.declared.SP.{SP}
 use Rattle.aut_relations.specs.declared.Aut.{Aut as Lent}
 use Rattle.aut_sets.specs.Lent.{sets_in, OnlySets, OnlySearch}
 use Rattle.aut_st_steps.specs.Edges.{edges}
-use Rattle.aut_delta_steps.specs.Delta.{start_of, count_of, list_at}
+use Rattle.aut_delta_steps.specs.Delta.{start_of, count_of}
 use Rattle.aut_delta_stage.specs.OnTables.{store_in}
 use Rattle.aut_query_steps.specs.Tables.{Tables, tables}
 use Rattle.aut_query_stage.specs.Lent.{Leaves, tables_in}
 use Rattle.aut_states.specs.declared.Config.{Config}
 use Rattle.aut_states.specs.declared.Limits.{Limits}
-use Rattle.aut_free.specs.Clear.{clear, clear_tables}
-use Rattle.aut_free.proofs.Clearing.{clear_kept}
+use Rattle.aut_free.specs.Clear.{clear_tables}
 use Rattle.aut_query_calls.specs.Working.{clear_in}
-use Rattle.aut_sets.proofs.Kept.{set_small}
+use Rattle.aut_sets.proofs.Small.{set_small}
 use Rattle.aut_live_words.specs.Work.{seconds}
-use Rattle.aut_live_words.specs.Clauses.{Listed}
 use Rattle.aut_why_steps.specs.Why.{Sets, turn, round_at}
 use Rattle.aut_why_words.specs.Walk.{Walk}
-use Rattle.aut_why_words.proofs.Walks.{walk_known, walk_there}
+use Rattle.aut_why_words.proofs.Walks.{walk_there}
 use Rattle.aut_query_calls.specs.Working.{words_in, with_words}
 use Rattle.aut_why_words.proofs.Lent.{sets_base}
+use Rattle.aut_why_words.proofs.Found.{walk_list, walk_listed, walk_leads}
 use Rattle.aut_why_rounds.specs.Clauses.{GivesSet, Turning}
 use Rattle.aut_why_marks.specs.Clauses.{PreChanged, PostChanged}
 use Rattle.aut_why_again.specs.Redone.{Worked}
@@ -69,7 +68,7 @@ module _ {g : Config} {o : Step Tables ℕ} {x y : Lent} {u : ℕ} (q : o (clear
     worked K w i = record {
       tables = ap (λ (τ : Tables). with_words (set (words_in τ) (12 * i + w) (h.0 + 1)) τ) none_made ∙ ap (λ (v : ℕ). with_words (set (words_in (tables_in x)) (12 * i + w) (v + 1)) (tables_in x)) (given_same same);
       frame = subst (λ (τ : Tables). Leaves g.fields 0 0 τ x.scratch.now y.scratch.now) (store_same same) D.post.then.frame;
-      len = K.length;
+      len = K.scratch.length;
     }
       where
         none_made : tables_in y ≡ tables_in x
@@ -96,33 +95,8 @@ module _ {N : ℕ} {l : Limits} {σ : Tables} {s p : List ℕ} {n : ℕ} {ws : L
   pub turn_stands : turn N (round_at N ws k) i (clear_tables σ) ≡ given (clear_tables σ) (round_at N ws (k + 1) i)
   turn_stands = T.on.standing.again.next k (omega (arith, T.more)) i m ∙ ap (λ (j : ℕ). given (clear_tables σ) (round_at N ws j i)) {x = suc k} {y = k + 1} (omega arith)
 
-  -- ---- its stored list
-
-  count_clear : count_of (clear st) i ≡ count_of st i
-  unfolding count_of
-  count_clear = clear_kept st i 6 (omega arith)
-
-  start_clear : start_of (clear st) i ≡ start_of st i
-  unfolding start_of
-  start_clear = clear_kept st i 5 (omega arith)
-
-  list_is : list_at (clear_tables σ).base i ≡ edges tr (start_of st i) (count_of st i - 1)
-  unfolding list_at
-  list_is = ap₂ (λ (a k : ℕ). edges tr a (k - 1)) start_clear count_clear
-
-  leads : (e : Edge) → Memᴰ e (edges tr (start_of st i) (count_of st i - 1)) → Memᴰ e.target (seconds p 0 n)
-  leads e j = (K.links i m).leads e (subst (λ (es : List Edge). Memᴰ e es) (sym list_is) j)
-
-  some : 0 < count_of st i
-  some = omega (arith, count_clear, (K.links i m).marked)
-
-  listed : Listed st tr i
-  listed =
-      let L = K.working.ready.ordered.worked.lists in
-      record { state = turn_there; some = some; inside = omega (arith, L.fit, (L.held i (walk_known K i m)).inside (count_of st i - 1) (omega (arith, count_clear, some)), start_clear) }
-
   pub turn_listed : PreChanged st tr i
-  turn_listed = record { listed = listed; targets = λ e j. walk_there K e.target (leads e j) }
+  turn_listed = record { listed = walk_listed K m; targets = λ e j. walk_there K e.target (walk_leads K m e j) }
 
   -- no target's set changed
   pub turn_stays : (r : Bool) → not r ≡ true → PostChanged st tr i r → Worked N 9 i (round_at N ws (k + 1) i) σ (with_words (set st (12 * i + 9) (get_or st (12 * i + 8) 0)) σ) s s
@@ -134,5 +108,5 @@ module _ {N : ℕ} {l : Limits} {σ : Tables} {s p : List ℕ} {n : ℕ} {ws : L
     where
       stays : round_at N ws k i ≡ round_at N ws (k + 1) i
       stays = round_stays T.on.standing.again k i m T.more (λ e j.
-          let f = subst (λ (es : List Edge). Memᴰ e es) list_is j in
-          T.on.here.marks e.target (leads e f) (unchanged st (edges tr (start_of st i) (count_of st i - 1)) (sym q ∙ not_true r z) e f))
+          let f = subst (λ (es : List Edge). Memᴰ e es) (walk_list K m) j in
+          T.on.here.marks e.target (walk_leads K m e f) (unchanged st (edges tr (start_of st i) (count_of st i - 1)) (sym q ∙ not_true r z) e f))

@@ -16,9 +16,10 @@ use Rattle.aut_states.specs.declared.Limits.{Limits}
 use Rattle.aut_live_words.specs.Work.{seconds}
 use Rattle.aut_why_steps.specs.Why.{Sets, round_at}
 use Rattle.aut_why_words.specs.Walk.{HasSets}
+use Rattle.aut_why_words.specs.Words.{moved_at}
 use Rattle.aut_query_calls.specs.Working.{words_in, with_words}
 use Rattle.aut_why_marks.specs.Columns.{Fills, Before}
-use Rattle.aut_why_marks.specs.Clauses.{moved_at, Renews, Restores}
+use Rattle.aut_why_marks.specs.Clauses.{Renews, Restores}
 use Rattle.aut_why_marks.proofs.Columns.{writes_none, writes_then, writes_wide}
 use Rattle.aut_why_again.specs.Redone.{Free, Unkept, Redone, AtRound, OnRound}
 use Rattle.aut_why_again.specs.Clauses.{Onward, Turned, Started, Ahead, Kept, HasRound, Earlier, FromMark, SetsFor}

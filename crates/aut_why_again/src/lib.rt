@@ -1,4 +1,4 @@
-// An earlier round of `why` is worked out again, which makes no node: the sets that a hop is picked from. Words 8 to 11 of the states are as in aut_why_marks.
+// An earlier round of `why` is worked out again, which makes no node: the sets that a hop is picked from. The words of the states are those of aut_why_words.
 #![tactic(auto)]
 
 ghost use Rattle.std.specs.Prelude.{◌≡◌};
@@ -7,7 +7,7 @@ ghost use Rattle.aut_why_again.specs.Clauses.{PreTurnAgain, PostTurnAgain, PreSt
 
 use aut_relations::Aut;
 use aut_states::{Config, STATE};
-use aut_why_marks::word;
+use aut_why_words::word;
 
 // round 0; its sets stand, so it is not refused
 fn start(aut: &mut Aut, config: Config, n: usize)
@@ -16,10 +16,9 @@ fn start(aut: &mut Aut, config: Config, n: usize)
     ensures pending { aut.new.pending ≡ aut.old.pending }
     ensures gives { PostStart config n aut.old aut.new }
 {
-    let Ok(_) = aut_why_rounds::round(aut, config, true, n) else {
-        return;
-    };
-    aut_why_marks::restore(aut, n, word::UNDER);
+    if let Ok(()) = aut_why_rounds::round(aut, config, true, n) {
+        aut_why_marks::restore(aut, n, word::UNDER);
+    }
 }
 
 // the set of s in the next round, which stands, so it is not refused; where no target's set changed it stays
@@ -31,17 +30,15 @@ fn turn_again(aut: &mut Aut, config: Config, s: u32)
 {
     let at = STATE * (s as usize);
     if !aut_why_marks::changed(aut, s) {
-        let v = aut.states.words[at + word::BEFORE];
-        aut.states.words[at + word::UNDER] = v;
+        aut.states.words[at + word::UNDER] = aut.states.words[at + word::BEFORE];
         return;
     }
-    let Ok(h) = aut_why_rounds::turn(aut, config, s) else {
-        return;
-    };
-    aut.states.words[at + word::UNDER] = h.0 + 1;
+    if let Ok(h) = aut_why_rounds::turn(aut, config, s) {
+        aut.states.words[at + word::UNDER] = h.0 + 1;
+    }
 }
 
-// the next round, in words 9
+// the next round, in words UNDER
 fn turns(aut: &mut Aut, config: Config, n: usize)
     requires { PreTurns config aut.old n }
     ensures keeps { OnlySearch aut.old aut.new }
@@ -49,7 +46,7 @@ fn turns(aut: &mut Aut, config: Config, n: usize)
     ensures gives { PostTurns config n aut.old aut.new }
 {
     for i in 0..n {
-        let s = aut.pending[2 * i + 1];
+        let s = aut_live_words::state_at(aut, i);
         turn_again(aut, config, s);
     }
 }
@@ -95,7 +92,7 @@ fn from_mark(aut: &mut Aut, config: Config, n: usize, j: usize, mark: usize, ste
     mark
 }
 
-// Words 8 of the n states get round j. Words 10 have round `mark`, to go on from if it is not later than j; the round that they have now is given back.
+// Words BEFORE of the n states get round j. Words KEPT have round `mark`, to go on from if it is not later than j; the round that they have now is given back.
 pub fn sets_for(
     aut: &mut Aut,
     config: Config,

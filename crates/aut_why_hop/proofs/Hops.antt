@@ -20,10 +20,12 @@ use Rattle.netkat_steps.specs.ListSteps.{Edge}
 use Rattle.spp_steps.specs.ImageModel.{Stores}
 use Rattle.aut_st_steps.specs.Edges.{edges}
 use Rattle.aut_st_steps.proofs.Places.{edge_at, edges_on, edges_done}
-use Rattle.aut_delta_steps.specs.Delta.{start_of, count_of}
 use Rattle.aut_sets.specs.Clauses.{NotesBehind}
 use Rattle.spp_least.specs.Clauses.{number_of, LeastNoted}
+use Rattle.aut_st_source.specs.declared.Span.{Span}
+use Rattle.aut_st_source.specs.Stored.{PostFind}
 use Rattle.aut_why_least.specs.Clauses.{PostLed}
+use Rattle.aut_live_words.proofs.Words.{listed_edges}
 use Rattle.aut_why_hop.specs.Clauses.{aheads, ahead_of, leading, sooner, LeastReady, PreLed, PreHop, Hops, PostHop}
 
 clash : {A : Type 0} → true ≡ false → A
@@ -167,11 +169,12 @@ module _ (N : ℕ) (σ : Stores) (st tr : List ℕ) (packet start k : ℕ) where
 
 -- ---- what is asked of a transition
 
-module _ {N : ℕ} {σ : Stores} {st tr s₀ : List ℕ} {x packet : ℕ} (P : PreHop N σ st tr s₀ x packet) where
-  pub hop_asks : {s : List ℕ} {i : ℕ} → LeastReady N σ s → i < get_or st (12 * x + 6) 0 - 1 → PreLed N σ st tr s (get_or st (12 * x + 5) 0 + i) packet
-  unfolding start_of count_of
-  hop_asks {i = i} R l = record { ready = R; inside = omega (arith, P.list.inside, l); ahead = P.aheads i l; small = P.small }
+module _ {N : ℕ} {σ : Stores} {st tr s₀ : List ℕ} {x packet : ℕ} (P : PreHop N σ st tr s₀ x packet) {list : Span} (F : PostFind st x list) where
+  pub hop_asks : {s : List ℕ} {i : ℕ} → LeastReady N σ s → i < list.count → PreLed N σ st s (get_or tr (2 * (list.start + i)) 0) (get_or tr (2 * (list.start + i) + 1) 0) packet
+  hop_asks {i = i} R l = record { ready = R; ahead = rw F.start at (P.aheads i (omega (arith, F.count, l))); small = P.small }
 
-  pub hop_ends : {r : code.Option (ℕ × ℕ)} {s : List ℕ} → ((p : Packet N) → value p ≡ packet → Hops r (hop (all N σ st tr packet (get_or st (12 * x + 5) 0) (get_or st (12 * x + 6) 0 - 1)) (aheads N σ st) p none)) → Noted N σ s₀ s → PostHop N σ st tr x packet r s₀ s
-  unfolding start_of count_of
-  hop_ends f n = record { is = f; left = n }
+  pub hop_ends : {r : code.Option (ℕ × ℕ)} {s : List ℕ} → ((p : Packet N) → value p ≡ packet → Hops r (hop (all N σ st tr packet list.start list.count) (aheads N σ st) p none)) → Noted N σ s₀ s → PostHop N σ st tr x packet r s₀ s
+  hop_ends {r} f n = record {
+    is = λ p e. subst (λ (es : List Edge). Hops r (hop (Lists.map (leading N σ) es) (aheads N σ st) p none)) (sym (listed_edges P.list F)) (f p e);
+    left = n;
+  }

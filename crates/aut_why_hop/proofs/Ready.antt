@@ -1,5 +1,5 @@
 -- From the rounds that stand in words to what a hop asks; and what it found, by the lists and sets of the tables.
-use mathlib.Core.Path.{◌≡◌, refl, sym, ◌∙◌, ap, ap₂, subst}
+use mathlib.Core.Path.{◌≡◌, refl, sym, ◌∙◌, ap, subst}
 use mathlib.Core.Bool.{◌&&◌}
 use mathlib.Core.Logic.{⊎_elim}
 use mathlib.Core.List.{List, [], ◌∷◌, ◌++◌, Memᴰ}
@@ -19,8 +19,8 @@ use Rattle.netkat_steps.specs.ListSteps.{Edge}
 use Rattle.sp_steps.specs.Model as Sp
 use Rattle.sp_steps.specs.Wf as SpLaws
 use Rattle.spp_steps.specs.ImageModel.{Stores}
-use Rattle.aut_st_steps.specs.Edges.{edges, EdgeAt, EdgesAt}
-use Rattle.aut_st_steps.proofs.Places.{edge_at, edge_at_lem, edges_split, edges_on}
+use Rattle.aut_st_steps.specs.Edges.{EdgeAt, EdgesAt}
+use Rattle.aut_st_steps.proofs.Places.{edge_at, edge_at_lem}
 use Rattle.aut_delta_steps.specs.Delta.{start_of, count_of, list_at}
 use Rattle.aut_delta_steps.specs.PlainSearch.{decoded}
 use Rattle.aut_delta_steps.proofs.ListGoes.{list_at_lem}
@@ -28,12 +28,12 @@ use Rattle.aut_query_steps.specs.Tables.{Tables, diagrams}
 use Rattle.aut_why_steps.specs.Why.{Sets}
 use Rattle.aut_states.specs.Clauses.{limits_of}
 use Rattle.aut_states.specs.declared.Limits.{Limits}
-use Rattle.aut_free.specs.Clear.{clear, clear_tables}
-use Rattle.aut_free.proofs.Clearing.{clear_kept}
+use Rattle.aut_free.specs.Clear.{clear_tables}
+use Rattle.aut_query_calls.proofs.Listed.{edge_in}
 use Rattle.aut_live_words.specs.Work.{seconds}
-use Rattle.aut_live_words.specs.Clauses.{Listed}
 use Rattle.aut_why_words.specs.Walk.{Walk, HasSets}
 use Rattle.aut_why_words.proofs.Walks.{walk_known, walk_there}
+use Rattle.aut_why_words.proofs.Found.{walk_list, walk_listed, walk_leads}
 use Rattle.aut_why_hop.specs.Clauses.{aheads, ahead_of, leading, list_of, LeastReady, Ahead, PreHop, Hops, PostHop}
 
 -- sets that agree on the targets
@@ -49,14 +49,6 @@ map_in : {A B : Type 0} (f : A → B) (l : List A) {b : B} → Memᴰ b (Lists.m
 map_in f [] m = absurd (mathlib.Core.List.Memᴰ.not-nil m)
 map_in f (a ∷ l) {b} m = ⊎_elim (λ q. (a, mathlib.Core.List.Memᴰ.head refl, q)) (λ n. let (z, i, e) = map_in f l n in (z, mathlib.Core.List.Memᴰ.tail i, e)) (mathlib.Core.List.Memᴰ.cases_cons m)
 
-edge_in : (s : List ℕ) (a k i : ℕ) → i < k → Memᴰ (edge_at s (a + i)) (edges s a k)
-edge_in s a k i l = subst (Memᴰ (edge_at s (a + i))) (sym (ap (edges s a) {x = k} {y = i + (k - i)} (omega arith) ∙ edges_split s a i (k - i) ∙ ap (λ (es : List Edge). edges s a i ++ es) (edges_on s a k i l)))
-    (behind (edge_at s (a + i)) (edges s (a + (i + 1)) (k - (i + 1))) (edges s a i))
-  where
-    behind : (e : Edge) (fs es : List Edge) → Memᴰ e (es ++ e ∷ fs)
-    behind e fs [] = mathlib.Core.List.Memᴰ.head refl
-    behind e fs (f ∷ es) = mathlib.Core.List.Memᴰ.tail (behind e fs es)
-
 module _ {τ : Tables} {N : ℕ} {l : Limits} {s p : List ℕ} {n : ℕ} (K : Walk N l τ s p n) where
   abbrev C : Tables
   C = clear_tables τ
@@ -70,33 +62,9 @@ module _ {τ : Tables} {N : ℕ} {l : Limits} {s p : List ℕ} {n : ℕ} (K : Wa
   abbrev tr : List ℕ
   tr = τ.base.transitions.words
 
-  clear_count : (x : ℕ) → count_of (clear st) x ≡ count_of st x
-  unfolding count_of
-  clear_count x = clear_kept st x 6 (omega arith)
-
-  clear_start : (x : ℕ) → start_of (clear st) x ≡ start_of st x
-  unfolding start_of
-  clear_start x = clear_kept st x 5 (omega arith)
-
-  list_is : (x : ℕ) → list_at C.base x ≡ list_of st tr x
-  unfolding list_at
-  list_is x = ap₂ (λ (a k : ℕ). edges tr a (k - 1)) (clear_start x) (clear_count x)
-
   module _ (x : ℕ) (m : Memᴰ x (seconds p 0 n)) where
-    some_list : 0 < count_of st x
-    some_list = omega (arith, clear_count x, (K.links x m).marked)
-
-    listed : Listed st tr x
-    listed =
-        let L = K.working.ready.ordered.worked.lists in
-        record {
-          state = walk_there K x m;
-          some = some_list;
-          inside = omega (arith, L.fit, (L.held x (walk_known K x m)).inside (count_of st x - 1) (omega (arith, clear_count x, some_list)), clear_start x);
-        }
-
     entries : EdgesAt N C.base.aut (list_of st tr x)
-    entries = subst (EdgesAt N C.base.aut) (list_is x) (list_at_lem (limits_of l) ((K.working.ready.ordered.worked.lists.held x (walk_known K x m)).list (K.links x m).marked))
+    entries = subst (EdgesAt N C.base.aut) (walk_list K m) (list_at_lem (limits_of l) ((K.working.ready.ordered.worked.lists.held x (walk_known K x m)).list (K.links x m).marked))
 
     module _ (before : Sets) (H : HasSets 8 st p n before) (A : (y : ℕ) → Memᴰ y (seconds p 0 n) → SpLaws.ValidAt τ.sets N (before y)) where
       ahead_is : (y : ℕ) → Memᴰ y (seconds p 0 n) → ahead_of st y ≡ before y
@@ -106,16 +74,16 @@ module _ {τ : Tables} {N : ℕ} {l : Limits} {s p : List ℕ} {n : ℕ} (K : Wa
       ahead_of_lem i k =
           let y : ℕ = get_or tr (2 * (start_of st x + i)) 0 in
           let e : EdgeAt N C.base.aut (edge_at tr (start_of st x + i)) = edge_at_lem tr (start_of st x) (count_of st x - 1) i k entries in
-          let u : Memᴰ y (seconds p 0 n) = (K.links x m).leads (edge_at tr (start_of st x + i)) (subst (Memᴰ (edge_at tr (start_of st x + i))) (sym (list_is x)) (edge_in tr (start_of st x) (count_of st x - 1) i k)) in
+          let u : Memᴰ y (seconds p 0 n) = walk_leads K m (edge_at tr (start_of st x + i)) (edge_in tr (start_of st x) (count_of st x - 1) i k) in
           record { state = walk_there K y u; some = omega (arith, H.is y u); set = subst (SpLaws.ValidAt τ.sets N) (sym (ahead_is y u)) (A y u); relation = e.relation }
 
       pub hop_ready : {packet : ℕ} (q : Packet N) → value q ≡ packet → LeastReady N σ s → PreHop N σ st tr s x packet
-      hop_ready q e R = record { ready = R; list = listed; aheads = ahead_of_lem; small = subst (λ (k : ℕ). k < 2 ^ N) e (value_small q) }
+      hop_ready q e R = record { ready = R; list = walk_listed K m; aheads = ahead_of_lem; small = subst (λ (k : ℕ). k < 2 ^ N) e (value_small q) }
 
       -- what was found, by lists and sets
       hop_is : (q : Packet N) → hop (Lists.map (leading N σ) (list_of st tr x)) (aheads N σ st) q none ≡ hop (Lists.map (decoded N C.base.aut) (list_at C.base x)) (λ y. Sp.mem τ.sets.words N (before y)) q none
       hop_is q =
-          ap (λ (es : List Edge). hop (Lists.map (leading N σ) es) (aheads N σ st) q none) (sym (list_is x))
+          ap (λ (es : List Edge). hop (Lists.map (leading N σ) es) (aheads N σ st) q none) (sym (walk_list K m))
           ∙ hop_alike (Lists.map (decoded N C.base.aut) (list_at C.base x)) (aheads N σ st) (λ y. Sp.mem τ.sets.words N (before y)) q none
           (λ u k. let (e, i, f) = map_in (decoded N C.base.aut) (list_at C.base x) k in
           ap (Sp.mem τ.sets.words N) (ahead_is u.target (subst (λ (y : ℕ). Memᴰ y (seconds p 0 n)) (sym (ap (λ (u : Transition State N). u.target) f)) ((K.links x m).leads e i))))

@@ -56,11 +56,9 @@ pub record Ahead (N : ℕ) (σ : Stores) (st : List ℕ) (target label : ℕ) : 
   pub set : SpLaws.ValidAt σ.sp N (ahead_of st target)
   pub relation : ValidAt σ.spp N label
 
--- transition i of the table
-pub record PreLed (N : ℕ) (σ : Stores) (st tr s : List ℕ) (i packet : ℕ) : Type 0 where
+pub record PreLed (N : ℕ) (σ : Stores) (st s : List ℕ) (target label packet : ℕ) : Type 0 where
   pub ready : LeastReady N σ s
-  pub inside : 2 * i + 1 < length tr
-  pub ahead : Ahead N σ st (get_or tr (2 * i) 0) (get_or tr (2 * i + 1) 0)
+  pub ahead : Ahead N σ st target label
   pub small : packet < 2 ^ N
 
 -- the packet is lower than that of the best hop so far

@@ -2,46 +2,23 @@
 #![tactic(auto)]
 
 ghost use Rattle.std.specs.Prelude.{◌≡◌};
-ghost use Rattle.common.specs.Runs.{table};
 ghost use Rattle.netkat_paths.specs.Order.{least};
 ghost use Rattle.sp_steps.specs.Model.{mem};
-ghost use Rattle.sp.specs.Clauses as Sets;
-ghost use Rattle.spp.specs.Clauses as Relations;
 ghost use Rattle.spp_least.specs.Clauses.{number_of};
 ghost use Rattle.aut_sets.specs.Lent.{sets_in, diagrams_in, OnlyScratch};
 ghost use Rattle.aut_why_least.specs.Clauses.{PreFirst, PreLed, PostLed, PreEnd, PostEnd, Forgotten};
 
 use aut_relations::Aut;
 use aut_states::Config;
-use sp::{SP, SPstore, SPview};
-use spp::{SPP, SPPstore, SPPview};
-
-fn sets<'a>(sp: &'a SPstore) -> SPview<'a>
-    ensures { Sets.view_of result ≡ table sp.now.nodes.now sp.now.count }
-{
-    SPview {
-        nodes: &sp.nodes[..],
-        count: sp.count,
-    }
-}
-
-fn relations<'a>(spp: &'a SPPstore, fields: u32) -> SPPview<'a>
-    ensures view { Relations.view_of result ≡ table spp.now.nodes.now spp.now.count }
-    ensures fields { result.fields ≡ fields }
-{
-    SPPview {
-        nodes: &spp.nodes[..],
-        count: spp.count,
-        fields,
-    }
-}
+use sp::SP;
+use spp::{SPP, SPPview};
 
 // the least packet of a set
 pub fn first_of(aut: &Aut, config: Config, s: SP) -> Option<u32>
     requires { PreFirst config.fields (sets_in aut.now) s.0 }
     ensures { result ≡ number_of (least config.fields (mem aut.now.sp.nodes.now config.fields s.0)) }
 {
-    spp_least::least(sets(&aut.sp), config.fields, s)
+    spp_least::least(aut.sp.view(), config.fields, s)
 }
 
 // the least packet of the set to which the relation leads the packet with that number
@@ -54,8 +31,11 @@ pub fn led_to(aut: &mut Aut, config: Config, packet: u32, s: SP, r: SPP) -> Opti
     let at = aut_scratch::LISTS;
     let fields = config.fields;
     spp_least::least_led(
-        sets(&aut.sp),
-        relations(&aut.spp, fields),
+        aut.sp.view(),
+        SPPview {
+            fields,
+            ..aut.spp.view()
+        },
         &mut aut.scratch[at..],
         fields,
         packet,

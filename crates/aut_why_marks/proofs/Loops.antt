@@ -10,19 +10,20 @@ use native.Mathlib.Omega.{arith}
 use lib.Dec.{eqb, ltb}
 use lib.ListN.{length, get_or, set}
 use lib.Seq.{get_or-set_same, get_or-set_other}
-use borrow.Author.Tests.{eqb-true, eqb-false, eq-eqb, ne_eqb, lt-ltb, le-ltb}
+use borrow.Author.Tests.{eqb-true, eqb-false, lt-ltb, le-ltb}
 use Rattle.spp_steps.proofs.Laws.{by_test}
 use Rattle.netkat_steps.specs.ListSteps.{Edge}
 use Rattle.aut_st_steps.specs.Edges.{edges}
 use Rattle.aut_st_steps.proofs.Places.{edge_at, edges_on, edges_done}
-use Rattle.aut_delta_steps.specs.Delta.{start_of, count_of}
+use Rattle.aut_st_source.specs.declared.Span.{Span}
+use Rattle.aut_st_source.specs.Stored.{PostFind}
 use Rattle.aut_live_words.specs.Work.{seconds}
 use Rattle.aut_live_words.specs.Clauses.{PreKeep}
-use Rattle.aut_live_words.proofs.Words.{seconds_split, seconds_one, seconds_done, second_in}
-use Rattle.aut_why_words.specs.Words.{copy_words}
+use Rattle.aut_live_words.proofs.Words.{seconds_split, seconds_one, seconds_done, second_in, listed_edges}
+use Rattle.aut_why_words.specs.Words.{copy_words, moved_at}
 use Rattle.aut_why_words.proofs.Walks.{copy_length, copy_here}
 use Rattle.aut_why_marks.specs.Columns.{Writes, Fills}
-use Rattle.aut_why_marks.specs.Clauses.{changed_by, moved_at, Renews, Restores, PreChanged, PostChanged}
+use Rattle.aut_why_marks.specs.Clauses.{changed_by, Renews, Restores, PreChanged, PostChanged}
 use Rattle.aut_why_marks.proofs.Columns.{writes_none, writes_then, writes_wide, writes_one}
 
 -- ---- a column, state by state
@@ -91,12 +92,6 @@ copied a b {st} {p} {st1} {n} k l z P q = subst (Fills b (λ x. get_or st (12 * 
 pub moved_on : {n : ℕ} {p st₀ st : List ℕ} {i : ℕ} → Filling 11 (moved_at st₀) n p st₀ st i → (x : ℕ) → moved_at st x ≡ moved_at st₀ x
 moved_on {st₀ = st₀} F x = ap₂ (λ (a b : ℕ). if eqb a b then 0 else 1) (fill_other 11 (moved_at st₀) F x 8 (omega arith) (λ q. omega arith)) (fill_other 11 (moved_at st₀) F x 9 (omega arith) (λ q. omega arith))
 
-pub moved_same : (st : List ℕ) (x : ℕ) → get_or st (12 * x + 8) 0 ≡ get_or st (12 * x + 9) 0 → 0 ≡ moved_at st x
-moved_same st x q = ap (λ (b : Bool). if b then 0 else 1) (sym (eq-eqb (get_or st (12 * x + 8) 0) (get_or st (12 * x + 9) 0) q))
-
-pub moved_other : (st : List ℕ) (x : ℕ) → (get_or st (12 * x + 8) 0 ≡ get_or st (12 * x + 9) 0 → ⊥) → 1 ≡ moved_at st x
-moved_other st x q = ap (λ (b : Bool). if b then 0 else 1) (sym (ne_eqb (get_or st (12 * x + 8) 0) (get_or st (12 * x + 9) 0) q))
-
 -- ---- renew, restore
 
 pub keep_on : {st st1 p : List ℕ} {n : ℕ} → PreKeep st p n → length st1 ≡ length st → PreKeep st1 p n
@@ -154,16 +149,9 @@ module _ {st tr : List ℕ} {start k : ℕ} where
     look_end l = v.is ∙ ap (changed_by st) (edges_done tr (start + i) k i l)
 
 -- of a state's stored list
-module _ {st tr : List ℕ} (x : ℕ) where
-  pub look_post_begin : PreChanged st tr x → Looking st tr (get_or st (12 * x + 5) 0) (get_or st (12 * x + 6) 0 - 1) 0
-  unfolding start_of count_of
-  look_post_begin P = look_begin P.targets
+module _ {st tr : List ℕ} {x : ℕ} (P : PreChanged st tr x) {list : Span} (F : PostFind st x list) where
+  pub look_post_begin : Looking st tr list.start list.count 0
+  look_post_begin = look_begin (λ e m. P.targets e (subst (λ (es : List Edge). Memᴰ e es) (sym (listed_edges P.listed F)) m))
 
-  pub look_post_found : {i : ℕ} → Looking st tr (get_or st (12 * x + 5) 0) (get_or st (12 * x + 6) 0 - 1) i → i < get_or st (12 * x + 6) 0 - 1
-      → 0 < get_or st (12 * get_or tr (2 * (get_or st (12 * x + 5) 0 + i)) 0 + 11) 0 → PostChanged st tr x true
-  unfolding start_of count_of
-  look_post_found v l h = sym (look_found v l h)
-
-  pub look_post_end : {i : ℕ} → Looking st tr (get_or st (12 * x + 5) 0) (get_or st (12 * x + 6) 0 - 1) i → get_or st (12 * x + 6) 0 - 1 ≤ i → PostChanged st tr x false
-  unfolding start_of count_of
-  look_post_end v l = sym (look_end v l)
+  pub look_post : {b : Bool} → changed_by st (edges tr list.start list.count) ≡ b → PostChanged st tr x b
+  look_post q = sym (ap (changed_by st) (listed_edges P.listed F) ∙ q)

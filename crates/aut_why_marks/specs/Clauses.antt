@@ -1,20 +1,17 @@
 -- 02 (i), 01, "Lent tables": what the functions on columns of words 8 to 11 ask and promise. The states are the second words of n pending entries.
-use Rattle.std.specs.Prelude.{◌≡◌, Bool, ℕ, ◌+◌, ◌*◌, ◌-◌, ◌<◌, eqb, ltb, length, get_or, if◌then◌else◌}
+use Rattle.std.specs.Prelude.{◌≡◌, Bool, ℕ, ◌+◌, ◌*◌, ◌-◌, ◌<◌, ltb, length, get_or}
 use mathlib.Core.List.{List, Memᴰ}
 use Rattle.common.specs.Packets.{any}
 use Rattle.netkat_steps.specs.ListSteps.{Edge}
 use Rattle.aut_st_steps.specs.Edges.{edges}
 use Rattle.aut_delta_steps.specs.Delta.{start_of, count_of}
 use Rattle.aut_live_words.specs.Clauses.{Listed, PreKeep}
+use Rattle.aut_why_words.specs.Words.{moved_at}
 use Rattle.aut_why_marks.specs.Columns.{Writes, Before}
 
 pub record PreFill (st p : List ℕ) (n w : ℕ) : Type 0 where
   pub states : PreKeep st p n
   pub word : w < 12
-
--- whether the round under work, in word 9, differs from the one before
-abbrev pub moved_at : List ℕ → ℕ → ℕ
-moved_at st x = if eqb (get_or st (12 * x + 8) 0) (get_or st (12 * x + 9) 0) then 0 else 1
 
 -- the round under work is now the round before
 pub record Renews (ss st st' : List ℕ) : Type 0 where

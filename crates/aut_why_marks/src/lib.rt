@@ -1,17 +1,17 @@
-// Words 8 to 11 of the states that `why` works on. The states are the second words of n pending entries.
+// Words BEFORE to MOVED of the states that `why` works on. The states are the second words of n pending entries.
 #![tactic(auto)]
 
-pub mod word;
-
-ghost use Rattle.std.specs.Prelude.{◌≡◌, ◌+◌, ◌*◌, ◌<◌, length};
+ghost use Rattle.std.specs.Prelude.{◌≡◌};
 ghost use Rattle.aut_sets.specs.Lent.{OnlyMarks};
 ghost use Rattle.aut_live_words.specs.Work.{seconds};
 ghost use Rattle.aut_live_words.specs.Clauses.{PreKeep};
+ghost use Rattle.aut_why_words.specs.Words.{moved_at};
 ghost use Rattle.aut_why_marks.specs.Columns.{Fills};
-ghost use Rattle.aut_why_marks.specs.Clauses.{PreFill, moved_at, Renews, PreRestore, Restores, PreChanged, PostChanged};
+ghost use Rattle.aut_why_marks.specs.Clauses.{PreFill, Renews, PreRestore, Restores, PreChanged, PostChanged};
 
 use aut_relations::Aut;
 use aut_states::STATE;
+use aut_why_words::word;
 
 // words w of the n states are v
 fn fill(aut: &mut Aut, n: usize, w: usize, v: u32)
@@ -22,21 +22,9 @@ fn fill(aut: &mut Aut, n: usize, w: usize, v: u32)
         aut.new.states.words.now }
 {
     for i in 0..n {
-        let at = STATE * (aut.pending[2 * i + 1] as usize) + w;
-        aut.states.words[at] = v;
+        let x = aut_live_words::state_at(aut, i);
+        aut.states.words[STATE * (x as usize) + w] = v;
     }
-}
-
-// whether the set of x differs in the round under work
-fn moved(aut: &Aut, x: u32) -> u32
-    requires { 12 * x + 11 < length aut.now.states.words.now }
-    ensures { result ≡ moved_at aut.now.states.words.now x }
-{
-    let at = STATE * (x as usize);
-    if aut.states.words[at + word::BEFORE] == aut.states.words[at + word::UNDER] {
-        return 0;
-    }
-    1
 }
 
 fn differ(aut: &mut Aut, n: usize)
@@ -47,8 +35,8 @@ fn differ(aut: &mut Aut, n: usize)
         (seconds aut.old.pending.now 0 n) aut.old.states.words.now aut.new.states.words.now }
 {
     for i in 0..n {
-        let x = aut.pending[2 * i + 1];
-        let v = moved(aut, x);
+        let x = aut_live_words::state_at(aut, i);
+        let v = u32::from(aut_why_words::moved(aut, x));
         aut.states.words[STATE * (x as usize) + word::MOVED] = v;
     }
 }
@@ -82,12 +70,10 @@ pub fn changed(aut: &Aut, x: u32) -> bool
     requires { PreChanged aut.now.states.words.now aut.now.transitions.words.now x }
     ensures { PostChanged aut.now.states.words.now aut.now.transitions.words.now x result }
 {
-    let j = x as usize;
-    let start = aut.states.words[STATE * j + aut_states::word::START] as usize;
-    let k = aut.states.words[STATE * j + aut_states::word::COUNT] as usize - 1;
-    for i in 0..k {
-        let t = aut.transitions.words[2 * (start + i)] as usize;
-        if aut.states.words[STATE * t + word::MOVED] > 0 {
+    let list = aut_st_source::stored_list(aut, x);
+    for i in 0..list.count {
+        let t = list.get(aut, i);
+        if aut.states.words[STATE * (t.target as usize) + word::MOVED] > 0 {
             return true;
         }
     }

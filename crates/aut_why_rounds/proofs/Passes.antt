@@ -5,7 +5,7 @@ use mathlib.Core.Logic.{◌≢◌, ◌⊎◌, inl, inr, ⊎_elim}
 use mathlib.Core.Bool.{Bool, true, false}
 use mathlib.Core.List.Memᴰ
 use mathlib.Core.List.{List, Memᴰ}
-use Prim.Native.Nat.{ℕ, zero, suc, ◌+◌, ◌*◌, ◌-◌, ◌≤◌, ◌<◌}
+use Prim.Native.Nat.{ℕ, ◌+◌, ◌*◌, ◌-◌, ◌≤◌, ◌<◌}
 use native.Mathlib.Omega.{arith}
 use lib.Dec.{eqb}
 use lib.ListN.{length, get_or, set}
@@ -31,7 +31,7 @@ use Rattle.aut_relations.specs.declared.Aut.{Aut as Lent}
 use Rattle.aut_sets.specs.Lent.{sets_in, OnlySets}
 use Rattle.aut_free.specs.Clear.{clear_tables}
 use Rattle.aut_query_calls.specs.Working.{clear_in}
-use Rattle.aut_sets.proofs.Kept.{set_small}
+use Rattle.aut_sets.proofs.Small.{set_small}
 use Rattle.aut_live_words.specs.Work.{seconds}
 use Rattle.aut_live_words.proofs.Words.{seconds_on, seconds_done, seconds_all, second_in}
 use Rattle.aut_why_words.specs.Walk.{Walk}
@@ -126,14 +126,14 @@ module _ (k : Config) (x : Lent) {first : Bool} {n : ℕ} {before : Sets} (R : R
       pass_there = walk_there v.walk y pass_in
 
       -- .. of the state that stands in the entry
-      pub pass_given : z.pending ≡ x.pending → {r : Result SP Refusal} {w : Lent} → Stepped k first (get_or z.pending.now (2 * i + 1) 0) z r w → GivesSet k (f y) z r w
-      pass_given q {r} {w} G = subst (λ (t : List ℕ). GivesSet k (f (get_or t (2 * i + 1) 0)) z r w) same (G.gives n before (pass_asks q) here)
+      pub pass_given : z.pending ≡ x.pending → {s : ℕ} → s ≡ get_or z.pending.now (2 * i + 1) 0 → {r : Result SP Refusal} {w : Lent} → Stepped k first s z r w → GivesSet k (f y) z r w
+      pass_given q {s} e {r} {w} G = subst (λ (t : ℕ). GivesSet k (f t) z r w) same (G.gives n before (pass_asks q) here)
         where
-          here : Memᴰ (get_or z.pending.now (2 * i + 1) 0) (seconds z.pending.now 0 n)
-          here = rw q pass_in
+          same : s ≡ y
+          same = e ∙ rw q refl
 
-          same : z.pending.now ≡ p
-          same = rw q refl
+          here : Memᴰ s (seconds z.pending.now 0 n)
+          here = rw (same, q) pass_in
 
       abbrev rest : ℕ → Step Tables Sets
       rest u = each f (seconds p (i + 1) (n - (i + 1))) (live_at y u v.now)

@@ -4,11 +4,10 @@ use mathlib.Core.Path.{◌≡◌, refl, sym, ◌∙◌, ap, ap₂, subst}
 use mathlib.Core.Logic.{⊎_elim}
 use mathlib.Core.List.Memᴰ
 use mathlib.Core.List.{List, ◌∷◌, Memᴰ}
-use Prim.Native.Nat.{ℕ, zero, suc, ◌+◌, ◌*◌, ◌-◌, ◌≤◌, ◌<◌}
+use Prim.Native.Nat.{ℕ, ◌+◌, ◌*◌, ◌-◌, ◌≤◌, ◌<◌}
 use native.Mathlib.Omega.{arith}
 use lib.Dec.{eqb}
 use lib.ListN.{length, get_or}
-use borrow.Author.Tests.{eqb-true, eqb-false}
 use Rattle.common.specs.Outcome.{Outcome, refused, given, Step, after}
 use Rattle.refusal.specs.declared.Refusal.{Refusal}
 use Rattle.netkat.specs.Lists.{State, Transition}
@@ -19,7 +18,6 @@ use Rattle.sp_steps.specs.Wf as SpLaws
 use Rattle.sp_steps.proofs.Laws as SpLawsProofs
 use Rattle.sp.specs.declared.SP.{SP}
 use Rattle.spp_steps.specs.Wf.{ValidAt}
-use Rattle.spp_steps.proofs.Laws.{by_test}
 use Rattle.spp_steps.specs.ImageModel as Images
 use Rattle.spp_image.specs.Reuse.{Written}
 use Rattle.aut_steps.specs.Tables as Aut
@@ -29,7 +27,7 @@ use Rattle.aut_st_steps.proofs.Places.{edge_at, edges_on, edges_done}
 use Rattle.aut_delta_steps.specs.Epsilon.{epsilon_of, value_of}
 use Rattle.aut_delta_steps.specs.EpsilonDown.{Known}
 use Rattle.aut_delta_steps.proofs.EpsilonDown.{known_means}
-use Rattle.aut_delta_steps.specs.Delta.{start_of, count_of, list_at, Store}
+use Rattle.aut_delta_steps.specs.Delta.{count_of, list_at, Store}
 use Rattle.aut_delta_steps.specs.Fits.{tables as readings}
 use Rattle.aut_steps.specs.Wf.{states}
 use Rattle.aut_query_steps.specs.Tables.{Tables, diagrams, on_sets, making_sets}
@@ -50,11 +48,16 @@ use Rattle.aut_free.specs.Clear.{clear, clear_tables, in_store}
 use Rattle.aut_free.proofs.Clearing.{clear_length, clear_kept}
 use Rattle.aut_query_calls.specs.Working.{clear_in, Working}
 use Rattle.aut_query_calls.specs.Working.{SetIn}
+use Rattle.aut_query_calls.proofs.Listed.{edge_in}
 use Rattle.aut_query_calls.proofs.Ran.{Ran}
 use Rattle.aut_query_calls.proofs.Calls.{asks_lead, asks_sets, bwd_ran, pull_ran, union_ran}
 use Rattle.aut_live_words.specs.Work.{seconds}
+use Rattle.aut_live_words.proofs.Words.{listed_inside, listed_edges}
 use Rattle.aut_why_words.proofs.Walks.{walk_known, walk_there, walk_made}
+use Rattle.aut_st_source.specs.declared.Span.{Span}
+use Rattle.aut_st_source.specs.Stored.{PreFind, PostFind}
 use Rattle.aut_why_words.proofs.Lent.{sets_base}
+use Rattle.aut_why_words.proofs.Found.{find_listed, walk_list, walk_listed}
 use Rattle.aut_why_rounds.specs.Clauses.{GivesSet, Visited, join_one, Joining, Turning, TurningIn}
 
 -- ---- without hops
@@ -146,14 +149,6 @@ edge_at_lem : {N : ℕ} {L : Aut.Limits} {a : Aut.Aut} {es : List Edge} {list : 
 edge_at_lem Are.none m = absurd (Memᴰ.not-nil m)
 edge_at_lem {N} {a = a} (Are.also {l = l} k d as') m = ⊎_elim (λ q. subst (ValidAt a.nodes N) (sym (ap (λ (e : Edge). e.label) q)) d.at) (λ n. edge_at_lem as' n) (Memᴰ.cases_cons m)
 
-edge_in : (tr : List ℕ) (a k i : ℕ) → i < k → Memᴰ (edge_at tr (a + i)) (edges tr a k)
-unfolding edges
-edge_in tr a zero i l = absurd (omega arith)
-edge_in tr a (suc k) i l = by_test (eqb i 0)
-    (λ q. Memᴰ.head (ap (edge_at tr) {x = a + i} {y = a} (omega (arith, eqb-true i 0 q))))
-    (λ q. let n : (i ≡ 0 → ⊥) = eqb-false i 0 q in
-    Memᴰ.tail (subst (λ (j : ℕ). Memᴰ (edge_at tr j) (edges tr (a + 1) k)) {x = a + 1 + (i - 1)} {y = a + i} (omega (arith, n)) (edge_in tr (a + 1) k (i - 1) (omega (arith, n)))))
-
 after_after : {S A B C : Type 0} (o : Outcome S A) (f : A → Step S B) (g : B → Step S C) → after o (λ a σ. after (f a σ) g) ≡ after (after o f) g
 after_after (refused e) f g = refl
 after_after (given σ a) f g = refl
@@ -176,31 +171,18 @@ module _ {N : ℕ} {l : Limits} {σ : Tables} {s p : List ℕ} {n : ℕ} {before
   abbrev sw : List ℕ
   sw = σ.base.aut.states.words
 
-  abbrev start : ℕ
-  start = get_or sw (12 * x + 5) 0
-
-  abbrev many : ℕ
-  many = get_or sw (12 * x + 6) 0 - 1
-
-  list_is : list_at (clear_tables σ).base x ≡ edges σ.base.transitions.words start many
-  unfolding list_at start_of count_of
-  list_is = ap₂ (λ (a k : ℕ). edges σ.base.transitions.words a (k - 1)) (clear_kept sw x 5 (omega arith)) (clear_kept sw x 6 (omega arith))
+  -- the stored list of x
+  pub turn_list : {list : Span} → PostFind sw x list → list_at (clear_tables σ).base x ≡ edges σ.base.transitions.words list.start list.count
+  turn_list F = walk_list T.walk T.among ∙ listed_edges (walk_listed T.walk T.among) F
 
   pub turn_visited : Visited N l σ s x
   turn_visited = record { working = T.walk.working; all = seconds p 0 n; linked = T.walk.links x T.among }
 
-  pub turn_there : 12 * x + 11 < length sw
-  turn_there = walk_there T.walk x T.among
+  pub turn_find : PreFind sw x
+  turn_find = find_listed (walk_listed T.walk T.among)
 
-  pub turn_some : 1 ≤ get_or sw (12 * x + 6) 0
-  unfolding count_of
-  turn_some = omega (arith, (T.walk.links x T.among).marked, clear_kept sw x 6 (omega arith))
-
-  pub turn_inside : 2 * (start + many) ≤ length σ.base.transitions.words
-  unfolding start_of count_of
-  turn_inside =
-      let L = T.walk.working.ready.ordered.worked.lists in
-      omega (arith, L.fit, (L.held x (walk_known T.walk x T.among)).inside many (omega (arith, turn_some, clear_kept sw x 6 (omega arith))), clear_kept sw x 5 (omega arith))
+  pub turn_inside : {list : Span} → PostFind sw x list → 2 * (list.start + list.count) ≤ length σ.base.transitions.words
+  turn_inside F = listed_inside (walk_listed T.walk T.among) F
 
 module _ (k : Config) (x : Lent) {n : ℕ} {before : Sets} {s : ℕ} (T : TurningIn k x n before s) where
   abbrev M : ℕ
@@ -212,32 +194,26 @@ module _ (k : Config) (x : Lent) {n : ℕ} {before : Sets} {s : ℕ} (T : Turnin
   abbrev κ : Tables
   κ = clear_in x
 
-  abbrev from : ℕ
-  from = get_or x.states.words.now (12 * s + 5) 0
-
-  abbrev len : ℕ
-  len = get_or x.states.words.now (12 * s + 6) 0 - 1
-
-  module _ (u : ℕ) (U : SpLaws.ValidAt (sets_in x) M u) where
+  module _ (u : ℕ) (U : SpLaws.ValidAt (sets_in x) M u) (list : Span) where
     abbrev all : Step Tables ℕ
     all = joins M (list_at κ.base s) before u
 
     -- i transitions are joined
     pub record Joined (z : Lent) (v i : ℕ) : Type 0 where
-      pub stage : Stage (query_layer M k.limits) 0 0 (all κ) (joins M (edges tr (from + i) (len - i)) before v (clear_in z)) κ (clear_in z) x.scratch.now z.scratch.now
+      pub stage : Stage (query_layer M k.limits) 0 0 (all κ) (joins M (edges tr (list.start + i) (list.count - i)) before v (clear_in z)) κ (clear_in z) x.scratch.now z.scratch.now
       pub turning : TurningIn k z n before s
       pub at : SpLaws.ValidAt (sets_in z) M v
 
-    pub join_begin : Joined x u 0
-    join_begin = record {
+    pub join_begin : PostFind x.states.words.now s list → Joined x u 0
+    join_begin F = record {
       stage = begin (query_laws M k.limits) 0 0 T.walk.working.ready
-          (ap (λ (es : List Edge). joins M es before u κ) (list_is T ∙ ap₂ (λ (a k : ℕ). edges tr a k) {x = from} {y = from + 0} {u = len} {v = len - 0} (omega arith) (omega arith)));
+          (ap (λ (es : List Edge). joins M es before u κ) (turn_list T F ∙ ap₂ (λ (a k : ℕ). edges tr a k) {x = list.start} {y = list.start + 0} {u = list.count} {v = list.count - 0} (omega arith) (omega arith)));
       turning = T;
       at = U;
     }
 
-    module _ {z : Lent} {v i : ℕ} (A : OnlySets x z) (g : Joined z v i) where
-      module _ (lt : i < len) where
+    module _ (F : PostFind x.states.words.now s list) {z : Lent} {v i : ℕ} (A : OnlySets x z) (g : Joined z v i) where
+      module _ (lt : i < list.count) where
         abbrev tz : List ℕ
         tz = z.transitions.words.now
 
@@ -245,19 +221,19 @@ module _ (k : Config) (x : Lent) {n : ℕ} {before : Sets} {s : ℕ} (T : Turnin
         same = rw A.transitions refl
 
         abbrev y : ℕ
-        y = get_or tz (2 * (from + i)) 0
+        y = get_or tz (2 * (list.start + i)) 0
 
         abbrev label : ℕ
-        label = get_or tz (2 * (from + i) + 1) 0
+        label = get_or tz (2 * (list.start + i) + 1) 0
 
         abbrev set : ℕ
         set = get_or z.states.words.now (12 * y + 8) 0 - 1
 
-        listed : Memᴰ (edge_at tz (from + i)) (list_at κ.base s)
-        listed = subst (λ (t : List ℕ). Memᴰ (edge_at t (from + i)) (list_at κ.base s)) (sym same) (subst (λ (es : List Edge). Memᴰ (edge_at tr (from + i)) es) (sym (list_is T)) (edge_in tr from len i lt))
+        listed : Memᴰ (edge_at tz (list.start + i)) (list_at κ.base s)
+        listed = subst (λ (t : List ℕ). Memᴰ (edge_at t (list.start + i)) (list_at κ.base s)) (sym same) (subst (λ (es : List Edge). Memᴰ (edge_at tr (list.start + i)) es) (sym (turn_list T F)) (edge_in tr list.start list.count i lt))
 
         target_in : Memᴰ y (seconds x.pending.now 0 n)
-        target_in = (T.walk.links s T.among).leads (edge_at tz (from + i)) listed
+        target_in = (T.walk.links s T.among).leads (edge_at tz (list.start + i)) listed
 
         target_on : Memᴰ y (seconds z.pending.now 0 n)
         target_on = rw A.pending target_in
@@ -278,13 +254,13 @@ module _ (k : Config) (x : Lent) {n : ℕ} {before : Sets} {s : ℕ} (T : Turnin
         }
 
         abbrev rest : ℕ → Step Tables ℕ
-        rest = joins M (edges tr (from + (i + 1)) (len - (i + 1))) before
+        rest = joins M (edges tr (list.start + (i + 1)) (list.count - (i + 1))) before
 
         turned : Stage (query_layer M k.limits) 0 0 (all κ) (after (join_one M label set v (clear_in z)) rest) κ (clear_in z) x.scratch.now z.scratch.now
         unfolding joins
         turned = instead (query_laws M k.limits) 0 0 g.stage
-            (ap (λ (es : List Edge). joins M es before v (clear_in z)) (edges_on tr from len i lt)
-            ∙ ap (λ (t : List ℕ). joins M (edge_at t (from + i) ∷ edges tr (from + (i + 1)) (len - (i + 1))) before v (clear_in z)) (sym same)
+            (ap (λ (es : List Edge). joins M es before v (clear_in z)) (edges_on tr list.start list.count i lt)
+            ∙ ap (λ (t : List ℕ). joins M (edge_at t (list.start + i) ∷ edges tr (list.start + (i + 1)) (list.count - (i + 1))) before v (clear_in z)) (sym same)
             ∙ after_after (making_sets (Images.pull M M label (before y)) (clear_in z)) (λ q. on_sets (Sp.union M v q)) rest
             ∙ ap (λ (a : ℕ). after (join_one M label a v (clear_in z)) rest) ahead_is)
 
@@ -296,11 +272,11 @@ module _ (k : Config) (x : Lent) {n : ℕ} {before : Sets} {s : ℕ} (T : Turnin
             let c = next (query_laws M k.limits) 0 0 G.post (all_of 0 0) rest turned in
             record { stage = c; turning = turn_made k B g.turning G.post.then.ready G.post.then.ext.sets; at = G.post.then.holds }
 
-      pub join_end : {h : SP} → len ≤ i → h.0 ≡ v → GivesSet k all x (Ok h) z
+      pub join_end : {h : SP} → list.count ≤ i → h.0 ≡ v → GivesSet k all x (Ok h) z
       unfolding joins
       join_end le q = record {
         post = done (query_laws M k.limits) 0 0
-            (instead (query_laws M k.limits) 0 0 g.stage (ap (λ (es : List Edge). joins M es before v (clear_in z)) (edges_done tr (from + i) len i le) ∙ ap (given (clear_in z)) (sym q)))
+            (instead (query_laws M k.limits) 0 0 g.stage (ap (λ (es : List Edge). joins M es before v (clear_in z)) (edges_done tr (list.start + i) list.count i le) ∙ ap (given (clear_in z)) (sym q)))
             (subst (SpLaws.ValidAt (sets_in z) M) (sym q) g.at);
       }
 

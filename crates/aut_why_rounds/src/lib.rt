@@ -9,10 +9,11 @@ ghost use Rattle.aut_query_stage.specs.Lent.{tables_in};
 ghost use Rattle.aut_why_rounds.specs.Clauses.{GivesSet, Visited, join_one, Joining, TurnAsked, Turns, JoinsAsked, Joins, StepAsked, Stepped, RoundAsked, RoundGives};
 
 use aut_relations::Aut;
-use aut_states::{Config, STATE, word};
+use aut_st_edges::Transition;
+use aut_states::{Config, STATE};
+use aut_why_words::word;
 use refusal::Refusal;
 use sp::SP;
-use spp::SPP;
 
 // the starts of s's strings without hops
 fn ends_at(aut: &mut Aut, config: Config, s: u32) -> Result<SP, Refusal>
@@ -25,18 +26,19 @@ fn ends_at(aut: &mut Aut, config: Config, s: u32) -> Result<SP, Refusal>
     aut_sets::bwd(aut, config, e)
 }
 
-// u joined with what a transition to t leads back from the set of the round before
-fn join_one(aut: &mut Aut, config: Config, t: u32, label: SPP, u: SP) -> Result<SP, Refusal>
-    requires { Joining config.fields config.limits (tables_in aut.old) aut.old.scratch.now t label.0
-        u.0 }
+// u joined with what the transition t leads back from the set of the round before
+fn join_one(aut: &mut Aut, config: Config, t: Transition, u: SP) -> Result<SP, Refusal>
+    requires { Joining config.fields config.limits (tables_in aut.old) aut.old.scratch.now t.target
+        t.label.0 u.0 }
     ensures keeps { OnlySets aut.old aut.new }
     ensures only { IfErr result (λ e. e ≡ Sp) }
     ensures gives { GivesSet config
-        (join_one config.fields label.0 (get_or aut.old.states.words.now (12 * t + 8) 0 - 1) u.0)
+        (join_one config.fields t.label.0
+        (get_or aut.old.states.words.now (12 * t.target + 8) 0 - 1) u.0)
         aut.old result aut.new }
 {
-    let ahead = SP(aut.states.words[STATE * (t as usize) + 8] - 1);
-    let back = aut_sets::pull(aut, config, label, ahead)?;
+    let ahead = aut_live_words::set_at(aut, t.target, word::BEFORE);
+    let back = aut_sets::pull(aut, config, t.label, ahead)?;
     aut_sets::union(aut, config, u, back)
 }
 
@@ -47,19 +49,16 @@ fn join_all(aut: &mut Aut, config: Config, s: u32, u: SP) -> Result<SP, Refusal>
     ensures only { IfErr result (λ e. e ≡ Sp) }
     ensures gives { Joins config s u.0 aut.old result aut.new }
 {
-    let j = s as usize;
-    let start = aut.states.words[STATE * j + word::START] as usize;
-    let k = aut.states.words[STATE * j + word::COUNT] as usize - 1;
+    let list = aut_st_source::stored_list(aut, s);
     let mut u = u;
-    for i in 0..k {
-        let t = aut.transitions.words[2 * (start + i)];
-        let label = SPP(aut.transitions.words[2 * (start + i) + 1]);
-        u = join_one(aut, config, t, label, u)?;
+    for i in 0..list.count {
+        let t = list.get(aut, i);
+        u = join_one(aut, config, t, u)?;
     }
     Ok(u)
 }
 
-// the set of s, from the sets of the round before in words 8
+// the set of s, from the sets of the round before in words BEFORE
 pub fn turn(aut: &mut Aut, config: Config, s: u32) -> Result<SP, Refusal>
     requires { TurnAsked config aut.old s }
     ensures keeps { OnlySets aut.old aut.new }
@@ -83,7 +82,7 @@ fn set_of(aut: &mut Aut, config: Config, first: bool, s: u32) -> Result<SP, Refu
     turn(aut, config, s)
 }
 
-// the sets of the n states go into words 9
+// the sets of the n states go into words UNDER
 pub fn round(aut: &mut Aut, config: Config, first: bool, n: usize) -> Result<(), Refusal>
     requires { RoundAsked config first aut.old n }
     ensures keeps { OnlySearch aut.old aut.new }
@@ -92,9 +91,9 @@ pub fn round(aut: &mut Aut, config: Config, first: bool, n: usize) -> Result<(),
     ensures gives { RoundGives config first n aut.old result aut.new }
 {
     for i in 0..n {
-        let s = aut.pending[2 * i + 1];
+        let s = aut_live_words::state_at(aut, i);
         let h = set_of(aut, config, first, s)?;
-        aut.states.words[STATE * (s as usize) + 9] = h.0 + 1;
+        aut.states.words[STATE * (s as usize) + word::UNDER] = h.0 + 1;
     }
     Ok(())
 }

@@ -1,4 +1,6 @@
 -- The loops over the n states: whether words 8 and 9 are equal, a word copied, words 8 to 11 zero again.
+use Rattle.std.specs.Prelude.{not, if◌then◌else◌}
+use Rattle.std.specs.Int.{from_bool}
 use mathlib.Core.Path.{◌≡◌, refl, sym, ◌∙◌, ap}
 use mathlib.Core.Bool.{Bool, true, false, ◌&&◌}
 use mathlib.Core.List.{List}
@@ -7,17 +9,24 @@ use native.Mathlib.Omega.{arith}
 use lib.Dec.{eqb}
 use lib.ListN.{length, get_or, set, length-set}
 use lib.Seq.{get_or-set_same, get_or-set_other}
-use borrow.Author.Tests.{eq-eqb, ne_eqb, eqb-true, eqb-false}
+use borrow.Author.Tests.{eqb-true, eqb-false}
 use Rattle.spp_steps.proofs.Laws.{by_test}
 use Rattle.aut_live_words.specs.Work.{seconds}
 use Rattle.aut_live_words.proofs.Words.{seconds_same, seconds_on, seconds_done, seconds_all}
-use Rattle.aut_why_words.specs.Words.{same_words, copy_words, zero_words, clear_all, PostClear}
+use Rattle.aut_why_words.specs.Words.{same_words, moved_at, copy_words, zero_words, clear_all, PostClear}
 
 -- ---- same
 
 -- i states have equal sets
 pub record Comparing (n : ℕ) (st p : List ℕ) (i : ℕ) : Type 0 where
   pub is : same_words (seconds p 0 n) st ≡ same_words (seconds p i (n - i)) st
+
+-- sets that have not moved are equal
+equal_is : (b c : Bool) → from_bool b ≡ (if c then 0 else 1) → c ≡ not b
+equal_is true true q = absurd (omega (arith, q))
+equal_is true false q = refl
+equal_is false true q = refl
+equal_is false false q = absurd (omega (arith, q))
 
 module _ {st p : List ℕ} {n : ℕ} where
   pub same_begin : Comparing n st p 0
@@ -32,13 +41,14 @@ module _ {st p : List ℕ} {n : ℕ} where
       unfolding same_words
       here = ap (λ (l : List ℕ). same_words l st) (seconds_on p n i l)
 
-      pub same_not : (get_or st (12 * x + 8) 0 ≡ get_or st (12 * x + 9) 0 → ⊥) → same_words (seconds p 0 n) st ≡ false
-      same_not q = v.is ∙ here ∙ ap (λ (b : Bool). b && same_words (seconds p (i + 1) (n - (i + 1))) st) (ne_eqb (get_or st (12 * x + 8) 0) (get_or st (12 * x + 9) 0) q)
+      told : (b : Bool) → from_bool b ≡ moved_at st x → same_words (seconds p 0 n) st ≡ not b && same_words (seconds p (i + 1) (n - (i + 1))) st
+      told b q = v.is ∙ here ∙ ap (λ (c : Bool). c && same_words (seconds p (i + 1) (n - (i + 1))) st) (equal_is b (eqb (get_or st (12 * x + 8) 0) (get_or st (12 * x + 9) 0)) q)
 
-      pub same_again : get_or st (12 * x + 8) 0 ≡ get_or st (12 * x + 9) 0 → Comparing n st p (i + 1)
-      same_again q = record {
-        is = v.is ∙ here ∙ ap (λ (b : Bool). b && same_words (seconds p (i + 1) (n - (i + 1))) st) (eq-eqb (get_or st (12 * x + 8) 0) (get_or st (12 * x + 9) 0) q);
-      }
+      pub same_not : {b : Bool} → from_bool b ≡ moved_at st x → b ≡ true → same_words (seconds p 0 n) st ≡ false
+      same_not {b} q t = told b q ∙ ap (λ (b : Bool). not b && same_words (seconds p (i + 1) (n - (i + 1))) st) t
+
+      pub same_again : {b : Bool} → from_bool b ≡ moved_at st x → b ≡ false → Comparing n st p (i + 1)
+      same_again {b} q t = record { is = told b q ∙ ap (λ (b : Bool). not b && same_words (seconds p (i + 1) (n - (i + 1))) st) t }
 
     pub same_end : n ≤ i → same_words (seconds p 0 n) st ≡ true
     unfolding same_words

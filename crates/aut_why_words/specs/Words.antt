@@ -1,5 +1,5 @@
 -- 02 (i), and 01, "Lent tables" (words 8 to 11): what the functions on single words ask and promise while `why` runs.
-use Rattle.std.specs.Prelude.{◌≡◌, Bool, true, ◌&&◌, List, [], ◌∷◌, ℕ, ◌+◌, ◌*◌, ◌<◌, eqb, get_or, set}
+use Rattle.std.specs.Prelude.{◌≡◌, Bool, true, ◌&&◌, List, [], ◌∷◌, ℕ, ◌+◌, ◌*◌, ◌<◌, eqb, get_or, set, if◌then◌else◌}
 use Rattle.aut_live_words.specs.Work.{seconds, Cleared}
 use Rattle.aut_live_words.specs.Clauses.{PreKeep}
 
@@ -7,6 +7,10 @@ use Rattle.aut_live_words.specs.Clauses.{PreKeep}
 unfoldable pub same_words : List ℕ → List ℕ → Bool
 same_words [] st = true
 same_words (x ∷ xs) st = eqb (get_or st (12 * x + 8) 0) (get_or st (12 * x + 9) 0) && same_words xs st
+
+-- whether the round under work, in word 9, differs from the one before
+abbrev pub moved_at : List ℕ → ℕ → ℕ
+moved_at st x = if eqb (get_or st (12 * x + 8) 0) (get_or st (12 * x + 9) 0) then 0 else 1
 
 -- words b from words a
 unfoldable pub copy_words : (a b : ℕ) → List ℕ → List ℕ → List ℕ

@@ -1,14 +1,16 @@
-// How the rounds of `why` stand in words: word 8 of a state is its set + 1 in the round before, word 9 in the round under work, word 10 in a round that is kept to go on from, word 11
-// is 1 where the last round changed the set. The states reached are the second words of the pending entries.
+// How the rounds of `why` stand in words of the states reached (`word`); these are the second words of the pending entries.
 #![tactic(auto)]
 
+pub mod word;
+
 ghost use Rattle.std.specs.Prelude.{◌≡◌, ◌+◌, ◌*◌, ◌<◌, length};
+ghost use Rattle.std.specs.Int.{from_bool};
 ghost use Rattle.aut_delta_steps.specs.Epsilon.{value_of};
 ghost use Rattle.aut_delta_steps.specs.EpsilonDown.{Known};
 ghost use Rattle.aut_sets.specs.Lent.{OnlyMarks};
 ghost use Rattle.aut_live_words.specs.Work.{seconds};
 ghost use Rattle.aut_live_words.specs.Clauses.{PreKeep};
-ghost use Rattle.aut_why_words.specs.Words.{same_words, copy_words, PreCopy, PostClear};
+ghost use Rattle.aut_why_words.specs.Words.{same_words, moved_at, copy_words, PreCopy, PostClear};
 
 use aut_relations::Aut;
 use aut_states::STATE;
@@ -22,14 +24,22 @@ pub fn epsilon_at(aut: &Aut, x: u32) -> SPP
     aut_epsilon::value(&aut.states, x)
 }
 
-// whether the sets in words 8 and 9 of the n states are equal
+// whether the set of x differs in the round under work
+pub fn moved(aut: &Aut, x: u32) -> bool
+    requires { 12 * x + 11 < length aut.now.states.words.now }
+    ensures { from_bool result ≡ moved_at aut.now.states.words.now x }
+{
+    let at = STATE * (x as usize);
+    aut.states.words[at + word::BEFORE] != aut.states.words[at + word::UNDER]
+}
+
+// whether the sets in words BEFORE and UNDER of the n states are equal
 pub fn same_sets(aut: &Aut, n: usize) -> bool
     requires { PreKeep aut.now.states.words.now aut.now.pending.now n }
     ensures { same_words (seconds aut.now.pending.now 0 n) aut.now.states.words.now ≡ result }
 {
     for i in 0..n {
-        let at = STATE * (aut.pending[2 * i + 1] as usize);
-        if aut.states.words[at + 8] != aut.states.words[at + 9] {
+        if moved(aut, aut_live_words::state_at(aut, i)) {
             return false;
         }
     }
@@ -45,13 +55,12 @@ pub fn copy_sets(aut: &mut Aut, n: usize, from: usize, to: usize)
         copy_words from to (seconds aut.old.pending.now 0 n) aut.old.states.words.now }
 {
     for i in 0..n {
-        let at = STATE * (aut.pending[2 * i + 1] as usize);
-        let set = aut.states.words[at + from];
-        aut.states.words[at + to] = set;
+        let at = STATE * (aut_live_words::state_at(aut, i) as usize);
+        aut.states.words[at + to] = aut.states.words[at + from];
     }
 }
 
-// words 8 to 11 of the n states and the n entries are zero again
+// words BEFORE to MOVED of the n states and the n entries are zero again
 pub fn clear(aut: &mut Aut, n: usize)
     requires { PreKeep aut.old.states.words.now aut.old.pending.now n }
     ensures keeps { OnlyMarks aut.old aut.new }
@@ -59,11 +68,11 @@ pub fn clear(aut: &mut Aut, n: usize)
         aut.new.states.words.now aut.new.pending.now }
 {
     for i in 0..n {
-        let at = STATE * (aut.pending[2 * i + 1] as usize);
-        aut.states.words[at + 8] = 0;
-        aut.states.words[at + 9] = 0;
-        aut.states.words[at + 10] = 0;
-        aut.states.words[at + 11] = 0;
+        let at = STATE * (aut_live_words::state_at(aut, i) as usize);
+        aut.states.words[at + word::BEFORE] = 0;
+        aut.states.words[at + word::UNDER] = 0;
+        aut.states.words[at + word::KEPT] = 0;
+        aut.states.words[at + word::MOVED] = 0;
         aut.pending[2 * i + 1] = 0;
     }
 }

@@ -100,7 +100,7 @@ module _ {a b : Lent} (k : OnlyScratch a b) where
 
   -- they are in order as they were
   pub ready_still : {N : ℕ} {l : Limits} → QueryReady N l (tables_in a) a.scratch.now → Leaves N 0 0 (tables_in a) a.scratch.now b.scratch.now → QueryReady N l (tables_in b) b.scratch.now
-  ready_still {N} {l} R p = subst (λ (σ : Tables). QueryReady N l σ b.scratch.now) (sym tables_same) (query_ready R (later_refl (tables_in a)) R.ordered p k.length)
+  ready_still {N} {l} R p = subst (λ (σ : Tables). QueryReady N l σ b.scratch.now) (sym tables_same) (query_ready R (later_refl (tables_in a)) R.ordered p k.scratch.length)
 
   module _ (S : Setting) (q : Reader.Query) (name : List ℕ) (x : ℕ) (before : Lent) (o : Output) (l : Fits o) where
     -- a query whose answer was written with scratch alone

@@ -2,6 +2,7 @@
 #![tactic(auto)]
 
 ghost use Rattle.std.specs.Prelude.{◌≡◌};
+ghost use Rattle.slices.specs.Same.{SameSlice};
 ghost use Rattle.book_steps.specs.Reader as Reader;
 ghost use Rattle.aut_sets.specs.Lent.{SameLent};
 ghost use Rattle.book_ask.specs.Clauses.{PreAsk, PostAsk, PostWhy};
@@ -20,7 +21,7 @@ pub fn ask_live(
 ) -> Result<(), Refusal>
     requires { PreAsk setting aut.old out.old x }
     ensures keeps { SameLent aut.old aut.new }
-    ensures bytes { out.new.bytes.ghost_name ≡ out.old.bytes.ghost_name }
+    ensures bytes { SameSlice out.old.bytes out.new.bytes }
     ensures asked { PostAsk setting Reader.live name.now x result aut.old aut.new out.old out.new }
 {
     let config = setting.config;
@@ -38,7 +39,7 @@ pub fn ask_pruned(
 ) -> Result<(), Refusal>
     requires { PreAsk setting aut.old out.old x }
     ensures keeps { SameLent aut.old aut.new }
-    ensures bytes { out.new.bytes.ghost_name ≡ out.old.bytes.ghost_name }
+    ensures bytes { SameSlice out.old.bytes out.new.bytes }
     ensures asked { PostAsk setting Reader.pruned name.now x result aut.old aut.new out.old out.new }
 {
     let config = setting.config;
@@ -50,7 +51,7 @@ pub fn ask_pruned(
 pub fn ask_why(aut: &mut Aut, setting: Setting, out: &mut Output, x: u32) -> Result<(), Refusal>
     requires { PreAsk setting aut.old out.old x }
     ensures keeps { SameLent aut.old aut.new }
-    ensures bytes { out.new.bytes.ghost_name ≡ out.old.bytes.ghost_name }
+    ensures bytes { SameSlice out.old.bytes out.new.bytes }
     ensures asked { PostWhy setting x result aut.old aut.new out.old out.new }
 {
     let config = setting.config;

@@ -2,6 +2,7 @@
 #![tactic(auto)]
 
 ghost use Rattle.std.specs.Prelude.{◌≡◌};
+ghost use Rattle.slices.specs.Same.{SameSlice};
 ghost use Rattle.book_steps.specs.Reader as Reader;
 ghost use Rattle.aut_sets.specs.Lent.{SameLent};
 ghost use Rattle.book_reader.specs.Clauses.{query_of};
@@ -34,7 +35,7 @@ pub fn ask_empty(
 ) -> Result<(), Refusal>
     requires { PreAsk setting aut.old out.old x }
     ensures keeps { SameLent aut.old aut.new }
-    ensures bytes { out.new.bytes.ghost_name ≡ out.old.bytes.ghost_name }
+    ensures bytes { SameSlice out.old.bytes out.new.bytes }
     ensures asked { PostAsk setting Reader.empty name.now x result aut.old aut.new out.old out.new }
 {
     let (verdict, count) = aut_empty::is_empty(aut, setting.config, setting.budget, x)?;
@@ -52,7 +53,7 @@ pub fn ask(
 ) -> Result<(), Refusal>
     requires { PreAsk setting aut.old out.old x }
     ensures keeps { SameLent aut.old aut.new }
-    ensures bytes { out.new.bytes.ghost_name ≡ out.old.bytes.ghost_name }
+    ensures bytes { SameSlice out.old.bytes out.new.bytes }
     ensures asked { PostAsk setting (query_of query) name.now x result aut.old aut.new out.old
         out.new }
 {

@@ -1,11 +1,13 @@
 -- The parts of the sentence put together, and the whole answer.
 use mathlib.Core.Path.{◌≡◌, refl, sym, ◌∙◌, ap, subst}
-use mathlib.Core.Bool.{Bool, true, false}
+use mathlib.Core.Bool.{Bool}
 use mathlib.Core.List.{List, [], ◌∷◌, ◌++◌, append_assoc, append-nil}
 use mathlib.Core.Option.{Option, none, some}
 use Prim.Native.Nat.{ℕ, suc, ◌+◌, ◌-◌, ◌^◌, ◌≤◌, ◌<◌}
 use native.Mathlib.Omega.{arith}
+use lib.Dec.{eqb}
 use lib.ListN.{length, length-append}
+use borrow.Author.Tests.{eqb-true, eqb-false}
 use Rattle.std.specs.Prelude as code
 use Rattle.common.specs.Packets.{Packet}
 use Rattle.netkat.specs.Strings.{Str, str}
@@ -43,7 +45,7 @@ over {x} {y} K P h = rw K.pending (subst (λ (τ : Tables). P τ x.pending.now) 
 -- ---- the sentence of w, with k hops, up to a hop
 
 -- the start and some hops are written; j hops more and the end follow. o is the output before
-pub record Written (g : Config) (n : ℕ) (ws : List Sets) (k : ℕ) (w : Str g.fields) (o : Output) (j : ℕ) (first : Bool) (spot : Spot) (x : Lent) (o' : Output) : Type 0 where
+pub record Written (g : Config) (n : ℕ) (ws : List Sets) (k : ℕ) (w : Str g.fields) (o : Output) (j : ℕ) (spot : Spot) (x : Lent) (o' : Output) : Type 0 where
   pub start : Packet g.fields
   pub hops : List (Packet g.fields)
   pub packet : Packet g.fields
@@ -52,15 +54,10 @@ pub record Written (g : Config) (n : ℕ) (ws : List Sets) (k : ℕ) (w : Str g.
   pub going : GoingIn g x n ws j spot.mark spot.state packet way
   pub whole : w ≡ str start (hops ++ way.hops) way.end
   pub count : length hops + j ≡ k
-  pub none : first ≡ true → length hops ≡ 0
-  pub some : first ≡ false → 0 < length hops
   pub put : Put (begun g.fields start hops) o o'
 
-bool_clash : true ≡ false → ⊥
-bool_clash q = let o : ◌≡◌ {A = ℕ} 0 1 = cc in absurd (omega arith)
-
 module _ {g : Config} {n : ℕ} {ws : List Sets} {k : ℕ} {w : Str g.fields} {o : Output} where
-  pub written_begin : {x y : Lent} {spot : Spot} {o' : Output} → Started g n ws k w x o spot y o' → Written g n ws k w o k true spot y o'
+  pub written_begin : {x y : Lent} {spot : Spot} {o' : Output} → Started g n ws k w x o spot y o' → Written g n ws k w o k spot y o'
   written_begin P = record {
     start = P.packet;
     hops = [];
@@ -70,27 +67,25 @@ module _ {g : Config} {n : ℕ} {ws : List Sets} {k : ℕ} {w : Str g.fields} {o
     going = P.going;
     whole = P.whole;
     count = omega arith;
-    none = λ q. refl;
-    some = λ q. absurd (bool_clash q);
     put = put_begun g.fields P.packet P.number P.put;
   }
 
-  module _ {first : Bool} {spot : Spot} {x : Lent} {o' : Output} where
+  module _ {spot : Spot} {x : Lent} {o' : Output} where
     -- one hop before
-    pub written_down : {j : ℕ} → 0 < j → Written g n ws k w o j first spot x o' → Written g n ws k w o (suc (j - 1)) first spot x o'
-    written_down {j} m I = subst (λ (j : ℕ). Written g n ws k w o j first spot x o') {x = j} {y = suc (j - 1)} (omega arith) I
+    pub written_down : {j : ℕ} → 0 < j → Written g n ws k w o j spot x o' → Written g n ws k w o (suc (j - 1)) spot x o'
+    written_down {j} m I = subst (λ (j : ℕ). Written g n ws k w o j spot x o') {x = j} {y = suc (j - 1)} (omega arith) I
 
-    behind : {j : ℕ} (I : Written g n ws k w o j first spot x o') → o'.at ≡ o.at + (5 + word_length g.fields + hops_length g.fields (length I.hops))
+    behind : {j : ℕ} (I : Written g n ws k w o j spot x o') → o'.at ≡ o.at + (5 + word_length g.fields + hops_length g.fields (length I.hops))
     behind I = I.put.behind ∙ ap (λ (m : ℕ). o.at + m) (begun_length g.fields I.start I.hops)
 
-    pub next_room : {j : ℕ} → Written g n ws k w o (suc j) first spot x o' → Room (sentence_length g.fields k) o → Room (4 + word_length g.fields) o'
+    pub next_room : {j : ℕ} → Written g n ws k w o (suc j) spot x o' → Room (sentence_length g.fields k) o → Room (4 + word_length g.fields) o'
     next_room I m = omega (arith, behind I, hop_room g.fields (length I.hops) k (omega (arith, I.count)), I.put.wrote.len)
 
-    pub last_room : Written g n ws k w o 0 first spot x o' → Room (sentence_length g.fields k) o → Room (5 + word_length g.fields) o'
+    pub last_room : Written g n ws k w o 0 spot x o' → Room (sentence_length g.fields k) o → Room (5 + word_length g.fields) o'
     last_room I m = omega (arith, behind I, ap (hops_length g.fields) {x = length I.hops} {y = k} (omega (arith, I.count)), I.put.wrote.len)
 
-    pub written_next : {j : ℕ} (I : Written g n ws k w o (suc j) first spot x o') {r : Spot} {y : Lent} {o'' : Output} → Nexted g n ws j first I.way x o' r y o'' → Written g n ws k w o j false r y o''
-    written_next {j} I X = record {
+    pub written_next : {j : ℕ} (I : Written g n ws k w o (suc j) spot x o') {first : Bool} → eqb (j + 1) k ≡ first → {r : Spot} {y : Lent} {o'' : Output} → Nexted g n ws j first I.way x o' r y o'' → Written g n ws k w o j r y o''
+    written_next {j} I {first} b X = record {
       start = I.start;
       hops = I.hops ++ X.packet ∷ [];
       packet = X.packet;
@@ -99,12 +94,12 @@ module _ {g : Config} {n : ℕ} {ws : List Sets} {k : ℕ} {w : Str g.fields} {o
       going = X.going;
       whole = I.whole ∙ ap (λ (v : Way g.fields). str I.start (I.hops ++ v.hops) v.end) X.whole ∙ ap (λ (hs : List (Packet g.fields)). str I.start hs X.way.end) (sym (append_assoc I.hops (X.packet ∷ []) X.way.hops));
       count = omega (arith, I.count, length-append I.hops (X.packet ∷ []));
-      none = λ q. absurd (bool_clash (sym q));
-      some = λ q. omega (arith, length-append I.hops (X.packet ∷ []));
-      put = put_hop g.fields I.start I.hops I.put X.packet X.number first I.none I.some X.put;
+      put = put_hop g.fields I.start I.hops I.put X.packet X.number first
+          (λ q. omega (arith, eqb-true (j + 1) k (b ∙ q), I.count))
+          (λ q. let z : (j + 1 ≡ k → ⊥) = eqb-false (j + 1) k (b ∙ q) in omega (arith, z, I.count)) X.put;
     }
 
-    pub written_last : (I : Written g n ws k w o 0 first spot x o') {x₀ y : Lent} {o'' : Output} → Unmade x₀ x → OnlyScratch x y → Lasted g n ws I.way o' y o'' → Stringed g n ws w x₀ o y o''
+    pub written_last : (I : Written g n ws k w o 0 spot x o') {x₀ y : Lent} {o'' : Output} → Unmade x₀ x → OnlyScratch x y → Lasted g n ws I.way o' y o'' → Stringed g n ws w x₀ o y o''
     written_last I {o'' = o''} u K X = record {
       unmade = ap clear_tables (scratch_tables K) ∙ u;
       standing = X.standing;
@@ -117,26 +112,26 @@ module _ {g : Config} {n : ℕ} {ws : List Sets} {k : ℕ} {w : Str g.fields} {o
 -- ---- the loop over the hops
 
 -- what was begun where the loop begins goes on, whatever was asked
-pub record Hopping (g : Config) (n k : ℕ) (x₀ : Lent) (o₀ : Output) (spot₀ : Spot) (first₀ : Bool) (j₀ : ℕ) (x : Lent) (o : Output) (spot : Spot) (first : Bool) (j : ℕ) : Type 0 where
-  pub writes : (ws : List Sets) (w : Str g.fields) (before : Output) → Written g n ws k w before j₀ first₀ spot₀ x₀ o₀ → Written g n ws k w before j first spot x o × Unmade x₀ x
+pub record Hopping (g : Config) (n k : ℕ) (x₀ : Lent) (o₀ : Output) (spot₀ : Spot) (j₀ : ℕ) (x : Lent) (o : Output) (spot : Spot) (j : ℕ) : Type 0 where
+  pub writes : (ws : List Sets) (w : Str g.fields) (before : Output) → Written g n ws k w before j₀ spot₀ x₀ o₀ → Written g n ws k w before j spot x o × Unmade x₀ x
 
-module _ {g : Config} {n k : ℕ} {x₀ : Lent} {o₀ : Output} {spot₀ : Spot} {first₀ : Bool} {j₀ : ℕ} where
-  pub hopping_begin : Hopping g n k x₀ o₀ spot₀ first₀ j₀ x₀ o₀ spot₀ first₀ j₀
+module _ {g : Config} {n k : ℕ} {x₀ : Lent} {o₀ : Output} {spot₀ : Spot} {j₀ : ℕ} where
+  pub hopping_begin : Hopping g n k x₀ o₀ spot₀ j₀ x₀ o₀ spot₀ j₀
   hopping_begin = record { writes = λ ws w before B. (B, refl) }
 
-  pub hopping_next : {x : Lent} {o : Output} {spot : Spot} {first : Bool} {j : ℕ} → Hopping g n k x₀ o₀ spot₀ first₀ j₀ x o spot first j → 0 < j → {r : Spot} {y : Lent} {o' : Output} → PostNext g n (j - 1) first spot x o r y o'
-      → Hopping g n k x₀ o₀ spot₀ first₀ j₀ y o' r false (j - 1)
-  hopping_next I m E = record {
+  pub hopping_next : {x : Lent} {o : Output} {spot : Spot} {j : ℕ} → Hopping g n k x₀ o₀ spot₀ j₀ x o spot j → 0 < j → {first : Bool} → eqb (j - 1 + 1) k ≡ first → {r : Spot} {y : Lent} {o' : Output} → PostNext g n (j - 1) first spot x o r y o'
+      → Hopping g n k x₀ o₀ spot₀ j₀ y o' r (j - 1)
+  hopping_next I m b E = record {
     writes = λ ws w before B.
         let (i, u) = I.writes ws w before B in
         let i' = written_down m i in
         let X = E.gives ws i'.packet i'.way i'.number i'.going in
-        (written_next i' X, X.unmade ∙ u);
+        (written_next i' b X, X.unmade ∙ u);
   }
 
-module _ {g : Config} {n k i : ℕ} {x₀ y₀ : Lent} {o₀ p₀ : Output} {spot₀ : Spot} (E : PostStart g n k i x₀ o₀ spot₀ y₀ p₀) {x : Lent} {o : Output} {spot : Spot} {first : Bool} {j : ℕ}
-    (I : Hopping g n k y₀ p₀ spot₀ true k x o spot first j) where
-  going_on : {ws : List Sets} {w : Str g.fields} → PicksIn g x₀ n ws k i w → Written g n ws k w o₀ j first spot x o × Unmade x₀ x
+module _ {g : Config} {n k i : ℕ} {x₀ y₀ : Lent} {o₀ p₀ : Output} {spot₀ : Spot} (E : PostStart g n k i x₀ o₀ spot₀ y₀ p₀) {x : Lent} {o : Output} {spot : Spot} {j : ℕ}
+    (I : Hopping g n k y₀ p₀ spot₀ k x o spot j) where
+  going_on : {ws : List Sets} {w : Str g.fields} → PicksIn g x₀ n ws k i w → Written g n ws k w o₀ j spot x o × Unmade x₀ x
   going_on {ws} {w} P =
       let S = E.gives ws w P in
       let (i, u) = I.writes ws w o₀ (written_begin S) in
@@ -147,8 +142,8 @@ module _ {g : Config} {n k i : ℕ} {x₀ y₀ : Lent} {o₀ p₀ : Output} {spo
       let i = written_down m (going_on P.picks).0 in
       record { rounds = P.rounds; packet = i.packet; way = i.way; number = i.number; going = i.going; some = z; room = next_room i P.room }
 
-  ended : j ≤ 0 → {ws : List Sets} {w : Str g.fields} → Written g n ws k w o₀ j first spot x o → Written g n ws k w o₀ 0 first spot x o
-  ended m {ws} {w} i = subst (λ (j : ℕ). Written g n ws k w o₀ j first spot x o) {x = j} {y = 0} (omega (arith, m)) i
+  ended : j ≤ 0 → {ws : List Sets} {w : Str g.fields} → Written g n ws k w o₀ j spot x o → Written g n ws k w o₀ 0 spot x o
+  ended m {ws} {w} i = subst (λ (j : ℕ). Written g n ws k w o₀ j spot x o) {x = j} {y = 0} (omega (arith, m)) i
 
   pub string_last : j ≤ 0 → PreString g x₀ o₀ n k i → PreLast g x o spot
   string_last m P =
@@ -206,14 +201,14 @@ module _ (g : Config) (x : Lent) {n : ℕ} {ws : List Sets} {f : code.Option ℕ
     told_long : length told ≡ sentence_length N k
     told_long = ap length told_is ∙ sentence_length_lem N string k (A.known k fewest_is).3
 
-    pub answer_full : {o : Output} → length o.bytes.now < o.at + sentence_length N k → WhyAnswered g n ws i x o (code.Err refusals.Output) x o
-    answer_full z = record { unmade = refl; standing = A.standing; answers = (refl, omega (arith, told_long), refl) }
+    pub answer_full : {o : Output} {e : Refusal} → e ≡ refusals.Output → length o.bytes.now < o.at + sentence_length N k → WhyAnswered g n ws i x o (code.Err e) x o
+    answer_full p z = record { unmade = refl; standing = A.standing; answers = (p, omega (arith, told_long), refl) }
 
     module _ {y : Lent} (K : OnlyScratch x y) (F : Forgotten x.scratch.now y.scratch.now) where
       pub answer_picks : PicksIn g y n ws k i string
       answer_picks =
           let W = A.standing.walk in
-          let R = query_forgotten W.working.ready F K.length in
+          let R = query_forgotten W.working.ready F K.scratch.length in
           over K (λ τ p. Picks N g.limits τ y.scratch.now p n ws k i string) (record {
             standing = record {
               walk = record { working = record { ready = R; fresh = W.working.fresh }; links = W.links; rest = W.rest; first = W.first; after = W.after; room = W.room };

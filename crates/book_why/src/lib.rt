@@ -2,16 +2,17 @@
 #![tactic(auto)]
 
 ghost use Rattle.std.specs.Prelude.{◌≡◌, ◌<◌};
+ghost use Rattle.slices.specs.Same.{SameSlice};
 ghost use Rattle.aut_sets.specs.Lent.{OnlyScratch, OnlySearch};
 ghost use Rattle.book_why.specs.Clauses.{PreStart, PostStart, PreNext, PostNext, PreLast, PostLast, PreString, PostString, PreAnswer, PostAnswer};
 
 use aut_relations::Aut;
-use aut_states::{Config, STATE, word};
+use aut_states::Config;
+use aut_why_words::word;
 use book_writer::Output;
 use refusal::Refusal;
-use sp::SP;
 
-// where the picking stands: the round in words 10, the state, and the packet's number
+// where the picking stands: the round in words KEPT, the state, and the packet's number
 #[derive(Clone, Copy)]
 pub struct Spot {
     pub mark: usize,
@@ -19,19 +20,11 @@ pub struct Spot {
     pub packet: u32,
 }
 
-// about the square root
+// about the square root: a power of two
 fn step_for(k: usize) -> usize
     ensures { 0 < result }
 {
-    let mut left = k;
-    let mut step = 1;
-    while left > 1 {
-        left = left / 4;
-        if step < 4294967296 {
-            step = 2 * step;
-        }
-    }
-    step
+    1 << k.max(1).ilog2().div_ceil(2)
 }
 
 // the least start of a string of x with so many hops; there is one
@@ -47,11 +40,11 @@ fn put_first(
     requires { PreStart config aut.old out.old n hops x step }
     ensures keeps { OnlySearch aut.old aut.new }
     ensures pending { aut.new.pending ≡ aut.old.pending }
-    ensures bytes { out.new.bytes.ghost_name ≡ out.old.bytes.ghost_name }
+    ensures bytes { SameSlice out.old.bytes out.new.bytes }
     ensures gives { PostStart config n hops x aut.old out.old result aut.new out.new }
 {
     let mark = aut_why_again::sets_for(aut, config, n, hops, hops + 1, step);
-    let starts = SP(aut.states.words[STATE * (x as usize) + word::SEEN] - 1);
+    let starts = aut_live_words::set_at(aut, x, word::BEFORE);
     let packet = aut_why_least::first_of(aut, config, starts).unwrap_or(0);
     out.put_start(config.fields, packet);
     Spot {
@@ -75,7 +68,7 @@ fn put_next(
     requires { PreNext config aut.old out.old n j step spot }
     ensures keeps { OnlySearch aut.old aut.new }
     ensures pending { aut.new.pending ≡ aut.old.pending }
-    ensures bytes { out.new.bytes.ghost_name ≡ out.old.bytes.ghost_name }
+    ensures bytes { SameSlice out.old.bytes out.new.bytes }
     ensures gives { PostNext config n j first spot aut.old out.old result aut.new out.new }
 {
     let mark = aut_why_again::sets_for(aut, config, n, j, spot.mark, step);
@@ -94,7 +87,7 @@ fn put_next(
 fn put_last(aut: &mut Aut, config: Config, out: &mut Output, spot: Spot)
     requires { PreLast config aut.old out.old spot }
     ensures keeps { OnlyScratch aut.old aut.new }
-    ensures bytes { out.new.bytes.ghost_name ≡ out.old.bytes.ghost_name }
+    ensures bytes { SameSlice out.old.bytes out.new.bytes }
     ensures gives { PostLast config spot aut.old out.old aut.new out.new }
 {
     let epsilon = aut_why_words::epsilon_at(aut, spot.state);
@@ -107,15 +100,13 @@ fn put_string(aut: &mut Aut, config: Config, out: &mut Output, n: usize, hops: u
     requires { PreString config aut.old out.old n hops x }
     ensures keeps { OnlySearch aut.old aut.new }
     ensures pending { aut.new.pending ≡ aut.old.pending }
-    ensures bytes { out.new.bytes.ghost_name ≡ out.old.bytes.ghost_name }
+    ensures bytes { SameSlice out.old.bytes out.new.bytes }
     ensures gives { PostString config n hops x aut.old out.old aut.new out.new }
 {
     let step = step_for(hops + 1);
     let mut spot = put_first(aut, config, out, n, hops, x, step);
-    let mut first = true;
     for j in (0..hops).rev() {
-        spot = put_next(aut, config, out, n, j, step, first, spot);
-        first = false;
+        spot = put_next(aut, config, out, n, j, step, j + 1 == hops, spot);
     }
     put_last(aut, config, out, spot);
 }
@@ -132,16 +123,14 @@ pub fn why_answer(
     requires { PreAnswer config aut.old out.old n hops x }
     ensures keeps { OnlySearch aut.old aut.new }
     ensures pending { aut.new.pending ≡ aut.old.pending }
-    ensures bytes { out.new.bytes.ghost_name ≡ out.old.bytes.ghost_name }
+    ensures bytes { SameSlice out.old.bytes out.new.bytes }
     ensures gives { PostAnswer config n hops x aut.old out.old result aut.new out.new }
 {
     let Some(hops) = hops else {
         return out.none_answer();
     };
     let long = book_writer::why_length(config.fields, hops);
-    if out.bytes.len() - out.at < long {
-        return Err(Refusal::Output);
-    }
+    out.room(long)?;
     aut_why_least::forget(aut);
     put_string(aut, config, out, n, hops, x);
     Ok(())

@@ -22,7 +22,7 @@ pub renew-requires : goal.renew-requires
 renew-requires c =
     let I = c.loop.invariant in
     let T = steps.forward_turning c.requires.ahead (I.started c.requires.rounds c.requires.ahead) c.loop-test.true in
-    rw (c.turns.ensures.pending, I.pending) (keep_on (walk_keeps T.on.standing.walk) c.turns.ensures.keeps.words)
+    rw (c.turns.ensures.pending, I.pending) (keep_on (walk_keeps T.on.standing.walk) c.turns.ensures.keeps.states.length)
 
 pub loop-preserved : goal.loop-preserved
 loop-preserved c =

@@ -13,7 +13,7 @@ forward-requires c =
 pub copy_sets-requires : goal.copy_sets-requires
 copy_sets-requires c =
     rw (c.forward.ensures.pending, c.start.ensures.pending) (record {
-      states = keep_on (walk_keeps c.requires.has.standing.walk) (c.forward.ensures.keeps.words ∙ c.start.ensures.keeps.words);
+      states = keep_on (walk_keeps c.requires.has.standing.walk) (c.forward.ensures.keeps.states.length ∙ c.start.ensures.keeps.states.length);
       from = omega arith;
       to = omega arith;
     })
@@ -24,4 +24,4 @@ returns-clause-gives c =
     let F = rw (c.forward.ensures.pending, c.start.ensures.pending) at c.copy_sets.ensures.gives in
     λ ws H. let B = c.start.ensures.gives ws H.standing in
     rw c.copy_sets.ensures.keeps.scratch (steps.remake_end H B (E ws (steps.remake_ahead H B)) (marks_tables c.copy_sets.ensures.keeps)
-    (copied 8 10 (omega arith) (omega arith) (λ q. omega arith) (keep_on (walk_keeps H.standing.walk) (c.forward.ensures.keeps.words ∙ c.start.ensures.keeps.words)) F))
+    (copied 8 10 (omega arith) (omega arith) (λ q. omega arith) (keep_on (walk_keeps H.standing.walk) (c.forward.ensures.keeps.states.length ∙ c.start.ensures.keeps.states.length)) F))

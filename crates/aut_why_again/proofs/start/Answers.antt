@@ -15,10 +15,10 @@ returns-in_default-clause-gives c =
 
 pub restore-requires : goal.restore-requires
 restore-requires c =
-    rw c.round.ensures.pending (record { states = keep_on (walk_keeps c.requires.standing.walk) c.round.ensures.keeps.words; source = omega arith; apart = λ q. omega arith })
+    rw c.round.ensures.pending (record { states = keep_on (walk_keeps c.requires.standing.walk) c.round.ensures.keeps.states.length; source = omega arith; apart = λ q. omega arith })
 
-pub returns-clause-gives : goal.returns-clause-gives
-returns-clause-gives c =
+pub returns-in-Ok-clause-gives : goal.returns-in-Ok-clause-gives
+returns-in-Ok-clause-gives c =
     let R = rw c.round.ensures.pending at c.restore.ensures.gives in
     λ ws S.
     rw c.restore.ensures.keeps.scratch (steps.start_end (runs.zero_turned c.args.config c.args.aut.now S (c.in-Ok.ensures.gives.gives (λ x. 0) (runs.zero_asks c.args.config c.args.aut.now S (λ x. 0))) c.round.ensures.keeps c.round.ensures.pending) (marks_tables c.restore.ensures.keeps) R)

@@ -20,13 +20,13 @@ pub returns-in_default-clause-gives : goal.returns-in_default-clause-gives
 returns-in_default-clause-gives c =
     absurd (states.not_refused (states.turn_stands c.requires.turning c.requires.among) (c.in_default.ensures.gives.gives c.requires.count _ (states.turn_asks c.requires.turning c.requires.among)))
 
-pub overflow_add-aut-2 : goal.overflow_add-aut-2
-overflow_add-aut-2 c =
+pub overflow_add-aut-in-Ok : goal.overflow_add-aut-in-Ok
+overflow_add-aut-in-Ok c =
     omega (arith, states.small (states.turn_stands c.requires.turning c.requires.among) (c.in-Ok.ensures.gives.gives c.requires.count _ (states.turn_asks c.requires.turning c.requires.among)))
 
-pub bounds-aut-at-2 : goal.bounds-aut-at-2
-bounds-aut-at-2 c = rw c.turn.ensures.keeps.states (omega (arith, states.turn_there c.requires.turning c.requires.among))
+pub bounds-aut-at-in-Ok : goal.bounds-aut-at-in-Ok
+bounds-aut-at-in-Ok c = rw c.turn.ensures.keeps.states (omega (arith, states.turn_there c.requires.turning c.requires.among))
 
-pub returns-clause-gives : goal.returns-clause-gives
-returns-clause-gives c =
+pub returns-in-Ok-clause-gives : goal.returns-in-Ok-clause-gives
+returns-in-Ok-clause-gives c =
     λ n ws k T m. states.worked (states.turn_stands T m) (c.in-Ok.ensures.gives.gives n _ (states.turn_asks T m)) c.turn.ensures.keeps 9 c.args.s

@@ -11,7 +11,7 @@ loop-i-init c = record { keeps = search rules; pending = refl; runs = λ ws k T.
 pub turn_again-requires : goal.turn_again-requires
 turn_again-requires c =
     let I = c.loop-i.invariant in
-    rw I.pending (record {
+    rw (c.state_at-s.ensures, I.pending) (record {
       count = c.args.n;
       rounds = c.requires.rounds;
       round = c.requires.round;
@@ -22,7 +22,7 @@ turn_again-requires c =
 pub loop-i-preserved : goal.loop-i-preserved
 loop-i-preserved c =
     let I = c.loop-i.invariant in
-    let E = rw I.pending at c.turn_again.ensures.gives in
+    let E = rw (c.state_at-s.ensures, I.pending) at c.turn_again.ensures.gives in
     record {
       keeps = search rules;
       pending = c.turn_again.ensures.pending ∙ I.pending;

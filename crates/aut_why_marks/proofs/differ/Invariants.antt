@@ -1,6 +1,6 @@
 use mathlib.Core.Path.{◌≡◌}
 use Rattle.aut_sets.specs.Lent.{OnlyMarks}
-use Rattle.aut_why_marks.specs.Clauses.{moved_at}
+use Rattle.aut_why_words.specs.Words.{moved_at}
 use Rattle.aut_why_marks.proofs.Loops.{Filling}
 use Rattle.aut_why_marks.proofs.differ.Given as goal
 

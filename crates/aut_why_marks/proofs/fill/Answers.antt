@@ -10,7 +10,7 @@ pub loop-i-preserved : goal.loop-i-preserved
 loop-i-preserved c = record {
   keeps = search rules;
   pending = search rules;
-  words = rw c.loop-i.invariant.pending
+  words = rw (c.state_at-x.ensures, c.loop-i.invariant.pending)
       (loops.fill_again c.args.w (λ x. c.args.v) c.loop-i.invariant.words c.loop-i-test.true c.requires.word (c.requires.states.states c.loop-i.i c.loop-i-test.true) refl);
 }
 

@@ -8,7 +8,7 @@ copy_sets-requires c = record { states = c.requires.states; from = c.requires.so
 
 pub fill-requires : goal.fill-requires
 fill-requires c =
-    record { states = rw c.copy_sets.ensures.pending (loops.keep_on c.requires.states c.copy_sets.ensures.keeps.words); word = omega arith }
+    record { states = rw c.copy_sets.ensures.pending (loops.keep_on c.requires.states c.copy_sets.ensures.keeps.states.length); word = omega arith }
 
 pub returns-clause-gives : goal.returns-clause-gives
 returns-clause-gives c =

@@ -9,5 +9,5 @@ use Rattle.aut_why_rounds.proofs.join_all.Given as goal
 abbrev pub invariant-loop-i : goal.invariant-loop-i
 invariant-loop-i l = record {
   keeps : OnlySets l.initial.aut l.aut;
-  joined : (n : ℕ) (before : Sets) (T : TurningIn l.config l.initial.aut n before l.s) (U : SpLaws.ValidAt (sets_in l.initial.aut) l.config.fields l.initial.u.0) → Joined l.config l.initial.aut T l.initial.u.0 U l.aut l.u.0 l.i;
+  joined : (n : ℕ) (before : Sets) (T : TurningIn l.config l.initial.aut n before l.s) (U : SpLaws.ValidAt (sets_in l.initial.aut) l.config.fields l.initial.u.0) → Joined l.config l.initial.aut T l.initial.u.0 U l.list l.aut l.u.0 l.i;
 }

@@ -8,8 +8,8 @@ use Rattle.aut_why_rounds.proofs.round.Goals as goal
 pub loop-i-init : goal.loop-i-init
 loop-i-init c = record { keeps = search rules; pending = refl; passed = λ before R. passes.pass_begin c.args.config c.args.aut.now R }
 
-pub bounds-aut-i : goal.bounds-aut-i
-bounds-aut-i c =
+pub state_at-s-requires : goal.state_at-s-requires
+state_at-s-requires c =
     let I = c.loop-i.invariant in
     rw I.pending (passes.pass_entry c.args.config c.args.aut.now c.requires.rounding (I.passed c.requires.before c.requires.rounding) c.loop-i-test.true)
 
@@ -21,7 +21,7 @@ set_of-requires c =
       count = c.args.n;
       before = Q.before;
       rounding = passes.pass_asks c.args.config c.args.aut.now Q.rounding (I.passed Q.before Q.rounding) I.pending;
-      among = rw I.pending (passes.pass_in c.args.config c.args.aut.now Q.rounding (I.passed Q.before Q.rounding) c.loop-i-test.true);
+      among = rw (c.state_at-s.ensures, I.pending) (passes.pass_in c.args.config c.args.aut.now Q.rounding (I.passed Q.before Q.rounding) c.loop-i-test.true);
     }
 
 pub returns-in_err-h-clause-gives : goal.returns-in_err-h-clause-gives
@@ -32,7 +32,7 @@ returns-in_err-h-clause-gives c = record {
       let k = c.args.config in
       let x = c.args.aut.now in
       rw (passed c.from_residual.ensures)
-      (passes.pass_stuck k x R v c.loop-i-test.true (passes.pass_given k x R v c.loop-i-test.true I.pending c.in_err-h.ensures.gives));
+      (passes.pass_stuck k x R v c.loop-i-test.true (passes.pass_given k x R v c.loop-i-test.true I.pending c.state_at-s.ensures c.in_err-h.ensures.gives));
 }
 
 pub overflow_add-aut : goal.overflow_add-aut
@@ -42,13 +42,13 @@ overflow_add-aut c =
     let v = I.passed Q.before Q.rounding in
     let k = c.args.config in
     let x = c.args.aut.now in
-    omega (arith, passes.pass_small k x Q.rounding v c.loop-i-test.true c.set_of.ensures.keeps (passes.pass_given k x Q.rounding v c.loop-i-test.true I.pending c.in_ok-h.ensures.gives))
+    omega (arith, passes.pass_small k x Q.rounding v c.loop-i-test.true c.set_of.ensures.keeps (passes.pass_given k x Q.rounding v c.loop-i-test.true I.pending c.state_at-s.ensures c.in_ok-h.ensures.gives))
 
 pub bounds-aut-s : goal.bounds-aut-s
 bounds-aut-s c =
     let Q = c.requires in
     let I = c.loop-i.invariant in
-    rw c.set_of.ensures.keeps.states (rw I.pending (omega (arith, passes.pass_there c.args.config c.args.aut.now Q.rounding (I.passed Q.before Q.rounding) c.loop-i-test.true)))
+    rw c.set_of.ensures.keeps.states (rw (c.state_at-s.ensures, I.pending) (omega (arith, passes.pass_there c.args.config c.args.aut.now Q.rounding (I.passed Q.before Q.rounding) c.loop-i-test.true)))
 
 pub loop-i-preserved : goal.loop-i-preserved
 loop-i-preserved c = record {
@@ -59,7 +59,7 @@ loop-i-preserved c = record {
       let v = I.passed before R in
       let k = c.args.config in
       let x = c.args.aut.now in
-      passes.pass_again k x R v c.loop-i-test.true c.set_of.ensures.keeps (passes.pass_given k x R v c.loop-i-test.true I.pending c.in_ok-h.ensures.gives) _ (rw I.pending refl) refl;
+      passes.pass_again k x R v c.loop-i-test.true c.set_of.ensures.keeps (passes.pass_given k x R v c.loop-i-test.true I.pending c.state_at-s.ensures c.in_ok-h.ensures.gives) _ (rw (c.state_at-s.ensures, I.pending) refl) refl;
 }
 
 pub returns-clause-gives : goal.returns-clause-gives

@@ -9,7 +9,7 @@ pub returns-clause-gives : goal.returns-clause-gives
 returns-clause-gives c = record {
   gives = λ ws w P.
       let S = c.sets_for-mark.ensures.gives ws (picking.start_earlier P) in
-      let B = picking.begun P S c.first_of.ensures in
+      let B = picking.begun P S (rw c.set_at-starts.ensures at c.first_of.ensures) in
       record {
         packet = B.packet;
         way = B.way;

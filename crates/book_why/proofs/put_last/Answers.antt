@@ -13,7 +13,7 @@ returns-clause-gives c =
     let K = c.end_of.ensures.keeps in
     record {
       gives = λ n ws q v e G.
-          let A = picking.arrived e G c.epsilon_at-epsilon.ensures c.end_of.ensures.gives K.length in
+          let A = picking.arrived e G c.epsilon_at-epsilon.ensures c.end_of.ensures.gives K.scratch.length in
           record {
             packet = A.packet;
             number = c.unwrap_or-packet.result;

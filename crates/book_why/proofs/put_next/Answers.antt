@@ -18,7 +18,7 @@ returns-clause-gives c =
     record {
       gives = λ ws q v e G.
           let S = c.sets_for-mark.ensures.gives ws (picking.next_earlier e G) in
-          let H = picking.hopped e G S c.in-Some.ensures.gives K.length in
+          let H = picking.hopped e G S c.in-Some.ensures.gives K.scratch.length in
           record {
             packet = H.packet;
             way = H.way;

@@ -1,4 +1,4 @@
-use mathlib.Core.Path.{refl, ◌∙◌}
+use mathlib.Core.Path.{refl}
 use Rattle.std.proofs.Common.{rules}
 use Rattle.book_why.proofs.Writing as writing
 use Rattle.book_why.proofs.put_string.Goals as goal
@@ -7,7 +7,7 @@ pub put_first-spot-requires : goal.put_first-spot-requires
 put_first-spot-requires c = writing.string_first c.step_for-step.ensures c.requires
 
 pub loop-j-init : goal.loop-j-init
-loop-j-init c = record { keeps = search rules; pending = refl; bytes = refl; hopping = writing.hopping_begin }
+loop-j-init c = record { keeps = search rules; pending = refl; bytes = search rules; hopping = writing.hopping_begin }
 
 pub put_next-spot-requires : goal.put_next-spot-requires
 put_next-spot-requires c =
@@ -18,9 +18,9 @@ loop-j-preserved c =
     let I = c.loop-j.invariant in
     record {
       keeps = search rules;
-      pending = c.put_next-spot.ensures.pending ∙ I.pending;
-      bytes = c.put_next-spot.ensures.bytes ∙ I.bytes;
-      hopping = writing.hopping_next I.hopping c.loop-j-test.true c.put_next-spot.ensures.gives;
+      pending = search rules;
+      bytes = search rules;
+      hopping = writing.hopping_next I.hopping c.loop-j-test.true refl c.put_next-spot.ensures.gives;
     }
 
 pub put_last-requires : goal.put_last-requires

@@ -1,4 +1,5 @@
 use mathlib.Core.Path.{◌≡◌}
+use Rattle.slices.specs.Same.{SameSlice}
 use Rattle.aut_sets.specs.Lent.{OnlySearch}
 use Rattle.book_why.proofs.Writing.{Hopping}
 use Rattle.book_why.proofs.put_string.Given as goal
@@ -7,6 +8,6 @@ abbrev pub invariant-loop-j : goal.invariant-loop-j
 invariant-loop-j l = record {
   keeps : OnlySearch l.initial.aut l.aut;
   pending : l.aut.pending ≡ l.initial.aut.pending;
-  bytes : l.out.bytes.ghost_name ≡ l.initial.out.bytes.ghost_name;
-  hopping : Hopping l.config l.n l.hops l.initial.aut l.initial.out l.initial.spot l.initial.first l.initial.j l.aut l.out l.spot l.first l.j;
+  bytes : SameSlice l.initial.out.bytes l.out.bytes;
+  hopping : Hopping l.config l.n l.hops l.initial.aut l.initial.out l.initial.spot l.initial.j l.aut l.out l.spot l.j;
 }

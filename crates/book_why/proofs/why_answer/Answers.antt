@@ -1,5 +1,6 @@
 use native.Mathlib.Omega.{arith}
 use Rattle.book_why.proofs.Writing as writing
+use Rattle.refusal.proofs.Passed.{passed}
 use Rattle.book_why.proofs.why_answer.Goals as goal
 
 pub returns-in_default-clause-gives : goal.returns-in_default-clause-gives
@@ -8,10 +9,11 @@ returns-in_default-clause-gives c = record { gives = λ ws A. writing.answer_non
 pub why_length-long-requires : goal.why_length-long-requires
 why_length-long-requires c = (c.requires.answering.standing.walk.working.ready.ready.few, writing.most c.args.config c.args.aut.now c.requires.answering c.in-Some.is)
 
-pub returns-then-out-long-clause-gives : goal.returns-then-out-long-clause-gives
-returns-then-out-long-clause-gives c = record {
-  gives = λ ws A. writing.answer_full c.args.config c.args.aut.now A c.in-Some.is (omega (arith, c.if-out-long.true, c.why_length-long.ensures, c.requires.room));
-}
+pub returns-in_err-room-clause-gives : goal.returns-in_err-room-clause-gives
+returns-in_err-room-clause-gives c =
+    rw (passed c.from_residual.ensures) (record {
+      gives = λ ws A. writing.answer_full c.args.config c.args.aut.now A c.in-Some.is c.in_err-room.ensures.0 (omega (arith, c.in_err-room.ensures.1, c.why_length-long.ensures));
+    })
 
 pub put_string-requires : goal.put_string-requires
 put_string-requires c =
@@ -21,7 +23,7 @@ put_string-requires c =
       string = _;
       picks = writing.answer_picks c.args.config c.args.aut.now A c.in-Some.is c.forget.ensures.keeps c.forget.ensures.gives;
       most = writing.most c.args.config c.args.aut.now A c.in-Some.is;
-      room = omega (arith, c.if-out-long.false, c.why_length-long.ensures, c.requires.room);
+      room = omega (arith, c.in_ok-room.ensures, c.why_length-long.ensures, c.requires.room);
     }
 
 pub returns-clause-gives : goal.returns-clause-gives
