@@ -1,13 +1,22 @@
 -- 01, "Lent tables" ("Every table is zeroed first") and "The book and its answers" (the first line), with the limits of "Who can cause a refusal": what zeroing and the beginning of a run ask and promise.
 use Rattle.std.specs.Prelude.{◌≡◌, ℕ, ◌≤◌, length, Result, Ok, Err}
+use Rattle.slices.specs.Same.{SameSlice}
 use Rattle.common.specs.Outcome.{Outcome, refused, given}
+use Rattle.common.specs.Runs.{Table, table}
 use Rattle.refusal.specs.declared.Refusal.{Refusal}
-use Rattle.refusal.specs.Numbers.{number_of}
+use Rattle.refusal.specs.Numbers.{number_of, outcome}
+use Rattle.sp_steps.specs.Model as Sp
+use Rattle.spp_steps.specs.Model as Spp
+use Rattle.aut_steps.specs.Tables.{limits01, aut}
+use Rattle.aut_delta_steps.specs.Delta.{store}
+use Rattle.aut_query_steps.specs.Tables.{Tables, tables, WfTables}
 use Rattle.book_steps.specs.Reader as Reader
 use Rattle.book_steps.specs.Run as Run
-use Rattle.book_steps.specs.Run.{zeroed}
+use Rattle.book_steps.specs.Run.{Lent, zeroed}
 use Rattle.aut_states.specs.declared.Limits.{Limits}
 use Rattle.aut_relations.specs.Behind.{LISTS}
+use Rattle.aut_relations.specs.Lent.{Unless}
+use Rattle.aut_query_stage.specs.Lent.{tables_in}
 use Rattle.book_memory.specs.declared.Setting.{Setting}
 use Rattle.book_memory.specs.declared.Place.{Place}
 use Rattle.book_memory.specs.Place.{LINES, Empty, Standing, Onto, place_in, lengths_of}
@@ -62,6 +71,40 @@ limits = record { nesting = 256; list = 64; products = 32; transitions = 64 }
 
 abbrev pub setting_for : Header → Setting
 setting_for h = record { config = record { fields = h.fields; limits = limits }; budget = h.budget }
+
+-- both tables of nodes are written, and the fields are set: x before, y after
+pub record OnlyNodes (x y : Place) : Type 0 where
+  pub sp : SameSlice x.aut.sp.nodes y.aut.sp.nodes
+  pub spp : SameSlice x.aut.spp.nodes y.aut.spp.nodes
+  pub states : y.aut.states ≡ x.aut.states
+  pub members : y.aut.members ≡ x.aut.members
+  pub transitions : y.aut.transitions ≡ x.aut.transitions
+  pub pending : y.aut.pending ≡ x.aut.pending
+  pub scratch : y.aut.scratch ≡ x.aut.scratch
+  pub lines : y.lines ≡ x.lines
+  pub output : y.output ≡ x.output
+
+-- the tables of a new book, by what the constants of both kinds of nodes have come to
+abbrev pub new_tables : Lent → Outcome Table ℕ → Outcome Table Spp.Constants → Outcome Tables ℕ
+new_tables lent (refused e) r = refused e
+new_tables lent (given s z) (refused e) = refused e
+new_tables lent (given s z) (given r c) = given (tables s (store (aut r (table (zeroed lent.states) 0) (table (zeroed lent.members) 0)) (table (zeroed lent.transitions) 0))) 0
+
+abbrev pub constants : Lent → ℕ → Outcome Tables ℕ
+constants lent N = new_tables lent (Sp.constants N (table (zeroed lent.sp) 0)) (Spp.constants N (table (zeroed lent.spp) 0))
+
+-- the tables are in order, for N fields
+pub record Ordered (N : ℕ) (y : Place) : Type 0 where
+  pub fields : y.aut.spp.fields ≡ N
+  pub tables : WfTables N limits01 (tables_in y.aut)
+
+pub record PreConstants (N : ℕ) (x : Place) : Type 0 where
+  pub few : N ≤ 31
+  pub empty : Empty x
+
+pub record PostConstants (N : ℕ) (x : Place) (r : Result Unit Refusal) (y : Place) : Type 0 where
+  pub is : constants (lengths_of x) N ≡ outcome (λ u. 0) r (tables_in y.aut)
+  pub then : Unless r (Ordered N y)
 
 pub record PreBegin (h : Header) (x : Place) : Type 0 where
   pub few : h.fields ≤ 31

@@ -64,31 +64,43 @@ pub fn clear(place: &mut Place)
 // ---- before the instructions
 
 // 01's limits
-pub fn setting_of(h: Header) -> Setting
-    ensures { result ≡ Its.setting_for h }
-{
-    Setting {
-        config: Config {
-            fields: h.fields,
-            limits: Limits {
-                nesting: 256,
-                list: 64,
-                products: 32,
-                transitions: 64,
+impl From<Header> for Setting {
+    ghost from_gives = { λ h s. s ≡ Its.setting_for h };
+
+    fn from(h: Header) -> Setting {
+        Setting {
+            config: Config {
+                fields: h.fields,
+                limits: Limits {
+                    nesting: 256,
+                    list: 64,
+                    products: 32,
+                    transitions: 64,
+                },
             },
-        },
-        budget: h.budget,
+            budget: h.budget,
+        }
     }
 }
 
-// the constants in zeroed tables, and the line `fields N`
+// the fields are set, and the constants made in zeroed tables
+pub fn constants(place: &mut Place, fields: u32) -> Result<(), Refusal>
+    requires { Its.PreConstants fields place.old }
+    ensures keeps { Its.OnlyNodes place.old place.new }
+    ensures gives { Its.PostConstants fields place.old result place.new }
+{
+    place.aut.spp.fields = fields;
+    place.aut.sp.start(fields)?;
+    place.aut.spp.start()?;
+    Ok(())
+}
+
+// .. and the line `fields N`
 pub fn begin(place: &mut Place, h: Header) -> Result<(), Refusal>
     requires { Its.PreBegin h place.old }
     ensures keeps { SameSlices place.old place.new }
     ensures gives { Its.PostBegin h place.old result place.new }
 {
-    place.aut.spp.fields = h.fields;
-    place.aut.sp.start(h.fields)?;
-    place.aut.spp.start()?;
+    constants(place, h.fields)?;
     place.output.fields_answer(h.fields)
 }

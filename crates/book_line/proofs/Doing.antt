@@ -3,11 +3,12 @@ use mathlib.Core.Path.{◌≡◌, refl, sym, ◌∙◌, ap, ap₂, subst}
 use mathlib.Core.Logic.{inl}
 use mathlib.Core.List.{List, [], ◌∷◌, ◌++◌}
 use mathlib.Core.Option.{Option, none, some}
-use Prim.Native.Nat.{ℕ, suc, ◌+◌, ◌/◌, ◌<◌}
+use Prim.Native.Nat.{ℕ, ◌+◌, ◌/◌, ◌<◌}
 use native.Mathlib.Omega.{arith}
-use lib.ListN.{length, set, take, length-set}
+use lib.ListN.{length, take}
 use Rattle.std.specs.Prelude.{Result, Ok, Err}
 use Rattle.std.specs.Prelude as code
+use Rattle.slices.specs.Same.{SameSlice}
 use Rattle.common.specs.Outcome.{Outcome, given}
 use Rattle.common.specs.Runs.{placed}
 use Rattle.cache.proofs.Cache.{notes_map}
@@ -47,8 +48,8 @@ use Rattle.book_ask.specs.Clauses.{PostAsk}
 use Rattle.book_memory.specs.declared.Lines.{Lines as Table}
 use Rattle.book_memory.specs.declared.Setting.{Setting}
 use Rattle.book_memory.specs.declared.Place.{Place}
-use Rattle.book_memory.specs.Place.{LINES, lines_of, lines_in, Below, place_in, setting_in, Standing}
-use Rattle.book_memory.proofs.Table.{lines_set, below_more}
+use Rattle.book_memory.specs.Place.{LINES, lines_at, lines_in, Below, place_in, setting_in, Standing}
+use Rattle.book_memory.proofs.Table.{below_more}
 use Rattle.book_place.specs.declared.Told.{Told}
 use Rattle.book_place.specs.declared.Told.TheVariants as told
 use Rattle.book_place.specs.Clauses.{OnlyWork, OnlyMade, told_of, ToldReady, PostTold, Constructs, MadeLine, PostMake}
@@ -87,7 +88,7 @@ module _ {S : Setting} {x : Place} (Z : Standing S x) (more : x.lines.count < LI
       left = let f = M.made.does.left in record { below = f.below; above = f.above; notes = notes_map (λ op a b r v. inl v) f.notes }
 
       came : Post (query_layer S.config.fields S.config.limits) 0 LISTS Holds (λ z. z) making σ (Ok M.state) (tables_in y.aut) x.aut.scratch.now y.aut.scratch.now
-      came = by_ends Z.ready law O.aut.length (Ok M.state) step_given left
+      came = by_ends Z.ready law O.aut.scratch.length (Ok M.state) step_given left
 
       line_gives : Gives S x y (execute (setting_in S x) (makes the_line) (place_in x))
       line_gives = record {
@@ -98,7 +99,7 @@ module _ {S : Setting} {x : Place} (Z : Standing S x) (more : x.lines.count < LI
           fields = O.aut.spp.fields ∙ Z.fields;
           ready = came.then.ready;
           pending = rw O.aut.pending Z.pending;
-          table = O.table ∙ Z.table;
+          table = O.lines.length ∙ Z.table;
           lines = omega (arith, M.count);
           named = subst (Below y.aut.states.count) (sym M.lines) (below_more (lines_in x) Z.named came.then.ext.grown.states.more (some M.state) (λ v e. let f : M.state ≡ v = cc in omega (arith, M.made.ready.1)));
           written = rw O.output Z.written;
@@ -119,9 +120,6 @@ module _ {r : ℕ} {bs s s' t : List ℕ} (W : PutAt 0 bs r s s') (e : t ≡ s')
   name_is = ap (take r) e ∙ put_take W
 
 module _ {S : Setting} {z : ℕ} {x : Place} (P : PreAskLine S x z) where
-  pub ask_room : x.lines.count < length x.lines.words.now
-  ask_room = omega (arith, P.more, P.standing.table)
-
   module _ (q : Query) (a : ℕ) {name : List ℕ} (named : name ≡ name_of a) where
     abbrev asking : Outcome Run.RunState ℕ
     asking = execute (setting_in S x) (asks (query_of q) a z) (place_in x)
@@ -129,26 +127,23 @@ module _ {S : Setting} {z : ℕ} {x : Place} (P : PreAskLine S x z) where
     pub ask_stops : {e : Refusal} {b : Lent} {o : Output} → PostAsk S (query_of q) name z (Err e) x.aut b x.output o → Stops e x (record { aut = b; lines = x.lines; output = o }) asking
     ask_stops {e} {b} {o} A = record { is = rw named at (A.is (lines_in x)); output = A.then }
 
-    pub ask_gives : {b : Lent} {o : Output} {t : Table} → PostAsk S (query_of q) name z (Ok tt) x.aut b x.output o → t.words.now ≡ set x.lines.words.now x.lines.count 0 → t.count ≡ x.lines.count + 1
+    pub ask_gives : {b : Lent} {o : Output} {t : Table} → PostAsk S (query_of q) name z (Ok tt) x.aut b x.output o → SameSlice x.lines.words t.words → lines_at t ≡ lines_in x ++ none ∷ [] → t.count ≡ x.lines.count + 1
         → SameLent x.aut b → Gives S x (record { aut = b; lines = t; output = o }) asking
-    ask_gives {b} {o} {t} A w n K = record {
+    ask_gives {b} {o} {t} A w l n K = record {
       value = 0;
-      is = (rw named at (A.is (lines_in x))) ∙ ap (λ (ls : List (Option ℕ)). given (place (tables_in b) ls (take o.at o.bytes.now)) 0) (sym lines_are);
+      is = (rw named at (A.is (lines_in x))) ∙ ap (λ (ls : List (Option ℕ)). given (place (tables_in b) ls (take o.at o.bytes.now)) 0) (sym l);
       standing = record {
         fields = K.spp.fields ∙ P.standing.fields;
         ready = A.then.ready;
         pending = A.then.pending;
-        table = ap length w ∙ length-set x.lines.words.now x.lines.count 0 ∙ P.standing.table;
+        table = w.length ∙ P.standing.table;
         lines = omega (arith, n, P.more);
-        named = subst (Below b.states.count) (sym lines_are) (below_more (lines_in x) P.standing.named A.then.later.grown.states.more none (λ u v. absurd (let k : ◌≡◌ {A = ℕ} 0 1 = cc in omega arith)));
+        named = subst (Below b.states.count) (sym l) (below_more (lines_in x) P.standing.named A.then.later.grown.states.more none (λ u v. absurd (let k : ◌≡◌ {A = ℕ} 0 1 = cc in omega arith)));
         written = omega (arith, A.then.to, A.then.len);
       };
       lines = n;
       onto = record { from = A.then.from; beyond = A.then.beyond };
     }
-      where
-        lines_are : lines_of t.words.now t.count ≡ lines_in x ++ none ∷ []
-        lines_are = ap₂ lines_of w (let e : t.count ≡ suc x.lines.count = omega arith in e) ∙ lines_set x.lines.words.now x.lines.count 0 ask_room
 
 -- ---- what a line is told, done
 
@@ -169,7 +164,7 @@ module _ {book : List ℕ} {S : Setting} {c : Cursor} {x : Place} (P : PreObey b
     tables_kept = rw O.aut.sp (rw O.aut.spp (rw O.aut.states (rw O.aut.members (rw O.aut.transitions refl))))
 
     lines_kept : lines_in y ≡ lines_in x
-    lines_kept = ap (λ (t : Table). lines_of t.words.now t.count) O.lines
+    lines_kept = ap (λ (t : Table). lines_at t) O.lines
 
     place_kept : place_in y ≡ place_in x
     place_kept = rw tables_kept (rw O.lines (rw O.output refl))
@@ -190,8 +185,8 @@ module _ {book : List ℕ} {S : Setting} {c : Cursor} {x : Place} (P : PreObey b
       standing_kept = record {
         fields = rw O.aut.spp P.standing.fields;
         ready = subst (λ (τ : Tables). QueryReady S.config.fields S.config.limits τ y.aut.scratch.now) (sym tables_kept)
-            ((query_laws S.config.fields S.config.limits).ready_kept 0 64 (tables_in x.aut) x.aut.scratch.now y.aut.scratch.now O.aut.length
-            ((query_laws S.config.fields S.config.limits).frame_kept 0 64 (tables_in x.aut) x.aut.scratch.now y.aut.scratch.now (omega arith) O.aut.length T.kept)
+            ((query_laws S.config.fields S.config.limits).ready_kept 0 64 (tables_in x.aut) x.aut.scratch.now y.aut.scratch.now O.aut.scratch.length
+            ((query_laws S.config.fields S.config.limits).frame_kept 0 64 (tables_in x.aut) x.aut.scratch.now y.aut.scratch.now (omega arith) O.aut.scratch.length T.kept)
             P.standing.ready);
         pending = rw O.aut.pending P.standing.pending;
         table = rw O.lines P.standing.table;

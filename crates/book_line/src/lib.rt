@@ -37,7 +37,7 @@ fn ask_line(
         &digits[..n],
         x,
     )?;
-    place.lines.add(0);
+    place.lines.add(None);
     Ok(())
 }
 

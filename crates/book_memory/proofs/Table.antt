@@ -1,4 +1,5 @@
 -- The table of lines: what its words stand for.
+use Rattle.std.specs.Prelude as code
 use mathlib.Core.Path.{◌≡◌, refl, sym, ◌∙◌, ap, ap₂}
 use mathlib.Core.Bool.{Bool, true, false}
 use mathlib.Core.Logic.{⊎_elim}
@@ -8,10 +9,10 @@ use Prim.Native.Nat.{ℕ, zero, suc, ◌+◌, ◌-◌, ◌≤◌, ◌<◌}
 use native.Mathlib.Omega.{arith}
 use native.Mathlib.Nat.{eq-or-lt_of_le}
 use lib.Dec.{ltb}
-use lib.ListN.{length, get_or, set, length-append, get_or-append, get_or-eq_default}
-use lib.Seq.{get_or_at, get_or-set_same, get_or-set_other}
+use lib.ListN.{length, get_or, set, take, length-append, get_or-append, get_or-eq_default}
+use lib.Seq.{get_or_at, get_or-set_same, get_or-set_other, get_or-take, length-take-le}
 use borrow.Author.Tests.{ltb-true, ltb-false}
-use Rattle.book_memory.specs.Place.{stands_for, lines_of, Below}
+use Rattle.book_memory.specs.Place.{stands_for, word_of, lines_of, Below}
 
 pub lines_length : (s : List ℕ) (k : ℕ) → length (lines_of s k) ≡ k
 unfolding lines_of
@@ -39,14 +40,26 @@ pub lines_set : (s : List ℕ) (k v : ℕ) → k < length s → lines_of (set s 
 unfolding lines_of
 lines_set s k v l = ap₂ (λ (ls : List (Option ℕ)) (w : ℕ). ls ++ stands_for w ∷ []) (lines_same s (set s k v) k (λ i m. get_or-set_other s k i v 0 (λ e. omega arith))) (get_or-set_same s k v 0 l)
 
-pub stands_one : (z : ℕ) → stands_for (z + 1) ≡ some z
-stands_one z = ap stands_for (let e : z + 1 ≡ suc z = omega arith in e)
+-- .. by its word in code
+pub lines_more : (s : List ℕ) (k : ℕ) {v w : ℕ} → k < length s → v ≡ w → lines_of (set s k v) (k + 1) ≡ lines_of s k ++ stands_for w ∷ []
+lines_more s k {v} {w} l e = ap (lines_of (set s k v)) (let f : k + 1 ≡ suc k = omega arith in f) ∙ lines_set s k v l ∙ ap (λ (x : ℕ). lines_of s k ++ stands_for x ∷ []) e
 
-pub stands_zero : (w : ℕ) → w ≡ 0 → stands_for w ≡ none
-stands_zero w e = ap stands_for e
+-- a word less 1, if it is not 0, is the line that it stands for
+pub stands_less : (w : ℕ) (r : code.Option ℕ) → code.SomeIff r (1 ≤ w) (w - 1) → stands_for (word_of r) ≡ stands_for w
+stands_less w (code.Some x) (n, e) = ap stands_for (let f : suc x ≡ w = omega arith in f)
+stands_less w code.None n = ap stands_for (let f : 0 ≡ w = omega arith in f)
 
-pub stands_some : (w : ℕ) → 1 ≤ w → stands_for w ≡ some (w - 1)
-stands_some w n = ap stands_for (let e : w ≡ suc (w - 1) = omega arith in e)
+-- ---- a line that is read, from the words of the lines so far
+
+module _ (s : List ℕ) (k i : ℕ) (l : k ≤ length s) where
+  inside : ltb i (length (take k s)) ≡ true → i < k
+  inside t = omega (arith, ltb-true i (length (take k s)) t, length-take-le k s l)
+
+  pub line_not : ltb i (length (take k s)) ≡ false → get_or (lines_of s k) i none ≡ none
+  line_not t = line_beyond s k i (omega (arith, ltb-false i (length (take k s)) t, length-take-le k s l))
+
+  pub line_read : {w : ℕ} (r : code.Option ℕ) → ltb i (length (take k s)) ≡ true → w ≡ get_or (take k s) i 0 → code.SomeIff r (1 ≤ w) (w - 1) → get_or (lines_of s k) i none ≡ stands_for (word_of r)
+  line_read {w} r t e q = line_named s k i (inside t) ∙ ap stands_for (sym (e ∙ get_or-take k s i 0 (inside t))) ∙ sym (stands_less w r q)
 
 module _ {n n' : ℕ} (lines : List (Option ℕ)) (B : Below n lines) (g : n ≤ n') (v : Option ℕ) (f : (x : ℕ) → v ≡ some x → x < n') where
   pub below_more : Below n' (lines ++ v ∷ [])

@@ -1,6 +1,8 @@
 -- 01, "The book and its answers" and "Lent tables": a place of a book that runs, in code: how the steps see it, what a call keeps of what is lent, and when it is in order.
 use Rattle.std.specs.Prelude.{◌≡◌, List, [], ◌∷◌, ◌++◌, ℕ, zero, suc, ◌+◌, ◌/◌, ◌≤◌, ◌<◌, length, get_or, take}
+use Rattle.std.specs.Prelude as code
 use Rattle.std.proofs.Math.Option.{Option, none, some}
+use Rattle.slices.specs.Same.{SameSlice}
 use Rattle.book_steps.specs.Run as Run
 use Rattle.book_steps.specs.Run.{Lent, place, zeroed}
 use Rattle.aut_states.specs.Clauses.{limits_of}
@@ -8,6 +10,7 @@ use Rattle.aut_sets.specs.Lent.{SameLent}
 use Rattle.aut_query_stage.specs.Layer.{QueryReady, Zeroed}
 use Rattle.aut_query_stage.specs.Lent.{tables_in}
 use Rattle.book_memory.specs.declared.Setting.{Setting}
+use Rattle.book_memory.specs.declared.Lines.{Lines}
 use Rattle.book_memory.specs.declared.Place.{Place}
 
 abbrev pub LINES : ℕ
@@ -20,10 +23,18 @@ abbrev pub stands_for : ℕ → Option ℕ
 stands_for zero = none
 stands_for (suc x) = some x
 
+-- .. for a line in code
+abbrev pub word_of : code.Option ℕ → ℕ
+word_of code.None = 0
+word_of (code.Some x) = suc x
+
 -- the first k lines
 unfoldable pub lines_of : List ℕ → ℕ → List (Option ℕ)
 lines_of s zero = []
 lines_of s (suc k) = lines_of s k ++ stands_for (get_or s k 0) ∷ []
+
+abbrev pub lines_at : Lines → List (Option ℕ)
+lines_at t = lines_of t.words.now t.count
 
 -- every line that stands for a state stands for one of n
 abbrev pub Below : ℕ → List (Option ℕ) → Type 0
@@ -32,7 +43,7 @@ Below n lines = (a x : ℕ) → get_or lines a none ≡ some x → x < n
 -- ---- in the words of the steps
 
 abbrev pub lines_in : Place → List (Option ℕ)
-lines_in p = lines_of p.lines.words.now p.lines.count
+lines_in p = lines_at p.lines
 
 -- the bytes written so far
 abbrev pub written_in : Place → List ℕ
@@ -61,26 +72,24 @@ lengths_of p = record {
   output = length p.output.bytes.now;
 }
 
--- ---- what a call keeps: x before, y after. The same words and bytes are lent
+-- ---- what a call keeps: x before, y after. The same words and bytes are lent, as many
 
 pub record SamePlace (x y : Place) : Type 0 where
   pub aut : SameLent x.aut y.aut
-  pub lines : y.lines.words.ghost_name ≡ x.lines.words.ghost_name
-  pub table : length y.lines.words.now ≡ length x.lines.words.now
-  pub output : y.output.bytes.ghost_name ≡ x.output.bytes.ghost_name
-  pub bytes : length y.output.bytes.now ≡ length x.output.bytes.now
+  pub lines : SameSlice x.lines.words y.lines.words
+  pub output : SameSlice x.output.bytes y.output.bytes
 
 -- .. no more than this: before the instructions the fields are set too
 pub record SameSlices (x y : Place) : Type 0 where
-  pub sp : y.aut.sp.nodes.ghost_name ≡ x.aut.sp.nodes.ghost_name
-  pub spp : y.aut.spp.nodes.ghost_name ≡ x.aut.spp.nodes.ghost_name
-  pub states : y.aut.states.words.ghost_name ≡ x.aut.states.words.ghost_name
-  pub members : y.aut.members.words.ghost_name ≡ x.aut.members.words.ghost_name
-  pub transitions : y.aut.transitions.words.ghost_name ≡ x.aut.transitions.words.ghost_name
-  pub pending : y.aut.pending.ghost_name ≡ x.aut.pending.ghost_name
-  pub lines : y.lines.words.ghost_name ≡ x.lines.words.ghost_name
-  pub scratch : y.aut.scratch.ghost_name ≡ x.aut.scratch.ghost_name
-  pub output : y.output.bytes.ghost_name ≡ x.output.bytes.ghost_name
+  pub sp : SameSlice x.aut.sp.nodes y.aut.sp.nodes
+  pub spp : SameSlice x.aut.spp.nodes y.aut.spp.nodes
+  pub states : SameSlice x.aut.states.words y.aut.states.words
+  pub members : SameSlice x.aut.members.words y.aut.members.words
+  pub transitions : SameSlice x.aut.transitions.words y.aut.transitions.words
+  pub pending : SameSlice x.aut.pending y.aut.pending
+  pub lines : SameSlice x.lines.words y.lines.words
+  pub scratch : SameSlice x.aut.scratch y.aut.scratch
+  pub output : SameSlice x.output.bytes y.output.bytes
 
 -- of the output, only bytes before the place were written, and none is taken back
 pub record Onto (x y : Place) : Type 0 where

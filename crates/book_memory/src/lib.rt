@@ -1,7 +1,10 @@
 // All that is lent for a book: the tables, the lines so far, the output; and a place of a book that runs, which has the counts with them.
 #![tactic(auto)]
 
-ghost use Rattle.std.specs.Prelude.{◌≡◌, ◌+◌, ◌<◌, length, set};
+ghost use Rattle.std.specs.Prelude.{◌≡◌, [], ◌∷◌, ◌++◌, ◌+◌, ◌≤◌, ◌<◌, IfSome, length, get_or, set};
+ghost use Rattle.std.proofs.Math.Option.{none};
+ghost use Rattle.slices.specs.Same.{SameSlice};
+ghost use Rattle.book_memory.specs.Place.{stands_for, word_of, lines_at};
 
 use aut_relations::{Aut, Transitions};
 use aut_states::{Config, Members, States};
@@ -12,7 +15,7 @@ use spp::SPPstore;
 // The most lines of a book, and the words at the front of scratch that are lent for them. Behind them lies what the steps work in.
 pub const LINES: usize = 2048;
 
-// what holds for the whole book
+// a book's config, and the budget of its searches
 #[derive(Clone, Copy)]
 pub struct Setting {
     pub config: Config,
@@ -27,15 +30,25 @@ pub struct Lines<'a> {
 }
 
 impl Lines<'_> {
-    // a line more
-    pub fn add(&mut self, word: u32)
-        requires { self.old.count < length self.old.words.now }
-        ensures keeps { self.new.words.ghost_name ≡ self.old.words.ghost_name }
-        ensures words { self.new.words.now ≡ set self.old.words.now self.old.count word }
+    // a line more: a constructor line's state, or none for a query
+    pub fn add(&mut self, line: Option<u32>)
+        requires room { self.old.count < length self.old.words.now }
+        requires fits { IfSome line (λ x. x < 4294967295) }
+        ensures keeps { SameSlice self.old.words self.new.words }
+        ensures words { self.new.words.now ≡ set self.old.words.now self.old.count (word_of line) }
         ensures count { self.new.count ≡ self.old.count + 1 }
+        ensures lines { lines_at self.new ≡ lines_at self.old ++ stands_for (word_of line) ∷ [] }
     {
-        self.words[self.count] = word;
+        self.words[self.count] = line.map_or(0, |x| x + 1);
         self.count += 1;
+    }
+
+    // the state that line i stands for: none of a query, nor where there is no line yet
+    pub fn get(&self, i: usize) -> Option<u32>
+        requires { self.now.count ≤ length self.now.words.now }
+        ensures { get_or (lines_at self.now) i none ≡ stands_for (word_of result) }
+    {
+        self.words[..self.count].get(i)?.checked_sub(1)
     }
 }
 
@@ -122,23 +135,14 @@ impl<'a> Memory<'a> {
         ensures scratch { self.new.scratch ≡ place.old.aut.scratch }
         ensures output { self.new.output ≡ place.old.output.bytes }
     {
-        let sp = std::mem::take(&mut place.aut.sp.nodes);
-        let spp = std::mem::take(&mut place.aut.spp.nodes);
-        let states = std::mem::take(&mut place.aut.states.words);
-        let members = std::mem::take(&mut place.aut.members.words);
-        let transitions = std::mem::take(&mut place.aut.transitions.words);
-        let pending = std::mem::take(&mut place.aut.pending);
-        let lines = std::mem::take(&mut place.lines.words);
-        let scratch = std::mem::take(&mut place.aut.scratch);
-        let output = std::mem::take(&mut place.output.bytes);
-        self.sp = sp;
-        self.spp = spp;
-        self.states = states;
-        self.members = members;
-        self.transitions = transitions;
-        self.pending = pending;
-        self.lines = lines;
-        self.scratch = scratch;
-        self.output = output;
+        self.sp = std::mem::take(&mut place.aut.sp.nodes);
+        self.spp = std::mem::take(&mut place.aut.spp.nodes);
+        self.states = std::mem::take(&mut place.aut.states.words);
+        self.members = std::mem::take(&mut place.aut.members.words);
+        self.transitions = std::mem::take(&mut place.aut.transitions.words);
+        self.pending = std::mem::take(&mut place.aut.pending);
+        self.lines = std::mem::take(&mut place.lines.words);
+        self.scratch = std::mem::take(&mut place.aut.scratch);
+        self.output = std::mem::take(&mut place.output.bytes);
     }
 }

@@ -1,4 +1,3 @@
 -- what the proofs of several functions use
 pub mod Names
 pub mod Telling
-pub mod Making

@@ -1,6 +1,5 @@
 -- The lines that a line names, one after the other.
 use mathlib.Core.Path.{◌≡◌, refl, sym, ◌∙◌, ap, subst}
-use mathlib.Core.Bool.{true, false}
 use mathlib.Core.List.{List, [], ◌∷◌, ◌++◌, append-nil, append_assoc}
 use mathlib.Core.Option.{Option, none, some}
 use Prim.Native.Nat.{ℕ, ◌+◌, ◌≤◌, ◌<◌}
@@ -18,6 +17,8 @@ use Rattle.book_steps.specs.Reader as Reader
 use Rattle.book_steps.specs.Reader.{given, giving, numbers, refuses}
 use Rattle.book_reader.specs.Clauses.{rest, behind, bad, taken, TakesNumber}
 use Rattle.std.specs.Prelude as code
+use Rattle.std.specs.Prelude.{Ok, Err}
+use Rattle.refusal.specs.declared.Refusal.TheVariants as refusals
 use Rattle.book_reader.specs.declared.Cursor.{Cursor}
 use Rattle.book_reader.proofs.Saying.{numbers_behind, numbers_bad, list_is}
 use Rattle.book_memory.specs.declared.Lines.{Lines as Table}
@@ -158,7 +159,7 @@ module _ {book : List ℕ} {most : ℕ} {from : Cursor} {n : ℕ} {x y : Place} 
     pub reading_again : OnlyWork x z → Reading book most from n x z d (i + 1)
     reading_again w = record {
       keeps = w;
-      pre = record { within = T.within; lines = omega (arith, v.pre.lines, same_count, same_table); room = omega (arith, v.pre.room, o.aut.length); few = v.pre.few };
+      pre = record { within = T.within; lines = omega (arith, v.pre.lines, same_count, same_table); room = omega (arith, v.pre.room, o.aut.scratch.length); few = v.pre.few };
       kept = kept_trans v.kept kept_one;
       states = v.states ++ T.state ∷ [];
       size = omega (arith, length-append v.states (T.state ∷ []), v.size);
@@ -181,13 +182,13 @@ module _ {book : List ℕ} {most : ℕ} {from : Cursor} {n : ℕ} {x y : Place} 
       let f = front (rest book c) vs a v.left t v.left_is in
       ap (λ (m : List ℕ). giving N (lines_in x) m K) f.is ∙ giving_one N (lines_in x) a f.others K (ap (λ (ls : List (Option ℕ)). get_or ls a none) (sym lines_are) ∙ q)
 
-  pub reading_missed : {z : Place} → i < n → Missed book (lines_in y) c × (z ≡ y) → PostOperands book most from n false x z
+  pub reading_missed : {z : Place} → i < n → Missed book (lines_in y) c × (z ≡ y) → PostOperands book most from n (Err refusals.Name) x z
   reading_missed {z} l (m, e) = record {
     kept = subst (λ (p : Place). Kept 0 64 x.aut.scratch.now p.aut.scratch.now) (sym e) v.kept;
     is = λ N l₁ q K. by_all N l₁ q K ∙ missed_is l m N (λ ys. K (v.states ++ ys));
   }
 
-  pub reading_end : n ≤ i → PostOperands book most from n true x y
+  pub reading_end : n ≤ i → PostOperands book most from n (Ok tt) x y
   reading_end l = record {
     kept = v.kept;
     is = record {

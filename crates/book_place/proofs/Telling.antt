@@ -2,10 +2,10 @@
 use Rattle.std.specs.Prelude.{if◌then◌else◌, Result, Ok, Err}
 use Rattle.std.specs.Result.{IsErr, IsErrAnd}
 use mathlib.Core.Path.{◌≡◌, refl, sym, ◌∙◌, ap, ap₂, subst}
-use mathlib.Core.Bool.{Bool, true, false, ◌&&◌}
+use mathlib.Core.Bool.{Bool, ◌&&◌}
 use mathlib.Core.List.{List}
 use mathlib.Core.Option.{Option, none, some}
-use Prim.Native.Nat.{ℕ, ◌-◌, ◌≤◌, ◌<◌}
+use Prim.Native.Nat.{ℕ, ◌≤◌, ◌<◌}
 use native.Mathlib.Omega.{arith}
 use lib.Dec.{ltb, eqb}
 use lib.ListN.{length, get_or}
@@ -44,25 +44,15 @@ use Rattle.refusal.specs.declared.Refusal.TheVariants as refusals
 use Rattle.refusal.proofs.Passed.{passed}
 use Rattle.book_memory.specs.declared.Lines.{Lines as Table}
 use Rattle.book_memory.specs.declared.Place.{Place}
-use Rattle.book_memory.specs.Place.{lines_of, lines_in, Below}
-use Rattle.book_memory.proofs.Table.{line_beyond, line_named, stands_zero, stands_some}
+use Rattle.book_memory.specs.Place.{lines_at, lines_in, Below}
 use Rattle.book_place.specs.declared.Told.{Told}
 use Rattle.book_place.specs.declared.Told.TheVariants as told
-use Rattle.book_place.specs.Clauses.{NamedIs, Found, FoundBy, PreOperands, PostOperands, told_of, ToldReady, setting_by, Alike, TellsBit, TellsPair, TellsList, PreTold, PostTold}
+use Rattle.book_place.specs.Clauses.{Found, PreOperands, PostOperands, told_of, ToldReady, setting_by, Alike, TellsBit, TellsPair, TellsList, PreTold, PostTold}
 
 -- ---- what `?` hands on, where the error that it met was one of another type
 
 pub passed_on : {A B : Type 0} {r : Result A Refusal} {e f : Refusal} → IsErr r × IsErrAnd r (λ x. x ≡ e) → ◌≡◌ {A = Result B Refusal} (Err e) (Err f) → r ≡ Err f
 passed_on {e = e} {f = f} p q = passed p ∙ ap Err (let z : e ≡ f = cc in z)
-
--- ---- a name
-
-pub not_yet : (t : Table) (a : ℕ) → t.count ≤ a → NamedIs t a code.None
-not_yet t a l = line_beyond t.words.now t.count a l
-
-pub named : (t : Table) (a : ℕ) (r : code.Option ℕ) → a < t.count → code.SomeIff r (1 ≤ get_or t.words.now a 0) (get_or t.words.now a 0 - 1) → NamedIs t a r
-named t a (code.Some w) l (h, e) = line_named t.words.now t.count a l ∙ stands_some (get_or t.words.now a 0) h ∙ ap some (sym e)
-named t a code.None l h = line_named t.words.now t.count a l ∙ stands_zero (get_or t.words.now a 0) (omega arith)
 
 -- ---- test, set
 
@@ -87,7 +77,7 @@ module _ (N : ℕ) (w : Bit) (f v : ℕ) where
 
 module _ (t : Table) (w : Pair) (a b : ℕ) where
   abbrev lines : List (Option ℕ)
-  lines = lines_of t.words.now t.count
+  lines = lines_at t
 
   pair_by : (N : ℕ) {o p : Option ℕ} → get_or lines a none ≡ o → get_or lines b none ≡ p
       → resolve N lines (Reader.pair (pair_of w) a b) ≡ given N lines o (λ x. given N lines p (λ y. makes (Lines.pair (pair_of w) x y)))
@@ -121,17 +111,17 @@ list_tell N ls w l = refl
 pub alike : (N : ℕ) (L : Limits) (lines : List (Option ℕ)) {t u : Reader.Resolved ℕ} → t ≡ u → Alike N L lines t u
 alike N L lines e b i r τ out = ap (λ (t : Reader.Resolved ℕ). execute (setting_by N b L i r) t (place τ lines out)) e
 
-module _ (book : List ℕ) (most : ℕ) (w : Listed) (c : Cursor) {n : ℕ} {r : Bool} {x y : Place} (P : PostOperands book most c n r x y) where
-  pub list_bad : r ≡ false → TellsList book most w c (Err refusals.Name) x y
-  list_bad e = record {
+module _ (book : List ℕ) (most : ℕ) (w : Listed) (c : Cursor) {n : ℕ} {x y : Place} where
+  pub list_bad : {e : Refusal} → PostOperands book most c n (Err e) x y → TellsList book most w c (Err e) x y
+  list_bad P = record {
     kept = P.kept;
-    is = λ N L l m q. alike N L (lines_in x) (list_tell N (lines_in x) w l ∙ subst (λ (b : Bool). FoundBy b book (lines_in x) most c n y.aut.scratch.now) e P.is N l q (λ xs. makes (Lines.listed (listed_of w) xs)));
+    is = λ N L l m q. alike N L (lines_in x) (list_tell N (lines_in x) w l ∙ P.is N l q (λ xs. makes (Lines.listed (listed_of w) xs)));
     ready = λ N n B. tt;
   }
 
-  module _ (e : r ≡ true) where
+  module _ {u : Unit} (P : PostOperands book most c n (Ok u) x y) where
     list_found : Found book (lines_in x) most c n y.aut.scratch.now
-    list_found = subst (λ (b : Bool). FoundBy b book (lines_in x) most c n y.aut.scratch.now) e P.is
+    list_found = P.is
 
     list_is_told : (N : ℕ) (l : List ℕ) → numbers (rest book c) ≡ some l → resolve N (lines_in x) (Reader.listed (listed_of w) l) ≡ makes (Lines.listed (listed_of w) list_found.states)
     list_is_told N l q = list_tell N (lines_in x) w l ∙ list_found.is N l q (λ xs. makes (Lines.listed (listed_of w) xs))

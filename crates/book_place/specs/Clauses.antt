@@ -1,7 +1,8 @@
 -- 01, "The book and its answers": a line in a book that runs, in code. What it is told to do by the names in it, and a constructor line.
-use Rattle.std.specs.Prelude.{◌≡◌, Bool, true, false, List, [], ◌∷◌, ◌++◌, ℕ, ◌+◌, ◌≤◌, ◌<◌, length, get_or, set, Result, Ok, Err}
+use Rattle.std.specs.Prelude.{◌≡◌, List, [], ◌∷◌, ◌++◌, ℕ, ◌+◌, ◌≤◌, ◌<◌, length, get_or, set, Result, Ok, Err}
 use Rattle.std.specs.Prelude as code
 use Rattle.std.proofs.Math.Option.{Option, none, some}
+use Rattle.slices.specs.Same.{SameSlice}
 use Rattle.refusal.specs.declared.Refusal.{Refusal}
 use Rattle.refusal.specs.Numbers.{number_of}
 use Rattle.aut_steps.specs.Tables.{Limits, words}
@@ -25,12 +26,12 @@ use Rattle.book_words.specs.Clauses.{bit_of, pair_of, listed_of}
 use Rattle.book_words.specs.declared.Bit.{Bit}
 use Rattle.book_words.specs.declared.Pair.{Pair}
 use Rattle.book_words.specs.declared.Listed.{Listed}
-use Rattle.book_reader.specs.Clauses.{value_of, rest, Within, behind, bad, taken, counted, query_of, said_of, SaidListed}
+use Rattle.book_reader.specs.Clauses.{rest, Within, behind, bad, taken, counted, query_of, said_of, SaidListed}
 use Rattle.book_reader.specs.declared.Cursor.{Cursor}
 use Rattle.book_reader.specs.declared.Said.{Said}
 use Rattle.book_memory.specs.declared.Lines.{Lines as Table}
 use Rattle.book_memory.specs.declared.Place.{Place}
-use Rattle.book_memory.specs.Place.{lines_of, lines_in, Below}
+use Rattle.book_memory.specs.Place.{lines_at, lines_in, Below}
 use Rattle.book_place.specs.declared.Told.{Told}
 use Rattle.book_place.specs.declared.Told.TheVariants as told
 
@@ -45,14 +46,10 @@ pub record OnlyWork (x y : Place) : Type 0 where
 -- relations, states and scratch, and the table of lines
 pub record OnlyMade (x y : Place) : Type 0 where
   pub aut : Keeps x.aut y.aut
-  pub lines : y.lines.words.ghost_name ≡ x.lines.words.ghost_name
-  pub table : length y.lines.words.now ≡ length x.lines.words.now
+  pub lines : SameSlice x.lines.words y.lines.words
   pub output : y.output ≡ x.output
 
 -- ---- names
-
-abbrev pub NamedIs : Table → ℕ → code.Option ℕ → Type 0
-NamedIs t a r = get_or (lines_of t.words.now t.count) a none ≡ value_of r
 
 -- an operand at c can be read, and a word written
 pub record PreOperand (book : List ℕ) (most : ℕ) (c : Cursor) (x : Place) : Type 0 where
@@ -92,11 +89,11 @@ pub record Found (book : List ℕ) (lines : List (Option ℕ)) (most : ℕ) (c :
   pub words : n ≤ most → words s 0 n ≡ states
   pub below : (b : ℕ) → Below b lines → All (λ x. x < b) states
 
-abbrev pub FoundBy : Bool → List ℕ → List (Option ℕ) → ℕ → Cursor → ℕ → List ℕ → Type 0
-FoundBy true book lines most c n s = Found book lines most c n s
-FoundBy false book lines most c n s = (N : ℕ) (l : List ℕ) → numbers (rest book c) ≡ some l → (K : List ℕ → Reader.Resolved ℕ) → giving N lines l K ≡ refuses 4
+abbrev pub FoundBy : Result Unit Refusal → List ℕ → List (Option ℕ) → ℕ → Cursor → ℕ → List ℕ → Type 0
+FoundBy (Ok u) book lines most c n s = Found book lines most c n s
+FoundBy (Err e) book lines most c n s = (N : ℕ) (l : List ℕ) → numbers (rest book c) ≡ some l → (K : List ℕ → Reader.Resolved ℕ) → giving N lines l K ≡ refuses (number_of e)
 
-pub record PostOperands (book : List ℕ) (most : ℕ) (c : Cursor) (n : ℕ) (r : Bool) (x y : Place) : Type 0 where
+pub record PostOperands (book : List ℕ) (most : ℕ) (c : Cursor) (n : ℕ) (r : Result Unit Refusal) (x y : Place) : Type 0 where
   pub kept : Kept 0 64 x.aut.scratch.now y.aut.scratch.now
   pub is : FoundBy r book (lines_in x) most c n y.aut.scratch.now
 
@@ -126,8 +123,8 @@ pub record TellsBit (N : ℕ) (w : Bit) (f v : ℕ) (r : Result Told Refusal) : 
   pub ready : (n : ℕ) (s : List ℕ) → ToldReady N n s r
 
 pub record TellsPair (t : Table) (w : Pair) (a b : ℕ) (r : Result Told Refusal) : Type 0 where
-  pub is : (N : ℕ) (s : List ℕ) → resolve N (lines_of t.words.now t.count) (Reader.pair (pair_of w) a b) ≡ told_of s r
-  pub ready : (N n : ℕ) (s : List ℕ) → Below n (lines_of t.words.now t.count) → ToldReady N n s r
+  pub is : (N : ℕ) (s : List ℕ) → resolve N (lines_at t) (Reader.pair (pair_of w) a b) ≡ told_of s r
+  pub ready : (N n : ℕ) (s : List ℕ) → Below n (lines_at t) → ToldReady N n s r
 
 pub record TellsList (book : List ℕ) (most : ℕ) (w : Listed) (c : Cursor) (r : Result Told Refusal) (x y : Place) : Type 0 where
   pub kept : Kept 0 64 x.aut.scratch.now y.aut.scratch.now

@@ -3,7 +3,7 @@
 
 ghost use Rattle.std.specs.Prelude.{◌≤◌, length};
 ghost use Rattle.book_place.specs.Clauses as Its;
-ghost use Rattle.book_place.specs.Clauses.{NamedIs, OnlyWork, PreOperand, PostOperand, PreOperands, PostOperands, PostTold, OnlyMade, PreMake, PostMake};
+ghost use Rattle.book_place.specs.Clauses.{OnlyWork, PreOperand, PostOperand, PreOperands, PostOperands, PostTold, OnlyMade, PreMake, PostMake};
 
 use aut_states::Config;
 use book_construct::Line;
@@ -21,17 +21,6 @@ pub enum Told {
 
 // ---- names
 
-// the state that line a stands for
-fn look_up(lines: &Lines, a: u64) -> Option<u32>
-    requires { lines.now.count ≤ length lines.now.words.now }
-    ensures { NamedIs lines.now a result }
-{
-    if a >= lines.count as u64 {
-        return None;
-    }
-    lines.words[a as usize].checked_sub(1)
-}
-
 // behind operand i of a list: its state is word i of scratch, as far as a list may be long; none if it is no earlier constructor line
 fn read_operand(book: &[u8], place: &mut Place, most: usize, c: Cursor, i: usize) -> Option<Cursor>
     requires { PreOperand book.now most c place.old }
@@ -39,27 +28,30 @@ fn read_operand(book: &[u8], place: &mut Place, most: usize, c: Cursor, i: usize
     ensures gives { PostOperand book.now most c i result place.old place.new }
 {
     let (a, next) = c.number(book)?;
-    let x = look_up(&place.lines, a)?;
+    let x = place.lines.get(a as usize)?;
     if i < most {
         place.aut.scratch[i] = x;
     }
     Some(next)
 }
 
-// whether all of a list's n operands are earlier constructor lines
-fn operands(book: &[u8], place: &mut Place, most: usize, from: Cursor, n: usize) -> bool
+// all of a list's n operands are earlier constructor lines
+fn operands(
+    book: &[u8],
+    place: &mut Place,
+    most: usize,
+    from: Cursor,
+    n: usize,
+) -> Result<(), Refusal>
     requires { PreOperands book.now most from n place.old }
     ensures keeps { OnlyWork place.old place.new }
     ensures gives { PostOperands book.now most from n result place.old place.new }
 {
     let mut c = from;
     for i in 0..n {
-        let Some(next) = read_operand(book, place, most, c, i) else {
-            return false;
-        };
-        c = next;
+        c = read_operand(book, place, most, c, i).ok_or(Refusal::Name)?;
     }
-    true
+    Ok(())
 }
 
 // ---- what a line is told to do
@@ -67,10 +59,7 @@ fn operands(book: &[u8], place: &mut Place, most: usize, from: Cursor, n: usize)
 fn told_bit(fields: u32, w: Bit, f: u64, v: u64) -> Result<Told, Refusal>
     ensures { Its.TellsBit fields w f v result }
 {
-    if f >= fields as u64 {
-        return Err(Refusal::Range);
-    }
-    if v > 1 {
+    if f >= fields as u64 || v > 1 {
         return Err(Refusal::Range);
     }
     Ok(Told::Makes(Line::Bit(w, f as u32, v == 1)))
@@ -80,8 +69,8 @@ fn told_pair(lines: &Lines, w: Pair, a: u64, b: u64) -> Result<Told, Refusal>
     requires { lines.now.count ≤ length lines.now.words.now }
     ensures { Its.TellsPair lines.now w a b result }
 {
-    let x = look_up(lines, a).ok_or(Refusal::Name)?;
-    let y = look_up(lines, b).ok_or(Refusal::Name)?;
+    let x = lines.get(a as usize).ok_or(Refusal::Name)?;
+    let y = lines.get(b as usize).ok_or(Refusal::Name)?;
     Ok(Told::Makes(Line::Pair(w, x, y)))
 }
 
@@ -98,9 +87,7 @@ fn told_list(
     ensures keeps { OnlyWork place.old place.new }
     ensures tells { Its.TellsList book.now most w c result place.old place.new }
 {
-    if !operands(book, place, most, c, n) {
-        return Err(Refusal::Name);
-    }
+    operands(book, place, most, c, n)?;
     if n > most {
         return Err(Refusal::List);
     }
@@ -122,13 +109,13 @@ pub fn tell(
         Said::Constant(w) => Ok(Told::Makes(Line::Constant(w))),
         Said::Bit(w, f, v) => told_bit(config.fields, w, f, v),
         Said::Single(w, a) => {
-            let x = look_up(&place.lines, a).ok_or(Refusal::Name)?;
+            let x = place.lines.get(a as usize).ok_or(Refusal::Name)?;
             Ok(Told::Makes(Line::Single(w, x)))
         }
         Said::Pair(w, a, b) => told_pair(&place.lines, w, a, b),
         Said::Listed(w, c, n) => told_list(book, place, config.limits.list, w, c, n),
         Said::Query(q, a) => {
-            let x = look_up(&place.lines, a).ok_or(Refusal::Name)?;
+            let x = place.lines.get(a as usize).ok_or(Refusal::Name)?;
             Ok(Told::Asks(q, a as usize, x))
         }
     }
@@ -143,6 +130,6 @@ pub fn make_line(place: &mut Place, config: Config, line: Line) -> Result<(), Re
     ensures gives { PostMake config line result place.old place.new }
 {
     let z = book_construct::make(&mut place.aut, config, line)?;
-    place.lines.add(z + 1);
+    place.lines.add(Some(z));
     Ok(())
 }

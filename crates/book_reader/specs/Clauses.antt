@@ -1,5 +1,5 @@
 -- 01, "The book and its answers": the text of a book in code. What a cursor has still to read, and what each answer of the reader says in the words of the specs.
-use Rattle.std.specs.Prelude.{◌≡◌, List, [], ◌∷◌, ℕ, ◌+◌, ◌≤◌, ◌<◌, ◌^◌, ◌&&◌, ltb, length, drop, if◌then◌else◌}
+use Rattle.std.specs.Prelude.{◌≡◌, true, false, List, [], ◌∷◌, ℕ, ◌+◌, ◌≤◌, ◌<◌, ◌^◌, ◌&&◌, ltb, length, drop, if◌then◌else◌}
 use Rattle.std.specs.Prelude as code
 use Rattle.std.proofs.Math.Option.{Option, none, some}
 use denote.Ref.{Bor}
@@ -66,6 +66,11 @@ pub record Cuts (book : List ℕ) (at : ℕ) (r : code.Option Cursor) : Type 0 w
 pub record TakesWord (book : List ℕ) (c : Cursor) (r : Bor (List ℕ) × Cursor) : Type 0 where
   pub is : rest book c ≡ r.0.now ∷ rest book r.1
   pub within : Within book r.1
+
+-- a word, exactly where there are more
+abbrev pub WordBy : List ℕ → Cursor → code.Option (Bor (List ℕ) × Cursor) → Type 0
+WordBy book c (code.Some r) = (c.more ≡ true) × TakesWord book c r
+WordBy book c code.None = c.more ≡ false
 
 -- the first word is this one; the words behind it
 unfoldable pub passed : List ℕ → List (List ℕ) → Option (List (List ℕ))

@@ -1,16 +1,16 @@
-// The text of a book: its lines, their words and numbers, and what the lines say. Nothing is copied: a place is a value that each
+// The text of a book: its lines, their words and numbers, and what the lines say. Nothing is copied: a cursor is a value that each
 // reading step takes and hands back.
 #![tactic(auto)]
 
-ghost use Rattle.std.specs.Prelude.{◌≡◌, true, [], ◌∷◌, ◌≤◌, length, List, ℕ, map};
+ghost use Rattle.std.specs.Prelude.{◌≡◌, [], ◌∷◌, ◌≤◌, length, List, ℕ, map};
 ghost use Rattle.std.proofs.Math.Option.{some};
 ghost use Rattle.book_steps.specs.Text as Text;
 ghost use Rattle.book_steps.specs.Reader as Reader;
-ghost use Rattle.book_reader.specs.Clauses.{rest, Within, Finds, Cuts, TakesWord, Passes, value, value_of, TakesNumber, counted, heading_of, look_up, Says, listing};
+ghost use Rattle.book_reader.specs.Clauses.{rest, Within, Finds, Cuts, WordBy, Passes, value, value_of, TakesNumber, counted, heading_of, look_up, Says, listing};
 
 use book_words::{Bit, Constant, Listed, Pair, Single};
 
-// the words of a line that are still to be read: those between at and end, the place of the line's byte 10; none, if there are no more
+// the words of a line that are still to be read: those from `at` up to `end`, where its `\n` stands; none unless `more`
 #[derive(Clone, Copy)]
 pub struct Cursor {
     pub at: usize,
@@ -109,10 +109,7 @@ fn digits(word: &[u8]) -> Option<u64>
 fn number_of(word: &[u8]) -> Option<u64>
     ensures { Text.number word.now ≡ value_of result }
 {
-    if word.is_empty() {
-        return None;
-    }
-    if word.len() > 1 && word[0] <= b'0' {
+    if word.is_empty() || (word.len() > 1 && word[0] <= b'0') {
         return None;
     }
     digits(word)
@@ -131,28 +128,31 @@ fn named<T: Copy>(table: &[(&[u8], T)], word: &[u8]) -> Option<T>
 }
 
 impl Cursor {
-    // the next word, and the cursor behind it
-    pub fn word(self, book: &[u8]) -> (&[u8], Cursor)
-        requires { Within book.now self × (self.more ≡ true) }
-        ensures { TakesWord book.now self result }
+    // the next word, if there are more, and the cursor behind it
+    pub fn word(self, book: &[u8]) -> Option<(&[u8], Cursor)>
+        requires { Within book.now self }
+        ensures { WordBy book.now self result }
     {
+        if !self.more {
+            return None;
+        }
         let line = &book[self.at..self.end];
         match find(line, b' ') {
-            Some(k) => (
+            Some(k) => Some((
                 &line[..k],
                 Cursor {
                     at: self.at + k + 1,
                     ..self
                 },
-            ),
-            None => (
+            )),
+            None => Some((
                 line,
                 Cursor {
                     at: self.end,
                     more: false,
                     ..self
                 },
-            ),
+            )),
         }
     }
 
@@ -160,10 +160,7 @@ impl Cursor {
         requires { Within book.now self }
         ensures { TakesNumber book.now self result }
     {
-        if !self.more {
-            return None;
-        }
-        let (word, next) = self.word(book);
+        let (word, next) = self.word(book)?;
         let n = number_of(word)?;
         Some((n, next))
     }
@@ -173,10 +170,7 @@ impl Cursor {
         requires { Within book.now self }
         ensures { Passes book.now name.now self result }
     {
-        if !self.more {
-            return None;
-        }
-        let (word, next) = self.word(book);
+        let (word, next) = self.word(book)?;
         if word != name {
             return None;
         }
@@ -266,10 +260,7 @@ pub fn instruction(book: &[u8], c: Cursor) -> Option<Said>
     requires { Within book.now c }
     ensures { Says book.now (Reader.parse (rest book.now c)) result }
 {
-    if !c.more {
-        return None;
-    }
-    let (word, first) = c.word(book);
+    let (word, first) = c.word(book)?;
     if !first.more {
         return alone(word, first);
     }

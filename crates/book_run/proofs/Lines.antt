@@ -1,4 +1,6 @@
 -- The lines of a book, one after the other.
+use Rattle.slices.proofs.Same.{slice_refl, slice_trans}
+use Rattle.aut_relations.proofs.Kept.{keeps_refl, keeps_trans}
 use Rattle.std.specs.Prelude as code
 use mathlib.Core.Path.{◌≡◌, refl, sym, ◌∙◌, ap, ap₂}
 use mathlib.Core.List.{List, [], ◌∷◌}
@@ -15,6 +17,7 @@ use Rattle.book_memory.specs.declared.Setting.{Setting}
 use Rattle.book_memory.specs.declared.Place.{Place}
 use Rattle.book_writer.specs.declared.Output.{Output}
 use Rattle.book_memory.specs.Place.{LINES, place_in, setting_of, setting_in, SamePlace, Standing}
+use Rattle.book_finish.specs.declared.Stop.{Stop}
 use Rattle.book_finish.specs.Clauses.{Wrote}
 use Rattle.book_run.specs.Clauses.{PreTurn, PostTurn, PreGo, PostGo}
 
@@ -56,32 +59,10 @@ pub record Going (book : List ℕ) (S : Setting) (x : Place) (from first all : �
   pub beyond : (i : ℕ) → y.output.at ≤ i → get_or y.output.bytes.now i 0 ≡ get_or x.output.bytes.now i 0
 
 pub same_refl : (x : Place) → SamePlace x x
-same_refl x = record {
-  aut = record { sp = refl; spp = record { lent = refl; fields = refl }; states = refl; members = refl; transitions = refl; pending = refl; entries = refl; scratch = refl; length = refl };
-  lines = refl;
-  table = refl;
-  output = refl;
-  bytes = refl;
-}
+same_refl x = record { aut = keeps_refl x.aut; lines = slice_refl x.lines.words; output = slice_refl x.output.bytes }
 
 pub same_trans : {x y z : Place} → SamePlace x y → SamePlace y z → SamePlace x z
-same_trans a b = record {
-  aut = record {
-    sp = b.aut.sp ∙ a.aut.sp;
-    spp = record { lent = b.aut.spp.lent ∙ a.aut.spp.lent; fields = b.aut.spp.fields ∙ a.aut.spp.fields };
-    states = b.aut.states ∙ a.aut.states;
-    members = b.aut.members ∙ a.aut.members;
-    transitions = b.aut.transitions ∙ a.aut.transitions;
-    pending = b.aut.pending ∙ a.aut.pending;
-    entries = b.aut.entries ∙ a.aut.entries;
-    scratch = b.aut.scratch ∙ a.aut.scratch;
-    length = b.aut.length ∙ a.aut.length;
-  };
-  lines = b.lines ∙ a.lines;
-  table = b.table ∙ a.table;
-  output = b.output ∙ a.output;
-  bytes = b.bytes ∙ a.bytes;
-}
+same_trans a b = record { aut = keeps_trans a.aut b.aut; lines = slice_trans a.lines b.lines; output = slice_trans a.output b.output }
 
 -- the setting says of what is lent only how many entries and bytes there are
 pub setting_same : (S : Setting) (x y : Place) → length y.aut.pending.now ≡ length x.aut.pending.now → length y.output.bytes.now ≡ length x.output.bytes.now → setting_in S y ≡ setting_in S x
@@ -96,7 +77,7 @@ module _ {book : List ℕ} {S : Setting} {x : Place} {from first all : ℕ} wher
     T = setting_in S y
 
     wrote : Wrote y.output.at x.output.bytes.now y.output.bytes.now
-    wrote = record { fits = omega (arith, v.standing.written, v.same.bytes); beyond = v.beyond }
+    wrote = record { fits = omega (arith, v.standing.written, v.same.output.length); beyond = v.beyond }
 
     pub going_end : {u : Unit {0}} → length book ≤ at → PostGo book S x from first all (code.Ok u) y
     going_end l = record {
@@ -129,20 +110,20 @@ module _ {book : List ℕ} {S : Setting} {x : Place} {from first all : ℕ} wher
         on_step : {o : Run.Ran T} → with_line T (Run.run T (left - 1)) line (place_in y) (cut (drop at book)) ≡ o → lines_from book S x from first all ≡ came_of T o
         on_step e = v.is ∙ ap (came_of T) (run_step T left (drop at book) line (place_in y) n text_left ∙ e)
 
-        pub going_stopped : {f : Refusal} {z : Place} → PostTurn book S y at (code.Err f) z → PostGo book S x from first all (code.Err (record { refusal = f; line = line; length = y.output.at })) z
-        going_stopped {f} {z} d = record {
+        pub going_stopped : {f : Refusal} {s : Stop} {z : Place} → s ≡ record { refusal = f; line = line; length = y.output.at } → PostTurn book S y at (code.Err f) z → PostGo book S x from first all (code.Err s) z
+        going_stopped {f} {s} {z} e d = rw e (record {
           comes = record {
             is = on_step (d.is line (Run.run T (left - 1)) ∙ ap (λ (o : List ℕ). stopped (number_of f) line (take y.output.at o)) (sym (ap (λ (o : Output). o.bytes.now) d.output)));
             ends = tt;
             wrote = rw d.output wrote;
           };
           on = v.on;
-        }
+        })
 
         pub going_again : {z : Place} {next : ℕ} → PostTurn book S y at (code.Ok next) z → SamePlace y z → Going book S x from first all z next (line + 1) (left - 1)
         going_again {z} {next} d s = record {
           is = on_step (d.is line (Run.run T (left - 1)))
-              ∙ ap (λ (R : Run.Setting). came_of R (Run.run R (left - 1) (drop next book) (suc line) (place_in z))) (sym (setting_same S y z s.aut.entries s.bytes))
+              ∙ ap (λ (R : Run.Setting). came_of R (Run.run R (left - 1) (drop next book) (suc line) (place_in z))) (sym (setting_same S y z s.aut.pending.length s.output.length))
               ∙ ap (lines_by z next) {x = suc line} {y = line + 1} (omega arith);
           standing = d.standing;
           inside = d.inside;

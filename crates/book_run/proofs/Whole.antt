@@ -35,7 +35,7 @@ use Rattle.book_memory.specs.Place.{lengths_of, Empty}
 use Rattle.book_writer.specs.declared.Output.{Output}
 use Rattle.book_finish.specs.declared.Stop.{Stop}
 use Rattle.book_finish.specs.Clauses.{Wrote, came_by, written_by, PostFinish, number_of, text_line_of, length_of}
-use Rattle.book_run.specs.Clauses.{ComesTo, went_of, PostGo, Starts, StartsNot, PreOpen, PostOpen, lent_of, slices, slices_in, Table, RunsIn}
+use Rattle.book_run.specs.Clauses.{ComesTo, went_of, PostGo, PostEnough, Starts, StartsNot, PreOpen, PostOpen, lent_of, slices, slices_in, Table, RunsIn}
 
 -- ---- the header
 
@@ -62,15 +62,15 @@ unwritten : {out out' : List ℕ} → out' ≡ out → Wrote 0 out out'
 unwritten e = record { fits = omega arith; beyond = λ i l. ap (λ (o : List ℕ). get_or o i 0) e }
 
 module _ (book : List ℕ) (x : Place) where
-  pub open_short : length x.lines.words.now + length x.aut.scratch.now < 6144 → PostOpen book x (code.Err (record { refusal = refusals.Scratch; line = 0; length = 0 })) x
-  open_short l = record { is = by_scratch (lengths_of x) book (lt-ltb (length x.lines.words.now + length x.aut.scratch.now) 6144 l); ends = tt; wrote = unwritten refl }
+  pub open_short : (s : Stop) → PostEnough x (code.Err s) → PostOpen book x (code.Err s) x
+  open_short s (l, e) = rw e (record { is = by_scratch (lengths_of x) book (lt-ltb (length x.lines.words.now + length x.aut.scratch.now) 6144 l); ends = tt; wrote = unwritten refl })
 
   module _ (l : 6144 ≤ length x.lines.words.now + length x.aut.scratch.now) where
     open_by : ran_book (lengths_of x) book ≡ opened_book (lengths_of x) (cut book)
     open_by = by_scratch (lengths_of x) book (le-ltb (length x.lines.words.now + length x.aut.scratch.now) 6144 l)
 
-    pub open_not : {e : Refusal} {y : Place} → StartsNot book x e y → PostOpen book x (code.Err (record { refusal = e; line = 1; length = 0 })) y
-    open_not s = record { is = open_by ∙ s.is; ends = tt; wrote = unwritten (ap (λ (o : Output). o.bytes.now) s.output) }
+    pub open_not : {e : Refusal} {s : Stop} {y : Place} → s ≡ record { refusal = e; line = 1; length = 0 } → StartsNot book x e y → PostOpen book x (code.Err s) y
+    open_not q s = rw q (record { is = open_by ∙ s.is; ends = tt; wrote = unwritten (ap (λ (o : Output). o.bytes.now) s.output) })
 
     module _ {S : Setting} {from : ℕ} {y : Place} (s : Starts book x S from y) where
       pub open_went : {w : code.Result Setting Stop} {r : code.Result Unit Stop} {z : Place} → PostGo book S y from 2 Run.instructions r z → w ≡ went_of S r → PostOpen book x w z

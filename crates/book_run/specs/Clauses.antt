@@ -1,6 +1,8 @@
 -- 01, promise 1, in code: a book and what is lent come to the defined outcome (book_steps, `outcome`). What each part of a run asks and promises: a line, the lines from any place in order, and a whole book that is not yet finished (its beginning: book_begin, its end: book_finish).
 use Rattle.std.specs.Prelude.{◌≡◌, List, [], ◌++◌, ℕ, suc, ◌+◌, ◌≤◌, ◌<◌, min, length, drop, Result, Ok, Err}
+use Rattle.slices.specs.Same.{SameSlice}
 use Rattle.refusal.specs.declared.Refusal.{Refusal}
+use Rattle.refusal.specs.declared.Refusal.TheVariants.{Scratch}
 use Rattle.refusal.specs.Numbers as refusal
 use Rattle.book_steps.specs.Text.{cut}
 use Rattle.book_steps.specs.Run as Run
@@ -25,6 +27,7 @@ pub record TurnsTo (book : List ℕ) (S : Setting) (x y : Place) (at next : ℕ)
   pub is : (k : ℕ) (go : List ℕ → ℕ → Run.RunState → Run.Ran (setting_in S x)) → with_line (setting_in S x) go k (place_in x) (cut (drop at book)) ≡ go (drop next book) (suc k) (place_in y)
   pub standing : Standing S y
   pub lines : y.lines.count ≡ x.lines.count + 1
+  pub further : at < next
   pub inside : next ≤ length book
   pub onto : Onto x y
 
@@ -63,6 +66,11 @@ pub record PostGo (book : List ℕ) (S : Setting) (x : Place) (from first left :
   pub on : x.output.at ≤ written_by (went_of S r) y
 
 -- ---- a whole book
+
+-- 26: scratch, both parts of it, is shorter than a book needs
+abbrev pub PostEnough : Place → Result Unit Stop → Type 0
+PostEnough x (Ok u) = 6144 ≤ length x.lines.words.now + length x.aut.scratch.now
+PostEnough x (Err s) = (length x.lines.words.now + length x.aut.scratch.now < 6144) × (s ≡ record { refusal = Scratch; line = 0; length = 0 })
 
 -- every table is zeroed, and scratch long enough
 pub record PreStarted (x : Place) : Type 0 where
@@ -121,17 +129,17 @@ slices_in m = slices m.sp.now m.spp.now m.states.now m.members.now m.transitions
 abbrev pub Table : Memory → Type 0
 Table m = length m.lines.now ≡ min LINES (length m.lines.now + length m.scratch.now)
 
--- the same words and bytes are lent
+-- the same words and bytes are lent, as many
 pub record SameMemory (m n : Memory) : Type 0 where
-  pub sp : n.sp.ghost_name ≡ m.sp.ghost_name
-  pub spp : n.spp.ghost_name ≡ m.spp.ghost_name
-  pub states : n.states.ghost_name ≡ m.states.ghost_name
-  pub members : n.members.ghost_name ≡ m.members.ghost_name
-  pub transitions : n.transitions.ghost_name ≡ m.transitions.ghost_name
-  pub pending : n.pending.ghost_name ≡ m.pending.ghost_name
-  pub lines : n.lines.ghost_name ≡ m.lines.ghost_name
-  pub scratch : n.scratch.ghost_name ≡ m.scratch.ghost_name
-  pub output : n.output.ghost_name ≡ m.output.ghost_name
+  pub sp : SameSlice m.sp n.sp
+  pub spp : SameSlice m.spp n.spp
+  pub states : SameSlice m.states n.states
+  pub members : SameSlice m.members n.members
+  pub transitions : SameSlice m.transitions n.transitions
+  pub pending : SameSlice m.pending n.pending
+  pub lines : SameSlice m.lines n.lines
+  pub scratch : SameSlice m.scratch n.scratch
+  pub output : SameSlice m.output n.output
 
 -- where the slices keep their lengths, the entry's promise
 pub record RunsIn (book : List ℕ) (m : Memory) (r : Result ℕ Stop) (n : Memory) : Type 0 where

@@ -26,9 +26,7 @@ fn turn(book: &[u8], place: &mut Place, setting: Setting, at: usize) -> Result<u
     ensures keeps { SamePlace place.old place.new }
     ensures gives { Its.PostTurn book.now setting place.old at result place.new }
 {
-    let Some(c) = book_reader::line_at(book, at) else {
-        return Err(Refusal::Form);
-    };
+    let c = book_reader::line_at(book, at).ok_or(Refusal::Form)?;
     book_line::obey(book, place, setting, c)?;
     Ok(c.end + 1)
 }
@@ -58,16 +56,11 @@ pub fn go_on(
                 length,
             });
         }
-        match turn(book, place, setting, at) {
-            Err(refusal) => {
-                return Err(Stop {
-                    refusal,
-                    line,
-                    length,
-                });
-            }
-            Ok(next) => at = next,
-        }
+        at = turn(book, place, setting, at).map_err(|refusal| Stop {
+            refusal,
+            line,
+            length,
+        })?;
         line += 1;
         left -= 1;
     }
@@ -76,34 +69,9 @@ pub fn go_on(
 
 // ---- a whole book
 
-// the header is read, and the tables are begun: the setting, and where in the text the instructions begin
-fn started(book: &[u8], place: &mut Place) -> Result<(Setting, usize), Refusal>
-    requires { Its.PreStarted place.old }
-    ensures keeps { SameSlices place.old place.new }
-    ensures gives { Its.PostStarted book.now place.old result place.new }
-{
-    let Some(c) = book_reader::line_at(book, 0) else {
-        return Err(Refusal::Header);
-    };
-    let Some((n, budget)) = book_reader::header(book, c) else {
-        return Err(Refusal::Header);
-    };
-    if n > 31 {
-        return Err(Refusal::Fields);
-    }
-    let h = Header {
-        fields: n as u32,
-        budget,
-    };
-    book_begin::begin(place, h)?;
-    Ok((book_begin::setting_of(h), c.end + 1))
-}
-
-// From zeroed tables to the last line. Tables, lines and output are left as the lines made them.
-pub fn open(book: &[u8], place: &mut Place) -> Result<Setting, Stop>
-    requires { Its.PreOpen place.old }
-    ensures keeps { SameSlices place.old place.new }
-    ensures gives { Its.PostOpen book.now place.old result place.new }
+// scratch, lent in two, has the words that a book needs
+pub fn enough(place: &Place) -> Result<(), Stop>
+    ensures { Its.PostEnough place.now result }
 {
     if place.lines.words.len() + place.aut.scratch.len() < SCRATCH {
         return Err(Stop {
@@ -112,20 +80,45 @@ pub fn open(book: &[u8], place: &mut Place) -> Result<Setting, Stop>
             length: 0,
         });
     }
-    match started(book, place) {
-        Err(refusal) => Err(Stop {
-            refusal,
-            line: 1,
-            length: 0,
-        }),
-        Ok((setting, from)) => {
-            go_on(book, place, setting, from, 2, INSTRUCTIONS)?;
-            Ok(setting)
-        }
-    }
+    Ok(())
 }
 
-// the same of a struct, with scratch in two
+// the header is read, and the tables are begun: the setting, and where in the text the instructions begin
+fn started(book: &[u8], place: &mut Place) -> Result<(Setting, usize), Refusal>
+    requires { Its.PreStarted place.old }
+    ensures keeps { SameSlices place.old place.new }
+    ensures gives { Its.PostStarted book.now place.old result place.new }
+{
+    let c = book_reader::line_at(book, 0).ok_or(Refusal::Header)?;
+    let (n, budget) = book_reader::header(book, c).ok_or(Refusal::Header)?;
+    if n > 31 {
+        return Err(Refusal::Fields);
+    }
+    let h = Header {
+        fields: n as u32,
+        budget,
+    };
+    book_begin::begin(place, h)?;
+    Ok((Setting::from(h), c.end + 1))
+}
+
+// From zeroed tables to the last line. Tables, lines and output are left as the lines made them.
+pub fn open(book: &[u8], place: &mut Place) -> Result<Setting, Stop>
+    requires { Its.PreOpen place.old }
+    ensures keeps { SameSlices place.old place.new }
+    ensures gives { Its.PostOpen book.now place.old result place.new }
+{
+    enough(place)?;
+    let (setting, from) = started(book, place).map_err(|refusal| Stop {
+        refusal,
+        line: 1,
+        length: 0,
+    })?;
+    go_on(book, place, setting, from, 2, INSTRUCTIONS)?;
+    Ok(setting)
+}
+
+// a whole book over what is lent, scratch in two
 fn run_in(memory: &mut Memory, book: &[u8]) -> Result<usize, Stop>
     requires { Its.Table memory.old }
     ensures keeps { Its.SameMemory memory.old memory.new }

@@ -3,7 +3,7 @@ use Rattle.std.specs.Prelude.{if◌then◌else◌, Option, Some, None, SomeIff}
 use mathlib.Core.Path.{◌≡◌, refl, sym, ◌∙◌, ap}
 use mathlib.Core.Bool.{Bool, true, false}
 use mathlib.Core.List.{List, [], ◌∷◌, ◌++◌, map, append_assoc, append-nil}
-use Prim.Native.Nat.{ℕ, ◌+◌, ◌-◌, ◌*◌, ◌/◌, ◌%◌, ◌^◌, ◌≤◌, ◌<◌}
+use Prim.Native.Nat.{ℕ, ◌+◌, ◌*◌, ◌/◌, ◌%◌, ◌^◌, ◌≤◌, ◌<◌}
 use native.Mathlib.Omega.{arith}
 use lib.ListN.{length, get_or, drop, length-append}
 use Rattle.std.proofs.lemmas.List.{drop_more, drop_all}
@@ -43,8 +43,8 @@ measured_line w ps (Some k) e h = omega (arith, h.1, say_length w ps)
 measured_line w ps None e h = omega (arith, h, say_length w ps)
 
 -- .. and there is room for n bytes
-pub line_room : (w : List ℕ) (ps : List Part) {at size n : ℕ} → at ≤ size → n ≤ size - at → n ≡ length (say (w ∷ map part_bytes ps)) → at + (length w + length (with_spaces ps) + 1) ≤ size
-line_room w ps f h e = omega (arith, say_length w ps)
+pub line_room : (w : List ℕ) (ps : List Part) (at : ℕ) {size n : ℕ} → at + n ≤ size → n ≡ length (say (w ∷ map part_bytes ps)) → at + (length w + length (with_spaces ps) + 1) ≤ size
+line_room w ps at h e = omega (arith, say_length w ps)
 
 -- what the check puts for a part that is not there
 abbrev pub blank : Part
@@ -74,29 +74,31 @@ module _ {ps : List Part} {total i : ℕ} (M : Measured ps total i) where
   pub measured_all : length ps ≤ i → total ≡ length (with_spaces ps)
   measured_all h = omega (arith, M.is, ap length (no_part ps i h))
 
--- the word and i parts are written
+-- the word and i parts are written, and there is room for all
 pub record Written (s₀ : List ℕ) (at : ℕ) (w : List ℕ) (ps : List Part) (s : List ℕ) (end i : ℕ) : Type 0 where
   pub front : List ℕ
+  pub room : at + (length w + length (with_spaces ps) + 1) ≤ length s₀
   pub put : PutAt at front end s₀ s
   pub is : front ++ with_spaces (drop i ps) ≡ w ++ with_spaces ps
 
-pub begin_line : {s₀ s : List ℕ} {at end : ℕ} {w : List ℕ} (ps : List Part) → PutAt at w end s₀ s → Written s₀ at w ps s end 0
-begin_line {w = w} ps P = record { front = w; put = P; is = refl }
+pub begin_line : {s₀ s : List ℕ} {at end : ℕ} {w : List ℕ} (ps : List Part) → at + (length w + length (with_spaces ps) + 1) ≤ length s₀ → PutAt at w end s₀ s → Written s₀ at w ps s end 0
+begin_line {w = w} ps r P = record { front = w; room = r; put = P; is = refl }
 
-module _ {s₀ s : List ℕ} {at end i : ℕ} {w : List ℕ} {ps : List Part} (room : at + (length w + length (with_spaces ps) + 1) ≤ length s₀) (W : Written s₀ at w ps s end i) where
+module _ {s₀ s : List ℕ} {at end i : ℕ} {w : List ℕ} {ps : List Part} (W : Written s₀ at w ps s end i) where
   size : length W.front + length (with_spaces (drop i ps)) ≡ length w + length (with_spaces ps)
   size = omega (arith, ap length W.is, length-append W.front (with_spaces (drop i ps)), length-append w (with_spaces ps))
 
   pub one_byte : end + 1 ≤ length s
-  one_byte = omega (arith, size, W.put.behind, W.put.wrote.len)
+  one_byte = omega (arith, W.room, size, W.put.behind, W.put.wrote.len)
 
   module _ (h : i < length ps) where
     pub part_fits : {r : ℕ} {s' : List ℕ} → PutAt end (32 ∷ []) r s s' → r + length (part_at ps i) ≤ length s'
-    part_fits P = omega (arith, P.behind, P.wrote.len, size, W.put.behind, W.put.wrote.len, ap length (next_part ps i h), length-append (part_at ps i) (with_spaces (drop (i + 1) ps)))
+    part_fits P = omega (arith, W.room, P.behind, P.wrote.len, size, W.put.behind, W.put.wrote.len, ap length (next_part ps i h), length-append (part_at ps i) (with_spaces (drop (i + 1) ps)))
 
     pub part_more : {q r : ℕ} {s' s'' : List ℕ} → PutAt end (32 ∷ []) q s s' → PutAt q (part_at ps i) r s' s'' → Written s₀ at w ps s'' r (i + 1)
     part_more P Q = record {
       front = W.front ++ 32 ∷ part_at ps i;
+      room = W.room;
       put = put_append W.put (put_append P Q);
       is = append_assoc W.front (32 ∷ part_at ps i) (with_spaces (drop (i + 1) ps)) ∙ ap (λ (l : List ℕ). W.front ++ l) (sym (next_part ps i h)) ∙ W.is;
     }

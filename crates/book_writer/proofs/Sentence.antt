@@ -2,7 +2,7 @@
 use mathlib.Core.Path.{◌≡◌, refl, sym, ◌∙◌, ap}
 use mathlib.Core.Bool.{Bool, true, false}
 use mathlib.Core.List.{List, [], ◌∷◌, ◌++◌, append_assoc, append-nil}
-use Prim.Native.Nat.{ℕ, zero, suc, ◌+◌, ◌*◌, ◌^◌, ◌≤◌, ◌<◌}
+use Prim.Native.Nat.{ℕ, zero, suc, ◌+◌, ◌*◌, ◌≤◌, ◌<◌}
 use native.Mathlib.Omega.{arith}
 use native.Mathlib.Nat.{mul-le-mul_right}
 use lib.ListN.{length, length-append}
@@ -27,10 +27,6 @@ pub word_least : (n : ℕ) → 0 < word_length n
 word_least zero = omega arith
 word_least (suc n) = omega arith
 
-pub word_most : (n : ℕ) → n ≤ 31 → word_length n ≤ 31
-word_most zero l = omega arith
-word_most (suc n) l = l
-
 pub word_dash : (n packet : ℕ) → n ≡ 0 → bytes "-" ≡ word_bytes n packet
 word_dash zero packet e = refl
 word_dash (suc n) packet e = absurd (omega arith)
@@ -41,17 +37,9 @@ word_bits (suc n) packet l = bits_are (suc n) packet
 
 -- ---- lengths
 
-pub hops_none : (n k : ℕ) → k ≡ 0 → hops_length n k ≡ 0
-hops_none n zero e = refl
-hops_none n (suc k) e = absurd (omega arith)
-
 pub hops_some : (n k : ℕ) → 0 < k → hops_length n k ≡ 3 + k * (word_length n + 1)
 hops_some n zero l = absurd (omega arith)
 hops_some n (suc k) l = refl
-
--- 2^55 hops of 31 fields
-pub hops_most : (r k : ℕ) → r ≤ 31 → k ≤ 2 ^ 55 → k * (r + 1) ≤ 2 ^ 60
-hops_most r k l h = omega (arith, mul-le-mul_right (r + 1) h)
 
 -- behind j of k hops there is room for one more
 pub hop_room : (n j k : ℕ) → j < k → 5 + word_length n + hops_length n j + (4 + word_length n) ≤ sentence_length n k

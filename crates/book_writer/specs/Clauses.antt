@@ -33,6 +33,11 @@ Fits o = o.at ≤ length o.bytes.now
 abbrev pub Room : ℕ → Output → Type 0
 Room n o = o.at + n ≤ length o.bytes.now
 
+-- .. or the refusal 27
+abbrev pub RoomBy : ℕ → Output → Result Unit Refusal → Type 0
+RoomBy n o (Ok u) = Room n o
+RoomBy n o (Err e) = (e ≡ refusals.Output) × (length o.bytes.now < o.at + n)
+
 -- bs are written behind what was, with the output o before and o' after
 abbrev pub Put : List ℕ → Output → Output → Type 0
 Put bs o o' = PutAt o.at bs o'.at o.bytes.now o'.bytes.now

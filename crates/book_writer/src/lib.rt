@@ -1,11 +1,12 @@
-// The lines of an answer, written into the output whole or not at all: where there is no room, that is refusal 27.
+// The lines of an answer, written into the output whole or not at all: where there is no room, that is Refusal::Output.
 #![tactic(auto)]
 
 ghost use Rattle.std.specs.Prelude.{◌≡◌, [], ◌∷◌, ◌++◌, ◌+◌, ◌≤◌, ◌<◌, ◌^◌, length, map};
+ghost use Rattle.slices.specs.Same.{SameSlice};
 ghost use Rattle.book_steps.specs.Text.{bytes, decimal};
 ghost use Rattle.book_steps.specs.Answers as Told;
 ghost use Rattle.book_steps.specs.Sentence.{word_bytes, word_length, sentence_length};
-ghost use Rattle.book_writer.specs.Clauses.{Fits, Room, Put, Answers, verdict_of, part_bytes, with_spaces, Measures, last_digits, pair_line, pruned_head, start_part, hop_part, end_part};
+ghost use Rattle.book_writer.specs.Clauses.{Fits, Room, RoomBy, Put, Answers, verdict_of, part_bytes, with_spaces, Measures, last_digits, pair_line, pruned_head, start_part, hop_part, end_part};
 
 use refusal::Refusal;
 
@@ -34,7 +35,8 @@ pub struct Output<'a> {
 
 // how many digits a number has
 pub fn digits(n: u64) -> usize
-    ensures { result ≡ length (decimal n) }
+    ensures is { result ≡ length (decimal n) }
+    ensures most { result ≤ 20 }
 {
     n.max(1).ilog10() as usize + 1
 }
@@ -81,12 +83,10 @@ pub fn pair_length(target: u32, number: u64) -> usize
 }
 
 fn word_length(fields: u32) -> usize
-    ensures { result ≡ word_length fields }
+    ensures is { result ≡ word_length fields }
+    ensures most { fields ≤ 31 → result ≤ 31 }
 {
-    if fields == 0 {
-        return 1;
-    }
-    fields as usize
+    fields.max(1) as usize
 }
 
 // the sentence of `why`: the whole of it has to fit before its first byte is written
@@ -122,9 +122,20 @@ pub fn share(count: u64, total: u64) -> u64
 // ---- into the output
 
 impl Output<'_> {
+    // n bytes more fit
+    pub fn room(&self, n: usize) -> Result<(), Refusal>
+        requires { Fits self.now }
+        ensures { RoomBy n self.now result }
+    {
+        if self.bytes.len() - self.at < n {
+            return Err(Refusal::Output);
+        }
+        Ok(())
+    }
+
     pub fn put(&mut self, text: &[u8])
         requires { Room (length text.now) self.old }
-        ensures keeps { self.new.bytes.ghost_name ≡ self.old.bytes.ghost_name }
+        ensures keeps { SameSlice self.old.bytes self.new.bytes }
         ensures puts { Put text.now self.old self.new }
     {
         let at = self.at;
@@ -135,7 +146,7 @@ impl Output<'_> {
 
     fn put_byte(&mut self, byte: u8)
         requires { Room 1 self.old }
-        ensures keeps { self.new.bytes.ghost_name ≡ self.old.bytes.ghost_name }
+        ensures keeps { SameSlice self.old.bytes self.new.bytes }
         ensures puts { Put (byte ∷ []) self.old self.new }
     {
         let at = self.at;
@@ -146,7 +157,7 @@ impl Output<'_> {
     // the last k digits of a number, from the right
     fn put_digits(&mut self, base: u64, k: usize, n: u64)
         requires { Room k self.old × (0 < base) × (base ≤ 10) }
-        ensures keeps { self.new.bytes.ghost_name ≡ self.old.bytes.ghost_name }
+        ensures keeps { SameSlice self.old.bytes self.new.bytes }
         ensures puts { Put (last_digits base k n) self.old self.new }
     {
         let at = self.at;
@@ -160,7 +171,7 @@ impl Output<'_> {
 
     pub fn put_decimal(&mut self, n: u64)
         requires { Room (length (decimal n)) self.old }
-        ensures keeps { self.new.bytes.ghost_name ≡ self.old.bytes.ghost_name }
+        ensures keeps { SameSlice self.old.bytes self.new.bytes }
         ensures puts { Put (decimal n) self.old self.new }
     {
         let k = digits(n);
@@ -169,7 +180,7 @@ impl Output<'_> {
 
     fn put_part(&mut self, part: Part)
         requires { Room (length (part_bytes part)) self.old }
-        ensures keeps { self.new.bytes.ghost_name ≡ self.old.bytes.ghost_name }
+        ensures keeps { SameSlice self.old.bytes self.new.bytes }
         ensures puts { Put (part_bytes part.entry) self.old self.new }
     {
         match part {
@@ -181,16 +192,12 @@ impl Output<'_> {
     // a line of a word and other parts
     pub fn line(&mut self, word: &[u8], parts: &[Part]) -> Result<(), Refusal>
         requires { Fits self.old }
-        ensures keeps { self.new.bytes.ghost_name ≡ self.old.bytes.ghost_name }
+        ensures keeps { SameSlice self.old.bytes self.new.bytes }
         ensures answers { Answers (Told.say (word.now ∷ map part_bytes parts.now)) self.old result
             self.new }
     {
-        let Some(n) = line_length(word, parts) else {
-            return Err(Refusal::Output);
-        };
-        if self.bytes.len() - self.at < n {
-            return Err(Refusal::Output);
-        }
+        let n = line_length(word, parts).ok_or(Refusal::Output)?;
+        self.room(n)?;
         self.put(word);
         for part in parts {
             self.put_byte(b' ');
@@ -202,7 +209,7 @@ impl Output<'_> {
 
     pub fn fields_answer(&mut self, fields: u32) -> Result<(), Refusal>
         requires { Fits self.old }
-        ensures keeps { self.new.bytes.ghost_name ≡ self.old.bytes.ghost_name }
+        ensures keeps { SameSlice self.old.bytes self.new.bytes }
         ensures answers { Answers (Told.fields_answer fields) self.old result self.new }
     {
         self.line(b"fields", &[Part::Number(fields as u64)])
@@ -210,7 +217,7 @@ impl Output<'_> {
 
     pub fn empty_answer(&mut self, name: &[u8], verdict: Verdict, count: u64) -> Result<(), Refusal>
         requires { Fits self.old }
-        ensures keeps { self.new.bytes.ghost_name ≡ self.old.bytes.ghost_name }
+        ensures keeps { SameSlice self.old.bytes self.new.bytes }
         ensures answers { Answers (Told.empty_answer name.now (verdict_of verdict) count) self.old
             result self.new }
     {
@@ -227,7 +234,7 @@ impl Output<'_> {
 
     pub fn live_answer(&mut self, name: &[u8], count: u64, fields: u32) -> Result<(), Refusal>
         requires { Fits self.old × (fields ≤ 31) × (count ≤ 2 ^ fields) }
-        ensures keeps { self.new.bytes.ghost_name ≡ self.old.bytes.ghost_name }
+        ensures keeps { SameSlice self.old.bytes self.new.bytes }
         ensures answers { Answers (Told.live_answer fields name.now count) self.old result self.new }
     {
         let part = share(count, 1u64 << fields);
@@ -240,7 +247,7 @@ impl Output<'_> {
     // the first line of `pruned`, for k transitions
     pub fn pruned_head(&mut self, name: &[u8], k: usize) -> Result<(), Refusal>
         requires { Fits self.old }
-        ensures keeps { self.new.bytes.ghost_name ≡ self.old.bytes.ghost_name }
+        ensures keeps { SameSlice self.old.bytes self.new.bytes }
         ensures answers { Answers (pruned_head name.now k) self.old result self.new }
     {
         self.line(b"pruned", &[Part::Word(name), Part::Number(k as u64)])
@@ -249,7 +256,7 @@ impl Output<'_> {
     // the line of one transition
     pub fn pair_line(&mut self, target: u32, number: u64) -> Result<(), Refusal>
         requires { Fits self.old }
-        ensures keeps { self.new.bytes.ghost_name ≡ self.old.bytes.ghost_name }
+        ensures keeps { SameSlice self.old.bytes self.new.bytes }
         ensures answers { Answers (pair_line target number) self.old result self.new }
     {
         self.line(
@@ -261,7 +268,7 @@ impl Output<'_> {
     // the answer to `why` for a state that is empty
     pub fn none_answer(&mut self) -> Result<(), Refusal>
         requires { Fits self.old }
-        ensures keeps { self.new.bytes.ghost_name ≡ self.old.bytes.ghost_name }
+        ensures keeps { SameSlice self.old.bytes self.new.bytes }
         ensures answers { Answers (Told.say (bytes "none" ∷ [])) self.old result self.new }
     {
         self.line(b"none", &[])
@@ -270,7 +277,7 @@ impl Output<'_> {
     // a packet's word; packets come as numbers, field 0 the highest bit
     fn put_packet(&mut self, fields: u32, packet: u32)
         requires { Room (word_length fields) self.old }
-        ensures keeps { self.new.bytes.ghost_name ≡ self.old.bytes.ghost_name }
+        ensures keeps { SameSlice self.old.bytes self.new.bytes }
         ensures puts { Put (word_bytes fields packet) self.old self.new }
     {
         if fields == 0 {
@@ -283,7 +290,7 @@ impl Output<'_> {
     // some bytes and a packet's word
     fn put_behind(&mut self, text: &[u8], fields: u32, packet: u32)
         requires { Room (length text.now + word_length fields) self.old }
-        ensures keeps { self.new.bytes.ghost_name ≡ self.old.bytes.ghost_name }
+        ensures keeps { SameSlice self.old.bytes self.new.bytes }
         ensures puts { Put (text.now ++ word_bytes fields packet) self.old self.new }
     {
         self.put(text);
@@ -293,7 +300,7 @@ impl Output<'_> {
     // the parts of the sentence of `why`, in their order: the start, each hop, the end
     pub fn put_start(&mut self, fields: u32, packet: u32)
         requires { Room (5 + word_length fields) self.old }
-        ensures keeps { self.new.bytes.ghost_name ≡ self.old.bytes.ghost_name }
+        ensures keeps { SameSlice self.old.bytes self.new.bytes }
         ensures puts { Put (start_part fields packet) self.old self.new }
     {
         self.put_behind(b"from ", fields, packet)
@@ -302,7 +309,7 @@ impl Output<'_> {
     // there is room as for the first hop: an end comes behind
     pub fn put_hop(&mut self, fields: u32, first: bool, packet: u32)
         requires { Room (4 + word_length fields) self.old }
-        ensures keeps { self.new.bytes.ghost_name ≡ self.old.bytes.ghost_name }
+        ensures keeps { SameSlice self.old.bytes self.new.bytes }
         ensures puts { Put (hop_part fields first packet) self.old self.new }
     {
         if first {
@@ -314,10 +321,10 @@ impl Output<'_> {
 
     pub fn put_end(&mut self, fields: u32, packet: u32)
         requires { Room (5 + word_length fields) self.old }
-        ensures keeps { self.new.bytes.ghost_name ≡ self.old.bytes.ghost_name }
+        ensures keeps { SameSlice self.old.bytes self.new.bytes }
         ensures puts { Put (end_part fields packet) self.old self.new }
     {
         self.put_behind(b" to ", fields, packet);
-        self.put_byte(10)
+        self.put_byte(b'\n')
     }
 }

@@ -3,7 +3,9 @@ use Rattle.std.specs.Prelude.{◌≡◌, Bool, List, [], ◌∷◌, ◌++◌, �
 use Rattle.book_steps.specs.Text.{bytes, decimal}
 use Rattle.book_steps.specs.Answers.{say}
 use Rattle.book_steps.specs.Run.{outcome}
-use Rattle.book_steps.specs.Claim.{netcheck_lent, report}
+use Rattle.book_steps.specs.Claim.{Slices, netcheck_lent, report}
+use Rattle.book_run.specs.Clauses.{slices}
+use Rattle.netcheck_entry.specs.declared.Tables.{Tables}
 use Rattle.netcheck.specs.declared.Written.{Written}
 
 abbrev pub refused_line : (number line : ℕ) → List ℕ
@@ -14,6 +16,9 @@ abbrev pub too_long : List ℕ
 too_long = say (bytes "too long" ∷ [])
 
 -- ---- in code
+
+abbrev pub slices_of : Tables → Slices
+slices_of t = slices t.sp.now t.spp.now t.states.now t.members.now t.transitions.now t.pending.now t.scratch.now t.output.now
 
 -- what is written for the bytes read, where `over` says that more stand behind them
 abbrev pub writes : Bool → List ℕ → List ℕ

@@ -3,12 +3,13 @@
 #![tactic(auto)]
 
 ghost use Rattle.std.specs.Prelude.{◌≡◌, ◌≤◌, length};
+ghost use Rattle.slices.specs.Same.{SameSlice};
 ghost use Rattle.book_steps.specs.Claim.{Lends, netcheck_lent};
 ghost use Rattle.book_writer.specs.Clauses.{Room, Put};
-ghost use Rattle.book_run.specs.Clauses.{slices};
-ghost use Rattle.netcheck.specs.Output.{refused_line, closing as Output·closing, too_long, Stands, Prepared};
+ghost use Rattle.netcheck.specs.Output.{slices_of, refused_line, closing as Output·closing, too_long, Stands, Prepared};
 
 use book_writer::{Output, Part};
+use netcheck_entry::Tables;
 use std::io;
 use std::io::Read;
 
@@ -23,7 +24,7 @@ pub struct Written {
 
 fn refused_line(line: &mut Output, number: u32, text_line: u32)
     requires { Room 64 line.old }
-    ensures keeps { line.new.bytes.ghost_name ≡ line.old.bytes.ghost_name }
+    ensures keeps { SameSlice line.old.bytes line.new.bytes }
     ensures puts { Put (refused_line number text_line) line.old line.new }
 {
     let parts = [Part::Number(number as u64), Part::Number(text_line as u64)];
@@ -33,7 +34,7 @@ fn refused_line(line: &mut Output, number: u32, text_line: u32)
 
 fn closing_line(line: &mut Output, number: u32, text_line: u32)
     requires { Room 64 line.old × (line.old.at ≡ 0) }
-    ensures keeps { line.new.bytes.ghost_name ≡ line.old.bytes.ghost_name }
+    ensures keeps { SameSlice line.old.bytes line.new.bytes }
     ensures stands { Stands (Output·closing number text_line) line.new.at line.new.bytes.now }
 {
     if number == 0 {
@@ -44,7 +45,7 @@ fn closing_line(line: &mut Output, number: u32, text_line: u32)
 
 fn too_long(line: &mut Output)
     requires { Room 64 line.old × (line.old.at ≡ 0) }
-    ensures keeps { line.new.bytes.ghost_name ≡ line.old.bytes.ghost_name }
+    ensures keeps { SameSlice line.old.bytes line.new.bytes }
     ensures stands { Stands too_long line.new.at line.new.bytes.now }
 {
     line.put(b"too long\n");
@@ -53,23 +54,9 @@ fn too_long(line: &mut Output)
 // ---- a book
 
 // what is to be written, in the output and the closing line
-fn answer(
-    over: bool,
-    book: &[u8],
-    sp: &mut [u32],
-    spp: &mut [u32],
-    states: &mut [u32],
-    members: &mut [u32],
-    transitions: &mut [u32],
-    pending: &mut [u32],
-    scratch: &mut [u32],
-    output: &mut [u8],
-    closing: &mut [u8],
-) -> Written
-    requires { Lends netcheck_lent
-        (slices sp.old spp.old states.old members.old transitions.old pending.old scratch.old
-        output.old) × (64 ≤ length closing.old) }
-    ensures { Prepared over book.now result output.new closing.new }
+fn answer(over: bool, book: &[u8], tables: &mut Tables, closing: &mut [u8]) -> Written
+    requires { Lends netcheck_lent (slices_of tables.old) × (64 ≤ length closing.old) }
+    ensures { Prepared over book.now result tables.new.output.now closing.new }
 {
     let mut line = Output {
         bytes: closing,
@@ -84,14 +71,14 @@ fn answer(
     }
     let r = netcheck_entry::netcheck_run(
         book,
-        sp,
-        spp,
-        states,
-        members,
-        transitions,
-        pending,
-        scratch,
-        output,
+        tables.sp,
+        tables.spp,
+        tables.states,
+        tables.members,
+        tables.transitions,
+        tables.pending,
+        tables.scratch,
+        tables.output,
     );
     closing_line(&mut line, r.number, r.line);
     Written {
@@ -124,21 +111,17 @@ fn main(rt: HostRuntime) -> io::Result<()> {
     let mut closing = [0u8; 64];
     let got = reading::read_full(&mut input, &mut book)?;
     let over = is_over(&mut input, got)?;
-    let w = answer(
-        over,
-        &book[..got],
-        &mut sp,
-        &mut spp,
-        &mut states,
-        &mut members,
-        &mut transitions,
-        &mut pending,
-        &mut scratch,
-        &mut output,
-        &mut closing,
-    );
-    let a = w.output;
-    let b = w.closing;
-    rt.write_all(&output[..a])?;
-    rt.write_all(&closing[..b])
+    let mut tables = Tables {
+        sp: &mut sp,
+        spp: &mut spp,
+        states: &mut states,
+        members: &mut members,
+        transitions: &mut transitions,
+        pending: &mut pending,
+        scratch: &mut scratch,
+        output: &mut output,
+    };
+    let w = answer(over, &book[..got], &mut tables, &mut closing);
+    rt.write_all(&tables.output[..w.output])?;
+    rt.write_all(&closing[..w.closing])
 }

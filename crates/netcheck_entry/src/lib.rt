@@ -17,6 +17,20 @@ pub struct Outcome {
     pub length: usize,
 }
 
+// what the programs lend; book_memory's Memory is it with scratch in two
+#[derive(Drop)]
+pub struct Tables<'a> {
+    pub sp: &'a mut [u32],
+    pub spp: &'a mut [u32],
+    pub states: &'a mut [u32],
+    pub members: &'a mut [u32],
+    pub transitions: &'a mut [u32],
+    pub pending: &'a mut [u32],
+    pub scratch: &'a mut [u32],
+    pub output: &'a mut [u8],
+}
+
+// the text line has to fit into the struct
 pub fn outcome_of(ran: Result<usize, Stop>) -> Outcome
     requires { text_line_of ran ≤ 2050 }
     ensures { result ≡ outcome_of ran }

@@ -6,14 +6,8 @@
 
 ghost use Rattle.std.specs.Prelude.{◌≤◌, length};
 
-use book_finish::Stop;
+use netcheck_entry::{Outcome, Tables};
 use std::io;
-
-#[derive(Clone, Copy)]
-struct Number {
-    value: usize,
-    at: usize,
-}
 
 #[derive(Clone, Copy)]
 struct Lent {
@@ -26,75 +20,55 @@ struct Lent {
     scratch: usize,
     output: usize,
     bytes: usize,
-    at: usize,
 }
 
-#[derive(Clone, Copy)]
-struct Told {
-    number: u32,
-    line: usize,
-    length: usize,
-}
-
-// the number at `from`, and the place behind the byte that ends it
-fn number_at(text: &[u8], from: usize) -> Number {
+// the number at the text's start, and the text behind the byte that ends it
+fn number(text: &[u8]) -> (usize, &[u8]) {
     let mut value: usize = 0;
-    for i in from..text.len() {
+    for i in 0..text.len() {
         let b = text[i];
         if !b.is_ascii_digit() {
-            return Number { value, at: i + 1 };
+            return (value, &text[i + 1..]);
         }
         if value < 10000000 {
             value = 10 * value + (b - b'0') as usize;
         }
     }
-    Number {
-        value,
-        at: text.len(),
-    }
+    (value, &text[text.len()..])
 }
 
-fn lengths(text: &[u8], from: usize) -> Lent {
-    let sp = number_at(text, from);
-    let spp = number_at(text, sp.at);
-    let states = number_at(text, spp.at);
-    let members = number_at(text, states.at);
-    let transitions = number_at(text, members.at);
-    let pending = number_at(text, transitions.at);
-    let scratch = number_at(text, pending.at);
-    let output = number_at(text, scratch.at);
-    let bytes = number_at(text, output.at);
-    Lent {
-        sp: sp.value,
-        spp: spp.value,
-        states: states.value,
-        members: members.value,
-        transitions: transitions.value,
-        pending: pending.value,
-        scratch: scratch.value,
-        output: output.value,
-        bytes: bytes.value,
-        at: bytes.at,
-    }
-}
-
-fn least(n: usize, most: usize) -> usize
-    ensures { result ≤ most }
-{
-    if n < most {
-        return n;
-    }
-    most
+fn lengths(text: &[u8]) -> (Lent, &[u8]) {
+    let (sp, text) = number(text);
+    let (spp, text) = number(text);
+    let (states, text) = number(text);
+    let (members, text) = number(text);
+    let (transitions, text) = number(text);
+    let (pending, text) = number(text);
+    let (scratch, text) = number(text);
+    let (output, text) = number(text);
+    let (bytes, text) = number(text);
+    let lent = Lent {
+        sp,
+        spp,
+        states,
+        members,
+        transitions,
+        pending,
+        scratch,
+        output,
+        bytes,
+    };
+    (lent, text)
 }
 
 // words up to the last that is not 0
 fn used(table: &[u32]) -> usize
     ensures { result ≤ length table.now }
 {
-    match table.iter().rposition(|word| *word != 0) {
-        Some(i) => i + 1,
-        None => 0,
-    }
+    table
+        .iter()
+        .rposition(|word| *word != 0)
+        .map_or(0, |i| i + 1)
 }
 
 fn print_table(rt: &impl Print, name: &[u8], table: &[u32]) -> io::Result<()> {
@@ -105,21 +79,6 @@ fn print_table(rt: &impl Print, name: &[u8], table: &[u32]) -> io::Result<()> {
     rt.write_all(b"\n")
 }
 
-fn as_told(ran: Result<usize, Stop>) -> Told {
-    match ran {
-        Ok(length) => Told {
-            number: 0,
-            line: 0,
-            length,
-        },
-        Err(stop) => Told {
-            number: stop.refusal.number(),
-            line: stop.line,
-            length: stop.length,
-        },
-    }
-}
-
 fn print_start(rt: &impl Print, output: &[u8], length: usize) -> io::Result<()> {
     if length <= output.len() {
         rt.write_all(&output[..length])?;
@@ -127,127 +86,52 @@ fn print_start(rt: &impl Print, output: &[u8], length: usize) -> io::Result<()> 
     Ok(())
 }
 
-fn print_told(rt: &impl Print, told: Told, output: &[u8]) -> io::Result<()> {
+fn print_told(rt: &impl Print, told: Outcome, output: &[u8]) -> io::Result<()> {
     println!(rt; "{} {} {}", told.number, told.line, told.length)?;
     print_start(rt, output, told.length)
 }
 
-fn print_tables(
-    rt: &impl Print,
-    sp: &[u32],
-    spp: &[u32],
-    states: &[u32],
-    members: &[u32],
-    transitions: &[u32],
-    pending: &[u32],
-    scratch: &[u32],
-) -> io::Result<()> {
-    print_table(rt, b"sp", sp)?;
-    print_table(rt, b"spp", spp)?;
-    print_table(rt, b"states", states)?;
-    print_table(rt, b"members", members)?;
-    print_table(rt, b"transitions", transitions)?;
-    print_table(rt, b"pending", pending)?;
-    print_table(rt, b"scratch", scratch)
-}
-
-fn replay(
-    rt: &impl Print,
-    book: &[u8],
-    sp: &mut [u32],
-    spp: &mut [u32],
-    states: &mut [u32],
-    members: &mut [u32],
-    transitions: &mut [u32],
-    pending: &mut [u32],
-    scratch: &mut [u32],
-    output: &mut [u8],
-) -> io::Result<()> {
-    let ran = book_run::run(
-        book,
-        sp,
-        spp,
-        states,
-        members,
-        transitions,
-        pending,
-        scratch,
-        output,
+// the case at the text's start; what is given is the text behind it
+fn replay_case<'a>(rt: &impl Print, text: &'a [u8], tables: &mut Tables) -> io::Result<&'a [u8]> {
+    let (l, text) = lengths(text);
+    let end = l.bytes.min(text.len());
+    let sp = l.sp.min(tables.sp.len());
+    let spp = l.spp.min(tables.spp.len());
+    let states = l.states.min(tables.states.len());
+    let members = l.members.min(tables.members.len());
+    let transitions = l.transitions.min(tables.transitions.len());
+    let pending = l.pending.min(tables.pending.len());
+    let scratch = l.scratch.min(tables.scratch.len());
+    let output = l.output.min(tables.output.len());
+    let told = netcheck_entry::netcheck_run(
+        &text[..end],
+        &mut tables.sp[..sp],
+        &mut tables.spp[..spp],
+        &mut tables.states[..states],
+        &mut tables.members[..members],
+        &mut tables.transitions[..transitions],
+        &mut tables.pending[..pending],
+        &mut tables.scratch[..scratch],
+        &mut tables.output[..output],
     );
-    print_told(rt, as_told(ran), output)?;
-    print_tables(rt, sp, spp, states, members, transitions, pending, scratch)
+    print_told(rt, told, &tables.output[..output])?;
+    print_table(rt, b"sp", &tables.sp[..sp])?;
+    print_table(rt, b"spp", &tables.spp[..spp])?;
+    print_table(rt, b"states", &tables.states[..states])?;
+    print_table(rt, b"members", &tables.members[..members])?;
+    print_table(rt, b"transitions", &tables.transitions[..transitions])?;
+    print_table(rt, b"pending", &tables.pending[..pending])?;
+    print_table(rt, b"scratch", &tables.scratch[..scratch])?;
+    Ok(&text[end..])
 }
 
-// the case at a place of the text, and the place behind it
-fn replay_case(
-    rt: &impl Print,
-    text: &[u8],
-    at: usize,
-    sp: &mut [u32],
-    spp: &mut [u32],
-    states: &mut [u32],
-    members: &mut [u32],
-    transitions: &mut [u32],
-    pending: &mut [u32],
-    scratch: &mut [u32],
-    output: &mut [u8],
-) -> io::Result<usize> {
-    let l = lengths(text, at);
-    let from = least(l.at, text.len());
-    let to = from + least(l.bytes, text.len() - from);
-    let a = least(l.sp, sp.len());
-    let b = least(l.spp, spp.len());
-    let c = least(l.states, states.len());
-    let d = least(l.members, members.len());
-    let e = least(l.transitions, transitions.len());
-    let f = least(l.pending, pending.len());
-    let g = least(l.scratch, scratch.len());
-    let h = least(l.output, output.len());
-    replay(
-        rt,
-        &text[from..to],
-        &mut sp[..a],
-        &mut spp[..b],
-        &mut states[..c],
-        &mut members[..d],
-        &mut transitions[..e],
-        &mut pending[..f],
-        &mut scratch[..g],
-        &mut output[..h],
-    )?;
-    Ok(to)
-}
-
-fn replay_all(
-    rt: &impl Print,
-    text: &[u8],
-    sp: &mut [u32],
-    spp: &mut [u32],
-    states: &mut [u32],
-    members: &mut [u32],
-    transitions: &mut [u32],
-    pending: &mut [u32],
-    scratch: &mut [u32],
-    output: &mut [u8],
-) -> io::Result<()> {
-    let mut at: usize = 0;
+fn replay_all(rt: &impl Print, text: &[u8], tables: &mut Tables) -> io::Result<()> {
+    let mut rest = text;
     for _ in 0..100000 {
-        if at >= text.len() {
+        if rest.is_empty() {
             break;
         }
-        at = replay_case(
-            rt,
-            text,
-            at,
-            sp,
-            spp,
-            states,
-            members,
-            transitions,
-            pending,
-            scratch,
-            output,
-        )?;
+        rest = replay_case(rt, rest, tables)?;
     }
     Ok(())
 }
@@ -263,16 +147,15 @@ fn main(rt: HostRuntime) -> io::Result<()> {
     let mut scratch = [0u32; 6144];
     let mut output = [0u8; 65536];
     let got = reading::read_full(&mut rt.stdin(), &mut text)?;
-    replay_all(
-        &rt,
-        &text[..got],
-        &mut sp,
-        &mut spp,
-        &mut states,
-        &mut members,
-        &mut transitions,
-        &mut pending,
-        &mut scratch,
-        &mut output,
-    )
+    let mut tables = Tables {
+        sp: &mut sp,
+        spp: &mut spp,
+        states: &mut states,
+        members: &mut members,
+        transitions: &mut transitions,
+        pending: &mut pending,
+        scratch: &mut scratch,
+        output: &mut output,
+    };
+    replay_all(&rt, &text[..got], &mut tables)
 }

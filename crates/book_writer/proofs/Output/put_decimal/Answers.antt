@@ -8,4 +8,4 @@ use Rattle.book_writer.proofs.Output.put_decimal.Goals as goal
 
 pub returns-clause-puts : goal.returns-clause-puts
 returns-clause-puts c =
-    put_of (ap (λ (k : ℕ). last_digits 10 k c.args.n) c.digits-k.ensures ∙ decimal_are c.args.n (omega arith)) c.put_digits.ensures.puts
+    put_of (ap (λ (k : ℕ). last_digits 10 k c.args.n) c.digits-k.ensures.is ∙ decimal_are c.args.n (omega arith)) c.put_digits.ensures.puts
