@@ -2,17 +2,18 @@
 use mathlib.Core.Path.{◌≡◌, refl, sym, ◌∙◌, ap, subst}
 use mathlib.Core.Bool.{true}
 use mathlib.Core.Logic.{◌⊎◌, inl, inr}
-use mathlib.Core.List.{List, [], ◌∷◌, ◌++◌}
+use mathlib.Core.List.{List, [], ◌∷◌, ◌++◌, append_assoc}
 use mathlib.Core.Option.{none, some}
-use Prim.Native.Nat.{ℕ, suc, ◌+◌, ◌-◌, ◌*◌, ◌%◌, ◌≤◌, ◌<◌}
+use Prim.Native.Nat.{ℕ, suc, ◌+◌, ◌-◌, ◌*◌, ◌/◌, ◌%◌, ◌≤◌, ◌<◌}
 use native.Mathlib.Omega.{arith}
 use native.Mathlib.Nat.{mul-le-mul}
 use native.Mathlib.Numerals.{add-one}
-use lib.ListN.{length, get_or, set, take, drop, length-drop}
-use lib.Seq.{take-suc, get_or-drop, length-take-le, sets}
+use borrow.Rule.Slice.PartMut.{put_mid, Post-is}
+use lib.ListN.{length, get_or, take, drop}
+use lib.Seq.{take-suc, take_all, length-take-le, sets, sets-eq}
 use lib.Dec.{eqb}
 use borrow.Author.Tests.{eq-eqb, ne_eqb}
-use Rattle.image_form.specs.Form.{half_at, weighed, check, front_at, verify}
+use Rattle.image_form.specs.Form.{wide, half_at, weighed, check, front_at, verify}
 
 weighed_last : (i : ℕ) (xs : List ℕ) (x : ℕ) → weighed i (xs ++ x ∷ []) ≡ weighed i xs + x * (i + length xs + 1)
 unfolding weighed
@@ -36,62 +37,57 @@ lowered_twice w x a b m (inl p) (inr q) = omega (arith, p.0, p.1, q.0, q.1)
 lowered_twice w x a b m (inr p) (inl q) = omega (arith, p.0, p.1, q.0, q.1)
 lowered_twice w x a b m (inr p) (inr q) = omega (arith, p.0, p.1, q.0, q.1)
 
--- i bytes from `at` on are summed, and the sum is kept below 65,521
-pub record Summed (image : List ℕ) (at sum i : ℕ) : Type 0 where
-  pub most : i ≤ 510
-  pub is : sum ≡ weighed 0 (take i (drop at image)) % 65521
+-- i bytes are summed, and the sum is kept below 65,521
+pub record Summed (front : List ℕ) (sum i : ℕ) : Type 0 where
+  pub most : i ≤ length front
+  pub is : sum ≡ weighed 0 (take i front) % 65521
   pub small : sum < 65521
 
-module _ (image : List ℕ) (at : ℕ) where
-  pub sum_begin : Summed image at 0 0
+module _ (front : List ℕ) where
+  pub sum_begin : Summed front 0 0
   unfolding weighed
   sum_begin = record { most = omega arith; is = refl; small = omega arith }
 
   -- one byte more is weighed
-  weighed_more : at + 510 ≤ length image → (i : ℕ) → i < 510
-      → weighed 0 (take i (drop at image)) + get_or image (at + i) 0 * (i + 1) ≡ weighed 0 (take (i + 1) (drop at image))
-  weighed_more room i l =
-      let few : i < length (drop at image) = omega (arith, length-drop at image) in
-      let front : List ℕ = take i (drop at image) in
-      let size : length front ≡ i = length-take-le i (drop at image) (omega arith) in
-      let x : get_or image (at + i) 0 ≡ get_or (drop at image) i 0 = sym (get_or-drop at image i 0) in
-      ap (λ (k : ℕ). weighed 0 front + get_or image (at + i) 0 * k) {x = i + 1} {y = 0 + length front + 1} (omega arith)
-      ∙ sym (weighed_last 0 front (get_or image (at + i) 0))
-      ∙ ap (λ (z : ℕ). weighed 0 (front ++ z ∷ [])) x
-      ∙ ap (weighed 0) (sym (take-suc (drop at image) i 0 few))
-      ∙ ap (λ (k : ℕ). weighed 0 (take k (drop at image))) (sym (add-one i))
+  weighed_more : (i : ℕ) → i < length front → weighed 0 (take i front) + get_or front i 0 * (i + 1) ≡ weighed 0 (take (i + 1) front)
+  weighed_more i l =
+      let size : length (take i front) ≡ i = length-take-le i front (omega arith) in
+      ap (λ (k : ℕ). weighed 0 (take i front) + get_or front i 0 * k) {x = i + 1} {y = 0 + length (take i front) + 1} (omega arith)
+      ∙ sym (weighed_last 0 (take i front) (get_or front i 0))
+      ∙ ap (weighed 0) (sym (take-suc front i 0 l))
+      ∙ ap (λ (k : ℕ). weighed 0 (take k front)) (sym (add-one i))
 
-  pub sum_again : at + 510 ≤ length image → (sum i once next : ℕ) → Summed image at sum i → get_or image (at + i) 0 < 256 → i < 510
-      → Lowered (sum + get_or image (at + i) 0 * (i + 1)) once → Lowered once next → Summed image at next (i + 1)
-  sum_again room sum i once next v b l first second =
-      let more : ℕ = get_or image (at + i) 0 * (i + 1) in
-      let from : Lowered (weighed 0 (take i (drop at image)) % 65521 + more) once = subst (λ (s : ℕ). Lowered (s + more) once) v.is first in
-      let two : next ≡ (weighed 0 (take i (drop at image)) + more) % 65521 = lowered_twice (weighed 0 (take i (drop at image))) more once next (weight b (omega arith)) from second in
-      let e : next ≡ weighed 0 (take (i + 1) (drop at image)) % 65521 = two ∙ ap (λ (s : ℕ). s % 65521) (weighed_more room i l) in
+  pub sum_again : length front ≤ 510 → (sum i once next : ℕ) → Summed front sum i → get_or front i 0 < 256 → i < length front
+      → Lowered (sum + get_or front i 0 * (i + 1)) once → Lowered once next → Summed front next (i + 1)
+  sum_again few sum i once next v b l first second =
+      let more : ℕ = get_or front i 0 * (i + 1) in
+      let from : Lowered (weighed 0 (take i front) % 65521 + more) once = subst (λ (s : ℕ). Lowered (s + more) once) v.is first in
+      let two : next ≡ (weighed 0 (take i front) + more) % 65521 = lowered_twice (weighed 0 (take i front)) more once next (weight b (omega arith)) from second in
+      let e : next ≡ weighed 0 (take (i + 1) front) % 65521 = two ∙ ap (λ (s : ℕ). s % 65521) (weighed_more i l) in
       record { most = omega arith; is = e; small = omega (arith, e) }
 
-  pub sum_end : (sum i : ℕ) → Summed image at sum i → 510 ≤ i → sum ≡ check (take 510 (drop at image))
+  pub sum_end : (sum i : ℕ) → Summed front sum i → length front ≤ i → sum ≡ check front
   unfolding check
-  sum_end sum i v l =
-      v.is ∙ ap (λ (k : ℕ). weighed 0 (take k (drop at image)) % 65521) {x = i} {y = 510} (omega (arith, v.most))
+  sum_end sum i v l = v.is ∙ ap (λ (xs : List ℕ). weighed 0 xs % 65521) (take_all i front l)
 
--- numbers read from bytes
-pub half_small : (image : List ℕ) (i : ℕ) → ((j : ℕ) → get_or image j 0 < 256) → half_at image i < 65536
-unfolding half_at
-half_small image i b = omega (arith, b i, b (i + 1))
-
--- four bytes stored
-pub four : (s : List ℕ) (i a b c d : ℕ) → set (set (set (set s i a) (i + 1) b) (i + 2) c) (i + 3) d ≡ sets s i (a ∷ b ∷ c ∷ d ∷ [])
-four s i a b c d =
-    ap (λ (k : ℕ). set (set (set (set s i a) k b) (i + 2) c) (i + 3) d) {x = i + 1} {y = suc i} (omega arith)
-    ∙ ap (λ (k : ℕ). set (set (set (set s i a) (suc i) b) k c) (i + 3) d) {x = i + 2} {y = suc (suc i)} (omega arith)
-    ∙ ap (λ (k : ℕ). set (set (set (set s i a) (suc i) b) (suc (suc i)) c) k d) {x = i + 3} {y = suc (suc (suc i))} (omega arith)
+-- a word stored in four bytes
+pub four : (s : List ℕ) (i w : ℕ) {bytes : List ℕ} → w < 4294967296 → i + 3 < length s → bytes ≡ w / 16777216 % 256 ∷ w / 65536 % 256 ∷ w / 256 % 256 ∷ w % 256 ∷ []
+    → put_mid i (i + 4 - i) s bytes ≡ sets s i (wide w)
+four s i w small room e =
+    ap (put_mid i (i + 4 - i) s) (e ∙ ap (λ (b : ℕ). b ∷ w / 65536 % 256 ∷ w / 256 % 256 ∷ w % 256 ∷ []) {x = w / 16777216 % 256} {y = w / 16777216} (omega arith))
+    ∙ ap (λ (r : List ℕ). take i s ++ (wide w ++ r)) (Post-is i (i + 4) s (omega arith))
+    ∙ sym (append_assoc (take i s) (wide w) (drop (i + 4) s))
+    ∙ sym (sets-eq (wide w) s i (omega arith))
 
 pub check_small : (front : List ℕ) → check front < 65521
 unfolding check
 check_small front = omega arith
 
 -- ---- what is said of a block
+
+-- the bytes from 512 b to 512 b + 510 are its front
+pub front_summed : (image : List ℕ) (b : ℕ) {s : ℕ} → s ≡ check (take (512 * b + 510 - 512 * b) (drop (512 * b) image)) → s ≡ check (front_at image b)
+front_summed image b e = e ∙ ap (λ (k : ℕ). check (take k (drop (512 * b) image))) {y = 510} (omega arith)
 
 module _ (image : List ℕ) (b : ℕ) {n : ℕ} (number : n ≡ half_at image (512 * b)) where
   pub wrong_number : (n ≡ b → ⊥) → verify image b ≡ some 30

@@ -61,8 +61,8 @@ unfolding ran_on
 by_scratch lent image book e = ap (λ (b : Bool). if b then failed 26 0 [] else goes_on lent (Claims.setting_at lent image) book (read lent limits01 image)) e
 
 module _ (image book : List ℕ) (x : Place) where
-  pub on_short : length x.lines.words.now + length x.aut.scratch.now < 6144 → PostOn image book x (Err (record { refusal = Scratch; line = 0; length = 0 })) x
-  on_short l = record { is = by_scratch (lengths_of x) image book (lt-ltb (length x.lines.words.now + length x.aut.scratch.now) 6144 l); ends = tt; wrote = unwritten refl }
+  pub on_short : {s : Stop} → (length x.lines.words.now + length x.aut.scratch.now < 6144) × (s ≡ record { refusal = Scratch; line = 0; length = 0 }) → PostOn image book x (Err s) x
+  on_short (l, q) = subst (λ (t : Stop). PostOn image book x (Err t) x) (sym q) (record { is = by_scratch (lengths_of x) image book (lt-ltb (length x.lines.words.now + length x.aut.scratch.now) 6144 l); ends = tt; wrote = unwritten refl })
 
   module _ (l : 6144 ≤ length x.lines.words.now + length x.aut.scratch.now) {y : Place} (B : Beside x y) where
     bytes_same : y.output.bytes.now ≡ x.output.bytes.now
@@ -73,8 +73,8 @@ module _ (image book : List ℕ) (x : Place) where
         by_scratch (lengths_of x) image book (le-ltb (length x.lines.words.now + length x.aut.scratch.now) 6144 l)
         ∙ ap (goes_on (lengths_of x) (Claims.setting_at (lengths_of x) image) book) R.is
 
-    pub on_refused : {e : Refusal} → PostRead image x (Err e) y → PostOn image book x (Err (record { refusal = e; line = 0; length = 0 })) y
-    on_refused R = record { is = on_is R; ends = tt; wrote = unwritten bytes_same }
+    pub on_refused : {e : Refusal} {s : Stop} → s ≡ record { refusal = e; line = 0; length = 0 } → PostRead image x (Err e) y → PostOn image book x (Err s) y
+    on_refused q R = rw q (record { is = on_is R; ends = tt; wrote = unwritten bytes_same })
 
     -- entries and bytes are lent as before
     setting_is : setting_in (Image.setting_at image) y ≡ Claims.setting_at (lengths_of x) image

@@ -12,7 +12,6 @@ ghost use Rattle.image_calls.specs.Entries.{SaveEntry, ResumeEntry, ResumeSaveEn
 
 use book_finish::Stop;
 use book_memory::{LINES, Memory, Place, Setting};
-use refusal::Refusal;
 
 // ---- going on
 
@@ -22,26 +21,16 @@ fn go_on_from(image: &[u8], book: &[u8], place: &mut Place) -> Result<Setting, S
     ensures keeps { SameSlices place.old place.new }
     ensures gives { Its.PostOn image.now book.now place.old result place.new }
 {
-    if place.lines.words.len() + place.aut.scratch.len() < book_run::SCRATCH {
-        return Err(Stop {
-            refusal: Refusal::Scratch,
-            line: 0,
-            length: 0,
-        });
-    }
-    match image_read::read(image, place) {
-        Err(refusal) => Err(Stop {
-            refusal,
-            line: 0,
-            length: 0,
-        }),
-        Ok(()) => {
-            let setting = image_read::setting_at(image);
-            let left = book_run::INSTRUCTIONS - place.lines.count;
-            book_run::go_on(book, place, setting, 0, 1, left)?;
-            Ok(setting)
-        }
-    }
+    book_run::enough(place)?;
+    image_read::read(image, place).map_err(|refusal| Stop {
+        refusal,
+        line: 0,
+        length: 0,
+    })?;
+    let setting = image_read::setting_at(image);
+    let left = book_run::INSTRUCTIONS - place.lines.count;
+    book_run::go_on(book, place, setting, 0, 1, left)?;
+    Ok(setting)
 }
 
 // from an image if there is one, else a whole book

@@ -19,7 +19,7 @@ use Rattle.book_memory.specs.declared.Place.{Place}
 use Rattle.book_memory.specs.Place.{place_in, setting_in}
 use Rattle.book_finish.specs.declared.Stop.{Stop}
 use Rattle.book_finish.specs.Clauses.{EndsBy}
-use Rattle.image_save.specs.Clauses.{BlocksAre, PostWrite}
+use Rattle.image_save.specs.Clauses.{PostWrite}
 use Rattle.image_save.proofs.Whole.{standing_present}
 use Rattle.image_steps.specs.Image.{head_of, blocks_of, saved}
 use Rattle.image_steps.specs.Calls.{has_next, Saved, saving}
@@ -84,7 +84,7 @@ ends_kept (Ok S) x z = standing_present z
 ends_kept (Err s) x z = tt
 
 module _ (x : Place) (image : List ℕ) where
-  abbrev no_room : Stop
+  abbrev pub no_room : Stop
   no_room = record { refusal = Output; line = 0; length = x.output.at }
 
   module _ (S : Setting) where
@@ -99,10 +99,7 @@ module _ (x : Place) (image : List ℕ) where
       bytes = refl;
     }
 
-    module _ {b : Bool} (kinds : has_next x.aut.states.words.now x.aut.states.count ≡ b) (known : b ≡ false) {n : ℕ} (blocks_are : BlocksAre x n) where
-      count_is : n ≡ blocks_of (head_of (setting_in S x) (place_in x))
-      count_is = blocks_are (setting_in S x)
-
+    module _ {b : Bool} (kinds : has_next x.aut.states.words.now x.aut.states.count ≡ b) (known : b ≡ false) {n : ℕ} (count_is : n ≡ blocks_of (head_of (setting_in S x) (place_in x))) where
       pub keep_many : 65536 < n → PostKeep (Ok S) x (Err no_room) image image
       keep_many l = refused (λ lent. saving_many lent (length image) (setting_in S x) (place_in x) (kinds ∙ known) (omega (arith, count_is)))
 

@@ -1,4 +1,4 @@
-// The last place of a run is kept as its image, or meets 33 or 27.
+// The last place of a run is kept as its image, or meets `Refusal::Next` or `Refusal::Output`.
 #![tactic(auto)]
 
 ghost use Rattle.std.specs.Prelude.{◌≡◌};
@@ -29,27 +29,25 @@ fn has_next(states: &States) -> bool
     false
 }
 
-// The image of a run's last place, if it has not stopped: the image's length. 33 where an image does not know a state's kind, 27 where it has no room.
+// The image of a run's last place, if it has not stopped: the image's length. `Refusal::Next` where an image does not know a state's kind, `Refusal::Output` where it has no room.
 fn keep(image: &mut [u8], place: &Place, went: Result<Setting, Stop>) -> Result<usize, Stop>
     requires { Its.PreKeep went place.now }
     ensures { Its.PostKeep went place.now result image.old image.new }
 {
     let setting = went?;
     let length = place.output.at;
+    let stop = |refusal| Stop {
+        refusal,
+        line: 0,
+        length,
+    };
     if has_next(&place.aut.states) {
-        return Err(Stop {
-            refusal: Refusal::Next,
-            line: 0,
-            length,
-        });
+        return Err(stop(Refusal::Next));
     }
-    let n = image_save::blocks_of(place);
+    let h = image_save::head_of(setting, place);
+    let n = image_words::blocks_of(h);
     if n > BLOCKS || BLOCK * n > image.len() {
-        return Err(Stop {
-            refusal: Refusal::Output,
-            line: 0,
-            length,
-        });
+        return Err(stop(Refusal::Output));
     }
     image_save::write(image, place, setting);
     Ok(BLOCK * n)

@@ -5,6 +5,7 @@ use Rattle.aut_steps.specs.Tables.{SPP, UNION, INTERSECT, XOR, DIFFERENCE, COMPL
 use Rattle.aut_states.specs.Clauses.{limits_of}
 use Rattle.aut_states.specs.declared.Limits.{Limits as Bounds}
 use Rattle.image_steps.specs.Records as Records
+use Rattle.image_kinds.specs.declared.Words.{Words}
 use Rattle.image_kinds.specs.declared.Shape.{Shape}
 use Rattle.image_kinds.specs.declared.Shape.TheVariants as shape
 
@@ -35,12 +36,12 @@ met_of (Some b) go = b
 met_of None go = go
 
 -- the whole test, for the kinds of each shape; tables that are not read are any, and so is a list that is not there
-pub record SingleFits (l : Bounds) (st : List ℕ) (n k x y e : ℕ) (r : Bool) : Type 0 where
-  pub is : (N : ℕ) (t m : Table) (xs : List ℕ) → Records.state_fits N (limits_of l) (aut t (table st n) m) xs k x y e ≡ r
+pub record SingleFits (l : Bounds) (st : List ℕ) (n : ℕ) (w : Words) (r : Bool) : Type 0 where
+  pub is : (N : ℕ) (t m : Table) (xs : List ℕ) → Records.state_fits N (limits_of l) (aut t (table st n) m) xs w.kind w.first w.second w.nesting ≡ r
 
-pub record PairFits (N : ℕ) (l : Bounds) (st : List ℕ) (n k x y e : ℕ) (r : Bool) : Type 0 where
-  pub is : (t m : Table) (xs : List ℕ) → Records.state_fits N (limits_of l) (aut t (table st n) m) xs k x y e ≡ r
+pub record PairFits (N : ℕ) (l : Bounds) (st : List ℕ) (n : ℕ) (w : Words) (r : Bool) : Type 0 where
+  pub is : (t m : Table) (xs : List ℕ) → Records.state_fits N (limits_of l) (aut t (table st n) m) xs w.kind w.first w.second w.nesting ≡ r
 
 -- .. where the members so far end at `members`
-pub record ListFits (N : ℕ) (l : Bounds) (st : List ℕ) (n : ℕ) (xs : List ℕ) (members k x y e : ℕ) (r : Bool) : Type 0 where
-  pub is : (t : Table) (m : List ℕ) → Records.state_fits N (limits_of l) (aut t (table st n) (table m members)) xs k x y e ≡ r
+pub record ListFits (N : ℕ) (l : Bounds) (st : List ℕ) (n : ℕ) (xs : List ℕ) (members : ℕ) (w : Words) (r : Bool) : Type 0 where
+  pub is : (t : Table) (m : List ℕ) → Records.state_fits N (limits_of l) (aut t (table st n) (table m members)) xs w.kind w.first w.second w.nesting ≡ r

@@ -16,7 +16,16 @@ ghost use Rattle.image_kinds.specs.Clauses.{ShapeOf, turn_of, met_of, SingleFits
 ghost use Rattle.image_kinds.specs.declared.Shape.TheVariants as shape;
 
 use aut_states::{Config, Limits, States, kind};
-use spp::SPPstore;
+use spp::{SPP, SPPstore};
+
+// words 0 to 3 of a state
+#[derive(Clone, Copy)]
+pub struct Words {
+    pub kind: u32,
+    pub first: u32,
+    pub second: u32,
+    pub nesting: u32,
+}
 
 // what a state's words 1 and 2 are: a relation, nothing, a state, two states, a list of states; of a kind that images do not know, nothing is said
 #[derive(Clone, Copy)]
@@ -46,21 +55,21 @@ pub fn shape_of(kind: u32) -> Shape
 // ---- relations and constants
 
 #[tactic(auto, unfolding(image_steps::specs::Records::leaf_fits))]
-pub fn leaf_fits(relations: &SPPstore, fields: u32, x: u32, y: u32, e: u32) -> bool
+pub fn leaf_fits(relations: &SPPstore, fields: u32, w: Words) -> bool
     requires { Nodes (store_of relations.now) }
     ensures { (L : Bounds) (s m : Table) → Records.leaf_fits fields L (aut (store_of relations.now) s m)
-        x y e ≡ result }
+        w.first w.second w.nesting ≡ result }
 {
-    (x as usize) < relations.count + 2
-        && image_nodes::relation_depth(relations, fields, x) == fields
-        && y == 0
-        && e == 0
+    (w.first as usize) < relations.count + 2
+        && image_nodes::relation_depth(relations, fields, w.first) == fields
+        && w.second == 0
+        && w.nesting == 0
 }
 
-pub fn constant_fits(x: u32, y: u32, e: u32) -> bool
-    ensures { (N : ℕ) (L : Bounds) → Records.constant_fits N L x y e ≡ result }
+pub fn constant_fits(w: Words) -> bool
+    ensures { (N : ℕ) (L : Bounds) → Records.constant_fits N L w.first w.second w.nesting ≡ result }
 {
-    x == 0 && y == 0 && e == 0
+    w.first == 0 && w.second == 0 && w.nesting == 0
 }
 
 // ---- one or two operands
@@ -73,25 +82,31 @@ fn nested(n: u32, most: u32, e: u32) -> bool
 }
 
 #[tactic(auto, unfolding(image_steps::specs::Records::one_fits))]
-fn one_fits(states: &States, limits: Limits, x: u32, y: u32, e: u32) -> bool
+fn one_fits(states: &States, limits: Limits, w: Words) -> bool
     requires { Fits states.now.words.now states.now.count }
     ensures is { (N : ℕ) (t m : Table) → Records.one_fits N (limits_of limits)
-        (aut t (states_of states.now) m) x y e ≡ result }
-    ensures has { result ≡ true → x < states.now.count }
+        (aut t (states_of states.now) m) w.first w.second w.nesting ≡ result }
+    ensures has { result ≡ true → w.first < states.now.count }
 {
-    (x as usize) < states.count && y == 0 && nested(states.nest_of(x), limits.nesting, e)
+    (w.first as usize) < states.count
+        && w.second == 0
+        && nested(states.nest_of(w.first), limits.nesting, w.nesting)
 }
 
 #[tactic(auto, unfolding(image_steps::specs::Records::two_fits))]
-fn two_fits(states: &States, limits: Limits, x: u32, y: u32, e: u32) -> bool
+fn two_fits(states: &States, limits: Limits, w: Words) -> bool
     requires { Fits states.now.words.now states.now.count }
     ensures is { (N : ℕ) (t m : Table) → Records.two_fits N (limits_of limits)
-        (aut t (states_of states.now) m) x y e ≡ result }
-    ensures has { result ≡ true → (x < states.now.count) × (y < states.now.count) }
+        (aut t (states_of states.now) m) w.first w.second w.nesting ≡ result }
+    ensures has { result ≡ true → (w.first < states.now.count) × (w.second < states.now.count) }
 {
-    (x as usize) < states.count
-        && (y as usize) < states.count
-        && nested(states.nest_of(x).max(states.nest_of(y)), limits.nesting, e)
+    (w.first as usize) < states.count
+        && (w.second as usize) < states.count
+        && nested(
+            states.nest_of(w.first).max(states.nest_of(w.second)),
+            limits.nesting,
+            w.nesting,
+        )
 }
 
 #[tactic(auto, unfolding(image_steps::specs::Records::complement_fits))]
@@ -99,10 +114,7 @@ fn complement_fits(states: &States, x: u32) -> bool
     requires { 12 * x + 11 < length states.now.words.now }
     ensures { (N : ℕ) (L : Bounds) → Records.complement_fits N L states.now.words.now x ≡ result }
 {
-    match states.kind(x) {
-        kind::COMPLEMENT | kind::TOP => false,
-        _ => true,
-    }
+    !matches!(states.kind(x), kind::COMPLEMENT | kind::TOP)
 }
 
 #[tactic(auto, unfolding(image_steps::specs::Records::star_fits))]
@@ -110,24 +122,21 @@ fn star_fits(states: &States, x: u32) -> bool
     requires { 12 * x + 11 < length states.now.words.now }
     ensures { (N : ℕ) (L : Bounds) → Records.star_fits N L states.now.words.now x ≡ result }
 {
-    match states.kind(x) {
-        kind::STAR | kind::SPP | kind::TOP => false,
-        _ => true,
-    }
+    !matches!(states.kind(x), kind::STAR | kind::SPP | kind::TOP)
 }
 
 // a Complement or a Star
 #[tactic(auto, unfolding(image_steps::specs::Records::state_fits))]
-pub fn single_fits(states: &States, limits: Limits, kind: u32, x: u32, y: u32, e: u32) -> bool
-    requires { Fits states.now.words.now states.now.count × ShapeOf kind shape.Single }
-    ensures { SingleFits limits states.now.words.now states.now.count kind x y e result }
+pub fn single_fits(states: &States, limits: Limits, w: Words) -> bool
+    requires { Fits states.now.words.now states.now.count × ShapeOf w.kind shape.Single }
+    ensures { SingleFits limits states.now.words.now states.now.count w result }
 {
-    if !one_fits(states, limits, x, y, e) {
+    if !one_fits(states, limits, w) {
         return false;
     }
-    match kind {
-        kind::COMPLEMENT => complement_fits(states, x),
-        _ => star_fits(states, x),
+    match w.kind {
+        kind::COMPLEMENT => complement_fits(states, w.first),
+        _ => star_fits(states, w.first),
     }
 }
 
@@ -137,9 +146,9 @@ fn is_constant(states: &States, fields: u32, x: u32) -> bool
     ensures { (is_relation states.now.words.now x (Rel.one_at fields) ||
         is_relation states.now.words.now x (Rel.zero_at fields)) ≡ result }
 {
-    let h = states.first(x);
+    let h = SPP(states.first(x));
     states.kind(x) == kind::SPP
-        && (h == spp::one_at_depth(fields, fields).0 || h == spp::zero_at_depth(fields).0)
+        && (h == spp::one_at_depth(fields, fields) || h == spp::zero_at_depth(fields))
 }
 
 #[tactic(auto, unfolding(image_steps::specs::Records::sequence_fits))]
@@ -163,15 +172,16 @@ fn sequence_fits(states: &States, fields: u32, x: u32, y: u32) -> bool
 
 // a Xor, a Difference, a Sequence or an Until
 #[tactic(auto, unfolding(image_steps::specs::Records::state_fits))]
-pub fn pair_fits(states: &States, config: Config, kind: u32, x: u32, y: u32, e: u32) -> bool
-    requires { Fits states.now.words.now states.now.count × ShapeOf kind shape.Pair ×
+pub fn pair_fits(states: &States, config: Config, w: Words) -> bool
+    requires { Fits states.now.words.now states.now.count × ShapeOf w.kind shape.Pair ×
         (config.fields ≤ 31) }
-    ensures { PairFits config.fields config.limits states.now.words.now states.now.count kind x y e result }
+    ensures { PairFits config.fields config.limits states.now.words.now states.now.count w result }
 {
-    if !two_fits(states, config.limits, x, y, e) {
+    if !two_fits(states, config.limits, w) {
         return false;
     }
-    match kind {
+    let (x, y) = (w.first, w.second);
+    match w.kind {
         kind::UNTIL => true,
         kind::SEQUENCE => sequence_fits(states, config.fields, x, y),
         kind::XOR => x < y && !states.both_relations(x, y),
@@ -185,41 +195,28 @@ pub fn pair_fits(states: &States, config: Config, kind: u32, x: u32, y: u32, e: 
 fn all_below(list: &[u32], n: usize) -> bool
     ensures { Records.all_below n list.now ≡ result }
 {
-    for x in list {
-        if *x as usize >= n {
-            return false;
-        }
-    }
-    true
+    list.iter().all(|x| (*x as usize) < n)
 }
 
 // the list begins where the members so far end, and so on
 #[tactic(auto, unfolding(image_steps::specs::Records::many_fits))]
-fn many_fits(
-    states: &States,
-    list: &[u32],
-    members: usize,
-    limits: Limits,
-    x: u32,
-    y: u32,
-    e: u32,
-) -> bool
-    requires { Fits states.now.words.now states.now.count × (length list.now ≡ y) }
+fn many_fits(states: &States, list: &[u32], members: usize, limits: Limits, w: Words) -> bool
+    requires { Fits states.now.words.now states.now.count × (length list.now ≡ w.second) }
     ensures is { (N : ℕ) (t : Table) (m : List ℕ) → Records.many_fits N (limits_of limits)
-        (aut t (states_of states.now) (table m members)) list.now x y e ≡ result }
+        (aut t (states_of states.now) (table m members)) list.now w.first w.second w.nesting ≡ result }
     ensures has { result ≡ true → All (λ x. 12 * x + 11 < length states.now.words.now) list.now }
 {
-    if x as usize != members || y as usize > limits.list {
-        return false;
-    }
-    all_below(list, states.count) && nested(states.nest_list(list), limits.nesting, e)
+    w.first as usize == members
+        && w.second as usize <= limits.list
+        && all_below(list, states.count)
+        && nested(states.nest_list(list), limits.nesting, w.nesting)
 }
 
-// x as the next member of a Union, whose members before it end below lo: whether an SPP has been seen by then; none if it is no good
+// x as the next member of a Union, whose members before it end below lo: whether an SPP has been seen by then; none if it may not come next
 #[tactic(auto, unfolding(image_steps::specs::Records::unites))]
-fn joins(states: &States, zero: u32, seen: bool, lo: usize, x: u32) -> Option<bool>
+fn joins(states: &States, zero: SPP, seen: bool, lo: usize, x: u32) -> Option<bool>
     requires { 12 * x + 11 < length states.now.words.now }
-    ensures { (N : ℕ) → Rel.zero_at N ≡ zero → (xs : List ℕ) → Records.unites N
+    ensures { (N : ℕ) → Rel.zero_at N ≡ zero.0 → (xs : List ℕ) → Records.unites N
         states.now.words.now seen lo (x ∷ xs) ≡ turn_of result (λ s. Records.unites N states.now.words.now s (x + 1) xs) }
 {
     if (x as usize) < lo {
@@ -227,20 +224,16 @@ fn joins(states: &States, zero: u32, seen: bool, lo: usize, x: u32) -> Option<bo
     }
     match states.kind(x) {
         kind::UNION | kind::TOP => None,
-        kind::SPP => {
-            if seen || states.first(x) == zero {
-                return None;
-            }
-            Some(true)
-        }
+        kind::SPP if seen || SPP(states.first(x)) == zero => None,
+        kind::SPP => Some(true),
         _ => Some(seen),
     }
 }
 
 #[tactic(auto, unfolding(image_steps::specs::Records::unites))]
-fn unites(states: &States, list: &[u32], zero: u32) -> bool
+fn unites(states: &States, list: &[u32], zero: SPP) -> bool
     requires { All (λ x. 12 * x + 11 < length states.now.words.now) list.now }
-    ensures { (N : ℕ) → Rel.zero_at N ≡ zero → Records.unites N states.now.words.now false 0
+    ensures { (N : ℕ) → Rel.zero_at N ≡ zero.0 → Records.unites N states.now.words.now false 0
         list.now ≡ result }
 {
     let mut seen = false;
@@ -257,13 +250,13 @@ fn unites(states: &States, list: &[u32], zero: u32) -> bool
 
 // x as member j of the k of an Intersect, whose members before it end below lo: what it decides; none if the list goes on
 #[tactic(auto, unfolding(image_steps::specs::Records::meets))]
-fn meets_at(states: &States, zero: u32, j: usize, k: usize, lo: usize, x: u32) -> Option<bool>
+fn meets_at(states: &States, zero: SPP, j: usize, k: usize, lo: usize, x: u32) -> Option<bool>
     requires { (12 * x + 11 < length states.now.words.now) × (j < k) }
-    ensures { (N : ℕ) → Rel.zero_at N ≡ zero → (xs : List ℕ) → length xs ≡ k - (j + 1) → Records.meets N
+    ensures { (N : ℕ) → Rel.zero_at N ≡ zero.0 → (xs : List ℕ) → length xs ≡ k - (j + 1) → Records.meets N
         states.now.words.now (ltb 0 j) lo (x ∷ xs) ≡ met_of result (Records.meets N states.now.words.now true (x + 1) xs) }
 {
     match states.kind(x) {
-        kind::SPP => Some(0 < j && states.first(x) != zero && j + 1 == k),
+        kind::SPP => Some(0 < j && SPP(states.first(x)) != zero && j + 1 == k),
         kind::INTERSECT | kind::TOP => Some(false),
         _ if (x as usize) < lo => Some(false),
         _ => None,
@@ -271,46 +264,35 @@ fn meets_at(states: &States, zero: u32, j: usize, k: usize, lo: usize, x: u32) -
 }
 
 #[tactic(auto, unfolding(image_steps::specs::Records::meets))]
-fn meets(states: &States, list: &[u32], zero: u32) -> bool
+fn meets(states: &States, list: &[u32], zero: SPP) -> bool
     requires { All (λ x. 12 * x + 11 < length states.now.words.now) list.now }
-    ensures { (N : ℕ) → Rel.zero_at N ≡ zero → Records.meets N states.now.words.now false 0
+    ensures { (N : ℕ) → Rel.zero_at N ≡ zero.0 → Records.meets N states.now.words.now false 0
         list.now ≡ result }
 {
-    let k = list.len();
     let mut lo: usize = 0;
-    for j in 0..k {
-        let x = list[j];
-        if let Some(b) = meets_at(states, zero, j, k, lo, x) {
+    for (j, x) in list.iter().enumerate() {
+        if let Some(b) = meets_at(states, zero, j, list.len(), lo, *x) {
             return b;
         }
-        lo = x as usize + 1;
+        lo = *x as usize + 1;
     }
-    0 < k
+    !list.is_empty()
 }
 
 // a Union or an Intersect: its members are the list, and those so far end at `members`
 #[tactic(auto, unfolding(image_steps::specs::Records::state_fits))]
-pub fn list_fits(
-    states: &States,
-    list: &[u32],
-    members: usize,
-    config: Config,
-    kind: u32,
-    x: u32,
-    y: u32,
-    e: u32,
-) -> bool
-    requires { Fits states.now.words.now states.now.count × ShapeOf kind shape.List ×
-        (config.fields ≤ 31) × (length list.now ≡ y) }
-    ensures { ListFits config.fields config.limits states.now.words.now states.now.count list.now members kind
-        x y e result }
+pub fn list_fits(states: &States, list: &[u32], members: usize, config: Config, w: Words) -> bool
+    requires { Fits states.now.words.now states.now.count × ShapeOf w.kind shape.List ×
+        (config.fields ≤ 31) × (length list.now ≡ w.second) }
+    ensures { ListFits config.fields config.limits states.now.words.now states.now.count list.now members w
+        result }
 {
-    if !many_fits(states, list, members, config.limits, x, y, e) {
+    if !many_fits(states, list, members, config.limits, w) {
         return false;
     }
-    let zero = spp::zero_at_depth(config.fields).0;
-    match kind {
+    let zero = spp::zero_at_depth(config.fields);
+    match w.kind {
         kind::INTERSECT => meets(states, list, zero),
-        _ => 2 <= y && unites(states, list, zero),
+        _ => 2 <= w.second && unites(states, list, zero),
     }
 }

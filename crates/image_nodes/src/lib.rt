@@ -2,6 +2,7 @@
 #![tactic(auto)]
 
 ghost use Rattle.std.specs.Prelude.{◌≡◌, ◌+◌, ◌*◌, ◌/◌, ◌≤◌, ◌<◌, length};
+ghost use Rattle.slices.specs.Same.{SameSlice};
 ghost use Rattle.sp.specs.Clauses as Sp;
 ghost use Rattle.sp_steps.specs.Wf as SpWf;
 ghost use Rattle.spp.specs.Clauses as Spp;
@@ -50,7 +51,7 @@ fn children_fit(sets: &SPstore, fields: u32, i: usize, x0: u32, x1: u32) -> bool
 // packet node i with these children: found there, or made
 fn make_node(sets: &mut SPstore, fields: u32, i: usize, x0: u32, x1: u32) -> Result<(), Refusal>
     requires { Its.PreNode Its.packets fields (Sp.store_of sets.old) i }
-    ensures same_table { sets.new.nodes.ghost_name ≡ sets.old.nodes.ghost_name }
+    ensures same_table { SameSlice sets.old.nodes sets.new.nodes }
     ensures gives { Records.node fields i x0 x1 (Sp.store_of sets.old) ≡ outcome (λ _. 2 * i + 2) result
         (Sp.store_of sets.new) }
 {
@@ -75,7 +76,7 @@ pub fn read_node(
     s: usize,
 ) -> Result<(), Refusal>
     requires { Its.PreNode Its.packets fields (Sp.store_of sets.old) i × Reaches image.now (s + 2) }
-    ensures same_table { sets.new.nodes.ghost_name ≡ sets.old.nodes.ghost_name }
+    ensures same_table { SameSlice sets.old.nodes sets.new.nodes }
     ensures gives { Its.PostNode Its.packets image.now fields i s (Sp.store_of sets.old) result (Sp.store_of sets.new) }
 {
     image_words::enter(image, s, 2)?;
@@ -87,7 +88,7 @@ pub fn read_node(
 // k packet nodes, from word 0 on
 pub fn read_nodes(image: &[u8], sets: &mut SPstore, fields: u32, k: usize) -> Result<(), Refusal>
     requires { Its.PreNode Its.packets fields (Sp.store_of sets.old) 0 × Reaches image.now (2 * k) }
-    ensures same_table { sets.new.nodes.ghost_name ≡ sets.old.nodes.ghost_name }
+    ensures same_table { SameSlice sets.old.nodes sets.new.nodes }
     ensures gives { Its.PostNodes Its.packets image.now fields 0 k (Sp.store_of sets.old) result (Sp.store_of sets.new) }
 {
     for i in 0..k {

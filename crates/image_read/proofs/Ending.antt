@@ -2,7 +2,7 @@
 use mathlib.Core.Path.{◌≡◌, sym, ◌∙◌, ap}
 use mathlib.Core.Bool.{Bool, true, false, ◌&&◌}
 use mathlib.Core.List.{List}
-use Prim.Native.Nat.{ℕ, zero, ◌+◌, ◌*◌, ◌-◌, ◌/◌, ◌≤◌}
+use Prim.Native.Nat.{ℕ, zero, ◌*◌, ◌-◌, ◌≤◌}
 use native.Mathlib.Omega.{arith}
 use borrow.Author.Tests.{eq-eqb, ne_eqb}
 use Rattle.image_steps.specs.Image.{reach, total}
@@ -37,5 +37,5 @@ module _ (image : List ℕ) (h : Head) (F : Fitting image h) where
       unfolding unused
       ended_empty t z = counted ∙ ap (unused image (reach (total (head_of h))) (total (head_of h) - 127 * (reach (total (head_of h)) - 1))) {x = 127 * reach (total (head_of h)) - total (head_of h)} {y = zero} (omega arith)
 
-      pub ended_words : {n : ℕ} {r : Bool} → n ≡ total (head_of h) → unused image ((n + 126) / 127) (n - 127 * ((n + 126) / 127 - 1)) (127 * ((n + 126) / 127) - n) ≡ r → ended_by image (head_of h) members ≡ r
-      ended_words t q = counted ∙ ap (λ (m : ℕ). unused image (reach m) (m - 127 * (reach m - 1)) (127 * reach m - m)) (sym t) ∙ q
+      pub ended_words : {n b : ℕ} {r : Bool} → n ≡ total (head_of h) → b ≡ reach n → unused image b (n - 127 * (b - 1)) (127 * b - n) ≡ r → ended_by image (head_of h) members ≡ r
+      ended_words {n} t e q = counted ∙ ap (λ (m : ℕ). unused image (reach m) (m - 127 * (reach m - 1)) (127 * reach m - m)) (sym t) ∙ ap (λ (b : ℕ). unused image b (n - 127 * (b - 1)) (127 * b - n)) (sym e) ∙ q

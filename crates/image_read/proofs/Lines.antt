@@ -1,13 +1,14 @@
 -- Members and lines, one record after the other, block by block.
 use Rattle.std.specs.Prelude.{if◌then◌else◌, Result, Ok, Err}
-use mathlib.Core.Path.{◌≡◌, refl, sym, ◌∙◌, ap, ap₂, subst}
+use Rattle.std.specs.Prelude as code
+use mathlib.Core.Path.{◌≡◌, refl, sym, ◌∙◌, ap, subst}
 use mathlib.Core.Bool.{Bool}
 use mathlib.Core.List.{List, [], ◌∷◌, ◌++◌}
 use mathlib.Core.Option.{Option, none, some}
 use Prim.Native.Nat.{ℕ, zero, suc, ◌+◌, ◌-◌, ◌≤◌, ◌<◌}
 use native.Mathlib.Omega.{arith}
 use lib.Dec.{leb}
-use lib.ListN.{length, get_or, set}
+use lib.ListN.{get_or}
 use borrow.Author.Tests.{le-leb, lt-leb}
 use Rattle.common.specs.Outcome.{Outcome, refused, given, Step, after, ◌>>=◌}
 use Rattle.aut_steps.specs.Tables.{Limits}
@@ -21,10 +22,11 @@ use Rattle.image_steps.specs.Read.{records, line_of}
 use Rattle.image_words.specs.Clauses.{word_of, entered_by, Entered}
 use Rattle.image_nodes.proofs.Rows.{turn_at, records_more, records_stop, records_end}
 use Rattle.book_memory.specs.declared.Lines.{Lines}
-use Rattle.book_memory.specs.Place.{stands_for, lines_of, Below}
-use Rattle.book_memory.proofs.Table.{lines_set, below_more}
-use Rattle.image_read.specs.Clauses.{PostMembers, PostLine, PreLines, lines_at, PostLines}
-use Rattle.image_read.proofs.Constants.{no_lines}
+use Rattle.book_memory.specs.Place.{stands_for, lines_at, Below}
+use Rattle.book_memory.specs.Place.{word_of as line_word}
+use Rattle.book_memory.proofs.Table.{below_more}
+use Rattle.book_begin.proofs.Zero.{no_lines}
+use Rattle.image_read.specs.Clauses.{PostMembers, PostLine, PreLines, PostLines}
 
 -- a step more, behind two
 pub after_both : (o : Outcome RunState ℕ) (f k : Step RunState ℕ) → after o (λ _ p. after (f p) (λ _. k)) ≡ after (after o (λ _. f)) (λ _. k)
@@ -60,6 +62,19 @@ module _ (image : List ℕ) (s k : ℕ) where
 
 -- ---- a line
 
+line_stands : (w : ℕ) → line_of w ≡ stands_for w
+line_stands zero = refl
+line_stands (suc x) = refl
+
+-- a word less 1, if it is not 0, has this word
+less_word : (w : ℕ) (l : code.Option ℕ) → code.SomeIff l (1 ≤ w) (w - 1) → line_word l ≡ w
+less_word w (code.Some x) (n, e) = omega arith
+less_word w code.None n = omega arith
+
+stands_below : (w n x : ℕ) → w ≤ n → stands_for w ≡ some x → x < n
+stands_below zero n x l e = absurd (let z : ◌≡◌ {A = ℕ} 0 1 = cc in omega arith)
+stands_below (suc y) n x l e = let z : y ≡ x = cc in omega arith
+
 module _ (image : List ℕ) (s states : ℕ) {r : Result Unit Refusal} (e : Entered image s 1 r) where
   entering : (h : Image.Head) (L : Limits) (i : ℕ) (p : RunState) {x : Result Unit Refusal} → r ≡ x → (Read.enter image h L s 1 >>= λ _. Read.line image h L i s) p ≡ after (entered_by x p) (λ _. Read.line image h L i s)
   entering h L i p q = ap (λ (o : Outcome RunState ℕ). after o (λ _. Read.line image h L i s)) (e h L p ∙ ap (λ (x : Result Unit Refusal). entered_by x p) q)
@@ -78,18 +93,18 @@ module _ (image : List ℕ) (s states : ℕ) {r : Result Unit Refusal} (e : Ente
     pub line_past : states < w → PostLine image s states (Err Record)
     line_past l = record { is = λ h L i p y. tested h L i p y (lt-leb w states l); within = tt }
 
-    pub line_read : w ≤ states → PostLine image s states (Ok w)
-    line_read l = record { is = λ h L i p y. tested h L i p y (le-leb w states l); within = l }
+    pub line_read : w ≤ states → w < 4294967296 → {l : code.Option ℕ} → code.SomeIff l (1 ≤ w) (w - 1) → PostLine image s states (Ok l)
+    line_read m k {l} t = record {
+      is = λ h L i p y. tested h L i p y (le-leb w states m) ∙ ap (λ (v : Option ℕ). given (place p.tables (p.lines ++ v ∷ []) p.output) 0) (line_stands w ∙ sym (ap stands_for (less_word w l t)));
+      within = (omega (arith, less_word w l t), omega (arith, less_word w l t));
+    }
 
 -- ---- lines
 
-line_stands : (w : ℕ) → line_of w ≡ stands_for w
-line_stands zero = refl
-line_stands (suc x) = refl
-
-stands_below : (w n x : ℕ) → w ≤ n → stands_for w ≡ some x → x < n
-stands_below zero n x l e = absurd (let z : ◌≡◌ {A = ℕ} 0 1 = cc in omega arith)
-stands_below (suc y) n x l e = let z : y ≡ x = cc in omega arith
+-- a line that was read is a line to add
+pub line_fits : (states : ℕ) (l : code.Option ℕ) {image : List ℕ} {s : ℕ} → PostLine image s states (Ok l) → code.IfSome l (λ x. x < 4294967295)
+line_fits states (code.Some x) p = omega (arith, p.within.1)
+line_fits states code.None p = tt
 
 -- i of k lines are read
 pub record LinesAt (image : List ℕ) (s k states : ℕ) (x : Lines) (i : ℕ) (y : Lines) : Type 0 where
@@ -121,20 +136,16 @@ module _ (image : List ℕ) (s k states : ℕ) (x : Lines) (P : PreLines image x
         then = tt;
       }
 
-      pub lines_again : {w : ℕ} → PostLine image (s + i) states (Ok w) → length y.words.now ≡ length x.words.now
-          → {z : Lines} → z.words.now ≡ set y.words.now y.count w → z.count ≡ y.count + 1 → LinesAt image s k states x (i + 1) z
+      pub lines_again : {w : code.Option ℕ} → PostLine image (s + i) states (Ok w) → {z : Lines} → z.count ≡ y.count + 1 → lines_at z ≡ lines_at y ++ stands_for (line_word w) ∷ [] → LinesAt image s k states x (i + 1) z
       unfolding at
-      lines_again {w} post len {z} e f =
-          let more : lines_at z ≡ lines_at y ++ stands_for w ∷ []
-          = ap₂ lines_of e f ∙ ap (lines_of (set y.words.now y.count w)) {x = y.count + 1} {y = suc y.count} (omega arith) ∙ lines_set y.words.now y.count w (omega (arith, len, P.room, v.count)) in
-          let low : w ≤ states = post.within in
+      lines_again {w} post {z} f more =
+          let low : line_word w ≤ states = post.within.0 in
           record {
             count = omega (arith, f, v.count);
             is = λ h L p u t. v.is h L p u t
-                ∙ records_more image h L (Read.line image h L) 1 i (s + i) (s + (i + 1)) k (at p) (place p.tables (lines_at y ++ line_of w ∷ []) p.output) 0 l (omega arith) (post.is h L i (at p) u)
-                ∙ ap (λ (ls : List (Option ℕ)). records image h L (Read.line image h L) 1 (i + 1) (s + (i + 1)) (k - (i + 1)) (place p.tables ls p.output))
-                (ap (λ (o : Option ℕ). lines_at y ++ o ∷ []) (line_stands w) ∙ sym more);
-            named = subst (Below states) (sym more) (below_more (lines_at y) v.named (omega arith) (stands_for w) (λ x e. stands_below w states x low e));
+                ∙ records_more image h L (Read.line image h L) 1 i (s + i) (s + (i + 1)) k (at p) (place p.tables (lines_at y ++ stands_for (line_word w) ∷ []) p.output) 0 l (omega arith) (post.is h L i (at p) u)
+                ∙ ap (λ (ls : List (Option ℕ)). records image h L (Read.line image h L) 1 (i + 1) (s + (i + 1)) (k - (i + 1)) (place p.tables ls p.output)) (sym more);
+            named = subst (Below states) (sym more) (below_more (lines_at y) v.named (omega arith) (stands_for (line_word w)) (λ x e. stands_below (line_word w) states x low e));
           }
 
     pub lines_end : i ≡ k → PostLines image s k states (Ok tt) y

@@ -32,8 +32,10 @@ use Rattle.image_words.specs.Clauses.{head_of, Reaches}
 use Rattle.image_words.proofs.Words.{start_1, start_5}
 use Rattle.image_nodes.specs.Clauses as nodes
 use Rattle.image_nodes.specs.Clauses.{packets, PreNode, Grown, PostNodes}
-use Rattle.image_read.specs.Clauses.{Ordered, PreFresh, PostFresh, node_steps, PreDiagrams, PostDiagrams}
-use Rattle.image_read.proofs.Constants.{nodes_at}
+use Rattle.book_begin.specs.Clauses.{OnlyNodes, Ordered, PreConstants, PostConstants}
+use Rattle.book_begin.proofs.Made.{nodes_at}
+use Rattle.image_read.specs.Clauses.{node_steps, PreDiagrams, PostDiagrams}
+use Rattle.image_read.proofs.Constants.{fresh_is}
 use Rattle.image_read.proofs.Ending.{fits, reaching}
 
 module _ (image : List ℕ) (h : Head) (x : Place) (P : PreDiagrams image h x) where
@@ -50,19 +52,19 @@ module _ (image : List ℕ) (h : Head) (x : Place) (P : PreDiagrams image h x) w
   abbrev later : Outcome RunState ℕ → Outcome RunState ℕ
   later o = after o (λ _. Read.records image g limits01 (Read.relation image g limits01) 4 0 (start_of 1 (layout g)) h.spp)
 
-  pub constants_ready : PreFresh h.fields x
+  pub constants_ready : PreConstants h.fields x
   constants_ready = record { few = (fits image h P.fitting).fields; empty = P.empty }
 
-  pub no_constants : {e : Refusal} (y z : Place) → PostFresh h.fields x (Err e) y → PostDiagrams image h x (Err e) z
-  no_constants y z B = record { is = ap (λ (o : Outcome RunState ℕ). after o (λ _. node_steps image g limits01)) B.is; then = tt }
+  pub no_constants : {e : Refusal} (y z : Place) → PostConstants h.fields x (Err e) y → OnlyNodes x y → PostDiagrams image h x (Err e) z
+  no_constants {e} y z B K = record { is = ap (λ (o : Outcome RunState ℕ). after o (λ _. node_steps image g limits01)) (fresh_is N x P.empty (Err e) B K); then = tt }
 
-  module _ (x₁ : Place) (B : PostFresh h.fields x (Ok tt) x₁) where
+  module _ (x₁ : Place) (B : PostConstants h.fields x (Ok tt) x₁) (K : OnlyNodes x x₁) where
     pub nodes_ready : PreNode packets h.fields (sets.store_of x₁.aut.sp) 0 × Reaches image (2 * h.sp)
     nodes_ready = (record { wf = B.then.tables.sets; near = omega arith }, reaching image h P.fitting (2 * h.sp) (omega (arith, start_5 (head_of h))))
 
     module _ (s : SPstore) {m : Result Unit Refusal} (F : PostNodes packets image h.fields 0 h.sp (sets.store_of x₁.aut.sp) m (sets.store_of s)) where
       by_nodes : all ≡ later (outcome (λ u. 0) m (packets.put (sets.store_of s) (place_in x₁)))
-      by_nodes = ap (λ (o : Outcome RunState ℕ). after o (λ _. node_steps image g limits01)) B.is ∙ ap later (F.is g limits01 (place_in x₁) refl refl)
+      by_nodes = ap (λ (o : Outcome RunState ℕ). after o (λ _. node_steps image g limits01)) (fresh_is N x P.empty (Ok tt) B K) ∙ ap later (F.is g limits01 (place_in x₁) refl refl)
 
     pub no_nodes : (s : SPstore) {e : Refusal} → PostNodes packets image h.fields 0 h.sp (sets.store_of x₁.aut.sp) (Err e) (sets.store_of s) → (z : Place) → PostDiagrams image h x (Err e) z
     no_nodes s F z = record { is = by_nodes s F; then = tt }

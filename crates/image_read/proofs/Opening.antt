@@ -16,18 +16,10 @@ use Rattle.refusal.specs.declared.Refusal.{Refusal}
 use Rattle.refusal.specs.declared.Refusal.TheVariants.{Block, Record}
 use Rattle.image_form.specs.Form.{verify}
 use Rattle.image_block.specs.Clauses.{looked_of}
-use Rattle.image_steps.specs.Image as Image
 use Rattle.image_steps.specs.Read.{head_at, head_fits, fresh, then_records, from_head, if_verified, read}
 use Rattle.image_words.specs.declared.Head.{Head}
 use Rattle.image_words.specs.Clauses.{head_of, PostHead}
-use Rattle.book_memory.specs.declared.Setting.{Setting}
-use Rattle.book_begin.specs.Clauses.{setting_for}
-use Rattle.image_read.specs.Clauses.{setting_at, PostOpen}
-
--- ---- the setting
-
-pub setting_is : {image : List ℕ} {h : Head} {s : Setting} → PostHead image h → s ≡ setting_for (record { fields = h.fields; budget = h.budget }) → s ≡ setting_at image
-setting_is H e = e ∙ ap (λ (g : Image.Head). setting_for (record { fields = g.fields; budget = g.budget })) H.is
+use Rattle.image_read.specs.Clauses.{PostOpen}
 
 -- ---- the steps
 

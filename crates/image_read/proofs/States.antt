@@ -3,7 +3,7 @@ use Rattle.std.specs.Prelude.{if◌then◌else◌, Result, Ok, Err}
 use mathlib.Core.Path.{◌≡◌, refl, sym, ◌∙◌, ap, ap₂, subst}
 use mathlib.Core.Bool.{Bool, true, false}
 use mathlib.Core.List.{List}
-use Prim.Native.Nat.{ℕ, ◌+◌, ◌*◌, ◌≤◌}
+use Prim.Native.Nat.{ℕ, ◌+◌, ◌*◌, ◌-◌, ◌≤◌}
 use native.Mathlib.Omega.{arith}
 use Rattle.common.specs.Outcome.{Outcome, refused, given, Step, after, ◌>>=◌}
 use Rattle.common.specs.Runs.{table}
@@ -32,8 +32,9 @@ use Rattle.image_words.specs.Clauses.{head_of, entered_by, Reaches}
 use Rattle.image_words.proofs.Words.{start_2, start_3, start_4, start_5}
 use Rattle.image_states.specs.declared.Lists.{Lists}
 use Rattle.image_states.specs.Clauses.{Holds, HeadIs, OnlyExprs, put_in, ReadsStates, StatesAsk}
-use Rattle.image_read.specs.Clauses.{PostMembers, PreLines, lines_at, PostLines, ended_by, PreAutomaton, state_steps, PostAutomaton, PreRecords, rest_steps, PostRecords}
-use Rattle.image_read.proofs.Constants.{no_lines}
+use Rattle.book_memory.specs.Place.{lines_at}
+use Rattle.book_begin.proofs.Zero.{no_lines}
+use Rattle.image_read.specs.Clauses.{PostMembers, PreLines, PostLines, ended_by, PreAutomaton, state_steps, PostAutomaton, PreRecords, rest_steps, PostRecords}
 use Rattle.image_read.proofs.Ending.{fits, reaching}
 use Rattle.image_read.proofs.Lines.{after_both}
 
@@ -99,9 +100,6 @@ module _ (image : List ℕ) (h : Head) (x : Place) (P : PreRecords image h x) wh
   abbrev g₁ : Image.Head
   g₁ = head_of h
 
-  abbrev start : ℕ
-  start = 2 * h.sp + 4 * h.spp + h.members + 4 * h.states
-
   abbrev line_steps : Step RunState ℕ
   line_steps = Read.records image g₁ limits01 (Read.line image g₁ limits01) 1 0 (start_of 4 (layout g₁)) h.lines >>= λ _. Read.ended image g₁ limits01
 
@@ -115,41 +113,52 @@ module _ (image : List ℕ) (h : Head) (x : Place) (P : PreRecords image h x) wh
   pub no_states : {e : Refusal} {y : Lent} → PostAutomaton image h x.aut (Err e) y → (z : Place) → PostRecords image h x (Err e) z
   no_states A z = record { is = with_states A; then = tt }
 
-  pub lines_ready : PreLines image x.lines (2 * h.sp + 4 * h.spp + h.members + 4 * h.states) h.lines
-  lines_ready = record {
-    reaches = reaching image h P.automaton.fitting (start + h.lines) (omega (arith, start_5 g₁));
-    none = P.no_lines;
-    room = omega (arith, (fits image h P.automaton.fitting).lines, P.table);
-  }
+  -- .. from word t - lines on
+  module _ {t : ℕ} (e : t ≡ total g₁) where
+    abbrev start : ℕ
+    start = t - h.lines
 
-  module _ (y : Lent) (A : PostAutomaton image h x.aut (Ok tt) y) where
-    abbrev p₁ : RunState
-    p₁ = put_in (aut_in y) (place_in x)
+    pub lines_inside : h.lines ≤ t
+    lines_inside = omega (arith, start_5 g₁, e)
 
-    with_lines : {r : Result Unit Refusal} {m : Lines} → PostLines image start h.lines y.states.count r m
-        → rest_steps image g₁ limits01 (place_in x) ≡ after (outcome {A = ℕ} (λ u. 0) r (place p₁.tables (lines_at m) (written_in x))) (λ _. Read.ended image g₁ limits01)
-    with_lines R =
-        with_states A
-        ∙ ap (λ (i : ℕ). after (Read.records image g₁ limits01 (Read.line image g₁ limits01) 1 0 i h.lines p₁) (λ _. Read.ended image g₁ limits01)) (start_4 g₁)
-        ∙ ap (λ (o : Outcome RunState ℕ). after o (λ _. Read.ended image g₁ limits01)) (R.is g₁ limits01 p₁ refl (no_lines x.lines.words.now P.no_lines))
+    lines_from : start_of 4 (layout g₁) ≡ start
+    lines_from = omega (arith, start_4 g₁, start_5 g₁, e)
 
-    pub lines_stopped : {e : Refusal} {m : Lines} → PostLines image (2 * h.sp + 4 * h.spp + h.members + 4 * h.states) h.lines y.states.count (Err e) m → (z : Place) → PostRecords image h x (Err e) z
-    lines_stopped R z = record { is = with_lines R; then = tt }
+    pub lines_ready : PreLines image x.lines start h.lines
+    lines_ready = record {
+      reaches = reaching image h P.automaton.fitting (start + h.lines) (omega (arith, start_5 g₁, e));
+      none = P.no_lines;
+      room = omega (arith, (fits image h P.automaton.fitting).lines, P.table);
+    }
 
-    module _ (m : Lines) (R : PostLines image (2 * h.sp + 4 * h.spp + h.members + 4 * h.states) h.lines y.states.count (Ok tt) m) {b : Bool} (E : ended_by image (head_of h) y.members.count ≡ b) where
-      with_end : {v : Bool} → b ≡ v → rest_steps image g₁ limits01 (place_in x) ≡ (if v then given (place p₁.tables (lines_at m) (written_in x)) 0 else refused 32)
-      unfolding Read.ended
-      with_end f = with_lines R ∙ ap (λ (v : Bool). if v then given (place p₁.tables (lines_at m) (written_in x)) 0 else refused 32) (E ∙ f)
+    module _ (y : Lent) (A : PostAutomaton image h x.aut (Ok tt) y) where
+      abbrev p₁ : RunState
+      p₁ = put_in (aut_in y) (place_in x)
 
-      pub no_end : b ≡ false → (z : Place) → PostRecords image h x (Err Record) z
-      no_end f z = record { is = with_end f; then = tt }
+      with_lines : {r : Result Unit Refusal} {m : Lines} → PostLines image start h.lines y.states.count r m
+          → rest_steps image g₁ limits01 (place_in x) ≡ after (outcome {A = ℕ} (λ u. 0) r (place p₁.tables (lines_at m) (written_in x))) (λ _. Read.ended image g₁ limits01)
+      with_lines R =
+          with_states A
+          ∙ ap (λ (i : ℕ). after (Read.records image g₁ limits01 (Read.line image g₁ limits01) 1 0 i h.lines p₁) (λ _. Read.ended image g₁ limits01)) lines_from
+          ∙ ap (λ (o : Outcome RunState ℕ). after o (λ _. Read.ended image g₁ limits01)) (R.is g₁ limits01 p₁ refl (no_lines x.lines.words.now P.no_lines))
 
-      -- packet nodes and transitions are as they were
-      put_tables : OnlyExprs x.aut y → p₁.tables ≡ tables_in y
-      put_tables K = ap₂ (λ (s : SPstore) (t : Transitions). tables (table s.nodes.now s.count) (store (aut_in y) (table t.words.now t.count))) (sym K.sp) (sym K.transitions)
+      pub lines_stopped : {e : Refusal} {m : Lines} → PostLines image start h.lines y.states.count (Err e) m → (z : Place) → PostRecords image h x (Err e) z
+      lines_stopped R z = record { is = with_lines R; then = tt }
 
-      pub records_given : b ≡ true → OnlyExprs x.aut y → PostRecords image h x (Ok tt) (records_at x y m)
-      records_given f K = record {
-        is = with_end f ∙ ap (λ (τ : Tables). given (place τ (lines_at m) (written_in x)) 0) (put_tables K);
-        then = record { lined = R.then; kept = A.kept };
-      }
+      module _ (m : Lines) (R : PostLines image start h.lines y.states.count (Ok tt) m) {b : Bool} (E : ended_by image (head_of h) y.members.count ≡ b) where
+        with_end : {v : Bool} → b ≡ v → rest_steps image g₁ limits01 (place_in x) ≡ (if v then given (place p₁.tables (lines_at m) (written_in x)) 0 else refused 32)
+        unfolding Read.ended
+        with_end f = with_lines R ∙ ap (λ (v : Bool). if v then given (place p₁.tables (lines_at m) (written_in x)) 0 else refused 32) (E ∙ f)
+
+        pub no_end : b ≡ false → (z : Place) → PostRecords image h x (Err Record) z
+        no_end f z = record { is = with_end f; then = tt }
+
+        -- packet nodes and transitions are as they were
+        put_tables : OnlyExprs x.aut y → p₁.tables ≡ tables_in y
+        put_tables K = ap₂ (λ (s : SPstore) (t : Transitions). tables (table s.nodes.now s.count) (store (aut_in y) (table t.words.now t.count))) (sym K.sp) (sym K.transitions)
+
+        pub records_given : b ≡ true → OnlyExprs x.aut y → PostRecords image h x (Ok tt) (records_at x y m)
+        records_given f K = record {
+          is = with_end f ∙ ap (λ (τ : Tables). given (place τ (lines_at m) (written_in x)) 0) (put_tables K);
+          then = record { lined = R.then; kept = A.kept };
+        }

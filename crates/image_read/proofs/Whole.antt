@@ -19,6 +19,8 @@ use Rattle.aut_query_stage.specs.Lent.{tables_in}
 use Rattle.book_steps.specs.Run.{RunState}
 use Rattle.book_memory.specs.declared.Place.{Place}
 use Rattle.book_memory.specs.Place.{place_in, lengths_of, Standing}
+use Rattle.book_begin.specs.Clauses.{OnlyNodes}
+use Rattle.book_begin.proofs.Zero.{own_zeros}
 use Rattle.book_begin.proofs.Beginning.{readable_zero}
 use Rattle.image_steps.specs.Image as Image
 use Rattle.image_steps.specs.Read as Read
@@ -26,8 +28,7 @@ use Rattle.image_steps.specs.Read.{head_at, then_records, records_of, read}
 use Rattle.image_steps.proofs.Reading.{IsRead, is_read}
 use Rattle.image_words.specs.declared.Head.{Head}
 use Rattle.image_words.specs.Clauses.{head_of}
-use Rattle.image_read.specs.Clauses.{setting_at, PostOpen, OnlyNodes, OnlyRecords, PreDiagrams, PostDiagrams, node_steps, rest_steps, PreRecords, PostRecords, PreRead, Reads, PostRead}
-use Rattle.image_read.proofs.Constants.{own_zeros}
+use Rattle.image_read.specs.Clauses.{setting_at, PostOpen, OnlyRecords, PreDiagrams, PostDiagrams, node_steps, rest_steps, PreRecords, PostRecords, PreRead, Reads, PostRead}
 use Rattle.image_read.proofs.Lines.{after_both}
 
 -- ---- the steps in two parts
@@ -83,7 +84,7 @@ module _ (image : List ℕ) (x : Place) (P : PreRead x) where
                 ready = record {
                   few = I.opened.fits.fields;
                   good = I.held.ordered.worked.good;
-                  room = let m : LISTS ≤ length y.aut.scratch.now = rw K.scratch P.room in omega (arith, M.length, m);
+                  room = let m : LISTS ≤ length y.aut.scratch.now = rw K.scratch P.room in omega (arith, M.scratch.length, m);
                   sound = sound_map (λ o x y r v. v.relations) s;
                   list = omega arith;
                   products = omega arith;

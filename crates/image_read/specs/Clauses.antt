@@ -1,25 +1,25 @@
 -- 02 (ii), "Reading makes a new book's constants, then each record again by its constructor": what the parts of reading an image ask and promise, in the words of image_steps/specs/Read.
-use Rattle.std.specs.Prelude.{◌≡◌, Bool, true, ◌&&◌, List, [], ◌∷◌, ◌++◌, Result, Ok, Err, ℕ, ◌+◌, ◌*◌, ◌-◌, ◌≤◌, eqb, length}
-use Rattle.std.proofs.Math.Option.{Option}
+use Rattle.std.specs.Prelude.{◌≡◌, Bool, true, ◌&&◌, List, [], ◌∷◌, ◌++◌, Result, Ok, Err, ℕ, ◌+◌, ◌*◌, ◌-◌, ◌≤◌, ◌<◌, eqb, length}
+use Rattle.std.specs.Prelude as code
+use Rattle.slices.specs.Same.{SameSlice}
 use Rattle.common.specs.Outcome.{Outcome, refused, given, Step, after, ◌>>=◌}
 use Rattle.refusal.specs.declared.Refusal.{Refusal}
 use Rattle.refusal.specs.Numbers.{number_of, outcome}
 use Rattle.aut_steps.specs.Tables.{Limits, limits01}
 use Rattle.aut_steps.specs.Wf.{WfAut}
 use Rattle.aut_steps.specs.Scratch.{Kept}
-use Rattle.aut_query_steps.specs.Tables.{WfTables}
 use Rattle.aut_relations.specs.declared.Aut.{Aut as Lent}
 use Rattle.aut_relations.specs.Behind.{LISTS}
 use Rattle.aut_relations.specs.Lent.{aut_in, Unless}
-use Rattle.aut_query_stage.specs.Lent.{tables_in}
 use Rattle.book_steps.specs.Run as Run
 use Rattle.book_steps.specs.Run.{RunState, place}
 use Rattle.book_memory.specs.declared.Setting.{Setting}
 use Rattle.book_memory.specs.declared.Lines.{Lines}
 use Rattle.book_memory.specs.declared.Place.{Place}
-use Rattle.book_memory.specs.Place.{LINES, lines_of, place_in, lengths_of, Below, Empty, Standing}
+use Rattle.book_memory.specs.Place.{LINES, stands_for, lines_at, place_in, lengths_of, Below, Empty, Standing}
+use Rattle.book_memory.specs.Place.{word_of as line_word}
 use Rattle.book_begin.specs.declared.Header.{Header}
-use Rattle.book_begin.specs.Clauses.{setting_for}
+use Rattle.book_begin.specs.Clauses.{setting_for, Ordered}
 use Rattle.image_steps.specs.Image as Image
 use Rattle.image_steps.specs.Image.{layout, start_of, reach, total}
 use Rattle.image_steps.specs.Read as Read
@@ -32,6 +32,10 @@ use Rattle.image_states.specs.Clauses.{put_in}
 -- fields and budget by block 0, 01's limits
 abbrev pub header_at : List ℕ → Header
 header_at image = record { fields = (Read.head_at image).fields; budget = (Read.head_at image).budget }
+
+-- .. of a head that was read
+abbrev pub setting_by : Head → Setting
+setting_by h = setting_for (record { fields = h.fields; budget = h.budget })
 
 abbrev pub setting_at : List ℕ → Setting
 setting_at image = setting_for (header_at image)
@@ -61,34 +65,16 @@ pub record PostOpen (image : List ℕ) (r : Result Head Refusal) : Type 0 where
 
 -- ---- what is kept: x before, y after. The same words are lent; what is not said to be written is as it was
 
--- both tables of nodes are written, and the fields are set
-pub record OnlyNodes (x y : Place) : Type 0 where
-  pub sp : y.aut.sp.nodes.ghost_name ≡ x.aut.sp.nodes.ghost_name
-  pub spp : y.aut.spp.nodes.ghost_name ≡ x.aut.spp.nodes.ghost_name
-  pub states : y.aut.states ≡ x.aut.states
-  pub members : y.aut.members ≡ x.aut.members
-  pub transitions : y.aut.transitions ≡ x.aut.transitions
-  pub pending : y.aut.pending ≡ x.aut.pending
-  pub scratch : y.aut.scratch ≡ x.aut.scratch
-  pub lines : y.lines ≡ x.lines
-  pub output : y.output ≡ x.output
-
--- the words of the table of lines
-pub record SameLines (x y : Lines) : Type 0 where
-  pub words : y.words.ghost_name ≡ x.words.ghost_name
-  pub length : length y.words.now ≡ length x.words.now
-
 -- states, members, scratch and lines are written
 pub record OnlyRecords (x y : Place) : Type 0 where
   pub sp : y.aut.sp ≡ x.aut.sp
   pub spp : y.aut.spp ≡ x.aut.spp
-  pub states : y.aut.states.words.ghost_name ≡ x.aut.states.words.ghost_name
-  pub members : y.aut.members.words.ghost_name ≡ x.aut.members.words.ghost_name
+  pub states : SameSlice x.aut.states.words y.aut.states.words
+  pub members : SameSlice x.aut.members.words y.aut.members.words
   pub transitions : y.aut.transitions ≡ x.aut.transitions
   pub pending : y.aut.pending ≡ x.aut.pending
-  pub scratch : y.aut.scratch.ghost_name ≡ x.aut.scratch.ghost_name
-  pub length : length y.aut.scratch.now ≡ length x.aut.scratch.now
-  pub lines : SameLines x.lines y.lines
+  pub scratch : SameSlice x.aut.scratch y.aut.scratch
+  pub lines : SameSlice x.lines.words y.lines.words
   pub output : y.output ≡ x.output
 
 -- transitions, pending entries and output are as they were, and so is the length of the table of lines
@@ -99,19 +85,6 @@ pub record Beside (x y : Place) : Type 0 where
   pub output : y.output ≡ x.output
 
 -- ---- nodes
-
--- the tables are in order, for N fields
-pub record Ordered (N : ℕ) (y : Place) : Type 0 where
-  pub fields : y.aut.spp.fields ≡ N
-  pub tables : WfTables N limits01 (tables_in y.aut)
-
-pub record PreFresh (N : ℕ) (x : Place) : Type 0 where
-  pub few : N ≤ 31
-  pub empty : Empty x
-
-pub record PostFresh (N : ℕ) (x : Place) (r : Result Unit Refusal) (y : Place) : Type 0 where
-  pub is : Read.fresh (lengths_of x) N ≡ outcome (λ u. 0) r (place_in y)
-  pub then : Unless r (Ordered N y)
 
 -- the records of packet nodes, then of relation nodes
 abbrev pub node_steps : List ℕ → Image.Head → Limits → Step RunState ℕ
@@ -133,16 +106,17 @@ abbrev pub PostMembers : List ℕ → ℕ → ℕ → Result Unit Refusal → Ty
 PostMembers image s k r = (h : Image.Head) (L : Limits) (p : RunState) → Read.records image h L (Read.member image h L) 1 0 s k p ≡ entered_by r p
 
 -- a line more, or the number
-abbrev pub lined_by : Result ℕ Refusal → RunState → Outcome RunState ℕ
-lined_by (Ok w) p = given (place p.tables (p.lines ++ Read.line_of w ∷ []) p.output) 0
+abbrev pub lined_by : Result (code.Option ℕ) Refusal → RunState → Outcome RunState ℕ
+lined_by (Ok l) p = given (place p.tables (p.lines ++ stands_for (line_word l) ∷ []) p.output) 0
 lined_by (Err e) p = refused (number_of e)
 
-abbrev pub WithinBy : ℕ → Result ℕ Refusal → Type 0
-WithinBy states (Ok w) = w ≤ states
+-- it stands for one of the states, if for any, and is a word of the table
+abbrev pub WithinBy : ℕ → Result (code.Option ℕ) Refusal → Type 0
+WithinBy states (Ok l) = (line_word l ≤ states) × (line_word l < 4294967296)
 WithinBy states (Err e) = Unit
 
 -- the record of a line at word s
-pub record PostLine (image : List ℕ) (s states : ℕ) (r : Result ℕ Refusal) : Type 0 where
+pub record PostLine (image : List ℕ) (s states : ℕ) (r : Result (code.Option ℕ) Refusal) : Type 0 where
   pub is : (h : Image.Head) (L : Limits) (i : ℕ) (p : RunState) → p.tables.base.aut.states.count ≡ states
       → (Read.enter image h L s 1 >>= λ _. Read.line image h L i s) p ≡ lined_by r p
   pub within : WithinBy states r
@@ -152,9 +126,6 @@ pub record PreLines (image : List ℕ) (x : Lines) (s k : ℕ) : Type 0 where
   pub reaches : Reaches image (s + k)
   pub none : x.count ≡ 0
   pub room : k ≤ length x.words.now
-
-abbrev pub lines_at : Lines → List (Option ℕ)
-lines_at y = lines_of y.words.now y.count
 
 -- there are k lines, each of which stands for one of the states, if for any
 pub record Lined (states k : ℕ) (y : Lines) : Type 0 where

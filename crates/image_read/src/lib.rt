@@ -2,9 +2,11 @@
 #![tactic(auto)]
 
 ghost use Rattle.std.specs.Prelude.{◌≡◌, ◌+◌, ◌≤◌, length};
+ghost use Rattle.slices.specs.Same.{SameSlice};
 ghost use Rattle.image_words.specs.Clauses.{Reaches, head_of};
 ghost use Rattle.image_states.specs.Clauses.{OnlyExprs};
 ghost use Rattle.book_memory.specs.Place.{SameSlices};
+ghost use Rattle.book_begin.specs.Clauses.{OnlyNodes};
 ghost use Rattle.image_read.specs.Clauses as Its;
 
 use aut_relations::Aut;
@@ -17,16 +19,22 @@ use refusal::Refusal;
 
 // ---- block 0
 
-// what holds for the book that goes on: fields and budget by block 0, 01's limits
+// fields and budget by block 0, 01's limits
+fn setting_of(h: Head) -> Setting
+    ensures { result ≡ Its.setting_by h }
+{
+    Setting::from(Header {
+        fields: h.fields,
+        budget: h.budget,
+    })
+}
+
+// what holds for the book that goes on
 pub fn setting_at(image: &[u8]) -> Setting
     requires { 512 ≤ length image.now }
     ensures { result ≡ Its.setting_at image.now }
 {
-    let h = image_words::head_at(image);
-    book_begin::setting_of(Header {
-        fields: h.fields,
-        budget: h.budget,
-    })
+    setting_of(image_words::head_at(image))
 }
 
 // block 0 of an image that goes on: the length, the block's number and check, and its words
@@ -34,10 +42,7 @@ fn open(image: &[u8]) -> Result<Head, Refusal>
     ensures { Its.PostOpen image.now result }
 {
     let n = image.len();
-    if n == 0 {
-        return Err(Refusal::Block);
-    }
-    if n % BLOCK != 0 {
+    if n == 0 || n % BLOCK != 0 {
         return Err(Refusal::Block);
     }
     image_block::verify(image, 0)?;
@@ -50,25 +55,13 @@ fn open(image: &[u8]) -> Result<Head, Refusal>
 
 // ---- nodes
 
-// the constants in zeroed tables
-fn fresh(place: &mut Place, fields: u32) -> Result<(), Refusal>
-    requires { Its.PreFresh fields place.old }
-    ensures keeps { Its.OnlyNodes place.old place.new }
-    ensures gives { Its.PostFresh fields place.old result place.new }
-{
-    place.aut.spp.fields = fields;
-    place.aut.sp.start(fields)?;
-    place.aut.spp.start()?;
-    Ok(())
-}
-
 // the constants, then the records of both kinds of nodes
 fn read_diagrams(image: &[u8], place: &mut Place, h: Head) -> Result<(), Refusal>
     requires { Its.PreDiagrams image.now h place.old }
-    ensures keeps { Its.OnlyNodes place.old place.new }
+    ensures keeps { OnlyNodes place.old place.new }
     ensures gives { Its.PostDiagrams image.now h place.old result place.new }
 {
-    fresh(place, h.fields)?;
+    book_begin::constants(place, h.fields)?;
     image_nodes::read_nodes(image, &mut place.aut.sp, h.fields, h.sp)?;
     image_nodes::read_relations(image, &mut place.aut.spp, 2 * h.sp, h.spp)
 }
@@ -86,8 +79,8 @@ fn read_members(image: &[u8], s: usize, k: usize) -> Result<(), Refusal>
     Ok(())
 }
 
-// the line at word s: a state + 1, or 0; first the block that it reaches
-fn line_at(image: &[u8], s: usize, states: usize) -> Result<u32, Refusal>
+// the line at word s, a state + 1, or 0; first the block that it reaches
+fn line_at(image: &[u8], s: usize, states: usize) -> Result<Option<u32>, Refusal>
     requires { Reaches image.now (s + 1) }
     ensures { Its.PostLine image.now s states result }
 {
@@ -96,7 +89,7 @@ fn line_at(image: &[u8], s: usize, states: usize) -> Result<u32, Refusal>
     if w as usize > states {
         return Err(Refusal::Record);
     }
-    Ok(w)
+    Ok(w.checked_sub(1))
 }
 
 // k lines, from word s on, into the table of lines
@@ -108,12 +101,12 @@ fn read_lines(
     states: usize,
 ) -> Result<(), Refusal>
     requires { Its.PreLines image.now lines.old s k }
-    ensures keeps { Its.SameLines lines.old lines.new }
+    ensures keeps { SameSlice lines.old.words lines.new.words }
     ensures gives { Its.PostLines image.now s k states result lines.new }
 {
     for i in 0..k {
-        let w = line_at(image, s + i, states)?;
-        lines.add(w);
+        let line = line_at(image, s + i, states)?;
+        lines.add(line);
     }
     Ok(())
 }
@@ -130,7 +123,7 @@ fn ended(image: &[u8], h: Head, members: usize) -> bool
     if n == 0 {
         return true;
     }
-    let b = (n + 126) / WORDS;
+    let b = image_words::reach(n);
     image_words::unused(image, b, n - WORDS * (b - 1), WORDS * b - n)
 }
 
@@ -144,10 +137,7 @@ fn read_automaton(image: &[u8], aut: &mut Aut, h: Head) -> Result<(), Refusal>
 {
     let first = 2 * h.sp + 4 * h.spp;
     read_members(image, first, h.members)?;
-    let setting = book_begin::setting_of(Header {
-        fields: h.fields,
-        budget: h.budget,
-    });
+    let setting = setting_of(h);
     let at = Lists {
         first,
         count: h.members,
@@ -162,7 +152,7 @@ fn read_records(image: &[u8], place: &mut Place, h: Head) -> Result<(), Refusal>
     ensures gives { Its.PostRecords image.now h place.old result place.new }
 {
     read_automaton(image, &mut place.aut, h)?;
-    let start = 2 * h.sp + 4 * h.spp + h.members + 4 * h.states;
+    let start = image_words::total(h) - h.lines;
     let states = place.aut.states.count;
     read_lines(image, &mut place.lines, start, h.lines, states)?;
     if !ended(image, h, place.aut.members.count) {

@@ -9,15 +9,16 @@ use lib.Dec.{ltb}
 use lib.ListN.{length, get_or, take, length-append, get_or-append, get_or-eq_default}
 use lib.Seq.{length-take-le, get_or-take, get_or-append-add}
 use borrow.Author.Tests.{ltb-true, ltb-false}
-use Rattle.aut_steps.specs.Tables.{limits01, words}
+use Rattle.aut_steps.specs.Tables.{words}
 use Rattle.aut_steps.proofs.Facts.{words_length}
-use Rattle.image_steps.specs.Image.{head_words, start_of, state_words, line_word, line_words}
-use Rattle.book_steps.specs.Run as Run
+use Rattle.image_steps.specs.Image.{head_words, state_words, line_word, line_words}
 use Rattle.book_memory.specs.declared.Setting.{Setting}
 use Rattle.book_memory.specs.declared.Place.{Place}
 use Rattle.book_memory.specs.Place.{stands_for, lines_of}
 use Rattle.book_memory.proofs.Table.{lines_length, line_named}
-use Rattle.image_save.specs.Clauses.{Few, Present, TotalIs, BlocksAre, record_at, head_in, head_at, word_in}
+use Rattle.image_words.specs.declared.Head.{Head}
+use Rattle.image_words.specs.Clauses.{head_of as read_of}
+use Rattle.image_save.specs.Clauses.{Few, Present, HeadOf, record_at, head_at, word_in}
 
 -- ---- one list behind another
 
@@ -166,46 +167,27 @@ module _ (x : Place) where
             pub is_nothing : x.lines.count ≤ i4 → 0 ≡ record_at x i
             is_nothing l = sym (past_states ∙ get_or-eq_default line_list 0 (omega (arith, lines_are x.lines.words.now x.lines.count)))
 
--- ---- how much there is
-
-abbrev sum_of : Place → ℕ
-sum_of x = 2 * x.aut.sp.count + 4 * x.aut.spp.count + x.aut.members.count + 4 * x.aut.states.count + x.lines.count
-
-pub total_is : (x : Place) → TotalIs x (sum_of x)
-unfolding start_of
-total_is x S = omega (arith, lines_length x.lines.words.now x.lines.count)
-
--- the number itself
-any : Run.Setting
-any = record { fields = 0; budget = 0; limits = limits01; entries = 0; room = 0 }
-
-pub total_value : (x : Place) (t : ℕ) → TotalIs x t → t ≡ sum_of x
-total_value x t e = e any ∙ sym (total_is x any)
-
-pub blocks_are : (x : Place) (t : ℕ) → TotalIs x t → BlocksAre x (1 + (t + 126) / 127)
-blocks_are x t e S = ap (λ (n : ℕ). 1 + (n + 126) / 127) (e S)
-
--- few enough that their bytes can be counted
-pub blocks_small : {x : Place} (n : ℕ) → Few x → BlocksAre x n → n ≤ 1048576
-blocks_small {x} n f e = omega (arith, f.lines, e any, blocks_are x (sum_of x) (total_is x) any)
-
 -- ---- block 0
 
-pub head_is : (S : Setting) (x : Place) (j n r : ℕ) → j ≡ n → r ≡ head_at S x n → r ≡ head_at S x j
-head_is S x j n r e h = h ∙ ap (λ (i : ℕ). get_or (head_words (head_in S x)) i 0) (sym e)
+pub head_given : (S : Setting) (x : Place) → Few x
+    → HeadOf S x (record { fields = S.config.fields; budget = S.budget; sp = x.aut.sp.count; spp = x.aut.spp.count; members = x.aut.members.count; states = x.aut.states.count; lines = x.lines.count })
+head_given S x f = record {
+  is = ap (λ (n : ℕ). record { fields = S.config.fields; budget = S.budget; sp = x.aut.sp.count; spp = x.aut.spp.count; members = x.aut.members.count; states = x.aut.states.count; lines = n })
+      (sym (lines_length x.lines.words.now x.lines.count));
+  small = record { sp = omega (arith, f.sp); spp = omega (arith, f.spp); members = omega (arith, f.members); states = omega (arith, f.states); lines = omega (arith, f.lines) };
+}
 
--- the last word is the number of lines
-pub head_lines : (S : Setting) (x : Place) → x.lines.count ≡ head_at S x 7
-head_lines S x = sym (lines_length x.lines.words.now x.lines.count)
+pub head_is : (h : Head) (j n r : ℕ) → j ≡ n → r ≡ head_at h n → r ≡ head_at h j
+head_is h j n r e p = p ∙ ap (λ (i : ℕ). get_or (head_words (read_of h)) i 0) (sym e)
 
-pub head_over : (S : Setting) (x : Place) (j : ℕ) → 8 ≤ j → 0 ≡ head_at S x j
-head_over S x j l = sym (get_or-eq_default (head_words (head_in S x)) 0 {n = j} (omega arith))
+pub head_over : (h : Head) (j : ℕ) → 8 ≤ j → 0 ≡ head_at h j
+head_over h j l = sym (get_or-eq_default (head_words (read_of h)) 0 {n = j} (omega arith))
 
 -- ---- word j of block b
 
-pub head_word_is : (S : Setting) (x : Place) (b j r : ℕ) → b ≡ 0 → r ≡ head_at S x j → r ≡ word_in S x b j
-head_word_is S x b j r e h = h ∙ ap (λ (b : ℕ). word_in S x b j) (sym e)
+pub head_word_is : (h : Head) (x : Place) (b j r : ℕ) → b ≡ 0 → r ≡ head_at h j → r ≡ word_in h x b j
+head_word_is h x b j r e p = p ∙ ap (λ (b : ℕ). word_in h x b j) (sym e)
 
-pub record_word_is : (S : Setting) (x : Place) (b j r : ℕ) → (b ≡ 0 → ⊥) → r ≡ record_at x (127 * (b - 1) + j) → r ≡ word_in S x b j
-record_word_is S x zero j r n e = absurd (n refl)
-record_word_is S x (suc b) j r n e = e ∙ ap (λ (a : ℕ). record_at x (127 * a + j)) {x = suc b - 1} {y = b} (omega arith)
+pub record_word_is : (h : Head) (x : Place) (b j r : ℕ) → (b ≡ 0 → ⊥) → r ≡ record_at x (127 * (b - 1) + j) → r ≡ word_in h x b j
+record_word_is h x zero j r n e = absurd (n refl)
+record_word_is h x (suc b) j r n e = e ∙ ap (λ (a : ℕ). record_at x (127 * a + j)) {x = suc b - 1} {y = b} (omega arith)

@@ -1,11 +1,14 @@
 -- 02 (ii), "Write the tables to an image": what the functions that write the image of a place ask and promise. It is the image of image_steps (`saved`), and every other byte is as it was.
 use Rattle.std.specs.Prelude.{◌≡◌, List, ℕ, ◌+◌, ◌*◌, ◌≤◌, ◌<◌, length, get_or}
 use Rattle.std.proofs.lemmas.List.Edits.{sets}
-use Rattle.image_steps.specs.Image.{Head, head_words, head_of, body_of, word_of, total, blocks_of, saved}
-use Rattle.book_steps.specs.Run as Run
+use Rattle.image_steps.specs.Image as Image
+use Rattle.image_steps.specs.Image.{head_words, head_of, body_of, word_of, blocks_of, saved}
 use Rattle.book_memory.specs.declared.Setting.{Setting}
 use Rattle.book_memory.specs.declared.Place.{Place}
 use Rattle.book_memory.specs.Place.{LINES, place_in, setting_in}
+use Rattle.image_words.specs.declared.Head.{Head}
+use Rattle.image_words.specs.Clauses.{Small}
+use Rattle.image_words.specs.Clauses.{head_of as read_of}
 
 -- ---- what is asked
 
@@ -27,13 +30,14 @@ pub record Present (x : Place) : Type 0 where
   pub lines : x.lines.count ≤ length x.lines.words.now
 
 -- block b has room
-pub record PreBlock (x : Place) (b : ℕ) (image : List ℕ) : Type 0 where
+pub record PreBlock (x : Place) (h : Head) (b : ℕ) (image : List ℕ) : Type 0 where
   pub present : Present x
+  pub small : Small h
   pub few : b < 65536
   pub room : 512 * b + 512 ≤ length image
 
 -- what block 0 says
-abbrev pub head_in : Setting → Place → Head
+abbrev pub head_in : Setting → Place → Image.Head
 head_in S x = head_of (setting_in S x) (place_in x)
 
 -- the whole image has room
@@ -44,23 +48,22 @@ pub record PreWrite (S : Setting) (x : Place) (image : List ℕ) : Type 0 where
 
 -- ---- what is promised
 
-abbrev pub TotalIs : Place → ℕ → Type 0
-TotalIs x r = (S : Run.Setting) → r ≡ total (head_of S (place_in x))
-
-abbrev pub BlocksAre : Place → ℕ → Type 0
-BlocksAre x r = (S : Run.Setting) → r ≡ blocks_of (head_of S (place_in x))
+-- h says what block 0 says
+pub record HeadOf (S : Setting) (x : Place) (h : Head) : Type 0 where
+  pub is : read_of h ≡ head_in S x
+  pub small : Small h
 
 -- word i of the records, 0 behind them
 abbrev pub record_at : Place → ℕ → ℕ
 record_at x i = get_or (body_of (place_in x)) i 0
 
 -- word j of block 0
-abbrev pub head_at : Setting → Place → ℕ → ℕ
-head_at S x j = get_or (head_words (head_in S x)) j 0
+abbrev pub head_at : Head → ℕ → ℕ
+head_at h j = get_or (head_words (read_of h)) j 0
 
 -- word j of block b
-abbrev pub word_in : Setting → Place → (b j : ℕ) → ℕ
-word_in S x = word_of (head_in S x) (body_of (place_in x))
+abbrev pub word_in : Head → Place → (b j : ℕ) → ℕ
+word_in h x = word_of (read_of h) (body_of (place_in x))
 
 -- the image stands in the lent bytes
 abbrev pub PostWrite : Setting → Place → (image image' : List ℕ) → Type 0

@@ -4,32 +4,26 @@
 ghost use Rattle.std.specs.Prelude.{◌≡◌, ◌+◌, ◌*◌, ◌<◌};
 ghost use Rattle.std.proofs.lemmas.List.Edits.{sets};
 ghost use Rattle.image_form.specs.Form as Form;
+ghost use Rattle.image_words.specs.Clauses.{Small};
 ghost use Rattle.image_save.specs.Clauses as Its;
 
-use aut_states::STATE;
 use book_memory::{Place, Setting};
+use image_words::{Head, STATE, WORDS};
 
-// words of a block
-pub const WORDS: usize = 127;
-
-// ---- how much there is
-
-pub fn total_words(place: &Place) -> usize
+// what block 0 says
+pub fn head_of(setting: Setting, place: &Place) -> Head
     requires { Its.Few place.now }
-    ensures { Its.TotalIs place.now result }
+    ensures { Its.HeadOf setting place.now result }
 {
-    2 * place.aut.sp.count
-        + 4 * place.aut.spp.count
-        + place.aut.members.count
-        + 4 * place.aut.states.count
-        + place.lines.count
-}
-
-pub fn blocks_of(place: &Place) -> usize
-    requires { Its.Few place.now }
-    ensures { Its.BlocksAre place.now result }
-{
-    1 + (total_words(place) + 126) / WORDS
+    Head {
+        fields: setting.config.fields,
+        budget: setting.budget,
+        sp: place.aut.sp.count,
+        spp: place.aut.spp.count,
+        members: place.aut.members.count,
+        states: place.aut.states.count,
+        lines: place.lines.count,
+    }
 }
 
 // ---- words
@@ -54,9 +48,9 @@ pub fn record_word(place: &Place, i: usize) -> u32
         return place.aut.members.words[i2];
     }
     let i3 = i2 - listed;
-    let plain = 4 * place.aut.states.count;
+    let plain = STATE * place.aut.states.count;
     if i3 < plain {
-        return place.aut.states.words[STATE * (i3 / 4) + i3 % 4];
+        return place.aut.states.words[aut_states::STATE * (i3 / STATE) + i3 % STATE];
     }
     let i4 = i3 - plain;
     if i4 < place.lines.count {
@@ -66,30 +60,30 @@ pub fn record_word(place: &Place, i: usize) -> u32
 }
 
 // word j of block 0
-pub fn head_word(setting: Setting, place: &Place, j: usize) -> u32
-    requires { Its.Few place.now }
-    ensures { result ≡ Its.head_at setting place.now j }
+pub fn head_word(h: Head, j: usize) -> u32
+    requires { Small h }
+    ensures { result ≡ Its.head_at h j }
 {
     match j {
-        0 => setting.config.fields,
-        1 => (setting.budget / 4294967296) as u32,
-        2 => (setting.budget % 4294967296) as u32,
-        3 => place.aut.sp.count as u32,
-        4 => place.aut.spp.count as u32,
-        5 => place.aut.members.count as u32,
-        6 => place.aut.states.count as u32,
-        7 => place.lines.count as u32,
+        0 => h.fields,
+        1 => (h.budget / 4294967296) as u32,
+        2 => (h.budget % 4294967296) as u32,
+        3 => h.sp as u32,
+        4 => h.spp as u32,
+        5 => h.members as u32,
+        6 => h.states as u32,
+        7 => h.lines as u32,
         _ => 0,
     }
 }
 
 // word j of block b
-fn word_of(place: &Place, setting: Setting, b: usize, j: usize) -> u32
-    requires { Its.Present place.now × (b < 65536) × (j < 127) }
-    ensures { result ≡ Its.word_in setting place.now b j }
+fn word_of(place: &Place, h: Head, b: usize, j: usize) -> u32
+    requires { Its.Present place.now × Small h × (b < 65536) × (j < 127) }
+    ensures { result ≡ Its.word_in h place.now b j }
 {
     if b == 0 {
-        return head_word(setting, place, j);
+        return head_word(h, j);
     }
     record_word(place, WORDS * (b - 1) + j)
 }
@@ -97,25 +91,25 @@ fn word_of(place: &Place, setting: Setting, b: usize, j: usize) -> u32
 // ---- blocks
 
 // the words of block b
-fn write_words(image: &mut [u8], place: &Place, setting: Setting, b: usize)
-    requires { Its.PreBlock place.now b image.old }
+fn write_words(image: &mut [u8], place: &Place, h: Head, b: usize)
+    requires { Its.PreBlock place.now h b image.old }
     ensures { image.new ≡ sets image.old (512 * b + 2)
-        (Form.wides (Its.word_in setting place.now b) 0 127) }
+        (Form.wides (Its.word_in h place.now b) 0 127) }
 {
     let at = image_block::BLOCK * b + 2;
     for j in 0..WORDS {
-        let w = word_of(place, setting, b, j);
+        let w = word_of(place, h, b, j);
         image_block::put_word(image, at + 4 * j, w);
     }
 }
 
-fn write_block(image: &mut [u8], place: &Place, setting: Setting, b: usize)
-    requires { Its.PreBlock place.now b image.old }
+fn write_block(image: &mut [u8], place: &Place, h: Head, b: usize)
+    requires { Its.PreBlock place.now h b image.old }
     ensures { image.new ≡ sets image.old (512 * b)
-        (Form.block b (Its.word_in setting place.now b)) }
+        (Form.block b (Its.word_in h place.now b)) }
 {
     image_block::put_half(image, image_block::BLOCK * b, b as u32);
-    write_words(image, place, setting, b);
+    write_words(image, place, h, b);
     image_block::close_block(image, b);
 }
 
@@ -124,8 +118,9 @@ pub fn write(image: &mut [u8], place: &Place, setting: Setting)
     requires { Its.PreWrite setting place.now image.old }
     ensures { Its.PostWrite setting place.now image.old image.new }
 {
-    let n = blocks_of(place);
+    let h = head_of(setting, place);
+    let n = image_words::blocks_of(h);
     for b in 0..n {
-        write_block(image, place, setting, b);
+        write_block(image, place, h, b);
     }
 }

@@ -10,7 +10,8 @@ use Rattle.aut_steps.specs.Scratch.{Kept}
 use Rattle.aut_steps.proofs.Scratch.{kept_sets}
 use Rattle.image_steps.specs.Image.{Head}
 use Rattle.image_steps.specs.Read.{words_from}
-use Rattle.image_states.specs.Clauses.{Holds, word_of, Copies}
+use Rattle.image_words.specs.Clauses.{word_of}
+use Rattle.image_states.specs.Clauses.{Holds, Copies}
 
 -- the words of an image are the same for every head and all limits
 abbrev pub any_head : Head

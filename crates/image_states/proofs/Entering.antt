@@ -28,7 +28,7 @@ use Rattle.image_kinds.specs.Clauses.{ShapeOf}
 use Rattle.image_kinds.specs.declared.Shape.{Shape}
 use Rattle.image_kinds.proofs.Whole as Whole
 use Rattle.image_kinds.proofs.Lists.{all_below_lem}
-use Rattle.image_states.specs.declared.Words.{Words}
+use Rattle.image_kinds.specs.declared.Words.{Words}
 use Rattle.image_states.specs.Clauses.{listed, made, Wants, Enters, EntersList}
 
 -- ---- want

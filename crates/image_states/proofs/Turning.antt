@@ -36,9 +36,10 @@ use Rattle.image_steps.specs.Read as Read
 use Rattle.image_steps.proofs.States.{state_goes}
 use Rattle.image_kinds.specs.Clauses.{NoKind}
 use Rattle.image_kinds.proofs.Whole as Whole
-use Rattle.image_states.specs.declared.Words.{Words}
+use Rattle.image_kinds.specs.declared.Words.{Words}
 use Rattle.image_states.specs.declared.Lists.{Lists}
-use Rattle.image_states.specs.Clauses.{word_of, WordsAt, Copies, HeadIs, listed, made, made_at, Wants, Enters, EntersList, Reads, ReadsState, put_in, SinceBy, Turns, ReadsStates, TurnAsks, StatesAsk}
+use Rattle.image_words.specs.Clauses.{word_of}
+use Rattle.image_states.specs.Clauses.{WordsAt, Copies, HeadIs, listed, made, made_at, Wants, Enters, EntersList, Reads, ReadsState, put_in, SinceBy, Turns, ReadsStates, TurnAsks, StatesAsk}
 use Rattle.image_states.proofs.Copying.{holds_less, from_length, copied_kept, any_head}
 use Rattle.image_states.proofs.Entering.{made_no, list_kind}
 

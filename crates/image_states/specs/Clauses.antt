@@ -1,5 +1,5 @@
 -- 02 (ii): "Reading makes .. each record again by its constructor .. and wants the same number". What the answers say in the words of image_steps/specs/Read, what is kept of what is lent, and what is asked.
-use Rattle.std.specs.Prelude.{◌≡◌, Bool, ◌&&◌, ◌||◌, List, Result, ℕ, ◌+◌, ◌*◌, ◌/◌, ◌%◌, ◌≤◌, ◌<◌, eqb, ltb, length, if◌then◌else◌}
+use Rattle.std.specs.Prelude.{◌≡◌, Bool, true, false, ◌&&◌, ◌||◌, List, Result, ℕ, ◌+◌, ◌*◌, ◌/◌, ◌≤◌, ◌<◌, eqb, ltb, length, if◌then◌else◌}
 use Rattle.common.specs.Outcome.{refused, given, Step, ◌>>=◌}
 use Rattle.common.specs.Runs.{Table}
 use Rattle.aut_steps.specs.Tables.{UNION, INTERSECT, Aut, aut}
@@ -14,13 +14,13 @@ use Rattle.aut_states.specs.declared.States.{States}
 use Rattle.aut_states.specs.declared.Members.{Members}
 use Rattle.aut_states.specs.Clauses.{limits_of, states_of, members_of, seen}
 use Rattle.aut_relations.specs.declared.Aut.{Aut as Lent}
-use Rattle.aut_relations.specs.Lent.{aut_in, Unless}
-use Rattle.image_form.specs.Form.{word_at}
+use Rattle.aut_relations.specs.Lent.{aut_in, Unless, KeepsBut}
 use Rattle.book_steps.specs.Run.{RunState, place}
 use Rattle.image_steps.specs.Image.{Head, layout, start_of}
 use Rattle.image_steps.specs.Records as Records
 use Rattle.image_steps.specs.Read as Read
-use Rattle.image_states.specs.declared.Words.{Words}
+use Rattle.image_words.specs.Clauses.{word_of}
+use Rattle.image_kinds.specs.declared.Words.{Words}
 use Rattle.image_states.specs.declared.Lists.{Lists}
 use Rattle.refusal.specs.declared.Refusal.{Refusal}
 use Rattle.refusal.specs.Numbers.{outcome}
@@ -30,10 +30,6 @@ use Rattle.refusal.specs.Numbers.{outcome}
 -- the image has the blocks of the records' first n words
 pub record Holds (image : List ℕ) (n : ℕ) : Type 0 where
   pub block : (i : ℕ) → i < n → 512 * (1 + i / 127) + 512 ≤ length image
-
--- word i of the records
-abbrev pub word_of : List ℕ → ℕ → ℕ
-word_of image i = word_at image (1 + i / 127) (i % 127)
 
 -- the four words from s on
 pub record WordsAt (image : List ℕ) (s : ℕ) (w : Words) : Type 0 where
@@ -52,28 +48,15 @@ pub record HeadIs (h : Head) (N : ℕ) (at : Lists) : Type 0 where
   pub members : h.members ≡ at.count
   pub first : start_of 2 (layout h) ≡ at.first
 
--- ---- what a call keeps: x before, y after. The same words are lent; what is not said to be written is as it was
+-- ---- what a call keeps: x before, y after
 
 -- states are written
-pub record OnlyStates (x y : Lent) : Type 0 where
-  pub sp : y.sp ≡ x.sp
-  pub spp : y.spp ≡ x.spp
-  pub states : y.states.words.ghost_name ≡ x.states.words.ghost_name
-  pub members : y.members ≡ x.members
-  pub transitions : y.transitions ≡ x.transitions
-  pub pending : y.pending ≡ x.pending
-  pub scratch : y.scratch ≡ x.scratch
+abbrev pub OnlyStates : Lent → Lent → Type 0
+OnlyStates x y = KeepsBut (record { sp = false; spp = false; states = true; count = true; members = false; transitions = false; pending = false; scratch = false }) x y
 
 -- .. and members and scratch
-pub record OnlyExprs (x y : Lent) : Type 0 where
-  pub sp : y.sp ≡ x.sp
-  pub spp : y.spp ≡ x.spp
-  pub states : y.states.words.ghost_name ≡ x.states.words.ghost_name
-  pub members : y.members.words.ghost_name ≡ x.members.words.ghost_name
-  pub transitions : y.transitions ≡ x.transitions
-  pub pending : y.pending ≡ x.pending
-  pub scratch : y.scratch.ghost_name ≡ x.scratch.ghost_name
-  pub length : length y.scratch.now ≡ length x.scratch.now
+abbrev pub OnlyExprs : Lent → Lent → Type 0
+OnlyExprs x y = KeepsBut (record { sp = false; spp = false; states = true; count = true; members = true; transitions = false; pending = false; scratch = true }) x y
 
 -- ---- a record that is made, before its number is looked at
 

@@ -2,23 +2,16 @@
 #![tactic(auto)]
 
 ghost use Rattle.std.specs.Prelude.{◌≡◌, [], ◌+◌, ◌*◌, length};
+ghost use Rattle.slices.specs.Same.{SameSlice};
 ghost use Rattle.image_kinds.specs.Clauses.{ShapeOf};
 ghost use Rattle.image_kinds.specs.declared.Shape.TheVariants as shape;
 ghost use Rattle.image_states.specs.Clauses as Its;
 
 use aut_relations::Aut;
 use aut_states::{Config, Members, States};
-use image_kinds::Shape;
+use image_kinds::{Shape, Words};
+use image_words::STATE;
 use refusal::Refusal;
-
-// words 0 to 3 of a state
-#[derive(Clone, Copy)]
-pub struct Words {
-    pub kind: u32,
-    pub first: u32,
-    pub second: u32,
-    pub nesting: u32,
-}
 
 // where the members stand: their first word in the image, and how many there are
 #[derive(Clone, Copy)]
@@ -26,9 +19,6 @@ pub struct Lists {
     pub first: usize,
     pub count: usize,
 }
-
-// words of a state's record
-pub const STATE: usize = 4;
 
 // ---- words
 
@@ -49,8 +39,8 @@ fn copy_members(image: &[u8], list: &mut [u32], at: usize)
     requires { Its.Holds image.now (at + length list.old) }
     ensures { Its.Copies image.now at (length list.old) list.new }
 {
-    for j in 0..list.len() {
-        list[j] = image_words::word(image, at + j);
+    for (j, x) in list.iter_mut().enumerate() {
+        *x = image_words::word(image, at + j);
     }
 }
 
@@ -61,7 +51,7 @@ fn enter_leaf(aut: &mut Aut, config: Config, w: Words) -> Result<u32, Refusal>
     ensures keeps { Its.OnlyStates aut.old aut.new }
     ensures gives { Its.Enters config w [] aut.old result aut.new }
 {
-    if !image_kinds::leaf_fits(&aut.spp, config.fields, w.first, w.second, w.nesting) {
+    if !image_kinds::leaf_fits(&aut.spp, config.fields, w) {
         return Err(Refusal::Record);
     }
     aut.states.intern0(w.kind, w.first)
@@ -72,7 +62,7 @@ fn enter_constant(aut: &mut Aut, config: Config, w: Words) -> Result<u32, Refusa
     ensures keeps { Its.OnlyStates aut.old aut.new }
     ensures gives { Its.Enters config w [] aut.old result aut.new }
 {
-    if !image_kinds::constant_fits(w.first, w.second, w.nesting) {
+    if !image_kinds::constant_fits(w) {
         return Err(Refusal::Record);
     }
     aut.states.intern0(w.kind, w.first)
@@ -83,14 +73,7 @@ fn enter_single(aut: &mut Aut, config: Config, w: Words) -> Result<u32, Refusal>
     ensures keeps { Its.OnlyStates aut.old aut.new }
     ensures gives { Its.Enters config w [] aut.old result aut.new }
 {
-    if !image_kinds::single_fits(
-        &aut.states,
-        config.limits,
-        w.kind,
-        w.first,
-        w.second,
-        w.nesting,
-    ) {
+    if !image_kinds::single_fits(&aut.states, config.limits, w) {
         return Err(Refusal::Record);
     }
     aut.states.intern1(config.limits, w.kind, w.first)
@@ -101,7 +84,7 @@ fn enter_pair(aut: &mut Aut, config: Config, w: Words) -> Result<u32, Refusal>
     ensures keeps { Its.OnlyStates aut.old aut.new }
     ensures gives { Its.Enters config w [] aut.old result aut.new }
 {
-    if !image_kinds::pair_fits(&aut.states, config, w.kind, w.first, w.second, w.nesting) {
+    if !image_kinds::pair_fits(&aut.states, config, w) {
         return Err(Refusal::Record);
     }
     aut.states.intern2(config.limits, w.kind, w.first, w.second)
@@ -117,21 +100,12 @@ fn enter_list(
     w: Words,
 ) -> Result<u32, Refusal>
     requires { Its.ListAsks config w list.now states.old members.old × ShapeOf w.kind shape.List }
-    ensures same { states.new.words.ghost_name ≡ states.old.words.ghost_name }
-    ensures same_members { members.new.words.ghost_name ≡ members.old.words.ghost_name }
+    ensures same { SameSlice states.old.words states.new.words }
+    ensures same_members { SameSlice members.old.words members.new.words }
     ensures gives { Its.EntersList config w list.now states.old members.old result states.new
         members.new }
 {
-    if !image_kinds::list_fits(
-        states,
-        list,
-        members.count,
-        config,
-        w.kind,
-        w.first,
-        w.second,
-        w.nesting,
-    ) {
+    if !image_kinds::list_fits(states, list, members.count, config, w) {
         return Err(Refusal::Record);
     }
     states.intern_list(members, config.limits, w.kind, list)
@@ -151,10 +125,7 @@ fn read_list(
 {
     let x = w.first as usize;
     let k = w.second as usize;
-    if x + k > at.count {
-        return Err(Refusal::Record);
-    }
-    if k > config.limits.list {
+    if x + k > at.count || k > config.limits.list {
         return Err(Refusal::Record);
     }
     let list = &mut aut.scratch[..k];

@@ -6,14 +6,14 @@ use mathlib.Core.List.{List}
 use mathlib.Core.Option.{Option}
 use Prim.Native.Nat.{ℕ, zero, suc, ◌+◌, ◌*◌, ◌-◌, ◌/◌, ◌≤◌, ◌<◌}
 use native.Mathlib.Omega.{arith}
-use lib.Dec.{eqb}
+use lib.Dec.{eqb, leb}
 use lib.ListN.{length}
-use borrow.Author.Tests.{eq-eqb, ne_eqb, lt-ltb, le-ltb, leb-true, le-leb}
+use borrow.Author.Tests.{eq-eqb, ne_eqb, lt-ltb, le-ltb}
 use Rattle.common.specs.Outcome.{given}
-use Rattle.sp_steps.proofs.Make.{by_test, false_true}
-use Rattle.aut_steps.proofs.Facts.{and_true}
+use Rattle.sp_steps.specs.Model as Sp
+use Rattle.spp_steps.specs.Model as Spp
 use Rattle.aut_steps.specs.Tables.{Limits}
-use Rattle.book_steps.specs.Run.{RunState}
+use Rattle.book_steps.specs.Run.{RunState, instructions}
 use Rattle.image_form.specs.Form.{word_at, verify}
 use Rattle.image_block.specs.Clauses.{looked_of}
 use Rattle.refusal.specs.declared.Refusal.{Refusal}
@@ -21,7 +21,6 @@ use Rattle.image_steps.specs.Image as Image
 use Rattle.image_steps.specs.Image.{reach, layout, start_of, blocks_of}
 use Rattle.image_steps.specs.Read as Read
 use Rattle.image_steps.specs.Read.{unused, head_fits}
-use Rattle.image_steps.proofs.Loops.{HeadFits, head_fits_lem}
 use Rattle.image_words.specs.Clauses.{counts_fit, PostHead, Reaches, Entered, entered_by}
 
 -- ---- unused words
@@ -73,71 +72,39 @@ module _ (h : Image.Head) where
 
 -- ---- block 0
 
-both : {a b : Bool} → a ≡ true → b ≡ true → (a && b) ≡ true
-both p q = ap₂ ◌&&◌ p q
-
--- of the counts, what block 0 asks for
-pub record CountsFit (h : Image.Head) : Type 0 where
-  pub fields : h.fields ≤ 31
-  pub sp : h.sp ≤ 16777216
-  pub spp : h.spp ≤ 16777216
-  pub members : h.members ≤ 16777216
-  pub states : h.states ≤ 32768
-  pub lines : h.lines ≤ 2048
-  pub sets : h.fields ≤ h.sp
-  pub relations : 3 * h.fields ≤ h.spp
-
-module _ (h : Image.Head) where
-  counts_of : counts_fit h ≡ true → CountsFit h
-  counts_of e =
-      let (a, e1) = and_true _ _ e in
-      let (b, e2) = and_true _ _ e1 in
-      let (c, e3) = and_true _ _ e2 in
-      let (d, e4) = and_true _ _ e3 in
-      let (f, e5) = and_true _ _ e4 in
-      let (g, e6) = and_true _ _ e5 in
-      let (i, j) = and_true _ _ e6 in
-      record {
-        fields = leb-true h.fields 31 a;
-        sp = leb-true h.sp 16777216 b;
-        spp = leb-true h.spp 16777216 c;
-        members = leb-true h.members 16777216 d;
-        states = leb-true h.states 32768 f;
-        lines = leb-true h.lines 2048 g;
-        sets = leb-true h.fields h.sp i;
-        relations = leb-true (3 * h.fields) h.spp j;
-      }
-
-  pub counts_yes : CountsFit h → counts_fit h ≡ true
-  counts_yes f =
-      both (le-leb _ _ f.fields) (both (le-leb _ _ f.sp) (both (le-leb _ _ f.spp) (both (le-leb _ _ f.members)
-      (both (le-leb _ _ f.states) (both (le-leb _ _ f.lines) (both (le-leb _ _ f.sets) (le-leb _ _ f.relations)))))))
-
-  pub counts_no : (CountsFit h → ⊥) → counts_fit h ≡ false
-  counts_no n = by_test (counts_fit h) (λ e. absurd (n (counts_of e))) (λ e. e)
+-- the tests in the order of the code
+moved : (a b c d e f u i j k : Bool) → (a && (b && (c && (d && (e && (f && (u && (i && (j && k))))))))) ≡ ((a && (b && (c && (d && (e && (f && (i && j))))))) && (u && k))
+moved true true true true true true true true j k = refl
+moved true true true true true true true false j k = refl
+moved true true true true true true false true true k = refl
+moved true true true true true true false true false k = refl
+moved true true true true true true false false j k = refl
+moved true true true true true false u i j k = refl
+moved true true true true false f u i j k = refl
+moved true true true false e f u i j k = refl
+moved true true false d e f u i j k = refl
+moved true false c d e f u i j k = refl
+moved false b c d e f u i j k = refl
 
 module _ (image : List ℕ) (h : Image.Head) where
-  counted : HeadFits image h → CountsFit h
-  counted f = record { fields = f.fields; sp = f.sp; spp = f.spp; members = f.members; states = f.states; lines = f.lines; sets = f.sets; relations = f.relations }
-
-  no : (HeadFits image h → ⊥) → head_fits image h ≡ false
-  no n = by_test (head_fits image h) (λ e. absurd (n (head_fits_lem image h e))) (λ e. e)
-
-  pub no_counts : {r : Bool} → counts_fit h ≡ r → r ≡ false → head_fits image h ≡ false
-  no_counts e z = no (λ f. false_true (sym (e ∙ z) ∙ counts_yes h (counted f)))
-
-  pub no_blank : {r : Bool} → unused image 0 8 119 ≡ r → r ≡ false → head_fits image h ≡ false
-  no_blank e z = no (λ f. false_true (sym (e ∙ z) ∙ f.blank))
-
-  pub no_length : {n : ℕ} → n ≡ blocks_of h → (length image / 512 ≡ n → ⊥) → head_fits image h ≡ false
-  no_length e z = no (λ f. z (f.blocks ∙ sym e))
-
-  pub fits : {r s : Bool} {n : ℕ} → counts_fit h ≡ r → r ≡ true → unused image 0 8 119 ≡ s → s ≡ true → n ≡ blocks_of h → length image / 512 ≡ n → head_fits image h ≡ true
+  tested : head_fits image h ≡ (counts_fit h && (unused image 0 8 119 && eqb (length image / 512) (blocks_of h)))
   unfolding head_fits
-  fits a p b q c e =
-      let f : CountsFit h = counts_of h (a ∙ p) in
-      both (le-leb _ _ f.fields) (both (le-leb _ _ f.sp) (both (le-leb _ _ f.spp) (both (le-leb _ _ f.members)
-      (both (le-leb _ _ f.states) (both (le-leb _ _ f.lines) (both (b ∙ q) (both (le-leb _ _ f.sets) (both (le-leb _ _ f.relations) (eq-eqb _ _ (e ∙ c))))))))))
+  tested =
+      moved (leb h.fields 31) (leb h.sp Sp.most) (leb h.spp Spp.cap) (leb h.members 16777216) (leb h.states 32768) (leb h.lines instructions) (unused image 0 8 119)
+      (leb h.fields h.sp) (leb (3 * h.fields) h.spp) (eqb (length image / 512) (blocks_of h))
+
+  pub no_counts : counts_fit h ≡ false → head_fits image h ≡ false
+  no_counts e = tested ∙ ap (λ (c : Bool). c && (unused image 0 8 119 && eqb (length image / 512) (blocks_of h))) e
+
+  module _ (e : counts_fit h ≡ true) where
+    counted : head_fits image h ≡ (unused image 0 8 119 && eqb (length image / 512) (blocks_of h))
+    counted = tested ∙ ap (λ (c : Bool). c && (unused image 0 8 119 && eqb (length image / 512) (blocks_of h))) e
+
+    pub no_blank : unused image 0 8 119 ≡ false → head_fits image h ≡ false
+    no_blank u = counted ∙ ap (λ (c : Bool). c && eqb (length image / 512) (blocks_of h)) u
+
+    pub by_length : {n : ℕ} → unused image 0 8 119 ≡ true → n ≡ blocks_of h → head_fits image h ≡ eqb (length image / 512) n
+    by_length u q = counted ∙ ap₂ (λ (c : Bool) (m : ℕ). c && eqb (length image / 512) m) u (sym q)
 
 -- ---- the block that a record reaches
 
@@ -146,20 +113,21 @@ pub reaches : (image : List ℕ) (m n : ℕ) → length image / 512 ≡ 1 + reac
 reaches image m n e l = omega arith
 
 module _ (image : List ℕ) (s size : ℕ) where
-  pub entered_there : reach (s + size) ≤ reach s → Entered image s size (Ok tt)
+  pub entered_there : {m n : ℕ} → m ≡ reach s → n ≡ reach (s + size) → n ≤ m → Entered image s size (Ok tt)
   unfolding Read.enter
-  entered_there l h L p = ap (λ (b : Bool). (if b then Read.looked image h L (verify image (reach (s + size))) else (λ q. given q 0)) p) (le-ltb _ _ l)
+  entered_there p q l h L x =
+      ap (λ (b : Bool). (if b then Read.looked image h L (verify image (reach (s + size))) else (λ y. given y 0)) x) (le-ltb _ _ (omega (arith, p, q, l)))
 
   look : (r : Result Unit Refusal) → (h : Image.Head) (L : Limits) (p : RunState) → Read.looked image h L (looked_of r) p ≡ entered_by r p
   look (Ok u) h L p = refl
   look (Err e) h L p = refl
 
-  pub entered_new : (r : Result Unit Refusal) → reach s < reach (s + size) → verify image (reach (s + size)) ≡ looked_of r → Entered image s size r
+  pub entered_new : (r : Result Unit Refusal) {m n : ℕ} → m ≡ reach s → n ≡ reach (s + size) → m < n → verify image n ≡ looked_of r → Entered image s size r
   unfolding Read.enter
-  entered_new r l e h L p =
-      ap (λ (b : Bool). (if b then Read.looked image h L (verify image (reach (s + size))) else (λ q. given q 0)) p) (lt-ltb _ _ l)
-      ∙ ap (λ (o : Option ℕ). Read.looked image h L o p) e
-      ∙ look r h L p
+  entered_new r p q l e h L x =
+      ap (λ (b : Bool). (if b then Read.looked image h L (verify image (reach (s + size))) else (λ y. given y 0)) x) (lt-ltb _ _ (omega (arith, p, q, l)))
+      ∙ ap (λ (o : Option ℕ). Read.looked image h L o x) (ap (verify image) (sym q) ∙ e)
+      ∙ look r h L x
 
 -- ---- block 0 as it is read
 

@@ -13,11 +13,13 @@ use refusal::Refusal;
 // words of a block
 pub const WORDS: usize = 127;
 
-// the most records of a table of nodes and of members, of states, and the most lines
+// words of a state's record
+pub const STATE: usize = 4;
+
+// the most records of a table of nodes
 pub const MOST: usize = 16777216;
 
-pub const STATES: usize = 32768;
-
+// the most lines, as in book_memory, which stands above the constructors
 pub const LINES: usize = 2048;
 
 // block 0
@@ -33,6 +35,13 @@ pub struct Head {
 }
 
 // ---- words
+
+// how many blocks behind block 0 have some of the first n words of the records
+pub fn reach(n: usize) -> usize
+    ensures { result ≡ Image.reach n }
+{
+    n.div_ceil(WORDS)
+}
 
 // word j of block b
 pub fn block_word(image: &[u8], b: usize, j: usize) -> u32
@@ -87,14 +96,14 @@ pub fn total(h: Head) -> usize
     requires { Its.Small h }
     ensures { result ≡ Image.total (Its.head_of h) }
 {
-    2 * h.sp + 4 * h.spp + h.members + 4 * h.states + h.lines
+    2 * h.sp + 4 * h.spp + h.members + STATE * h.states + h.lines
 }
 
 pub fn blocks_of(h: Head) -> usize
     requires { Its.Small h }
     ensures { result ≡ Image.blocks_of (Its.head_of h) }
 {
-    1 + (total(h) + 126) / WORDS
+    1 + reach(total(h))
 }
 
 // no header word is out of range, and the constants are among the nodes
@@ -102,31 +111,14 @@ fn counts_fit(h: Head) -> bool
     requires { Its.Small h }
     ensures { Its.counts_fit (Its.head_of h) ≡ result }
 {
-    if 31 < h.fields {
-        return false;
-    }
-    if MOST < h.sp {
-        return false;
-    }
-    if MOST < h.spp {
-        return false;
-    }
-    if MOST < h.members {
-        return false;
-    }
-    if STATES < h.states {
-        return false;
-    }
-    if LINES < h.lines {
-        return false;
-    }
-    if h.sp < h.fields as usize {
-        return false;
-    }
-    if h.spp < 3 * (h.fields as usize) {
-        return false;
-    }
-    true
+    h.fields <= 31
+        && h.sp <= MOST
+        && h.spp <= MOST
+        && h.members <= aut_states::MOST_MEMBERS
+        && h.states <= aut_states::MOST_STATES
+        && h.lines <= LINES
+        && h.fields as usize <= h.sp
+        && 3 * (h.fields as usize) <= h.spp
 }
 
 // what block 0 asks for: its words, and the image's length by its counts
@@ -134,17 +126,7 @@ pub fn head_fits(image: &[u8], h: Head) -> bool
     requires { (512 ≤ length image.now) × Its.Small h }
     ensures { Read.head_fits image.now (Its.head_of h) ≡ result }
 {
-    if !counts_fit(h) {
-        return false;
-    }
-    if !unused(image, 0, 8, 119) {
-        return false;
-    }
-    let blocks = blocks_of(h);
-    if image.len() / BLOCK != blocks {
-        return false;
-    }
-    true
+    counts_fit(h) && unused(image, 0, 8, 119) && image.len() / BLOCK == blocks_of(h)
 }
 
 // ---- blocks, one after the other
@@ -154,9 +136,8 @@ pub fn enter(image: &[u8], s: usize, size: usize) -> Result<(), Refusal>
     requires { Its.Reaches image.now (s + size) }
     ensures { Its.Entered image.now s size result }
 {
-    let before = (s + 126) / WORDS;
-    let last = (s + size + 126) / WORDS;
-    if before < last {
+    let last = reach(s + size);
+    if reach(s) < last {
         return image_block::verify(image, last);
     }
     Ok(())

@@ -4,8 +4,8 @@
 use std::io;
 
 fn replay(rt: &impl Print, text: &[u8]) -> io::Result<()> {
-    for i in 0..text.len() / image_block::FRONT {
-        let sum = image_block::check(text, image_block::FRONT * i);
+    for front in text.chunks_exact(image_block::FRONT) {
+        let sum = image_block::check(front);
         println!(rt; "{sum}")?;
     }
     Ok(())

@@ -1,17 +1,23 @@
-use mathlib.Core.Path.{refl}
+use Rattle.std.proofs.Common.{refl, of_calls}
+use Rattle.refusal.proofs.Passed.{passed}
+use Rattle.book_run.proofs.Mapped.{mapped, through}
 use Rattle.image_calls.proofs.Whole as its
 use Rattle.image_calls.proofs.go_on_from.Goals as goal
 
-pub returns-then-place-lt-SCRATCH-clause-gives : goal.returns-then-place-lt-SCRATCH-clause-gives
-returns-then-place-lt-SCRATCH-clause-gives c = its.on_short c.args.image.now c.args.book.now c.args.place.now c.if-place-lt-SCRATCH.true
+pub returns-in_err-enough-clause-gives : goal.returns-in_err-enough-clause-gives
+returns-in_err-enough-clause-gives c =
+    rw (passed c.from_residual.ensures) (its.on_short c.args.image.now c.args.book.now c.args.place.now c.in_err-enough.ensures)
 
-pub returns-in_err-go_on-in-Ok-clause-gives : goal.returns-in_err-go_on-in-Ok-clause-gives
-returns-in_err-go_on-in-Ok-clause-gives c =
-    its.on_stopped c.args.image.now c.args.book.now c.args.place.now c.if-place-lt-SCRATCH.false c.in-Ok.ensures.beside c.in-Ok.ensures.gives c.setting_at-setting.ensures c.in_err-go_on-in-Ok.ensures.gives c.from_residual.ensures
+pub returns-in_err-map_err-clause-gives : goal.returns-in_err-map_err-clause-gives
+returns-in_err-map_err-clause-gives c =
+    let m = mapped c.read.result _ _ c.in_err-map_err.ensures.cases in
+    let q = m.is in
+    rw (passed c.from_residual-in_err-map_err.ensures) (its.on_refused c.args.image.now c.args.book.now c.args.place.now c.in_ok-enough.ensures c.read.ensures.beside (search of_calls) (rw m.was at c.read.ensures.gives))
 
-pub returns-in-Err-clause-gives : goal.returns-in-Err-clause-gives
-returns-in-Err-clause-gives c = its.on_refused c.args.image.now c.args.book.now c.args.place.now c.if-place-lt-SCRATCH.false c.in-Err.ensures.beside c.in-Err.ensures.gives
+pub returns-in_err-go_on-clause-gives : goal.returns-in_err-go_on-clause-gives
+returns-in_err-go_on-clause-gives c =
+    its.on_stopped c.args.image.now c.args.book.now c.args.place.now c.in_ok-enough.ensures c.read.ensures.beside (rw (through _ c.read.result c.in_ok-map_err.ensures.cases) at c.read.ensures.gives) c.setting_at-setting.ensures c.in_err-go_on.ensures.gives c.from_residual-in_err-go_on.ensures
 
-pub returns-in_ok-go_on-in-Ok-clause-gives : goal.returns-in_ok-go_on-in-Ok-clause-gives
-returns-in_ok-go_on-in-Ok-clause-gives c =
-    its.on_went c.args.image.now c.args.book.now c.args.place.now c.if-place-lt-SCRATCH.false c.in-Ok.ensures.beside c.in-Ok.ensures.gives c.setting_at-setting.ensures c.in_ok-go_on-in-Ok.ensures.gives refl
+pub returns-clause-gives : goal.returns-clause-gives
+returns-clause-gives c =
+    its.on_went c.args.image.now c.args.book.now c.args.place.now c.in_ok-enough.ensures c.read.ensures.beside (rw (through _ c.read.result c.in_ok-map_err.ensures.cases) at c.read.ensures.gives) c.setting_at-setting.ensures c.in_ok-go_on.ensures.gives refl

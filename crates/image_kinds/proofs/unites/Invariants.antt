@@ -8,4 +8,4 @@ use Rattle.image_kinds.proofs.unites.Given as goal
 
 abbrev pub invariant-loop-x : goal.invariant-loop-x
 invariant-loop-x l =
-    (N : ℕ) → Rel.zero_at N ≡ l.zero → Records.unites N l.states.words.now false 0 l.list ≡ Records.unites N l.states.words.now l.seen l.lo (drop l.x-index l.list)
+    (N : ℕ) → Rel.zero_at N ≡ l.zero.0 → Records.unites N l.states.words.now false 0 l.list ≡ Records.unites N l.states.words.now l.seen l.lo (drop l.x-index l.list)

@@ -1,5 +1,5 @@
-use mathlib.Core.Path.{◌∙◌}
 use native.Mathlib.Omega.{arith}
+use Rattle.slices.proofs.Same.{slice_trans}
 use Rattle.refusal.proofs.Passed.{passed}
 use Rattle.sp.specs.Clauses.{store_of}
 use Rattle.image_nodes.proofs.Rows as its
@@ -11,7 +11,7 @@ returns-in_err-read_node-clause-gives c =
 
 pub loop-i-preserved : goal.loop-i-preserved
 loop-i-preserved c = record {
-  same_table = c.read_node.ensures.same_table ∙ c.loop-i.invariant.same_table;
+  same_table = slice_trans c.loop-i.invariant.same_table c.read_node.ensures.same_table;
   read = its.nodes_again its.packets_lawful c.args.image.now c.args.fields 0 c.args.k (store_of c.args.sets.now) c.loop-i.invariant.read c.loop-i-test.true (omega arith) c.in_ok-read_node.ensures.gives;
 }
 

@@ -1,4 +1,5 @@
 use native.Mathlib.Omega.{arith}
+use Rattle.slices.proofs.Same.{slice_trans}
 use Rattle.refusal.proofs.Passed.{passed}
 use Rattle.spp.specs.Clauses.{store_of}
 use Rattle.image_nodes.proofs.Rows as its
@@ -10,7 +11,7 @@ returns-in_err-read_relation-clause-gives c =
 
 pub loop-i-preserved : goal.loop-i-preserved
 loop-i-preserved c = record {
-  same_store = record { lent = cc; fields = cc };
+  same_store = record { nodes = slice_trans c.loop-i.invariant.same_store.nodes c.read_relation.ensures.same_store.nodes; fields = cc };
   read = its.nodes_again its.relations_lawful c.args.image.now c.args.relations.now.fields c.args.start c.args.k (store_of c.args.relations.now) c.loop-i.invariant.read c.loop-i-test.true (omega arith) (rw c.loop-i.invariant.same_store.fields at c.in_ok-read_relation.ensures.gives);
 }
 

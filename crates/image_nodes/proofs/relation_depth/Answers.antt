@@ -1,9 +1,6 @@
 use Rattle.image_nodes.proofs.Depth as its
 use Rattle.image_nodes.proofs.relation_depth.Goals as goal
 
-pub loop-d-init : goal.loop-d-init
-loop-d-init c = record { depth = its.depth_begin (its.of_relations c.args.relations.now.nodes.now) c.args.n c.args.h; within = c.requires.within }
-
 pub returns-then-x-lt2 : goal.returns-then-x-lt2
 returns-then-x-lt2 c = its.depth_leaf (its.of_relations c.args.relations.now.nodes.now) c.args.n c.args.h c.loop-d.invariant.depth c.loop-d-test.true c.if-x-lt2.true
 

@@ -12,4 +12,4 @@ returns-then-w-states c =
 
 pub returns : goal.returns
 returns c =
-    lines.line_read _ _ _ c.enter.ensures c.in_ok-enter.was c.word-w.ensures (omega (arith, c.if-w-states.false))
+    lines.line_read _ _ _ c.enter.ensures c.in_ok-enter.was c.word-w.ensures (omega (arith, c.if-w-states.false)) (omega arith) c.checked_sub.ensures

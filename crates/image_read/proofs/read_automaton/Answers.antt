@@ -1,14 +1,9 @@
-use native.Mathlib.Omega.{arith}
 use Rattle.refusal.proofs.Passed.{passed}
-use Rattle.image_read.proofs.Ending as ending
 use Rattle.image_read.proofs.States as states
 use Rattle.image_read.proofs.read_automaton.Goals as goal
 
 pub read_members-requires : goal.read_members-requires
 read_members-requires c = states.members_ready c.args.image.now c.args.h c.args.aut.now c.requires
-
-pub overflow_add-first : goal.overflow_add-first
-overflow_add-first c = let f = ending.fits _ _ c.requires.fitting in omega (arith, f.sp, f.spp, f.members)
 
 pub read_states-requires : goal.read_states-requires
 read_states-requires c = states.states_ready c.args.image.now c.args.h c.args.aut.now c.requires c.setting_of-setting.result c.setting_of-setting.ensures

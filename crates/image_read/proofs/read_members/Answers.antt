@@ -6,12 +6,6 @@ use Rattle.image_read.proofs.read_members.Goals as goal
 pub loop-i-init : goal.loop-i-init
 loop-i-init c = lines.members_begin _ _ _
 
-pub overflow_add-s : goal.overflow_add-s
-overflow_add-s c = omega arith
-
-pub enter-requires : goal.enter-requires
-enter-requires c = omega (arith, c.requires)
-
 pub returns-in_err-enter : goal.returns-in_err-enter
 returns-in_err-enter c =
     rw (passed c.from_residual.ensures) (lines.members_stop _ _ _ c.loop-i.i c.loop-i.invariant c.loop-i-test.true c.enter.ensures c.in_err-enter.was)

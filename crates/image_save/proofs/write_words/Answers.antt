@@ -2,20 +2,8 @@ use native.Mathlib.Omega.{arith}
 use Rattle.image_save.proofs.Bytes as bytes
 use Rattle.image_save.proofs.write_words.Goals as goal
 
-pub overflow_mul-at : goal.overflow_mul-at
-overflow_mul-at c = omega arith
-
-pub overflow_add-at : goal.overflow_add-at
-overflow_add-at c = omega arith
-
 pub loop-j-init : goal.loop-j-init
 loop-j-init c = bytes.words_begin _ _ _
-
-pub word_of-w-requires : goal.word_of-w-requires
-word_of-w-requires c = (c.requires.present, c.requires.few, c.loop-j-test.true)
-
-pub overflow_mul-j : goal.overflow_mul-j
-overflow_mul-j c = omega arith
 
 pub overflow_add-at-in-loop-j : goal.overflow_add-at-in-loop-j
 overflow_add-at-in-loop-j c = omega (arith, c.requires.few, c.loop-j-test.true)

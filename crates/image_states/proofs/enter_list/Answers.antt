@@ -1,14 +1,6 @@
 use mathlib.Core.Path.{◌∙◌}
-use Rattle.aut_relations.proofs.Order.{fits}
 use Rattle.image_states.proofs.Entering as its
 use Rattle.image_states.proofs.enter_list.Goals as goal
-
-pub list_fits-requires : goal.list_fits-requires
-list_fits-requires c = (fits c.requires.0.good, c.requires.1, c.requires.0.few, c.requires.0.long)
-
-pub returns-then-not-list_fits-clause-gives : goal.returns-then-not-list_fits-clause-gives
-returns-then-not-list_fits-clause-gives c =
-    its.list_not c.args.config c.args.w c.args.list.now (λ t. c.list_fits.ensures.is t c.args.members.now.words.now ∙ c.if-not-list_fits.true)
 
 pub intern_list-requires : goal.intern_list-requires
 intern_list-requires c =

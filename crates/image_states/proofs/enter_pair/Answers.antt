@@ -7,11 +7,6 @@ use Rattle.image_kinds.proofs.Whole as whole
 use Rattle.image_states.proofs.Entering as its
 use Rattle.image_states.proofs.enter_pair.Goals as goal
 
-pub returns-then-not-pair_fits-clause-gives : goal.returns-then-not-pair_fits-clause-gives
-returns-then-not-pair_fits-clause-gives c =
-    let x = c.args.aut.now in
-    its.entered_no c.args.config c.args.w [] x (c.pair_fits.ensures.is (nodes_in x) (members_in x) [] ∙ c.if-not-pair_fits.true) x
-
 pub intern2-requires : goal.intern2-requires
 intern2-requires c =
     let k = c.args.config in

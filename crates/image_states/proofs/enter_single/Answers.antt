@@ -7,12 +7,6 @@ use Rattle.image_kinds.proofs.Whole as whole
 use Rattle.image_states.proofs.Entering as its
 use Rattle.image_states.proofs.enter_single.Goals as goal
 
-pub returns-then-not-single_fits-clause-gives : goal.returns-then-not-single_fits-clause-gives
-returns-then-not-single_fits-clause-gives c =
-    let k = c.args.config in
-    let x = c.args.aut.now in
-    its.entered_no k c.args.w [] x (c.single_fits.ensures.is k.fields (nodes_in x) (members_in x) [] ∙ c.if-not-single_fits.true) x
-
 pub intern1-requires : goal.intern1-requires
 intern1-requires c =
     let k = c.args.config in

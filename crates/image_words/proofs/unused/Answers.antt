@@ -1,16 +1,9 @@
 use mathlib.Core.Path.{◌∙◌}
-use native.Mathlib.Omega.{arith}
 use Rattle.image_words.proofs.Words as its
 use Rattle.image_words.proofs.unused.Goals as goal
 
 pub loop-i-init : goal.loop-i-init
 loop-i-init c = its.unused_begin c.args.image.now c.args.b c.args.j c.args.k
-
-pub overflow_add-j : goal.overflow_add-j
-overflow_add-j c = omega arith
-
-pub block_word-requires : goal.block_word-requires
-block_word-requires c = (omega arith, c.requires.1)
 
 pub returns-then-block_word-ne0 : goal.returns-then-block_word-ne0
 returns-then-block_word-ne0 c =
