@@ -7,7 +7,7 @@ ghost use Rattle.refusal.specs.Numbers.{number_of};
 #[derive(Clone, Copy, Debug, PartialEq, Eq)]
 pub enum Refusal {
     // whoever writes the book
-    Header,
+    Header = 1,
     Fields,
     Form,
     Name,
@@ -17,7 +17,7 @@ pub enum Refusal {
     Nesting,
     TransitionList,
     // whoever lends the tables
-    Sp,
+    Sp = 20,
     Spp,
     States,
     Members,
@@ -26,7 +26,7 @@ pub enum Refusal {
     Scratch,
     Output,
     // whoever hands over an image
-    Block,
+    Block = 30,
     Check,
     Record,
     // a book with a `next`, where an image is wanted
@@ -37,28 +37,6 @@ impl Refusal {
     pub fn number(self) -> u32
         ensures { result ≡ number_of self }
     {
-        match self {
-            Refusal::Header => 1,
-            Refusal::Fields => 2,
-            Refusal::Form => 3,
-            Refusal::Name => 4,
-            Refusal::Range => 5,
-            Refusal::List => 6,
-            Refusal::Products => 7,
-            Refusal::Nesting => 8,
-            Refusal::TransitionList => 9,
-            Refusal::Sp => 20,
-            Refusal::Spp => 21,
-            Refusal::States => 22,
-            Refusal::Members => 23,
-            Refusal::Pending => 24,
-            Refusal::Transitions => 25,
-            Refusal::Scratch => 26,
-            Refusal::Output => 27,
-            Refusal::Block => 30,
-            Refusal::Check => 31,
-            Refusal::Record => 32,
-            Refusal::Next => 33,
-        }
+        self as u32
     }
 }

@@ -1,2 +1,3 @@
--- What several calls keep of a slice together.
+-- What several calls keep of a slice together, and searches in a slice.
 pub mod Same
+pub mod Records

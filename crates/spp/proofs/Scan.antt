@@ -1,20 +1,20 @@
--- The search for a node: what the code finds at a node, and how the search goes on.
-use mathlib.Core.Path.{◌≡◌, refl, sym, ◌∙◌, ap, fun_ext, subst}
+-- The search for a node: what the code finds at a node, and where it may begin.
+use mathlib.Core.Path.{◌≡◌, refl, ◌∙◌, ap, ap₂, fun_ext}
 use mathlib.Core.Bool.{Bool, true, false, ◌&&◌}
 use mathlib.Core.List.{List}
 use mathlib.Core.Logic.{◌⊎◌, ⊎_elim}
 use Prim.Native.Nat.{ℕ, zero, suc, ◌+◌, ◌-◌, ◌*◌, ◌<◌, ◌≤◌, max}
 use native.Mathlib.Omega.{arith}
 use Rattle.std.proofs.Math.Nat.{max-eq_left, max-eq_right}
-use Rattle.std.proofs.Math.Bool.{and_assoc}
 use Rattle.std.proofs.lemmas.Bool.{cases_lt}
 use lib.Dec.{eqb}
 use lib.ListN.{get_or}
-use borrow.Author.Tests.{ne_eqb}
 use Rattle.spp_steps.specs.Model.{Quad, quad, seek, same, kid}
 use Rattle.spp_steps.specs.Wf.{Rising}
 use Rattle.spp_steps.proofs.Laws.{by_test}
 use Rattle.spp_steps.proofs.Make.{same_kids, seek_yes, seek_no, seek_none}
+use Rattle.std.specs.Prelude.{Option, Some, None, MatchOption}
+use Rattle.slices.proofs.Records.{Test, Placed, Whole}
 use Rattle.spp.specs.Clauses.{First}
 
 quad_is : (X : Quad) → quad (X false false) (X false true) (X true false) (X true true) ≡ X
@@ -30,20 +30,25 @@ pub kid_is : (t : List ℕ) (i : ℕ) → quad (get_or t (4 * i) 0) (get_or t (4
 unfolding kid
 kid_is t i = quad_is (kid t i)
 
--- the children of a node that was read are the node x where all four are equal
-pub same_is : (t : List ℕ) (i a b c d x00 x01 x10 x11 : ℕ) → quad a b c d ≡ kid t i
-    → same t (quad x00 x01 x10 x11) i ≡ (eqb a x00 && (eqb b x01 && (eqb c x10 && eqb d x11)))
-unfolding same
-same_is t i a b c d x00 x01 x10 x11 e =
-    ap (λ (Y : Quad). (eqb (Y false false) x00 && eqb (Y false true) x01) && (eqb (Y true false) x10 && eqb (Y true true) x11)) (sym e)
-    ∙ and_assoc (eqb a x00) (eqb b x01) (eqb c x10 && eqb d x11)
+-- ---- a node at a place with the children X
 
--- node i has another first child
-pub first_other : (t : List ℕ) (X : Quad) (i : ℕ) → (get_or t (4 * i) 0 ≡ X false false → ⊥) → same t X i ≡ false
+abbrev pub here : Quad → List ℕ → ℕ → Bool
+here X t a =
+    (eqb (get_or t a 0) (X false false) && eqb (get_or t (a + 1) 0) (X false true))
+    && (eqb (get_or t (a + 2) 0) (X true false) && eqb (get_or t (a + 3) 0) (X true true))
+
+pub here_moved : (X : Quad) → Test 4 (here X)
+here_moved X s t a b e =
+    let w : get_or s a 0 ≡ get_or t b 0 = ap (λ (i : ℕ). get_or s i 0) {x = a} {y = a + 0} (omega arith) ∙ e 0 (omega arith) ∙ ap (λ (i : ℕ). get_or t i 0) {x = b + 0} {y = b} (omega arith) in
+    ap₂ ◌&&◌ (ap₂ (λ (v w : ℕ). eqb v (X false false) && eqb w (X false true)) w (e 1 (omega arith)))
+    (ap₂ (λ (v w : ℕ). eqb v (X true false) && eqb w (X true true)) (e 2 (omega arith)) (e 3 (omega arith)))
+
+here_same : (X : Quad) (t : List ℕ) (i : ℕ) → same t X i ≡ here X t (4 * i)
 unfolding same kid
-first_other t X i p =
-    ap (λ (b : Bool). (b && eqb (get_or t (4 * i + 1) 0) (X false true)) && (eqb (get_or t (4 * i + 2) 0) (X true false) && eqb (get_or t (4 * i + 3) 0) (X true true)))
-    (ne_eqb (get_or t (4 * i) 0) (X false false) p)
+here_same X t i = refl
+
+pub whole : {from count len : ℕ} → len + 4 * from ≡ 4 * count → Whole 4 from count len
+whole e = record { as_many = omega arith; inside = λ i l. omega arith; ends = λ j l. omega arith; place = λ j. omega arith }
 
 left_of_lem : (n i : ℕ) → i < n → n - i ≡ suc (n - (i + 1))
 left_of_lem n i l = omega arith
@@ -94,11 +99,14 @@ module _ (t : List ℕ) (X : Quad) (n : ℕ) where
       (λ e. let (i, j, c) = f.before k l in absurd (omega (arith, up k m i j, same_kids t X k e i j)))
       (λ e. e)
 
-  pub goes_on : {i : ℕ} → NotBefore t X n i → same t X i ≡ false → NotBefore t X n (i + 1)
-  goes_on {i} f e k l m = ⊎_elim (λ b. f k b m) (λ b. subst (λ (k : ℕ). same t X k ≡ false) {x = i} {y = k} (omega arith) e) (cases_lt k i)
+  -- r may lie behind the nodes
+  pub behind : {r : ℕ} → NotBefore t X n r → n ≤ r → seek t X 0 n ≡ n
+  behind f l = skipped t X n n (omega arith) (λ k b. f k (omega arith) b) ∙ scan_end t X n
 
-  pub hits : {i : ℕ} → NotBefore t X n i → i < n → same t X i ≡ true → i ≡ seek t X 0 n
-  hits {i} f l e = sym (skipped t X n i (omega arith) (λ k b. f k b (omega arith)) ∙ scan_hit t X n i l e)
+  further : {r : ℕ} (i : ℕ) → NotBefore t X n r → ((k : ℕ) → r ≤ k → k < i → here X t (4 * k) ≡ false) → NotBefore t X n i
+  further {r} i f h k l m = ⊎_elim (λ b. f k b m) (λ b. here_same X t k ∙ h k b l) (cases_lt k r)
 
-  pub ends : {i : ℕ} → NotBefore t X n i → n ≤ i → n ≡ seek t X 0 n
-  ends f l = sym (skipped t X n n (omega arith) (λ k b. f k (omega arith) b) ∙ scan_end t X n)
+  pub found : {r : ℕ} → NotBefore t X n r → (o : Option ℕ) → Placed (here X) 4 t r n o → MatchOption o (seek t X 0 n ≡ n) (λ i. (r + i < n) × (seek t X 0 n ≡ r + i))
+  found f None p = behind (further n f p) (omega arith)
+  found {r} f (Some i) p =
+      (p.0, skipped t X n (r + i) (omega (arith, p.0)) (λ k b. further (r + i) f p.2 k b (omega (arith, p.0))) ∙ scan_hit t X n (r + i) p.0 (here_same X t (r + i) ∙ p.1))

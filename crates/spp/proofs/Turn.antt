@@ -1,5 +1,5 @@
 -- One turn of `apply`: an exit, a result from the cache, or four calls and a node.
-use mathlib.Core.Path.{◌≡◌, sym, ◌∙◌, ap, ap₂, subst}
+use mathlib.Core.Path.{◌≡◌, refl, sym, ◌∙◌, ap, ap₂, subst}
 use mathlib.Core.Bool.{true, false}
 use mathlib.Core.List.{List, [], ◌∷◌}
 use Prim.Native.Nat.{ℕ, zero, suc, ◌+◌, ◌*◌, ◌-◌, ◌≤◌, ◌<◌}
@@ -17,8 +17,12 @@ use Rattle.spp_steps.proofs.Laws.{spp_theory, at_ext, den_mem}
 use Rattle.spp_steps.proofs.Apply.{Leads, Going, pointwise, exit_right, exit_low, apply_exact}
 use Rattle.spp.specs.Reuse.{Kept, code_of}
 use Rattle.spp.proofs.Reuse.{spp_memo, run_code, reused, to_note}
+use denote.Enum.Declared.{tag_of}
+use Rattle.spp.specs.contracts.Op.{the_type}
+use Rattle.spp.specs.declared.Op as Own
+use Rattle.spp.specs.declared.Op.TheVariants.{Union, Intersect, Xor, Difference, Not}
 use Rattle.spp.specs.declared.SPPstore.{SPPstore}
-use Rattle.spp.specs.Clauses.{store_of, Asked}
+use Rattle.spp.specs.Clauses.{op_of, store_of, Asked}
 use Rattle.spp.proofs.Calls.{inside, at_kids, apply_can}
 use Rattle.spp.proofs.Quartet.{Quartet}
 
@@ -44,6 +48,14 @@ code_high Op.intersect = omega arith
 code_high Op.xor = omega arith
 code_high Op.difference = omega arith
 code_high Op.not = omega arith
+
+-- an operation of the code is its code in the cache
+pub coded : (o : Own.Op) → tag_of the_type o + 3 ≡ code_of (op_of o)
+coded Union = refl
+coded Intersect = refl
+coded Xor = refl
+coded Difference = refl
+coded Not = refl
 
 out≢on : {h : ℕ} {u : Op} {x y : ℕ} → out h ≡ on u x y → ⊥
 out≢on e = let z : ◌≡◌ {A = ℕ} 0 1 = cc in omega arith

@@ -2,10 +2,9 @@
 // The contracts cite the steps of spp_steps.
 #![tactic(auto)]
 
-ghost use Rattle.std.specs.Prelude.{◌≡◌, [], ◌∷◌, ℕ, ◌+◌, ◌*◌, ◌≤◌, ◌<◌, length};
+ghost use Rattle.std.specs.Prelude.{◌≡◌, [], ◌∷◌, ℕ, ◌+◌, ◌*◌, ◌≤◌, ◌<◌, MatchOption, length};
 ghost use Rattle.common.specs.Runs.{table};
 ghost use Rattle.spp_steps.specs.Model as M;
-ghost use Rattle.spp.specs.Reuse.{code_of};
 ghost use Rattle.spp.specs.Clauses.{store_of, seen, op_of, exit_of, quad_of, entry_of, columns, seen_start, SameStore, Fits, First, ColumnAsked, FieldAsked, Asked, Answer};
 
 use refusal::Refusal;
@@ -74,9 +73,10 @@ pub struct Constants {
     pub top: SPP,
 }
 
+// the pointwise operations, by their codes in the cache
 #[derive(Clone, Copy)]
 pub enum Op {
-    Union,
+    Union = 3,
     Intersect,
     Xor,
     Difference,
@@ -91,18 +91,7 @@ pub enum Quick {
 }
 
 // the most nodes of a table
-const MOST: usize = 16777216;
-
-// codes in the cache
-const UNION: u32 = 3;
-
-const INTERSECT: u32 = 4;
-
-const XOR: u32 = 5;
-
-const DIFFERENCE: u32 = 6;
-
-const NOT: u32 = 7;
+pub const MOST: usize = 16777216;
 
 // ---- handles
 
@@ -177,10 +166,7 @@ fn first(x: SPPnode) -> usize
 fn sorted(op: Op, a: SPP, b: SPP) -> Quick
     ensures { M.sorted (op_of op) a.0 b.0 ≡ exit_of result }
 {
-    if b.0 < a.0 {
-        return Quick::On(op, b, a);
-    }
-    Quick::On(op, a, b)
+    Quick::On(op, SPP(a.0.min(b.0)), SPP(a.0.max(b.0)))
 }
 
 #[tactic(auto, unfolding(spp_steps::specs::Model::exit))]
@@ -206,10 +192,7 @@ fn intersect_exit(fields: u32, depth: u32, a: SPP, b: SPP) -> Quick
 {
     let zero = zero_at_depth(depth);
     let top = top_at_depth(fields, depth);
-    if a == b {
-        return Quick::Out(a);
-    }
-    if a == zero || b == top {
+    if a == b || a == zero || b == top {
         return Quick::Out(a);
     }
     if b == zero || a == top {
@@ -286,19 +269,6 @@ fn exit(fields: u32, op: Op, depth: u32, a: SPP, b: SPP) -> Quick
     }
 }
 
-// the code of an operation in the cache
-fn code_of(op: Op) -> u32
-    ensures { result ≡ code_of (op_of op) }
-{
-    match op {
-        Op::Union => UNION,
-        Op::Intersect => INTERSECT,
-        Op::Xor => XOR,
-        Op::Difference => DIFFERENCE,
-        Op::Not => NOT,
-    }
-}
-
 // the entry at the field: of `assign` or of `test`
 fn entry(assigned: bool, value: bool, one: SPP, zero: SPP) -> SPPnode
     ensures { quad_of result ≡ entry_of assigned value one.0 zero.0 }
@@ -349,17 +319,18 @@ impl SPPstore<'_> {
         Ok(x)
     }
 
-    // the number of node x, or count
-    fn find(&self, x: SPPnode) -> usize
+    // the number of node x
+    fn find(&self, x: SPPnode) -> Option<usize>
         requires { Fits self.now.nodes.now self.now.count }
-        ensures { result ≡ M.seek self.now.nodes.now (quad_of x) 0 self.now.count }
+        ensures { MatchOption result (M.seek self.now.nodes.now (quad_of x) 0 self.now.count ≡ self.now.count)
+            (λ i. (i < self.now.count) × (M.seek self.now.nodes.now (quad_of x) 0 self.now.count ≡ i)) }
     {
-        for i in first(x)..self.count {
-            if self.nodes[4 * i] == x.x00.0 && node(self.nodes, i) == x {
-                return i;
-            }
-        }
-        self.count
+        let from = first(x);
+        let nodes = self.nodes.get(4 * from..4 * self.count)?;
+        let i = nodes.chunks_exact(4).position(|n| {
+            n[0] == x.x00.0 && n[1] == x.x01.0 && n[2] == x.x10.0 && n[3] == x.x11.0
+        })?;
+        Some(from + i)
     }
 
     // the node with the children x, found or put in
@@ -370,8 +341,7 @@ impl SPPstore<'_> {
         ensures gives { M.mk (quad_of x) (store_of self.old) ≡ seen result (store_of self.new) }
     {
         let count = self.count;
-        let i = self.find(x);
-        if i < count {
+        if let Some(i) = self.find(x) {
             return Ok(SPP((i + 2) as u32));
         }
         if count >= self.nodes.len() / 4 || count >= MOST {
@@ -424,7 +394,7 @@ impl SPPstore<'_> {
         match quick {
             Quick::Out(h) => Ok(h),
             Quick::On(o, x, y) => {
-                let code = code_of(o);
+                let code = o as u32;
                 if let Some(h) = cache::look(cache, code, x.0, y.0) {
                     return Ok(SPP(h));
                 }

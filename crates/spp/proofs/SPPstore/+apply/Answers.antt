@@ -13,7 +13,7 @@ returns-in-Out-clause-answer t c = record {
 }
 
 pub returns-in-Some-clause-answer : goal.returns-in-Some-clause-answer
-returns-in-Some-clause-answer t c = record { gives = turn.hit (turn.goes_down c.args.self.now (op_of c.args.op) c.requires c.in-On.ensures) c.code_of-code.ensures c.in-Some.ensures; notes = notes_refl }
+returns-in-Some-clause-answer t c = record { gives = turn.hit (turn.goes_down c.args.self.now (op_of c.args.op) c.requires c.in-On.ensures) (turn.coded c.in-On.o) c.in-Some.ensures; notes = notes_refl }
 
 pub get-p-requires : goal.get-p-requires
 get-p-requires t c = turn.in_x (turn.goes_down c.args.self.now (op_of c.args.op) c.requires c.in-On.ensures)
@@ -90,4 +90,4 @@ returns-in_ok-h-in-On-clause-answer t c =
     let d = turn.goes_down c.args.self.now (op_of c.args.op) c.requires c.in-On.ensures in
     let q = turn.calls d c.get-p.ensures c.get-q.ensures in
     let s = quartet.node q c.apply.ensures.same_store c.in_ok-x00-in-On.ensures.answer c.apply-in-On.ensures.same_store c.in_ok-x01-in-On.ensures.answer c.apply-in-On-2.ensures.same_store c.in_ok-x10-in-On.ensures.answer c.apply-in-On-3.ensures.same_store c.in_ok-x11-in-On.ensures.answer (turn.lower d) c.in_ok-h-in-On.ensures.gives in
-    record { gives = s.left; notes = turn.noted d c.code_of-code.ensures s c.note.ensures }
+    record { gives = s.left; notes = turn.noted d (turn.coded c.in-On.o) s c.note.ensures }

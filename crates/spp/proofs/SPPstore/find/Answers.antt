@@ -1,24 +1,33 @@
-use mathlib.Core.Path.{◌∙◌, sym}
+use Rattle.std.proofs.Common.{rules, tests}
+use mathlib.Core.Path.{◌∙◌, ap}
+use mathlib.Core.Logic.{⊎_elim}
+use native.Mathlib.Omega.{arith}
+use Rattle.std.specs.Slice.Iter.{chunks_exact_size, chunks_exact_rest}
+use Rattle.slices.proofs.Records.{searched}
 use Rattle.spp.specs.Clauses.{quad_of}
 use Rattle.spp.proofs.Scan as scan
 use Rattle.spp.proofs.SPPstore.find.Goals as goal
-use Rattle.spp.proofs.SPPstore.find.Goals.{else-self-i-via-then-self-i+else-eq, else-self-i-via-else-self-i}
 
-pub loop-i-init : goal.loop-i-init
-loop-i-init c = scan.begins c.args.self.now.nodes.now (quad_of c.args.x) c.args.self.now.count c.requires.rising c.first-i.ensures
+pub returns-in_err-nodes : goal.returns-in_err-nodes
+returns-in_err-nodes c =
+    rw c.from_residual.ensures
+    (scan.behind c.args.self.now.nodes.now (quad_of c.args.x) c.args.self.now.count (scan.begins c.args.self.now.nodes.now (quad_of c.args.x) c.args.self.now.count c.requires.rising c.first-from.ensures) (⊎_elim (λ l. omega (arith, l)) (λ l. omega (arith, l, c.requires.fits)) c.in_err-nodes.ensures.lookup.0))
 
-pub returns-then-eq : goal.returns-then-eq
-returns-then-eq c =
-    scan.hits c.args.self.now.nodes.now (quad_of c.args.x) c.args.self.now.count c.loop-i.invariant c.loop-i-test.true
-    (scan.same_is c.args.self.now.nodes.now c.loop-i.i _ _ _ _ _ _ _ _ c.node.ensures ∙ sym c.eq.ensures ∙ c.if-eq.true)
-
-pub loop-i-preserved : goal.loop-i-preserved
-loop-i-preserved c =
-    scan.goes_on c.args.self.now.nodes.now (quad_of c.args.x) c.args.self.now.count c.loop-i.invariant
-    (elim c.else-self-i.branch [
-      | else-self-i-via-then-self-i+else-eq w ↦ scan.same_is c.args.self.now.nodes.now c.loop-i.i _ _ _ _ _ _ _ _ w.node.ensures ∙ sym w.eq.ensures ∙ w.if-eq.false
-      | else-self-i-via-else-self-i w ↦ scan.first_other c.args.self.now.nodes.now (quad_of c.args.x) c.loop-i.i w.if-self-i.false
-    ])
+pub returns-in_err-i : goal.returns-in_err-i
+returns-in_err-i c =
+    let u = c.position.ensures.runs in
+    let part = c.in_ok-nodes.ensures.lookup.0 in
+    let p = searched _ _ 4 (scan.here (quad_of c.args.x)) (scan.here_moved (quad_of c.args.x)) (λ x b q k. (search (rules, tests), search (rules, tests))) u.0 c.in_ok-nodes.nodes
+    (ap chunks_exact_size u.1 ∙ c.chunks_exact.ensures.size) (ap chunks_exact_rest u.1 ∙ c.chunks_exact.ensures.rest) (c.chunks_exact.ensures.runs u.0 u.0.seen (search rules))
+    c.position.result u.2 c.args.self.now.nodes.now _ c.args.self.now.count part.2 part.3 (scan.whole part.3) in
+    let h = rw c.in_err-i.was at (scan.found c.args.self.now.nodes.now (quad_of c.args.x) c.args.self.now.count (scan.begins c.args.self.now.nodes.now (quad_of c.args.x) c.args.self.now.count c.requires.rising c.first-from.ensures) c.position.result p) in
+    rw c.from_residual-in_err-i.ensures h
 
 pub returns : goal.returns
-returns c = scan.ends c.args.self.now.nodes.now (quad_of c.args.x) c.args.self.now.count c.loop-i.invariant c.loop-i-test.false
+returns c =
+    let u = c.position.ensures.runs in
+    let part = c.in_ok-nodes.ensures.lookup.0 in
+    let p = searched _ _ 4 (scan.here (quad_of c.args.x)) (scan.here_moved (quad_of c.args.x)) (λ x b q k. (search (rules, tests), search (rules, tests))) u.0 c.in_ok-nodes.nodes
+    (ap chunks_exact_size u.1 ∙ c.chunks_exact.ensures.size) (ap chunks_exact_rest u.1 ∙ c.chunks_exact.ensures.rest) (c.chunks_exact.ensures.runs u.0 u.0.seen (search rules))
+    c.position.result u.2 c.args.self.now.nodes.now _ c.args.self.now.count part.2 part.3 (scan.whole part.3) in
+    rw c.in_ok-i.was at (scan.found c.args.self.now.nodes.now (quad_of c.args.x) c.args.self.now.count (scan.begins c.args.self.now.nodes.now (quad_of c.args.x) c.args.self.now.count c.requires.rising c.first-from.ensures) c.position.result p)
