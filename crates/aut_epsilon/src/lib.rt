@@ -31,9 +31,9 @@ pub fn value(states: &States, y: u32) -> SPP
     ensures { value_of states.now.words.now y ≡ result.0 }
 {
     if states.kind(y) == kind::SPP {
-        return SPP(states.first(y));
+        return states.relation(y);
     }
-    SPP(states.words[STATE * y as usize + word::EPSILON] - 1)
+    SPP(states.word(y, word::EPSILON) - 1)
 }
 
 // ---- values put together
@@ -103,7 +103,7 @@ fn combine(aut: &mut Aut, config: Config, x: u32) -> Result<SPP, Refusal>
     let b = aut.states.second(x);
     match aut.states.kind(x) {
         kind::UNION => {
-            let zero = spp::zero_at_depth(config.fields);
+            let zero = config.zero();
             combine_each(aut, config, Op::Union, zero, a as usize, b as usize)
         }
         kind::INTERSECT => {
@@ -124,8 +124,8 @@ fn combine(aut: &mut Aut, config: Config, x: u32) -> Result<SPP, Refusal>
         kind::SEQUENCE => relate(aut, config, Task::Sequence, a, b),
         kind::STAR => relate(aut, config, Task::Star, a, a),
         kind::UNTIL => Ok(value(&aut.states, b)),
-        kind::TOP => Ok(spp::top_at_depth(config.fields, config.fields)),
-        _ => Ok(spp::zero_at_depth(config.fields)),
+        kind::TOP => Ok(config.top()),
+        _ => Ok(config.zero()),
     }
 }
 

@@ -1,7 +1,7 @@
 // mk_intersect_n and mk_intersect of aut.rs: products of a list with Union members are made one by one, never stored.
 #![tactic(auto)]
 
-ghost use Rattle.std.specs.Prelude.{[], ◌+◌, ◌≤◌, length};
+ghost use Rattle.std.specs.Prelude.{[], ◌+◌, ◌-◌, ◌≤◌, length};
 ghost use Rattle.aut_steps.specs.Tables.{words};
 ghost use Rattle.aut_steps.specs.Constructors as C;
 ghost use Rattle.aut_states.specs.Clauses.{limits_of};
@@ -12,6 +12,7 @@ ghost use Rattle.aut_union.specs.Clauses.{ListAt, PairAt};
 ghost use Rattle.aut_intersect.specs.Clauses.{BaseReady, BasesReady, AllStates};
 
 use aut_relations::Aut;
+use aut_scratch::{FREE, GIVEN, OPENED, PRODUCT, RESULTS};
 use aut_states::Config;
 use refusal::Refusal;
 use spp::Op;
@@ -20,66 +21,66 @@ use spp::Op;
 fn base(aut: &mut Aut, config: Config, k: usize, i: usize) -> Result<u32, Refusal>
     requires { BaseReady config aut.old k i }
     ensures keeps { Keeps aut.old aut.new }
-    ensures gives { Does config.fields 192 384 aut_in (λ i. i)
-        (C.base config.fields (limits_of config.limits) (words aut.old.scratch.now 64 k) i) aut.old
+    ensures gives { Does config.fields PRODUCT (FREE - PRODUCT) aut_in (λ i. i)
+        (C.base config.fields (limits_of config.limits) (words aut.old.scratch.now OPENED k) i) aut.old
         result aut.new }
 {
     aut_scratch::product(
         &aut.states,
         &aut.members,
         aut.scratch,
-        aut_scratch::OPENED,
+        OPENED,
         k,
         i,
-        aut_scratch::PRODUCT,
+        PRODUCT,
     );
-    aut_intersect_base::mk_intersect_n_base(aut, config, aut_scratch::PRODUCT, k)
+    aut_intersect_base::mk_intersect_n_base(aut, config, PRODUCT, k)
 }
 
 // of n products of the k states at OPENED; the states go to RESULTS
 fn bases(aut: &mut Aut, config: Config, k: usize, n: usize) -> Result<(), Refusal>
     requires { BasesReady config aut.old k n }
     ensures keeps { Keeps aut.old aut.new }
-    ensures gives { Goes config 128 448 AllStates (λ u. words aut.new.scratch.now 128 n)
-        (C.bases config.fields (limits_of config.limits) (words aut.old.scratch.now 64 k) 0 n [])
+    ensures gives { Goes config RESULTS (FREE - RESULTS) AllStates (λ u. words aut.new.scratch.now RESULTS n)
+        (C.bases config.fields (limits_of config.limits) (words aut.old.scratch.now OPENED k) 0 n [])
         aut.old result aut.new }
 {
     for i in 0..n {
         let z = base(aut, config, k, i)?;
-        aut.scratch[aut_scratch::RESULTS + i] = z;
+        aut.scratch[RESULTS + i] = z;
     }
     Ok(())
 }
 
 // how many products the k states at OPENED have; None: too many
 fn count_all(aut: &Aut, most: usize, k: usize) -> Option<usize>
-    requires { CountReady aut.now.states.words.now (words aut.now.scratch.now 64 k) most ×
-        (64 + k ≤ length aut.now.scratch.now) }
-    ensures { Counts (C.count_all most aut.now.states.words.now (words aut.now.scratch.now 64 k) 1)
+    requires { CountReady aut.now.states.words.now (words aut.now.scratch.now OPENED k) most ×
+        (OPENED + k ≤ length aut.now.scratch.now) }
+    ensures { Counts (C.count_all most aut.now.states.words.now (words aut.now.scratch.now OPENED k) 1)
         result }
 {
-    let from = aut_scratch::OPENED;
+    let from = OPENED;
     aut_scratch::count_all(&aut.states, &aut.scratch[from..from + k], most)
 }
 
 // the union of the products of the k states at OPENED
 fn distribute(aut: &mut Aut, config: Config, k: usize) -> Result<u32, Refusal>
-    requires { Asked config aut.old × ListAt aut.old.scratch.now aut.old.states.count 64 k 128 }
+    requires { Asked config aut.old × ListAt aut.old.scratch.now aut.old.states.count OPENED k RESULTS }
     ensures keeps { Keeps aut.old aut.new }
-    ensures gives { Does config.fields 128 448 aut_in (λ i. i)
+    ensures gives { Does config.fields RESULTS (FREE - RESULTS) aut_in (λ i. i)
         (C.intersect_opened config.fields (limits_of config.limits)
-        (C.within (words aut.old.scratch.now 64 k))) aut.old result aut.new }
+        (C.within (words aut.old.scratch.now OPENED k))) aut.old result aut.new }
 {
     let n = count_all(aut, config.limits.products, k).ok_or(Refusal::Products)?;
     bases(aut, config, k, n)?;
-    aut_union::mk_union_n(aut, config, aut_scratch::RESULTS, n)
+    aut_union::mk_union_n(aut, config, RESULTS, n)
 }
 
 // the intersection of the k states at `from`
 pub fn mk_intersect_n(aut: &mut Aut, config: Config, from: usize, k: usize) -> Result<u32, Refusal>
-    requires { Asked config aut.old × ListAt aut.old.scratch.now aut.old.states.count from k 64 }
+    requires { Asked config aut.old × ListAt aut.old.scratch.now aut.old.states.count from k OPENED }
     ensures keeps { Keeps aut.old aut.new }
-    ensures gives { Does config.fields 64 512 aut_in (λ i. i)
+    ensures gives { Does config.fields OPENED (FREE - OPENED) aut_in (λ i. i)
         (C.mk_intersect_n config.fields (limits_of config.limits) (words aut.old.scratch.now from k))
         aut.old result aut.new }
 {
@@ -96,7 +97,7 @@ pub fn mk_intersect_n(aut: &mut Aut, config: Config, from: usize, k: usize) -> R
         config.limits.list,
         from,
         k,
-        aut_scratch::OPENED,
+        OPENED,
     )
     .ok_or(Refusal::List)?;
     distribute(aut, config, m)
@@ -105,7 +106,7 @@ pub fn mk_intersect_n(aut: &mut Aut, config: Config, from: usize, k: usize) -> R
 pub fn mk_intersect(aut: &mut Aut, config: Config, x: u32, y: u32) -> Result<u32, Refusal>
     requires { Asked config aut.old × PairAt aut.old.states.count x y }
     ensures keeps { Keeps aut.old aut.new }
-    ensures gives { Does config.fields 0 576 aut_in (λ i. i)
+    ensures gives { Does config.fields GIVEN (FREE - GIVEN) aut_in (λ i. i)
         (C.mk_intersect config.fields (limits_of config.limits) x y) aut.old result aut.new }
 {
     if x == y {
@@ -114,7 +115,7 @@ pub fn mk_intersect(aut: &mut Aut, config: Config, x: u32, y: u32) -> Result<u32
     if aut.states.both_relations(x, y) {
         return aut.spp_of(config, Op::Intersect, x, y);
     }
-    let at = aut_scratch::GIVEN;
+    let at = GIVEN;
     aut.scratch[at] = x;
     aut.scratch[at + 1] = y;
     mk_intersect_n(aut, config, at, 2)

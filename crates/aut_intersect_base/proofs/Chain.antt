@@ -29,11 +29,11 @@ use Rattle.aut_relations.proofs.Behind.{left_wide}
 use Rattle.aut_relations.proofs.Order as order
 use Rattle.aut_relations.specs.declared.Aut.{Aut as Lent}
 use Rattle.aut_relations.specs.Lent.{nodes_in, aut_in, KeepsExprs, Does, Asked}
-use Rattle.aut_union.specs.Clauses.{ListAt}
+use Rattle.aut_union.specs.Clauses.{handle_of, met_of, ListAt}
 use Rattle.aut_union.proofs.Gather.{First, first_done, tables_after}
 use Rattle.aut_union.proofs.Calls.{left_then, handed, always}
 use Rattle.aut_intersect_base.specs.declared.Met.{Met}
-use Rattle.aut_intersect_base.specs.Clauses.{handle_of, met_of, met_at, FinishReady, Finishes}
+use Rattle.aut_intersect_base.specs.Clauses.{met_at, FinishReady, Finishes}
 use Rattle.aut_intersect_base.proofs.Gather.{meeting}
 
 -- ---- meet

@@ -42,11 +42,11 @@ use Rattle.aut_relations.proofs.Order as order
 use Rattle.aut_relations.specs.declared.Aut.{Aut as Lent}
 use Rattle.aut_relations.specs.Lent.{nodes_in, states_in, members_in, exprs_in, aut_in, Does}
 use Rattle.aut_relations.proofs.Each.{Grows, makes_gives}
-use Rattle.aut_union.specs.Clauses.{UniteReady, Adds}
+use Rattle.aut_union.specs.Clauses.{some_of, handle_of, met_of, UniteReady, AddReady, Adds}
 use Rattle.aut_union.proofs.Gather.{Each, Gathers, put_left, behind_goes}
 use Rattle.aut_union.proofs.Calls.{itself, handed, states_is, exprs_is, intersect_asked}
 use Rattle.aut_intersect_base.specs.declared.Met.{Met}
-use Rattle.aut_intersect_base.specs.Clauses.{some_of, handle_of, met_of, met_at, nothing_of, alone_of, list_of, AddReady, FinishReady, Finishes}
+use Rattle.aut_intersect_base.specs.Clauses.{met_at, nothing_of, alone_of, list_of, FinishReady, Finishes}
 
 -- ---- one member
 
@@ -125,22 +125,6 @@ module _ {N : ℕ} {x : Lent} {i to : ℕ} (p : Met) (R : UniteReady N x (handle
           (sym (ap (λ (s : List ℕ). words s to (p.others + 1)) s ∙ words_append x.scratch.now (i ∷ []) to p.others 1 refl (omega (arith, R.room, R.backed.room))));
       left = put_left (nodes_in y) (to + p.others) i R.room s;
     }
-
--- ---- the relation's state goes last
-
-module _ (r : Option Handle) (N : ℕ) (t : Table) (xs others : List ℕ) where
-  abbrev pub last : Outcome Table (List ℕ)
-  last = add_last (met_of N r others) xs t
-
-  is_last : {v : Option Handle} → r ≡ v → last ≡ (if some_of v then (mk_spp (handle_of N v) >>= (λ i. return (xs ++ i ∷ []))) else return xs) t
-  unfolding add_last
-  is_last e = ap (λ (r : Option Handle). (if some_of r then (mk_spp (handle_of N r) >>= (λ i. return (xs ++ i ∷ []))) else return xs) t) e
-
-  pub none_last : r ≡ None → last ≡ given t xs
-  none_last e = is_last e
-
-  pub a_last : {h : Handle} → r ≡ Some h → last ≡ after (mk_spp h.0 t) (λ i. return (xs ++ i ∷ []))
-  a_last e = is_last e
 
 -- ---- the list's state
 

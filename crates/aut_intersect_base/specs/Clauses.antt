@@ -1,5 +1,5 @@
 -- What the answers say in the words of the steps, what is left of scratch, and what is asked.
-use Rattle.std.specs.Prelude.{◌≡◌, Bool, true, false, ◌&&◌, List, ℕ, ◌+◌, ◌≤◌, ◌<◌, eqb, length, Option, Some, None, Result, if◌then◌else◌}
+use Rattle.std.specs.Prelude.{◌≡◌, Bool, ◌&&◌, List, ℕ, ◌+◌, ◌≤◌, ◌<◌, eqb, length, Option, Result, if◌then◌else◌}
 use Rattle.common.specs.Outcome.{Step, ◌>>=◌}
 use Rattle.common.specs.Runs.{Table}
 use Rattle.refusal.specs.declared.Refusal.{Refusal}
@@ -16,25 +16,15 @@ use Rattle.aut_steps.specs.Scratch.{Kept}
 use Rattle.aut_steps.specs.Constructors as C
 use Rattle.aut_steps.specs.Constructors.{met}
 use Rattle.aut_states.specs.declared.Config.{Config}
-use Rattle.aut_states.specs.Clauses.{Fits, limits_of}
+use Rattle.aut_states.specs.Clauses.{limits_of}
+use Rattle.aut_scratch.specs.declared.TheConstants.{SORTED}
 use Rattle.aut_relations.specs.Behind.{LISTS}
 use Rattle.aut_relations.specs.declared.Aut.{Aut as Lent}
 use Rattle.aut_relations.specs.Lent.{nodes_in, aut_in}
+use Rattle.aut_union.specs.Clauses.{handle_of, met_of}
 use Rattle.aut_intersect_base.specs.declared.Met.{Met}
 
 -- ---- the relations intersected, the other members at `to`
-
--- whether there is a relation, and the relation; with none so far it is the top
-abbrev pub some_of : Option SPP → Bool
-some_of (Some h) = true
-some_of None = false
-
-abbrev pub handle_of : ℕ → Option SPP → ℕ
-handle_of N (Some h) = h.0
-handle_of N None = Rel.top_at N
-
-abbrev pub met_of : ℕ → Option SPP → List ℕ → C.Met
-met_of N r xs = met (some_of r) (handle_of N r) xs
 
 abbrev pub met_at : ℕ → List ℕ → ℕ → Met → C.Met
 met_at N s to p = met_of N p.relation (words s to p.others)
@@ -55,20 +45,16 @@ list_of L b h others xs = on_states (C.add_last (met b h others) xs) >>= λ ys. 
 
 -- ---- the list's state
 
-pub record AddReady (st s : List ℕ) (n at k : ℕ) : Type 0 where
-  pub fits : Fits st n
-  pub room : at + k < length s
-
--- the tables are in order, the k words at 448 are states, and so is the relation
+-- the tables are in order, the k words at SORTED are states, and so is the relation
 pub record FinishReady (c : Config) (x : Lent) (r : Option SPP) (k : ℕ) : Type 0 where
   pub fields : c.fields ≤ 31
   pub good : WfAut c.fields (limits_of c.limits) (aut_in x)
   pub handle : ValidAt (nodes_in x) c.fields (handle_of c.fields r)
-  pub states : All (λ i. i < x.states.count) (words x.scratch.now 448 k)
+  pub states : All (λ i. i < x.states.count) (words x.scratch.now SORTED k)
   pub few : k ≤ 64
   pub room : LISTS ≤ length x.scratch.now
 
 -- of scratch, the word behind the list may be written
 pub record Finishes (o : Step Aut ℕ) (x : Lent) (r : Result ℕ Refusal) (y : Lent) (k : ℕ) : Type 0 where
   pub is : o (aut_in x) ≡ outcome (λ i. i) r (aut_in y)
-  pub kept : Kept (448 + k) 1 x.scratch.now y.scratch.now
+  pub kept : Kept (SORTED + k) 1 x.scratch.now y.scratch.now

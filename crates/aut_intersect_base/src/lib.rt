@@ -1,7 +1,7 @@
 // mk_intersect_n_base of aut.rs. A list is k words of scratch (the map of scratch is aut_scratch's).
 #![tactic(auto)]
 
-ghost use Rattle.std.specs.Prelude.{◌≡◌, false, List, [], ℕ, ◌+◌, ◌≤◌};
+ghost use Rattle.std.specs.Prelude.{◌≡◌, false, List, [], ℕ, ◌+◌, ◌-◌, ◌≤◌};
 ghost use Rattle.slices.specs.Same.{SameSlice};
 ghost use Rattle.aut_steps.specs.Tables.{words};
 ghost use Rattle.aut_steps.specs.Relations.{top_at};
@@ -9,10 +9,11 @@ ghost use Rattle.aut_steps.specs.Constructors as C;
 ghost use Rattle.aut_steps.specs.Constructors.{each, met};
 ghost use Rattle.aut_states.specs.Clauses.{limits_of, states_of, seen, Fits};
 ghost use Rattle.aut_relations.specs.Lent.{nodes_in, aut_in, Keeps, KeepsExprs, Does, Asked};
-ghost use Rattle.aut_union.specs.Clauses.{Most, UniteReady, UnitesReady, Adds, ListAt};
-ghost use Rattle.aut_intersect_base.specs.Clauses.{some_of, handle_of, met_of, met_at, nothing_of, alone_of, list_of, AddReady, FinishReady, Finishes};
+ghost use Rattle.aut_union.specs.Clauses.{Most, UniteReady, UnitesReady, ListAt, some_of, handle_of, met_of};
+ghost use Rattle.aut_intersect_base.specs.Clauses.{met_at, nothing_of, alone_of, list_of, FinishReady, Finishes};
 
 use aut_relations::Aut;
+use aut_scratch::{BASE, FREE, OTHERS, SORTED};
 use aut_states::{Config, States};
 use refusal::Refusal;
 use spp::{Op, SPP};
@@ -25,11 +26,11 @@ pub struct Met {
 }
 
 // with no relation so far it is the top
-fn relation_of(fields: u32, relation: Option<SPP>) -> SPP
-    requires { fields ≤ 31 }
-    ensures { handle_of fields relation ≡ result.0 }
+fn relation_of(config: Config, relation: Option<SPP>) -> SPP
+    requires { config.fields ≤ 31 }
+    ensures { handle_of config.fields relation ≡ result.0 }
 {
-    relation.unwrap_or(spp::top_at_depth(fields, fields))
+    relation.unwrap_or(config.top())
 }
 
 // Top goes; x is intersected with the relation if it is one, or goes behind the others, which stand at `to`
@@ -47,8 +48,8 @@ fn meet_one(aut: &mut Aut, config: Config, p: Met, x: u32, to: usize) -> Result<
         return Ok(p);
     }
     if kind == aut_states::kind::SPP {
-        let g = SPP(aut.states.first(x));
-        let h = relation_of(config.fields, p.relation);
+        let g = aut.states.relation(x);
+        let h = relation_of(config, p.relation);
         let u = aut.apply(config, Op::Intersect, h, g)?;
         return Ok(Met {
             relation: Some(u),
@@ -89,34 +90,12 @@ fn meet_each(
     Ok(p)
 }
 
-// the relation goes behind the k words at `at` as a state, if there is one
-fn add_last(
-    states: &mut States,
-    scratch: &mut [u32],
-    relation: Option<SPP>,
-    at: usize,
-    k: usize,
-) -> Result<usize, Refusal>
-    requires { AddReady states.old.words.now scratch.old states.old.count at k }
-    ensures same { SameSlice states.old.words states.new.words }
-    ensures gives { (N : ℕ) (others : List ℕ) → Adds
-        (C.add_last (met_of N relation others) (words scratch.old at k)) states.old result
-        states.new scratch.old scratch.new at k }
-    ensures few { Most (λ m. m) result (k + 1) }
-{
-    let Some(h) = relation else {
-        return Ok(k);
-    };
-    scratch[at + k] = states.mk_spp(h)?;
-    Ok(k + 1)
-}
-
 // whether there is a relation, and it is zero
-fn nothing(fields: u32, relation: Option<SPP>) -> bool
-    requires { fields ≤ 31 }
-    ensures { nothing_of fields (some_of relation) (handle_of fields relation) ≡ result }
+fn nothing(config: Config, relation: Option<SPP>) -> bool
+    requires { config.fields ≤ 31 }
+    ensures { nothing_of config.fields (some_of relation) (handle_of config.fields relation) ≡ result }
 {
-    relation == Some(spp::zero_at_depth(fields))
+    relation == Some(config.zero())
 }
 
 // no other members: the relation's state, or Top
@@ -139,10 +118,10 @@ fn meet_list(aut: &mut Aut, config: Config, relation: Option<SPP>, k: usize) -> 
     ensures nodes { aut.new.spp ≡ aut.old.spp }
     ensures gives { (others : List ℕ) → Finishes
         (list_of (limits_of config.limits) (some_of relation) (handle_of config.fields relation)
-        others (words aut.old.scratch.now 448 k)) aut.old result aut.new k }
+        others (words aut.old.scratch.now SORTED k)) aut.old result aut.new k }
 {
-    let at = aut_scratch::SORTED;
-    let m = add_last(&mut aut.states, aut.scratch, relation, at, k)?;
+    let at = SORTED;
+    let m = aut_union::add_last(&mut aut.states, aut.scratch, relation, at, k)?;
     // only read, but `&aut.scratch[..]` beside `&mut aut.members` is not covered by the borrow checker
     let list = &mut aut.scratch[at..at + m];
     aut.states.intern_list(
@@ -165,11 +144,11 @@ fn meet_finish(
     ensures nodes { aut.new.spp ≡ aut.old.spp }
     ensures gives { (others : List ℕ) → Finishes
         (C.meet_finish config.fields (limits_of config.limits)
-        (met_of config.fields relation others) (words aut.old.scratch.now 448 k)) aut.old result
+        (met_of config.fields relation others) (words aut.old.scratch.now SORTED k)) aut.old result
         aut.new k }
 {
-    if nothing(config.fields, relation) {
-        return aut.states.mk_spp(spp::zero_at_depth(config.fields));
+    if nothing(config, relation) {
+        return aut.states.mk_spp(config.zero());
     }
     if k == 0 {
         return alone(&mut aut.states, relation);
@@ -179,16 +158,16 @@ fn meet_finish(
 
 // the intersection of the k states at BASE, none of which is an Intersect
 fn meet(aut: &mut Aut, config: Config, k: usize) -> Result<u32, Refusal>
-    requires { Asked config aut.old × ListAt aut.old.scratch.now aut.old.states.count 256 k 320 ×
+    requires { Asked config aut.old × ListAt aut.old.scratch.now aut.old.states.count BASE k OTHERS ×
         (k ≤ 64) }
     ensures keeps { Keeps aut.old aut.new }
-    ensures gives { Does config.fields 320 256 aut_in (λ i. i)
-        (C.meet config.fields (limits_of config.limits) (words aut.old.scratch.now 256 k)) aut.old
+    ensures gives { Does config.fields OTHERS (FREE - OTHERS) aut_in (λ i. i)
+        (C.meet config.fields (limits_of config.limits) (words aut.old.scratch.now BASE k)) aut.old
         result aut.new }
 {
-    let p = meet_each(aut, config, aut_scratch::BASE, k, aut_scratch::OTHERS)?;
-    let at = aut_scratch::SORTED;
-    let r = aut_scratch::sorted(aut.scratch, aut_scratch::OTHERS, p.others, at);
+    let p = meet_each(aut, config, BASE, k, OTHERS)?;
+    let at = SORTED;
+    let r = aut_scratch::sorted(aut.scratch, OTHERS, p.others, at);
     meet_finish(aut, config, p.relation, r)
 }
 
@@ -199,9 +178,9 @@ pub fn mk_intersect_n_base(
     from: usize,
     k: usize,
 ) -> Result<u32, Refusal>
-    requires { Asked config aut.old × ListAt aut.old.scratch.now aut.old.states.count from k 256 }
+    requires { Asked config aut.old × ListAt aut.old.scratch.now aut.old.states.count from k BASE }
     ensures keeps { Keeps aut.old aut.new }
-    ensures gives { Does config.fields 256 320 aut_in (λ i. i)
+    ensures gives { Does config.fields BASE (FREE - BASE) aut_in (λ i. i)
         (C.mk_intersect_n_base config.fields (limits_of config.limits)
         (words aut.old.scratch.now from k)) aut.old result aut.new }
 {
@@ -212,7 +191,7 @@ pub fn mk_intersect_n_base(
         config.limits.list,
         from,
         k,
-        aut_scratch::BASE,
+        BASE,
     )
     .ok_or(Refusal::List)?;
     meet(aut, config, m)

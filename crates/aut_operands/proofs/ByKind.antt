@@ -8,7 +8,7 @@ use lib.Dec.{eqb}
 use lib.ListN.{length, get_or, take, drop}
 use borrow.Author.Tests.{eqb-true, eqb-false, ne_eqb}
 use Rattle.spp_steps.proofs.Laws.{by_test}
-use Rattle.aut_steps.specs.Tables.{SPP, UNION, INTERSECT, XOR, DIFFERENCE, COMPLEMENT, SEQUENCE, STAR, UNTIL, kind_of, op1, op2, words}
+use Rattle.aut_steps.specs.Tables.{SPP, UNION, INTERSECT, XOR, DIFFERENCE, COMPLEMENT, SEQUENCE, STAR, UNTIL, kind_of, op1, op2, words, list_of}
 use Rattle.aut_states.proofs.Slices.{words_take}
 use Rattle.aut_delta_steps.specs.Epsilon.{epsilon_of}
 use Rattle.aut_delta_steps.specs.Delta.{count_of}
@@ -38,12 +38,9 @@ module _ (p : Part) {st mem : List ℕ} {x k : ℕ} (w : k ≡ kind_of st x) (i 
   is_kind : (j : ℕ) (zs : List ℕ) → operands_with j ys (op1 st x) (op2 st x) ≡ zs → list_operands_with j ys (op1 st x) (op2 st x) ≡ zs → k ≡ j → operands_of p st mem x ≡ zs
   is_kind j zs e d q = as_kind (ap (λ (k : ℕ). operands_by p k ys (op1 st x) (op2 st x)) q ∙ by (λ us. us ≡ zs) j ys (op1 st x) (op2 st x) e d p)
 
-  pub many_are : UNION ≤ k → k ≤ INTERSECT → {a b : ℕ} → a ≡ op1 st x → b ≡ op2 st x → operands_of p st mem x ≡ take (a + b - a) (drop a mem)
+  pub many_are : UNION ≤ k → k ≤ INTERSECT → operands_of p st mem x ≡ list_of st mem x
   unfolding operands_with list_operands_with
-  many_are l m f g =
-      by_test (eqb k UNION) (λ q. is_kind UNION ys refl refl (eqb-true k UNION q)) (λ q. is_kind INTERSECT ys refl refl (omega (arith, eqb-false k UNION q)))
-      ∙ slice mem (op1 st x) (op1 st x + op2 st x) (op2 st x) (omega arith) (i.list (omega (arith, w)) (omega (arith, w)))
-      ∙ ap₂ (λ (a b : ℕ). take (a + b - a) (drop a mem)) (sym f) (sym g)
+  many_are l m = by_test (eqb k UNION) (λ q. is_kind UNION ys refl refl (eqb-true k UNION q)) (λ q. is_kind INTERSECT ys refl refl (omega (arith, eqb-false k UNION q)))
 
   both : op1 st x ∷ op2 st x ∷ [] ≡ take (12 * x + 1 + 2 - (12 * x + 1)) (drop (12 * x + 1) st)
   unfolding op1 op2 words

@@ -29,13 +29,6 @@ use Rattle.aut_operands.specs.Clauses.{operands_of, Inside, Worked, NotYet, Told
 
 -- ---- operands that an iterator gives
 
-turned : (P : ℕ → Type 0) (xs : List (Bor ℕ)) (s t : Iter ℕ) → All P s.rest.now → Yields fronts s xs t → All P t.rest.now
-turned P [] s t a y = subst (λ (s : Iter ℕ). All P s.rest.now) y a
-turned P (x ∷ xs) s t a y = turned P xs y.0 t (subst (All P) y.1 a).1 y.2
-
-pub given_one : (P : ℕ → Type 0) (xs : List (Bor ℕ)) (s t u : Iter ℕ) (x : Bor ℕ) → All P s.rest.now → Yields fronts s xs t → fronts t (Some x) u → P x.now
-given_one P xs s t u x a y e = (subst (All P) e (turned P xs s t a y)).0
-
 module _ {F : Type 0} (p : Part) (st : List ℕ) (g₀ : Mut F (Bor (Bor ℕ) × Unit {0}) Bool) (f : F) (tells : (x : Bor ℕ) (b : Bool) (q : F) → CalledAt g₀ f x b q → Told p st x.now b × (q ≡ f)) where
   pub first : (xs : List (Bor ℕ)) (s t u : Iter ℕ) (x : Bor ℕ) (g q h : F) → g ≡ f → Yields fronts s xs t → fronts t (Some x) u → FoldsTo (λ p x q. CalledAt g₀ p x false q) g xs q → CalledAt g₀ q x true h → First (Worked p st) (NotYet p st) x.now s.rest.now
   first [] s t u x g q h e y w c d =

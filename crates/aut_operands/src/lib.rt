@@ -22,10 +22,7 @@ fn operands<'a>(states: &'a States, members: &'a Members, part: Part, x: u32) ->
 {
     let at = STATE * x as usize + word::FIRST;
     match states.kind(x) {
-        kind::UNION | kind::INTERSECT => {
-            let from = states.first(x) as usize;
-            &members.words[from..from + states.second(x) as usize]
-        }
+        kind::UNION | kind::INTERSECT => states.list(members, x),
         kind::XOR | kind::DIFFERENCE | kind::SEQUENCE => &states.words[at..at + 2],
         kind::COMPLEMENT | kind::STAR => &states.words[at..at + 1],
         kind::UNTIL => match part {
@@ -45,10 +42,8 @@ pub fn is_open(states: &States, part: Part, y: u32) -> bool
     ensures { Told part states.now.words.now y result }
 {
     match part {
-        Part::Epsilon => {
-            states.kind(y) != kind::SPP && states.words[STATE * y as usize + word::EPSILON] == 0
-        }
-        Part::Delta => states.words[STATE * y as usize + word::COUNT] == 0,
+        Part::Epsilon => { states.kind(y) != kind::SPP && states.word(y, word::EPSILON) == 0 }
+        Part::Delta => states.word(y, word::COUNT) == 0,
     }
 }
 

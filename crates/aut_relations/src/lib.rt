@@ -58,8 +58,8 @@ impl Aut<'_> {
             (M.apply config.fields (op_of op) config.fields (op1 self.old.states.words.now x)
             (op1 self.old.states.words.now y))) self.old result self.new }
     {
-        let a = SPP(self.states.first(x));
-        let b = SPP(self.states.first(y));
+        let a = self.states.relation(x);
+        let b = self.states.relation(y);
         let h = self.apply(config, op, a, b)?;
         self.states.mk_spp(h)
     }

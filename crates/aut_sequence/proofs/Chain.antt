@@ -145,8 +145,8 @@ module _ {st : List ℕ} {x u w : ℕ} (v : Linked st x u w) where
     pub link_found : z ≡ u → Links st x u w
     link_found e = record { chain = v.walked.chain; link = linked_kind; next = sym i ∙ e }
 
-    pub link_on : (z ≡ u → ⊥) → Linked st x u z
-    link_on n = record { walked = walked_on v.walked linked_kind i; chain = subst (λ (z : ℕ). Chain st z u) (sym i) linked_rest; apart = n }
+    pub link_on : {y : ℕ} → y ≡ op2 st w → (y ≡ u → ⊥) → Linked st x u z
+    link_on j n = record { walked = walked_on v.walked linked_kind i; chain = subst (λ (z : ℕ). Chain st z u) (sym i) linked_rest; apart = λ e. n (j ∙ sym i ∙ e) }
 
     pub link_less : nest st z < nest st w
     link_less = walked_less v.walked linked_kind i

@@ -26,7 +26,7 @@ pub fn mk_xor(aut: &mut Aut, config: Config, x: u32, y: u32) -> Result<u32, Refu
         (C.mk_xor config.fields (limits_of config.limits) x y) aut.old result aut.new }
 {
     if x == y {
-        return aut.states.mk_spp(spp::zero_at_depth(config.fields));
+        return aut.states.mk_spp(config.zero());
     }
     if aut.states.both_relations(x, y) {
         return aut.spp_of(config, Op::Xor, x, y);
@@ -44,7 +44,7 @@ pub fn mk_difference(aut: &mut Aut, config: Config, x: u32, y: u32) -> Result<u3
         (C.mk_difference config.fields (limits_of config.limits) x y) aut.old result aut.new }
 {
     if x == y {
-        return aut.states.mk_spp(spp::zero_at_depth(config.fields));
+        return aut.states.mk_spp(config.zero());
     }
     if aut.states.both_relations(x, y) {
         return aut.spp_of(config, Op::Difference, x, y);
@@ -86,8 +86,8 @@ fn spp_by(aut: &mut Aut, config: Config, task: Task, x: u32, y: u32) -> Result<u
         (task_of config.fields task (op1 aut.old.states.words.now x)
         (op1 aut.old.states.words.now y))) aut.old result aut.new }
 {
-    let a = SPP(aut.states.first(x));
-    let b = SPP(aut.states.first(y));
+    let a = aut.states.relation(x);
+    let b = aut.states.relation(y);
     let h = relate(aut, config, task, a, b)?;
     aut.states.mk_spp(h)
 }
@@ -110,24 +110,14 @@ pub fn mk_star(aut: &mut Aut, config: Config, x: u32) -> Result<u32, Refusal>
 
 // ---- sequence
 
-// whether x is the relation h
-fn is_relation(states: &States, x: u32, h: SPP) -> bool
-    requires { 12 * x + 11 < length states.now.words.now }
-    ensures { result ≡ C.is_relation states.now.words.now x h.0 }
-{
-    states.kind(x) == kind::SPP && SPP(states.first(x)) == h
-}
-
-fn regroups(states: &States, fields: u32, x: u32, y: u32) -> bool
+fn regroups(states: &States, config: Config, x: u32, y: u32) -> bool
     requires { (12 * x + 11 < length states.now.words.now) ×
-        (12 * y + 11 < length states.now.words.now) × (fields ≤ 31) }
-    ensures { result ≡ regroups fields states.now.words.now x y }
+        (12 * y + 11 < length states.now.words.now) × (config.fields ≤ 31) }
+    ensures { result ≡ regroups config.fields states.now.words.now x y }
 {
-    let one = spp::one_at_depth(fields, fields);
-    let zero = spp::zero_at_depth(fields);
     states.kind(x) == kind::SEQUENCE
-        && !is_relation(states, y, one)
-        && !is_relation(states, y, zero)
+        && !states.is_relation(y, config.one())
+        && !states.is_relation(y, config.zero())
 }
 
 // x; y where it is not regrouped
@@ -142,18 +132,18 @@ fn joined(aut: &mut Aut, config: Config, x: u32, y: u32) -> Result<u32, Refusal>
     if aut.states.both_relations(x, y) {
         return spp_by(aut, config, Task::Sequence, x, y);
     }
-    let one = spp::one_at_depth(config.fields, config.fields);
-    let zero = spp::zero_at_depth(config.fields);
-    if is_relation(&aut.states, x, one) {
+    let one = config.one();
+    let zero = config.zero();
+    if aut.states.is_relation(x, one) {
         return Ok(y);
     }
-    if is_relation(&aut.states, x, zero) {
+    if aut.states.is_relation(x, zero) {
         return aut.states.mk_spp(zero);
     }
-    if is_relation(&aut.states, y, one) {
+    if aut.states.is_relation(y, one) {
         return Ok(x);
     }
-    if is_relation(&aut.states, y, zero) {
+    if aut.states.is_relation(y, zero) {
         return aut.states.mk_spp(zero);
     }
     if aut.states.kind(x) == kind::TOP && aut.states.kind(y) == kind::TOP {
@@ -176,18 +166,16 @@ fn chain_end(states: &States, x: u32) -> u32
 }
 
 // the state of x's chain whose second operand is u
+#[tactic(auto, using(crate::proofs::Chain::link_found))]
 fn link_to(states: &States, x: u32, u: u32) -> u32
     requires { Walks states.now.words.now x × Chain states.now.words.now x u × (x ≡ u → ⊥) }
     ensures { Links states.now.words.now x u result }
 {
     let mut w = x;
-    loop {
-        let z = states.second(w);
-        if z == u {
-            return w;
-        }
-        w = z;
+    while states.second(w) != u {
+        w = states.second(w);
     }
+    w
 }
 
 // (a; b); y is a; (b; y). So y is joined to the end of x's chain, and then each first operand to what there is, from the last to the first. The end is no Sequence, and first operands are none where
@@ -200,7 +188,7 @@ pub fn mk_sequence(aut: &mut Aut, config: Config, x: u32, y: u32) -> Result<u32,
         (C.mk_sequence config.fields (limits_of config.limits) x y) aut.old result aut.new }
     ensures by { Enough config x y aut.old result aut.new }
 {
-    if !regroups(&aut.states, config.fields, x, y) {
+    if !regroups(&aut.states, config, x, y) {
         return joined(aut, config, x, y);
     }
     let mut u = chain_end(&aut.states, x);

@@ -1,51 +1,73 @@
 -- Searches and loops over a list: where they begin, what one turn does, where they end.
-use mathlib.Core.Path.{◌≡◌, refl, sym, ◌∙◌, ap, subst}
-use mathlib.Core.Bool.{Bool, true, false}
+use mathlib.Core.Path.{◌≡◌, refl, sym, ◌∙◌, ap, ap₂, subst}
+use mathlib.Core.Bool.{Bool, true, false, ◌&&◌}
 use mathlib.Core.List.{List, [], ◌∷◌, ◌++◌}
-use mathlib.Core.Logic.{◌⊎◌, ⊎_elim}
+use mathlib.Core.Logic.{⊎_elim}
 use Prim.Native.Nat.{ℕ, ◌+◌, ◌*◌, ◌<◌, ◌≤◌, max}
 use native.Mathlib.Omega.{arith}
-use native.Mathlib.Decide.{ℕ_discrete}
-use lib.ListN.{length}
+use lib.Dec.{eqb}
+use lib.ListN.{length, get_or}
+use lib.Pointwise.{pointwise}
 use borrow.Author.Tests.{eq-eqb, ne_eqb}
-use Rattle.std.specs.Prelude.{Some}
+use Rattle.std.specs.Prelude.{Option, Some, None, MatchOption}
 use Rattle.std.proofs.Common.{Bor, Iter}
 use Rattle.std.specs.Iterator.{Yields}
 use Rattle.std.proofs.lemmas.Fn.{fronts}
-use Rattle.aut_steps.specs.Tables.{kind_of, op1, op2, nest, Exprs}
-use Rattle.aut_steps.specs.Intern.{seek, same2, same_at, same_l, nest_l}
+use Rattle.std.proofs.lemmas.Bool.{cases_lt}
+use Rattle.slices.proofs.Records.{Test, Placed, Whole}
+use Rattle.aut_steps.specs.Tables.{kind_of, op1, op2, nest, list_of, Exprs}
+use Rattle.aut_steps.specs.Intern.{seek, same2, same_l, nest_l}
 use Rattle.aut_steps.specs.Ascending.{All}
 use Rattle.aut_steps.proofs.Facts.{same2_is, same_l_is}
 use Rattle.aut_steps.proofs.Scratch.{seek_here, seek_end, seek_skip}
+use Rattle.aut_states.proofs.Slices.{same_words}
 use Rattle.aut_states.specs.Clauses.{Fits, From, Ready1, Ready2, ListAsked, above_l}
 
 -- ---- a search that has come to i of n
 
 module _ {f : ℕ → Bool} {i n : ℕ} (p : From f i n) where
-  pub scan_on : i < n → f i ≡ false → From f (i + 1) n
-  scan_on l e = record {
-    within = omega arith;
-    none = λ j m. elim (ℕ_discrete j i) [ yes q ↦ subst (λ (j : ℕ). f j ≡ false) (sym q) e | no q ↦ p.none j (omega arith) ];
-  }
-
   pub scan_hit : i < n → f i ≡ true → (i < n) × (seek f 0 n ≡ i)
   scan_hit l e = (l, seek_skip f n i p.within p.none ∙ seek_here f n i l e)
 
   pub scan_end : n ≤ i → seek f 0 n ≡ n
   scan_end l = seek_skip f n i p.within p.none ∙ seek_end f n i l ∙ omega (arith, p.within)
 
+-- ---- find
+
+-- a state at a place has this kind and these operands
+abbrev pub here : ℕ → ℕ → ℕ → List ℕ → ℕ → Bool
+here k x y st a = eqb (get_or st a 0) k && (eqb (get_or st (a + 1) 0) x && eqb (get_or st (a + 2) 0) y)
+
+pub here_moved : (k x y : ℕ) → Test 12 (here k x y)
+here_moved k x y s t a b e =
+    let w : get_or s a 0 ≡ get_or t b 0 = ap (λ (i : ℕ). get_or s i 0) {x = a} {y = a + 0} (omega arith) ∙ e 0 (omega arith) ∙ ap (λ (i : ℕ). get_or t i 0) {x = b + 0} {y = b} (omega arith) in
+    ap₂ ◌&&◌ (ap (λ (v : ℕ). eqb v k) w) (ap₂ (λ (v w : ℕ). eqb v x && eqb w y) (e 1 (omega arith)) (e 2 (omega arith)))
+
+here_same : (k x y : ℕ) (st : List ℕ) (i : ℕ) → same2 st k x y i ≡ here k x y st (12 * i)
+unfolding same2 kind_of op1 op2
+here_same k x y st i = refl
+
+pub whole : {from count len : ℕ} → len + 12 * from ≡ 12 * count → Whole 12 from count len
+whole e = record { as_many = omega arith; inside = λ i l. omega arith; ends = λ j l. omega arith; place = λ j. omega arith }
+
+module _ (st : List ℕ) (k x y : ℕ) {from n : ℕ} (p : From (same2 st k x y) from n) where
+  further : (i : ℕ) → from ≤ i → i ≤ n → ((j : ℕ) → from ≤ j → j < i → here k x y st (12 * j) ≡ false) → From (same2 st k x y) i n
+  further i l m h = record { within = m; none = λ j a. ⊎_elim (λ b. p.none j b) (λ b. here_same k x y st j ∙ h j b a) (cases_lt j from) }
+
+  pub found : (o : Option ℕ) → Placed (here k x y) 12 st from n o → MatchOption o (seek (same2 st k x y) 0 n ≡ n) (λ i. (from + i < n) × (seek (same2 st k x y) 0 n ≡ from + i))
+  found None h = scan_end (further n p.within (omega arith) h) (omega arith)
+  found (Some i) h = scan_hit (further (from + i) (omega arith) (omega (arith, h.0)) h.2) h.0 (here_same k x y st (from + i) ∙ h.1)
+
 -- ---- is_at_list
 
 module _ (st m xs : List ℕ) (k i : ℕ) where
-  pub other_list : (kind_of st i ≡ k) × (op2 st i ≡ length xs → ⊥) ⊎ (kind_of st i ≡ k → ⊥) → same_l st m k xs i ≡ false
+  pub other_kind : (kind_of st i ≡ k → ⊥) → same_l st m k xs i ≡ false
   unfolding same_l
-  other_list p =
-      ⊎_elim (λ q. simp (eq-eqb (kind_of st i) k q.0, ne_eqb (op2 st i) (length xs) q.1))
-      (λ q. simp (ne_eqb (kind_of st i) k q)) p
+  other_kind p = simp (ne_eqb (kind_of st i) k p)
 
-  pub this_list : kind_of st i ≡ k → op2 st i ≡ length xs → same_l st m k xs i ≡ same_at m (op1 st i) xs
+  pub of_kind : kind_of st i ≡ k → same_l st m k xs i ≡ pointwise eqb (list_of st m i) xs
   unfolding same_l
-  this_list p q = simp (eq-eqb (kind_of st i) k p, eq-eqb (op2 st i) (length xs) q)
+  of_kind p = simp (eq-eqb (kind_of st i) k p) (same_words m xs (op1 st i) (op2 st i))
 
 -- ---- above_list, nest_list
 

@@ -3,9 +3,9 @@ use Rattle.std.specs.Prelude.{if◌then◌else◌}
 use mathlib.Core.Path.{◌≡◌, refl, sym, ◌∙◌, ap}
 use mathlib.Core.Bool.{Bool, true, false, ◌&&◌}
 use mathlib.Core.List.{List, [], ◌∷◌, ◌++◌}
-use Prim.Native.Nat.{ℕ, zero, suc, ◌+◌, ◌-◌, ◌≤◌}
+use Prim.Native.Nat.{ℕ, zero, suc, ◌+◌, ◌-◌, ◌<◌, ◌≤◌}
 use native.Mathlib.Omega.{arith}
-use lib.Dec.{eqb}
+use lib.Dec.{eqb, eqb-suc-suc, eqb-suc-zero, eqb-zero-suc}
 use lib.ListN.{length, get_or, take, drop}
 use lib.Seq.{sets, sets-eq, drop-cons}
 use lib.Pointwise.{pointwise}
@@ -20,6 +20,12 @@ words_take s a zero l = refl
 words_take s a (suc k) l =
     ap (λ (r : List ℕ). get_or s a 0 ∷ r) (words_take s (a + 1) k (omega arith) ∙ ap (λ (j : ℕ). take k (drop j s)) {x = a + 1} {y = suc a} (omega arith))
     ∙ ap (take (suc k)) (sym (drop-cons s a 0 (omega arith)))
+
+pub word_of : (s : List ℕ) (a k j : ℕ) → j < k → get_or (words s a k) j 0 ≡ get_or s (a + j) 0
+unfolding words
+word_of s a zero j l = absurd (omega arith)
+word_of s a (suc k) zero l = ap (λ (i : ℕ). get_or s i 0) {x = a} {y = a + 0} (omega arith)
+word_of s a (suc k) (suc j) l = word_of s (a + 1) k j (omega arith) ∙ ap (λ (i : ℕ). get_or s i 0) {x = a + 1 + j} {y = a + suc j} (omega arith)
 
 -- the part of s from a to a + k
 pub part : (s : List ℕ) (a k : ℕ) → a + k ≤ length s → words s a k ≡ take (a + k - a) (drop a s)
@@ -40,20 +46,19 @@ pasted d z xs m n e q l =
 
 -- ---- comparing
 
-and_if : (c b : Bool) → (if c then b else false) ≡ (c && b)
-and_if true b = refl
-and_if false b = refl
+in_turn : (c d b : Bool) → (if c then (if d then b else false) else false) ≡ (d && (if c then b else false))
+in_turn true true b = refl
+in_turn true false b = refl
+in_turn false true b = refl
+in_turn false false b = refl
 
-same_take : (m xs : List ℕ) (a : ℕ) → a + length xs ≤ length m → same_at m a xs ≡ pointwise eqb (take (length xs) (drop a m)) xs
-unfolding same_at
-same_take m [] a l = refl
-same_take m (x ∷ xs) a l =
-    ap (λ (b : Bool). if eqb (get_or m a 0) x then b else false) (same_take m xs (a + 1) (omega arith) ∙ ap (λ (j : ℕ). pointwise eqb (take (length xs) (drop j m)) xs) {x = a + 1} {y = suc a} (omega arith))
-    ∙ and_if (eqb (get_or m a 0) x) (pointwise eqb (take (length xs) (drop (suc a) m)) xs)
-    ∙ ap (λ (r : List ℕ). pointwise eqb (take (suc (length xs)) r) (x ∷ xs)) (sym (drop-cons m a 0 (omega arith)))
-
--- a part of a slice and a list
-pub same_part : (m xs : List ℕ) (a : ℕ) {n : ℕ} → n ≡ length xs → a + n ≤ length m → same_at m a xs ≡ pointwise eqb (take (a + n - a) (drop a m)) xs
-same_part m xs a {n} e l =
-    same_take m xs a (omega (arith, e))
-    ∙ ap (λ (i : ℕ). pointwise eqb (take i (drop a m)) xs) {x = length xs} {y = a + n - a} (omega (arith, e))
+-- n words of m and a list
+pub same_words : (m xs : List ℕ) (a n : ℕ) → (if eqb n (length xs) then same_at m a xs else false) ≡ pointwise eqb (words m a n) xs
+unfolding same_at words
+same_words m [] a zero = refl
+same_words m [] a (suc n) = ap (λ (c : Bool). if c then true else false) (eqb-suc-zero n)
+same_words m (x ∷ xs) a zero = ap (λ (c : Bool). if c then same_at m a (x ∷ xs) else false) (eqb-zero-suc (length xs))
+same_words m (x ∷ xs) a (suc n) =
+    ap (λ (c : Bool). if c then same_at m a (x ∷ xs) else false) (eqb-suc-suc n (length xs))
+    ∙ in_turn (eqb n (length xs)) (eqb (get_or m a 0) x) (same_at m (a + 1) xs)
+    ∙ ap (λ (b : Bool). eqb (get_or m a 0) x && b) (same_words m xs (a + 1) n)

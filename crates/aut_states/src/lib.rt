@@ -5,10 +5,11 @@
 pub mod kind;
 pub mod word;
 
-ghost use Rattle.std.specs.Prelude.{◌≡◌, ℕ, ◌+◌, ◌*◌, ◌≤◌, ◌<◌, MatchResult, length};
+ghost use Rattle.std.specs.Prelude.{◌≡◌, ℕ, ◌+◌, ◌*◌, ◌≤◌, ◌<◌, MatchResult, length, get_or};
 ghost use Rattle.refusal.specs.declared.Refusal.TheVariants.{Nesting};
 ghost use Rattle.slices.specs.Same.{SameSlice};
-ghost use Rattle.aut_steps.specs.Tables.{COMPLEMENT, NEXT, UNTIL, kind_of, op1, op2, nest};
+ghost use Rattle.aut_steps.specs.Tables.{COMPLEMENT, NEXT, UNTIL, kind_of, op1, op2, nest, list_of};
+ghost use Rattle.aut_steps.specs.Relations.{zero_at, one_at, top_at};
 ghost use Rattle.aut_steps.specs.Intern as M;
 ghost use Rattle.aut_steps.specs.Constructors as C;
 ghost use Rattle.aut_steps.specs.Ascending.{All};
@@ -28,7 +29,7 @@ pub struct Limits {
 
 impl Limits {
     // the nesting of a state above one of nesting n
-    fn nested(self, n: u32) -> Result<u32, Refusal>
+    pub fn nested(self, n: u32) -> Result<u32, Refusal>
         ensures { MatchResult result (λ e. (n < self.nesting) × (e ≡ n + 1)) (λ e. (self.nesting ≤ n) × (e ≡ Nesting)) }
     {
         if n >= self.nesting {
@@ -43,6 +44,30 @@ impl Limits {
 pub struct Config {
     pub fields: u32,
     pub limits: Limits,
+}
+
+// the constants of all fields
+impl Config {
+    pub fn zero(self) -> SPP
+        requires { self.fields ≤ 31 }
+        ensures { zero_at self.fields ≡ result.0 }
+    {
+        spp::zero_at_depth(self.fields)
+    }
+
+    pub fn one(self) -> SPP
+        requires { self.fields ≤ 31 }
+        ensures { one_at self.fields ≡ result.0 }
+    {
+        spp::one_at_depth(self.fields, self.fields)
+    }
+
+    pub fn top(self) -> SPP
+        requires { self.fields ≤ 31 }
+        ensures { top_at self.fields ≡ result.0 }
+    {
+        spp::top_at_depth(self.fields, self.fields)
+    }
 }
 
 // words of a state
@@ -75,12 +100,20 @@ fn above_list(list: &[u32]) -> usize
 }
 
 impl States<'_> {
+    // a word of a state
+    pub fn word(&self, x: u32, w: usize) -> u32
+        requires { 12 * x + w < length self.now.words.now }
+        ensures { result ≡ get_or self.now.words.now (12 * x + w) 0 }
+    {
+        self.words[STATE * x as usize + w]
+    }
+
     #[tactic(auto, unfolding(aut_steps::specs::Tables::kind_of))]
     pub fn kind(&self, x: u32) -> u32
         requires { 12 * x + 11 < length self.now.words.now }
         ensures { result ≡ kind_of self.now.words.now x }
     {
-        self.words[STATE * x as usize + word::KIND]
+        self.word(x, word::KIND)
     }
 
     // the operands
@@ -89,7 +122,7 @@ impl States<'_> {
         requires { 12 * x + 11 < length self.now.words.now }
         ensures { result ≡ op1 self.now.words.now x }
     {
-        self.words[STATE * x as usize + word::FIRST]
+        self.word(x, word::FIRST)
     }
 
     #[tactic(auto, unfolding(aut_steps::specs::Tables::op2))]
@@ -97,7 +130,7 @@ impl States<'_> {
         requires { 12 * x + 11 < length self.now.words.now }
         ensures { result ≡ op2 self.now.words.now x }
     {
-        self.words[STATE * x as usize + word::SECOND]
+        self.word(x, word::SECOND)
     }
 
     #[tactic(auto, unfolding(aut_steps::specs::Tables::nest))]
@@ -105,7 +138,23 @@ impl States<'_> {
         requires { 12 * x + 11 < length self.now.words.now }
         ensures { result ≡ nest self.now.words.now x }
     {
-        self.words[STATE * x as usize + word::NESTING]
+        self.word(x, word::NESTING)
+    }
+
+    // the relation that a state is
+    pub fn relation(&self, x: u32) -> SPP
+        requires { 12 * x + 11 < length self.now.words.now }
+        ensures { result.0 ≡ op1 self.now.words.now x }
+    {
+        SPP(self.first(x))
+    }
+
+    // whether x is the relation h
+    pub fn is_relation(&self, x: u32, h: SPP) -> bool
+        requires { 12 * x + 11 < length self.now.words.now }
+        ensures { result ≡ C.is_relation self.now.words.now x h.0 }
+    {
+        self.kind(x) == kind::SPP && self.relation(x) == h
     }
 
     // whether both states are relations
@@ -117,27 +166,17 @@ impl States<'_> {
         self.kind(x) == kind::SPP && self.kind(y) == kind::SPP
     }
 
-    // whether state i has this kind and these operands
-    #[tactic(auto, unfolding(aut_steps::specs::Intern::same2))]
-    fn is_at(&self, i: u32, kind: u32, x: u32, y: u32) -> bool
-        requires { 12 * i + 11 < length self.now.words.now }
-        ensures { result ≡ M.same2 self.now.words.now kind x y i }
-    {
-        self.kind(i) == kind && self.first(i) == x && self.second(i) == y
-    }
-
-    // the first that is; it is no state before `from`
+    // the first of this kind and with these operands; it is no state before `from`
     fn find(&self, from: usize, kind: u32, x: u32, y: u32) -> Option<u32>
         requires { Fits self.now.words.now self.now.count ×
             From (M.same2 self.now.words.now kind x y) from self.now.count }
         ensures { Found (M.same2 self.now.words.now kind x y) self.now.count result }
     {
-        for i in from..self.count {
-            if self.is_at(i as u32, kind, x, y) {
-                return Some(i as u32);
-            }
-        }
-        None
+        let states = &self.words[STATE * from..STATE * self.count];
+        let i = states.chunks_exact(STATE).position(|s| {
+            s[word::KIND] == kind && s[word::FIRST] == x && s[word::SECOND] == y
+        })?;
+        Some((from + i) as u32)
     }
 
     // a state at the end of the table
@@ -253,7 +292,7 @@ impl States<'_> {
     {
         match self.kind(x) {
             kind::COMPLEMENT => Ok(self.first(x)),
-            kind::TOP => self.mk_spp(spp::zero_at_depth(config.fields)),
+            kind::TOP => self.mk_spp(config.zero()),
             _ => self.intern1(config.limits, kind::COMPLEMENT, x),
         }
     }
@@ -282,15 +321,25 @@ impl Members<'_> {
 // a lent slice back from a struct, but not from a struct within a struct.
 
 impl States<'_> {
+    // the members of a state of a list kind
+    #[tactic(auto, using(crate::proofs::Slices::part))]
+    pub fn list<'a>(&self, members: &'a Members, x: u32) -> &'a [u32]
+        requires { (12 * x + 11 < length self.now.words.now) ×
+            (op1 self.now.words.now x + op2 self.now.words.now x ≤ length members.now.words.now) }
+        ensures { result.now ≡ list_of self.now.words.now members.now.words.now x }
+    {
+        let a = self.first(x) as usize;
+        let n = self.second(x) as usize;
+        &members.words[a..a + n]
+    }
+
     // whether state i is the list of this kind
     fn is_at_list(&self, members: &Members, i: u32, kind: u32, list: &[u32]) -> bool
         requires { ListIn self.now.words.now members.now.words.now i kind ×
             (12 * i + 11 < length self.now.words.now) }
         ensures { result ≡ M.same_l self.now.words.now members.now.words.now kind list.now i }
     {
-        let a = self.first(i) as usize;
-        let n = self.second(i) as usize;
-        self.kind(i) == kind && n == list.len() && &members.words[a..a + n] == list
+        self.kind(i) == kind && self.list(members, i) == list
     }
 
     // the first that is; it is no state before `from`

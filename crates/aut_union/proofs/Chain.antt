@@ -90,8 +90,8 @@ module _ {c : Config} {x : Lent} {k : ℕ} (R : Asked c x) (A : ListAt x.scratch
     after_2 : {o : Outcome Table (List ℕ)} → second (states_in y) ≡ o → whole (aut_in x) ≡ after (placed put_states (aut_in y) o) rest2
     after_2 e = after_1 D.is ∙ ap (rest1 (parts_at y.scratch.now 320 p)) (tables_after E) ∙ ap (λ (o : Outcome Table (List ℕ)). after (placed put_states (aut_in y) o) rest2) e
 
-    pub add_ready : AddReady N y.states y.scratch.now 320 p.others
-    add_ready = record { few = R.ready.few; fits = order.fits then_1.asked.ready.good; room = omega (arith, few, few_1, then_1.asked.ready.room) }
+    pub add_ready : AddReady y.states.words.now y.scratch.now y.states.count 320 p.others
+    add_ready = record { fits = order.fits then_1.asked.ready.good; room = omega (arith, few, few_1, then_1.asked.ready.room) }
 
     module _ {t : States} {s2 : List ℕ} where
       pub not_added : {z : Lent} {r : Result ℕ Refusal} (e : Refusal) → IsErr r × IsErrAnd r (λ x. x ≡ e) → Adds second y.states (Err e) t y.scratch.now s2 320 p.others → Does N 320 256 aut_in (λ i. i) whole x r z

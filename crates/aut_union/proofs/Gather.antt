@@ -1,5 +1,5 @@
 -- The relations of a list gathered into one, the other members behind a place of scratch: said once for unions and intersections. And the relation's state behind a list.
-use Rattle.std.specs.Prelude.{Result, Ok, Err}
+use Rattle.std.specs.Prelude.{if◌then◌else◌, not, Option, Some, None, Result, Ok, Err}
 use mathlib.Core.Path.{◌≡◌, refl, sym, ◌∙◌, ap, ap₂, subst}
 use mathlib.Core.Bool.{Bool, true, false}
 use mathlib.Core.List.{List, [], ◌∷◌, ◌++◌}
@@ -8,6 +8,7 @@ use native.Mathlib.Omega.{arith}
 use lib.Dec.{eqb}
 use lib.ListN.{length, get_or, set, length-set}
 use borrow.Author.Tests.{eq-eqb, ne_eqb, eqb-true}
+use Rattle.std.specs.Bool.{then_some}
 use Rattle.std.specs.Result.{IsErr, IsErrAnd}
 use Rattle.common.specs.Outcome.{Outcome, refused, given, Step, return, after, ◌>>=◌, Gives, gives}
 use Rattle.common.proofs.Follow.{call, branch, given_of}
@@ -29,7 +30,7 @@ use Rattle.aut_steps.proofs.Wf.{grown_nodes, states_grown}
 use Rattle.aut_steps.proofs.StepSpec.{StepSpec, placed_map, good_nodes}
 use Rattle.aut_steps.proofs.StateLaws.{mk_spp_goes}
 use Rattle.aut_steps.specs.Constructors as C
-use Rattle.aut_steps.specs.Constructors.{parts, each, unite_one, add_relation, mk_spp}
+use Rattle.aut_steps.specs.Constructors.{parts, each, unite_one, add_relation, add_last, mk_spp}
 use Rattle.aut_steps.proofs.Scratch.{kept_refl, kept_sets, words_append}
 use Rattle.aut_states.specs.declared.Config.{Config}
 use Rattle.aut_states.specs.declared.States.{States}
@@ -44,7 +45,7 @@ use Rattle.aut_relations.proofs.Order as order
 use Rattle.aut_relations.proofs.Each.{Grows, Keeps, Turn, makes_gives, each_gives}
 use Rattle.aut_relations.proofs.Each as turns
 use Rattle.aut_union.specs.declared.Parts.{Parts}
-use Rattle.aut_union.specs.Clauses.{parts_at, UniteReady, UnitesReady, Adds, ListAt}
+use Rattle.aut_union.specs.Clauses.{some_of, handle_of, met_of, parts_at, UniteReady, UnitesReady, Adds, ListAt}
 
 -- one word is written among the lists
 pub put_left : {N : ℕ} {s s' : List ℕ} (t : Table) (a x : ℕ) → a < LISTS → s' ≡ set s a x → Modifies N a 1 t s s'
@@ -288,13 +289,32 @@ module _ {o : Step Table (List ℕ)} {x : States} {s : List ℕ} {at k : ℕ} wh
       few = omega arith;
     }
 
--- ---- the relation's state
+-- ---- the relation's state goes last
 
-module _ (N : ℕ) (t : Table) (p : C.Parts) {b : Bool} (e : is_zero N N p.relation ≡ b) where
-  pub no_relation : b ≡ true → add_relation N p t ≡ given t p.others
-  unfolding add_relation is_zero
-  no_relation q = simp (e ∙ q)
+module _ (r : Option Handle) (N : ℕ) (t : Table) (xs others : List ℕ) where
+  abbrev pub last : Outcome Table (List ℕ)
+  last = add_last (met_of N r others) xs t
 
-  pub a_relation : b ≡ false → add_relation N p t ≡ after (mk_spp p.relation t) (λ i. return (p.others ++ i ∷ []))
-  unfolding add_relation is_zero
-  a_relation q = simp (e ∙ q)
+  is_last : {v : Option Handle} → r ≡ v → last ≡ (if some_of v then (mk_spp (handle_of N v) >>= (λ i. return (xs ++ i ∷ []))) else return xs) t
+  unfolding add_last
+  is_last e = ap (λ (r : Option Handle). (if some_of r then (mk_spp (handle_of N r) >>= (λ i. return (xs ++ i ∷ []))) else return xs) t) e
+
+  pub none_last : r ≡ None → last ≡ given t xs
+  none_last e = is_last e
+
+  pub a_last : {h : Handle} → r ≡ Some h → last ≡ after (mk_spp h.0 t) (λ i. return (xs ++ i ∷ []))
+  a_last e = is_last e
+
+-- a relation that is zero stands for none
+zero_last : (N : ℕ) (t : Table) (h : Handle) (xs : List ℕ) (b : Bool) → is_zero N N h.0 ≡ b → add_last (met_of N (then_some (not b) h) xs) xs t ≡ add_relation N (parts h.0 xs) t
+unfolding add_last add_relation is_zero
+zero_last N t h xs true e = sym (simp e)
+zero_last N t h xs false e = sym (simp e)
+
+pub as_state : (N : ℕ) (h : Handle) {b : Bool} {x y : States} {s s' : List ℕ} {at k : ℕ} {q : Option Handle} {r : Result ℕ Refusal} → is_zero N N h.0 ≡ b → q ≡ then_some (not b) h
+    → Adds (add_last (met_of N q (words s at k)) (words s at k)) x r y s s' at k → Adds (add_relation N (parts h.0 (words s at k))) x r y s s' at k
+as_state N h {b} {x = x} {s = s} {at = at} {k = k} e v D = record {
+  is = sym (ap (λ (q : Option Handle). add_last (met_of N q (words s at k)) (words s at k) (states_of x)) v ∙ zero_last N (states_of x) h (words s at k) b e) ∙ D.is;
+  kept = D.kept;
+  few = D.few;
+}

@@ -1,13 +1,16 @@
 -- What the answers say in the words of the steps, what is left of scratch, and what is asked.
-use Rattle.std.specs.Prelude.{◌≡◌, List, ℕ, ◌+◌, ◌≤◌, ◌<◌, length, Result, Ok, Err}
+use Rattle.std.specs.Prelude.{◌≡◌, Bool, true, false, List, ℕ, ◌+◌, ◌≤◌, ◌<◌, length, Option, Some, None, Result, Ok, Err}
 use Rattle.common.specs.Outcome.{Step}
 use Rattle.common.specs.Runs.{Table}
 use Rattle.refusal.specs.declared.Refusal.{Refusal}
 use Rattle.refusal.specs.Numbers.{outcome}
 use Rattle.spp_steps.specs.Wf.{ValidAt}
 use Rattle.aut_steps.specs.Tables.{words}
+use Rattle.spp.specs.declared.SPP.{SPP}
+use Rattle.aut_steps.specs.Relations as Rel
 use Rattle.aut_steps.specs.Ascending.{All}
 use Rattle.aut_steps.specs.Constructors as C
+use Rattle.aut_steps.specs.Constructors.{met}
 use Rattle.aut_steps.specs.Scratch.{Kept}
 use Rattle.aut_states.specs.Clauses.{Fits, states_of}
 use Rattle.aut_states.specs.declared.States.{States}
@@ -44,9 +47,20 @@ pub record UnitesReady (N : ℕ) (l : Lent) (from k to : ℕ) : Type 0 where
 
 -- ---- the relation as a state
 
-pub record AddReady (N : ℕ) (x : States) (s : List ℕ) (at k : ℕ) : Type 0 where
-  pub few : N ≤ 31
-  pub fits : Fits x.words.now x.count
+-- whether there is a relation, and the relation; with none so far it is the top
+abbrev pub some_of : Option SPP → Bool
+some_of (Some h) = true
+some_of None = false
+
+abbrev pub handle_of : ℕ → Option SPP → ℕ
+handle_of N (Some h) = h.0
+handle_of N None = Rel.top_at N
+
+abbrev pub met_of : ℕ → Option SPP → List ℕ → C.Met
+met_of N r xs = met (some_of r) (handle_of N r) xs
+
+pub record AddReady (st s : List ℕ) (n at k : ℕ) : Type 0 where
+  pub fits : Fits st n
   pub room : at + k < length s
 
 -- the list is the words at `at`, of which one at most is new

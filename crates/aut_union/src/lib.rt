@@ -1,7 +1,7 @@
 // mk_union_n and mk_union of aut.rs. A list is k words of scratch (the map of scratch is aut_scratch's).
 #![tactic(auto)]
 
-ghost use Rattle.std.specs.Prelude.{◌≡◌, [], ◌+◌, ◌≤◌};
+ghost use Rattle.std.specs.Prelude.{◌≡◌, List, [], ℕ, ◌+◌, ◌-◌, ◌≤◌};
 ghost use Rattle.slices.specs.Same.{SameSlice};
 ghost use Rattle.aut_steps.specs.Tables.{words, UNION};
 ghost use Rattle.aut_steps.specs.Relations.{zero_at};
@@ -9,10 +9,10 @@ ghost use Rattle.aut_steps.specs.Constructors as C;
 ghost use Rattle.aut_steps.specs.Constructors.{each, parts};
 ghost use Rattle.aut_states.specs.Clauses.{limits_of, exprs_of, seen, ListAsked};
 ghost use Rattle.aut_relations.specs.Lent.{nodes_in, aut_in, Keeps, KeepsExprs, Does, Asked};
-ghost use Rattle.aut_union.specs.Clauses.{Most, parts_at, UniteReady, UnitesReady, AddReady, Adds, ListAt, PairAt};
+ghost use Rattle.aut_union.specs.Clauses.{Most, parts_at, UniteReady, met_of, UnitesReady, AddReady, Adds, ListAt, PairAt};
 
 use aut_relations::Aut;
-use aut_scratch::Opened;
+use aut_scratch::{BASE, FREE, OTHERS, Opened, PRODUCT, SORTED};
 use aut_states::{Config, Members, States};
 use refusal::Refusal;
 use spp::{Op, SPP};
@@ -34,7 +34,7 @@ fn unite_one(aut: &mut Aut, config: Config, p: Parts, x: u32, to: usize) -> Resu
     ensures few { Most (λ q. q.others) result (p.others + 1) }
 {
     if aut.states.kind(x) == aut_states::kind::SPP {
-        let h = SPP(aut.states.first(x));
+        let h = aut.states.relation(x);
         let relation = aut.apply(config, Op::Union, p.relation, h)?;
         return Ok(Parts { relation, ..p });
     }
@@ -62,7 +62,7 @@ fn unite_each(
     ensures few { Most (λ q. q.others) result k }
 {
     let mut p = Parts {
-        relation: spp::zero_at_depth(config.fields),
+        relation: config.zero(),
         others: 0,
     };
     for i in 0..k {
@@ -72,24 +72,26 @@ fn unite_each(
     Ok(p)
 }
 
-// the relation goes behind the others, which stand at `at`, as a state, unless it is zero
-fn add_relation(
+// the relation goes behind the k words at `at` as a state, if there is one
+pub fn add_last(
     states: &mut States,
     scratch: &mut [u32],
-    config: Config,
-    p: Parts,
+    relation: Option<SPP>,
     at: usize,
+    k: usize,
 ) -> Result<usize, Refusal>
-    requires { AddReady config.fields states.old scratch.old at p.others }
+    requires { AddReady states.old.words.now scratch.old states.old.count at k }
     ensures same { SameSlice states.old.words states.new.words }
-    ensures gives { Adds (C.add_relation config.fields (parts_at scratch.old at p)) states.old
-        result states.new scratch.old scratch.new at p.others }
+    ensures gives { (N : ℕ) (others : List ℕ) → Adds
+        (C.add_last (met_of N relation others) (words scratch.old at k)) states.old result
+        states.new scratch.old scratch.new at k }
+    ensures few { Most (λ m. m) result (k + 1) }
 {
-    if spp::is_zero(config.fields, p.relation) {
-        return Ok(p.others);
-    }
-    scratch[at + p.others] = states.mk_spp(p.relation)?;
-    Ok(p.others + 1)
+    let Some(h) = relation else {
+        return Ok(k);
+    };
+    scratch[at + k] = states.mk_spp(h)?;
+    Ok(k + 1)
 }
 
 // the state of a sorted list
@@ -107,7 +109,7 @@ fn finish(
         (exprs_of states.old members.old) ≡ seen result (exprs_of states.new members.new) }
 {
     match list {
-        [] => states.mk_spp(spp::zero_at_depth(config.fields)),
+        [] => states.mk_spp(config.zero()),
         [x] => Ok(*x),
         _ => states.intern_list(members, config.limits, aut_states::kind::UNION, list),
     }
@@ -115,17 +117,18 @@ fn finish(
 
 // the union of the k states at BASE, none of which is a Union or Top
 fn unite(aut: &mut Aut, config: Config, k: usize) -> Result<u32, Refusal>
-    requires { Asked config aut.old × ListAt aut.old.scratch.now aut.old.states.count 256 k 320 ×
+    requires { Asked config aut.old × ListAt aut.old.scratch.now aut.old.states.count BASE k OTHERS ×
         (k ≤ 64) }
     ensures keeps { Keeps aut.old aut.new }
-    ensures gives { Does config.fields 320 256 aut_in (λ i. i)
-        (C.unite config.fields (limits_of config.limits) (words aut.old.scratch.now 256 k))
+    ensures gives { Does config.fields OTHERS (FREE - OTHERS) aut_in (λ i. i)
+        (C.unite config.fields (limits_of config.limits) (words aut.old.scratch.now BASE k))
         aut.old result aut.new }
 {
-    let p = unite_each(aut, config, aut_scratch::BASE, k, aut_scratch::OTHERS)?;
-    let l = add_relation(&mut aut.states, aut.scratch, config, p, aut_scratch::OTHERS)?;
-    let at = aut_scratch::SORTED;
-    let r = aut_scratch::sorted(aut.scratch, aut_scratch::OTHERS, l, at);
+    let p = unite_each(aut, config, BASE, k, OTHERS)?;
+    let relation = (!spp::is_zero(config.fields, p.relation)).then_some(p.relation);
+    let l = add_last(&mut aut.states, aut.scratch, relation, OTHERS, p.others)?;
+    let at = SORTED;
+    let r = aut_scratch::sorted(aut.scratch, OTHERS, l, at);
     // only read, but `&aut.scratch[..]` beside `&mut aut.states` is not covered by the borrow checker
     let list = &mut aut.scratch[at..at + r];
     finish(&mut aut.states, &mut aut.members, config, list)
@@ -133,9 +136,9 @@ fn unite(aut: &mut Aut, config: Config, k: usize) -> Result<u32, Refusal>
 
 // the union of the k states at `from`
 pub fn mk_union_n(aut: &mut Aut, config: Config, from: usize, k: usize) -> Result<u32, Refusal>
-    requires { Asked config aut.old × ListAt aut.old.scratch.now aut.old.states.count from k 256 }
+    requires { Asked config aut.old × ListAt aut.old.scratch.now aut.old.states.count from k BASE }
     ensures keeps { Keeps aut.old aut.new }
-    ensures gives { Does config.fields 256 320 aut_in (λ i. i)
+    ensures gives { Does config.fields BASE (FREE - BASE) aut_in (λ i. i)
         (C.mk_union_n config.fields (limits_of config.limits) (words aut.old.scratch.now from k))
         aut.old result aut.new }
 {
@@ -152,7 +155,7 @@ pub fn mk_union_n(aut: &mut Aut, config: Config, from: usize, k: usize) -> Resul
         config.limits.list,
         from,
         k,
-        aut_scratch::BASE,
+        BASE,
     )
     .ok_or(Refusal::List)?;
     match opened {
@@ -164,7 +167,7 @@ pub fn mk_union_n(aut: &mut Aut, config: Config, from: usize, k: usize) -> Resul
 pub fn mk_union(aut: &mut Aut, config: Config, x: u32, y: u32) -> Result<u32, Refusal>
     requires { Asked config aut.old × PairAt aut.old.states.count x y }
     ensures keeps { Keeps aut.old aut.new }
-    ensures gives { Does config.fields 192 384 aut_in (λ i. i)
+    ensures gives { Does config.fields PRODUCT (FREE - PRODUCT) aut_in (λ i. i)
         (C.mk_union config.fields (limits_of config.limits) x y) aut.old result aut.new }
 {
     if x == y {
@@ -173,7 +176,7 @@ pub fn mk_union(aut: &mut Aut, config: Config, x: u32, y: u32) -> Result<u32, Re
     if aut.states.both_relations(x, y) {
         return aut.spp_of(config, Op::Union, x, y);
     }
-    let at = aut_scratch::PRODUCT;
+    let at = PRODUCT;
     aut.scratch[at] = x;
     aut.scratch[at + 1] = y;
     mk_union_n(aut, config, at, 2)

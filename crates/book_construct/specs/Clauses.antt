@@ -4,6 +4,7 @@ use Rattle.refusal.specs.declared.Refusal.{Refusal}
 use Rattle.aut_steps.specs.Tables.{words}
 use Rattle.book_construct_steps.specs.Lines as M
 use Rattle.aut_states.specs.declared.Config.{Config}
+use Rattle.aut_scratch.specs.declared.TheConstants.{GIVEN}
 use Rattle.aut_relations.specs.declared.Aut.{Aut as Lent}
 use Rattle.aut_relations.specs.Lent.{Asked}
 use Rattle.book_words.specs.Clauses.{constant_of, bit_of, single_of, pair_of, listed_of}
@@ -16,7 +17,7 @@ line_of s (line.Constant w) = M.constant (constant_of w)
 line_of s (line.Bit w f v) = M.bit (bit_of w) f v
 line_of s (line.Single w x) = M.single (single_of w) x
 line_of s (line.Pair w x y) = M.pair (pair_of w) x y
-line_of s (line.Listed w k) = M.listed (listed_of w) (words s 0 k)
+line_of s (line.Listed w k) = M.listed (listed_of w) (words s GIVEN k)
 
 abbrev pub Short : Line → Type 0
 Short (line.Constant w) = Unit

@@ -14,6 +14,7 @@ ghost use Rattle.book_words.specs.Clauses.{constant_of, bit_of, single_of, pair_
 ghost use Rattle.book_construct.specs.Clauses.{line_of, LineReady, FieldReady, ReadyBy};
 
 use aut_relations::Aut;
+use aut_scratch::{GIVEN, OPENED};
 use aut_states::Config;
 use book_words::{Bit, Constant, Listed, Pair, Single};
 use refusal::Refusal;
@@ -36,13 +37,9 @@ fn make_constant(aut: &mut Aut, config: Config, word: Constant) -> Result<u32, R
         (on_states (M.constant_of config.fields (constant_of word))) aut.old result aut.new }
 {
     match word {
-        Constant::Zero => aut.states.mk_spp(spp::zero_at_depth(config.fields)),
-        Constant::One => aut
-            .states
-            .mk_spp(spp::one_at_depth(config.fields, config.fields)),
-        Constant::All => aut
-            .states
-            .mk_spp(spp::top_at_depth(config.fields, config.fields)),
+        Constant::Zero => aut.states.mk_spp(config.zero()),
+        Constant::One => aut.states.mk_spp(config.one()),
+        Constant::All => aut.states.mk_spp(config.top()),
         Constant::Dup => aut.states.mk_dup(),
         Constant::Top => aut.states.mk_top(),
     }
@@ -100,15 +97,15 @@ fn make_pair(aut: &mut Aut, config: Config, word: Pair, x: u32, y: u32) -> Resul
 }
 
 fn make_listed(aut: &mut Aut, config: Config, word: Listed, k: usize) -> Result<u32, Refusal>
-    requires { Asked config aut.old × ListAt aut.old.scratch.now aut.old.states.count 0 k 64 }
+    requires { Asked config aut.old × ListAt aut.old.scratch.now aut.old.states.count GIVEN k OPENED }
     ensures keeps { Keeps aut.old aut.new }
     ensures gives { Does config.fields 0 LISTS aut_in (λ i. i)
         (M.listed_of config.fields (limits_of config.limits) (listed_of word)
-        (words aut.old.scratch.now 0 k)) aut.old result aut.new }
+        (words aut.old.scratch.now GIVEN k)) aut.old result aut.new }
 {
     match word {
-        Listed::Union => aut_union::mk_union_n(aut, config, aut_scratch::GIVEN, k),
-        Listed::Inter => aut_intersect::mk_intersect_n(aut, config, aut_scratch::GIVEN, k),
+        Listed::Union => aut_union::mk_union_n(aut, config, GIVEN, k),
+        Listed::Inter => aut_intersect::mk_intersect_n(aut, config, GIVEN, k),
     }
 }
 

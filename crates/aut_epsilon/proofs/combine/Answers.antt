@@ -4,7 +4,7 @@ use Rattle.aut_epsilon.proofs.Together as together
 use Rattle.aut_epsilon.proofs.combine.Goals as goal
 
 pub combine_each-requires : goal.combine_each-requires
-combine_each-requires c = together.union_ready c.requires c.kind.ensures c.first-a.ensures c.second-b.ensures c.in-2.is (c.zero_at_depth-zero.ensures c.args.config.fields)
+combine_each-requires c = together.union_ready c.requires c.kind.ensures c.first-a.ensures c.second-b.ensures c.in-2.is c.zero-zero.ensures
 
 pub value-first-requires : goal.value-first-requires
 value-first-requires c = together.readable (together.first_value c.requires c.kind.ensures c.first-a.ensures c.second-b.ensures c.in-3.is)
@@ -32,7 +32,7 @@ pub relate-requires-in-8 : goal.relate-requires-in-8
 relate-requires-in-8 c = together.one_ready c.requires c.kind.ensures c.first-a.ensures c.second-b.ensures (inr c.in-8.is)
 
 pub returns-in-2-clause-gives : goal.returns-in-2-clause-gives
-returns-in-2-clause-gives c = together.does_as (together.union_is c.requires c.kind.ensures c.first-a.ensures c.second-b.ensures c.in-2.is (c.zero_at_depth-zero.ensures c.args.config.fields)) c.combine_each.ensures.gives
+returns-in-2-clause-gives c = together.does_as (together.union_is c.requires c.kind.ensures c.first-a.ensures c.second-b.ensures c.in-2.is c.zero-zero.ensures) c.combine_each.ensures.gives
 
 pub returns-in-3-clause-gives : goal.returns-in-3-clause-gives
 returns-in-3-clause-gives c = together.does_as (together.intersect_is c.requires c.kind.ensures c.first-a.ensures c.second-b.ensures c.in-3.is c.value-first.ensures) c.combine_each-in-3.ensures.gives

@@ -4,7 +4,7 @@ use Rattle.aut_intersect_base.proofs.meet_finish.Goals as goal
 
 pub returns-then-nothing-clause-gives : goal.returns-then-nothing-clause-gives
 returns-then-nothing-clause-gives c =
-    gather.at_zero c.requires c.mk_spp.new.self refl refl (c.nothing.ensures ∙ c.if-nothing.true) (c.zero_at_depth.ensures c.args.config.fields) c.mk_spp.ensures.gives
+    gather.at_zero c.requires c.mk_spp.new.self refl refl (c.nothing.ensures ∙ c.if-nothing.true) c.zero.ensures c.mk_spp.ensures.gives
 
 pub returns-then-k-eq0-clause-gives : goal.returns-then-k-eq0-clause-gives
 returns-then-k-eq0-clause-gives c =

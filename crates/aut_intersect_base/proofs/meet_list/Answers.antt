@@ -1,5 +1,6 @@
 use mathlib.Core.Path.{refl}
 use borrow.Rule.Slice.PartMut.{put_same}
+use Rattle.aut_scratch.specs.declared.TheConstants.{SORTED}
 use Rattle.aut_intersect_base.proofs.Gather as gather
 use Rattle.aut_intersect_base.proofs.meet_list.Goals as goal
 
@@ -14,4 +15,4 @@ intern_list-requires c = gather.list_ready c.requires c.in_ok-m.ensures.gives c.
 
 pub returns-clause-gives : goal.returns-clause-gives
 returns-clause-gives c =
-    gather.listed c.requires c.in_ok-m.ensures.gives c.add_last.auto.scratch refl (put_same 448 _ c.add_last.new.scratch) c.intern_list.ensures.gives
+    gather.listed c.requires c.in_ok-m.ensures.gives c.add_last.auto.scratch refl (put_same SORTED _ c.add_last.new.scratch) c.intern_list.ensures.gives

@@ -1,9 +1,10 @@
+use mathlib.Core.Path.{sym, ◌∙◌}
 use native.Mathlib.Omega.{arith}
 use Rattle.aut_operands.proofs.ByKind as by_kind
 use Rattle.aut_operands.proofs.operands.Goals as goal
 
 pub returns-in-2 : goal.returns-in-2
-returns-in-2 c = by_kind.many_are c.args.part c.kind.ensures c.requires (omega arith) (omega arith) c.first-from.ensures c.second.ensures
+returns-in-2 c = by_kind.many_are c.args.part c.kind.ensures c.requires (omega arith) (omega arith) ∙ sym c.list.ensures
 
 pub returns-in-4 : goal.returns-in-4
 returns-in-4 c = by_kind.both_are c.args.part c.kind.ensures c.requires (grind arith) (grind arith) (λ e. grind (arith, e))

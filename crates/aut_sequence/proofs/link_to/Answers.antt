@@ -1,17 +1,18 @@
+use Rattle.std.proofs.Common.{rules}
 use Rattle.aut_sequence.proofs.Chain as chain
 use Rattle.aut_sequence.proofs.link_to.Goals as goal
 
-pub loop-x-init : goal.loop-x-init
-loop-x-init c = chain.linked c.requires
+pub loop-w-init : goal.loop-w-init
+loop-w-init c = chain.linked c.requires
 
-pub second-z-requires : goal.second-z-requires
-second-z-requires c = chain.walked_in c.loop-x.invariant.walked
+pub second-requires : goal.second-requires
+second-requires c = chain.walked_in c.loop-w.invariant.walked
 
-pub returns-then-z-u : goal.returns-then-z-u
-returns-then-z-u c = chain.link_found c.loop-x.invariant c.second-z.ensures c.if-z-u.true
+pub second-w-requires : goal.second-w-requires
+second-w-requires c = chain.walked_in c.loop-w.invariant.walked
 
-pub loop-x-smaller : goal.loop-x-smaller
-loop-x-smaller c = chain.link_less c.loop-x.invariant c.second-z.ensures
+pub loop-w-smaller : goal.loop-w-smaller
+loop-w-smaller c = chain.link_less c.loop-w.invariant c.second-w.ensures
 
-pub loop-x-preserved : goal.loop-x-preserved
-loop-x-preserved c = chain.link_on c.loop-x.invariant c.second-z.ensures c.if-z-u.false
+pub loop-w-preserved : goal.loop-w-preserved
+loop-w-preserved c = search (rules, chain.link_on c.loop-w.invariant c.second-w.ensures c.second.ensures)

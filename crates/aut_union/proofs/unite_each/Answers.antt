@@ -5,7 +5,7 @@ use Rattle.aut_union.proofs.unite_each.Goals as goal
 
 pub loop-i-init : goal.loop-i-init
 loop-i-init c =
-    gather.begin (uniting c.args.config.fields) c.requires _ (gather.none_united c.args.config.fields c.args.aut.now.scratch.now c.args.to (c.zero_at_depth.ensures c.args.config.fields)) refl
+    gather.begin (uniting c.args.config.fields) c.requires _ (gather.none_united c.args.config.fields c.args.aut.now.scratch.now c.args.to c.zero.ensures) refl
 
 pub unite_one-requires : goal.unite_one-requires
 unite_one-requires c = gather.member (uniting c.args.config.fields) c.requires c.loop-i.invariant c.loop-i-test.true refl

@@ -1,8 +1,7 @@
 use Rattle.aut_states.specs.Clauses.{states_of}
 use Rattle.aut_steps.specs.Tables.{words}
-use Rattle.aut_union.proofs.Gather.{adds_none, adds_refused, adds_state}
-use Rattle.aut_intersect_base.proofs.Gather.{none_last, a_last}
-use Rattle.aut_intersect_base.proofs.add_last.Goals as goal
+use Rattle.aut_union.proofs.Gather.{adds_none, adds_refused, adds_state, none_last, a_last}
+use Rattle.aut_union.proofs.add_last.Goals as goal
 
 pub returns-in_default-clause-gives : goal.returns-in_default-clause-gives
 returns-in_default-clause-gives c =
