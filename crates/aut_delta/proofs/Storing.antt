@@ -42,7 +42,7 @@ use Rattle.aut_relations.proofs.Order.{in_table, ready_after}
 use Rattle.aut_stage.specs.Rule.{Laws, Stage}
 use Rattle.aut_stage.proofs.Rule.{all_of, begin, instead, next}
 use Rattle.aut_stage.specs.OnLent.{Goes}
-use Rattle.aut_st_insert.specs.Clauses.{RESULT}
+use Rattle.aut_delta_keep.specs.Clauses.{RESULT}
 use Rattle.aut_delta_stage.specs.OnTables.{store_in, StoreAsked, tables_layer, GoesStore, Prepared}
 use Rattle.aut_delta_stage.proofs.OnTables.{tables_laws, store_after, refused_goes, step_goes, aut_goes}
 use Rattle.aut_delta_kinds.specs.Clauses.{TogetherAsked, together_of}

@@ -97,10 +97,7 @@ pub fn delta(aut: &mut Aut, config: Config, x: u32) -> Result<(), Refusal>
     ensures gives { Deltas config x aut.old result aut.new }
 {
     let mut entered = 0;
-    loop {
-        if !aut_operands::is_open(&aut.states, Part::Delta, x) {
-            return Ok(());
-        }
+    while aut_operands::is_open(&aut.states, Part::Delta, x) {
         let (y, i) = descend(aut, config, x, entered)?;
         if y == x {
             return finish(aut, config, x);
@@ -108,4 +105,5 @@ pub fn delta(aut: &mut Aut, config: Config, x: u32) -> Result<(), Refusal>
         delta(aut, config, y)?;
         entered = i;
     }
+    Ok(())
 }

@@ -8,7 +8,7 @@ use Rattle.aut_delta_steps.specs.Delta.{transition_cap, room_t, append}
 use Rattle.aut_relations.specs.declared.Aut.{Aut as Lent}
 use Rattle.aut_relations.specs.Lent.{KeepsBut}
 use Rattle.aut_relations.specs.declared.Transitions.{Transitions}
-use Rattle.aut_st_insert.specs.Clauses.{RESULT}
+pub use Rattle.aut_st_insert.specs.Clauses.{RESULT, END}
 
 abbrev pub table_of : Transitions → Table
 table_of t = table t.words.now t.count

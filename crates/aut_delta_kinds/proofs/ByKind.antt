@@ -39,13 +39,13 @@ use Rattle.aut_stage.specs.Rule.{Laws, Stage}
 use Rattle.aut_stage.proofs.Rule.{Inside, begin, next, stuck, finish, done, all_of}
 use Rattle.aut_stage.specs.OnLent.{lent_layer, Goes}
 use Rattle.aut_stage.proofs.OnLent.{lent_laws, related, asked_after}
-use Rattle.aut_st_insert.specs.Clauses.{RESULT}
+use Rattle.aut_st_insert.specs.Clauses.{RESULT, GoesList}
 use Rattle.aut_st_source.specs.declared.Source.{Source}
 use Rattle.aut_st_source.specs.declared.Span.{Span}
 use Rattle.aut_st_source.specs.Clauses.{stored, Walked, source_of}
 use Rattle.aut_st_source.specs.Stored.{PreFind, PostFind}
 use Rattle.aut_st_ops.specs.Asked.{TwoAsked}
-use Rattle.aut_st_each.specs.Asked.{OneAsked}
+use Rattle.aut_delta_lists.specs.Asked.{OneAsked}
 use Rattle.aut_delta_stage.specs.OnTables.{store_in}
 use Rattle.aut_delta_many.specs.Clauses.{lists_at}
 use Rattle.aut_delta_many.specs.Asked.{ManyAsked}
@@ -290,8 +290,8 @@ module _ {k : Config} {x : Lent} {i : ℕ} (R : TogetherAsked k x i) where
                 label = g.holds;
               }
 
-          pub of_star : {r : Result ℕ Refusal} {z : Lent} → Goes k 0 1088 (ListAt N (limits_of k.limits)) (λ m. edges z.scratch.now RESULT m) (star_list N (limits_of k.limits) i h.0 (edges y.transitions.words.now d.start d.count)) y r z → Gives 1088 whole r z
+          pub of_star : {r : Result ℕ Refusal} {z : Lent} → GoesList k (star_list N (limits_of k.limits) i h.0 (edges y.transitions.words.now d.start d.count)) y r z → Gives 1088 whole r z
           of_star {r} {z} g =
-              let g' : Goes k 0 1088 (ListAt N (limits_of k.limits)) (λ m. edges z.scratch.now RESULT m) (then_list h.0) y r z
-              = subst (λ (t : Transitions). Goes k 0 1088 (ListAt N (limits_of k.limits)) (λ m. edges z.scratch.now RESULT m) (star_list N (limits_of k.limits) i h.0 (edges t.words.now d.start d.count)) y r z) K.transitions g in
+              let g' : GoesList k (then_list h.0) y r z
+              = subst (λ (t : Transitions). GoesList k (star_list N (limits_of k.limits) i h.0 (edges t.words.now d.start d.count)) y r z) K.transitions g in
               record { post = finish W 0 1088 star_1 r g'.post (all_of 0 1088) }

@@ -3,11 +3,8 @@
 
 ghost use Rattle.std.specs.Prelude.{◌≡◌};
 ghost use Rattle.aut_steps.specs.Tables.{STAR, kind_of};
-ghost use Rattle.aut_st_steps.specs.ListSpec.{ListAt};
-ghost use Rattle.aut_states.specs.Clauses.{limits_of};
 ghost use Rattle.aut_relations.specs.Lent.{Keeps};
-ghost use Rattle.aut_stage.specs.OnLent.{Goes};
-ghost use Rattle.aut_st_insert.specs.Clauses.{list_in};
+ghost use Rattle.aut_st_insert.specs.Clauses.{GoesList};
 ghost use Rattle.aut_delta_stage.specs.OnTables.{store_in};
 ghost use Rattle.aut_delta_kinds.specs.Clauses.{TogetherAsked, together_of, Two};
 
@@ -21,8 +18,7 @@ use refusal::Refusal;
 fn together_star(aut: &mut Aut, config: Config, x: u32) -> Result<usize, Refusal>
     requires { TogetherAsked config aut.old x × (kind_of aut.old.states.words.now x ≡ STAR) }
     ensures keeps { Keeps aut.old aut.new }
-    ensures gives { Goes config 0 1088 (ListAt config.fields (limits_of config.limits)) (list_in aut.new)
-        (together_of config.fields config.limits (store_in aut.old) x) aut.old result aut.new }
+    ensures gives { GoesList config (together_of config.fields config.limits (store_in aut.old) x) aut.old result aut.new }
 {
     let a = aut.states.first(x);
     let one = stored_list(aut, a);
@@ -35,8 +31,7 @@ fn together_star(aut: &mut Aut, config: Config, x: u32) -> Result<usize, Refusal
 fn together_two(aut: &mut Aut, config: Config, x: u32) -> Result<usize, Refusal>
     requires { TogetherAsked config aut.old x × Two (kind_of aut.old.states.words.now x) }
     ensures keeps { Keeps aut.old aut.new }
-    ensures gives { Goes config 0 1088 (ListAt config.fields (limits_of config.limits)) (list_in aut.new)
-        (together_of config.fields config.limits (store_in aut.old) x) aut.old result aut.new }
+    ensures gives { GoesList config (together_of config.fields config.limits (store_in aut.old) x) aut.old result aut.new }
 {
     let a = aut.states.first(x);
     let b = aut.states.second(x);
@@ -56,8 +51,7 @@ fn together_two(aut: &mut Aut, config: Config, x: u32) -> Result<usize, Refusal>
 pub fn together(aut: &mut Aut, config: Config, x: u32) -> Result<usize, Refusal>
     requires { TogetherAsked config aut.old x }
     ensures keeps { Keeps aut.old aut.new }
-    ensures gives { Goes config 0 1088 (ListAt config.fields (limits_of config.limits)) (list_in aut.new)
-        (together_of config.fields config.limits (store_in aut.old) x) aut.old result aut.new }
+    ensures gives { GoesList config (together_of config.fields config.limits (store_in aut.old) x) aut.old result aut.new }
 {
     let a = aut.states.first(x);
     let b = aut.states.second(x);

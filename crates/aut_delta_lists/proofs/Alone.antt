@@ -6,6 +6,7 @@ use mathlib.Core.List.{List, [], ◌∷◌}
 use Prim.Native.Nat.{ℕ}
 use native.Mathlib.Omega.{arith}
 use lib.Dec.{eqb}
+use lib.ListN.{length}
 use borrow.Author.Tests.{eq-eqb, ne_eqb}
 use Rattle.std.specs.Prelude.{Result, Ok, Err}
 use Rattle.std.specs.Result.{IsErr, IsErrAnd}
@@ -26,8 +27,6 @@ use Rattle.aut_steps.proofs.StateLaws.{mk_spp_goes, mk_top_goes}
 use Rattle.aut_st_steps.specs.Operations.{ops}
 use Rattle.aut_st_steps.specs.Edges.{edges, EdgeAt, none, also}
 use Rattle.aut_st_steps.proofs.Edges.{edge_grown}
-use Rattle.aut_st_steps.specs.Places.{put_edge}
-use Rattle.aut_st_steps.proofs.Places.{edges_one, put_length, put_kept, put_edge_lem}
 use Rattle.aut_st_steps.specs.ListSpec.{ListAt, State, Label}
 use Rattle.aut_st_steps.proofs.ListSpec.{list_empty, zero_state_goes}
 use Rattle.aut_delta_steps.specs.Delta.{dup_list, top_list}
@@ -37,14 +36,11 @@ use Rattle.aut_states.specs.declared.States.{States}
 use Rattle.aut_relations.specs.declared.Aut.{Aut as Lent}
 use Rattle.aut_relations.specs.Lent.{states_in, aut_in}
 use Rattle.aut_stage.specs.OnLent.{Goes}
-use Rattle.aut_stage.proofs.Rule.{Inside, all_of}
-use Rattle.aut_st_insert.specs.Clauses.{RESULT}
-use Rattle.aut_st_stage.proofs.Run.{Run, written, stated, keeps_stated, goes_stated, run_begin, run_as, run_wrote, run_next, run_stuck, run_finish, run_done}
+use Rattle.aut_stage.proofs.Rule.{all_of}
+use Rattle.aut_st_edges.specs.Clauses.{Wrote}
+use Rattle.aut_st_insert.specs.Clauses.{RESULT, GoesInsert}
+use Rattle.aut_st_stage.proofs.Run.{no_list, Run, written, stated, keeps_stated, goes_stated, run_begin, run_as, run_wrote, run_next, run_stuck, run_finish, run_done}
 use Rattle.aut_delta_lists.specs.Asked.{AloneAsked}
-use Rattle.aut_delta_lists.proofs.Waiting.{GoesList}
-
-no_list : Inside 0 832 0 0
-no_list = record { from = omega arith; to = omega arith }
 
 none_at : (s : List ℕ) → edges s RESULT 0 ≡ []
 unfolding edges
@@ -61,10 +57,10 @@ module _ {k : Config} {x : Lent} {t h : ℕ} (A : AloneAsked k x) (E : EdgeAt k.
   rest z = if eqb t z then return [] else return (edge t h ∷ [])
 
   -- no transition
-  no_edge : {y : Lent} → Run k 0 832 single (return []) x y → GoesList k 832 single x (Ok 0) y
+  no_edge : {y : Lent} → Run k 0 832 single (return []) x y → GoesInsert k single x (Ok 0) y
   no_edge {y} g = run_done (run_as g (ap (given (aut_in y)) (sym (none_at y.scratch.now)))) (subst (ListAt k.fields (limits_of k.limits) (aut_in y)) (sym (none_at y.scratch.now)) (list_empty (aut_in y)))
 
-  pub label_zero : eqb h zero ≡ true → GoesList k 832 single x (Ok 0) x
+  pub label_zero : eqb h zero ≡ true → GoesInsert k single x (Ok 0) x
   unfolding St.st_singleton
   label_zero e =
       let q : eqb h (Rel.zero_at k.fields) ≡ true = ap (eqb h) zero_is ∙ e in
@@ -82,28 +78,26 @@ module _ {k : Config} {x : Lent} {t h : ℕ} (A : AloneAsked k x) (E : EdgeAt k.
       zero_made : (r : Result ℕ Refusal) → mk_spp zero (states_in x) ≡ outcome (λ i. i) r (table st.words.now st.count) → Goes k 0 0 State (λ i. i) (on_states (mk_spp zero)) x r (stated x st)
       zero_made r e = goes_stated (mk_spp zero) A.asked (subst (λ (z : ℕ). StepSpec k.fields (limits_of k.limits) State (aut_in x) (on_states (mk_spp z) (aut_in x))) zero_is (zero_state_goes A.asked.ready.good)) e
 
-      pub single_stuck : (e : Refusal) {r : Result ℕ Refusal} → IsErr r × IsErrAnd r (λ x. x ≡ e) → mk_spp zero (states_in x) ≡ outcome (λ i. i) (Err e) (table st.words.now st.count) → GoesList k 832 single x r (stated x st)
+      pub single_stuck : (e : Refusal) {r : Result ℕ Refusal} → IsErr r × IsErrAnd r (λ x. x ≡ e) → mk_spp zero (states_in x) ≡ outcome (λ i. i) (Err e) (table st.words.now st.count) → GoesInsert k single x r (stated x st)
       single_stuck e q p = run_stuck rest single_0 q (zero_made (Err e) p)
 
       module _ {z : ℕ} (same : SameSlice x.states.words st.words) (p : mk_spp zero (states_in x) ≡ outcome (λ i. i) (Ok z) (table st.words.now st.count)) where
         single_1 : Run k 0 832 single (rest z) x (stated x st)
         single_1 = run_next rest single_0 no_list (keeps_stated same) (zero_made (Ok z) p)
 
-        pub target_zero : t ≡ z → GoesList k 832 single x (Ok 0) (stated x st)
+        pub target_zero : t ≡ z → GoesInsert k single x (Ok 0) (stated x st)
         target_zero e =
             let y : eqb t z ≡ true = eq-eqb t z e in
             no_edge (run_as single_1 (simp y))
 
-        pub one_edge : (t ≡ z → ⊥) → GoesList k 832 single x (Ok 1) (written (stated x st) (put_edge x.scratch.now RESULT t h))
-        one_edge n =
+        pub one_edge : (t ≡ z → ⊥) → {w : List ℕ} → Wrote RESULT 1 (edge t h ∷ []) x.scratch.now w → length w ≡ length x.scratch.now → GoesInsert k single x (Ok 1) (written (stated x st) w)
+        one_edge n W len =
             let τ : Aut = aut_in (stated x st) in
-            let s : List ℕ = put_edge x.scratch.now RESULT t h in
             let y : eqb t z ≡ false = ne_eqb t z n in
-            let w : rest z τ ≡ given τ (edge t h ∷ []) = simp y in
-            let is : edges s RESULT 1 ≡ edge t h ∷ [] = edges_one s RESULT ∙ ap (λ (e : Edge). e ∷ []) (put_edge_lem x.scratch.now RESULT t h (omega (arith, A.asked.ready.room))) in
+            let one : rest z τ ≡ given τ (edge t h ∷ []) = simp y in
             let at : EdgeAt k.fields τ (edge t h) = edge_grown single_1.stage.ext.grown E in
-            run_done (run_wrote (run_as single_1 (w ∙ ap (given τ) (sym is))) (record { from = omega arith; to = omega arith }) (omega arith) (put_kept x.scratch.now RESULT t h) (put_length x.scratch.now RESULT t h))
-            (subst (ListAt k.fields (limits_of k.limits) τ) (sym is) (record { edges = also at none; short = A.some }))
+            run_done (run_wrote (run_as single_1 (one ∙ ap (given τ) (sym W.is))) (record { from = omega arith; to = omega arith }) (omega arith) W.kept len)
+            (subst (ListAt k.fields (limits_of k.limits) τ) (sym W.is) (record { edges = also at none; short = A.some }))
 
 -- ---- a state is made by o, and then st_singleton with the label h
 
@@ -120,7 +114,7 @@ module _ {k : Config} {x : Lent} (A : AloneAsked k x) {whole : Step Aut (List Ed
   made_0 = run_begin A.asked (ap (λ (s : Step Aut (List Edge)). s (aut_in x)) M.is)
 
   module _ {st : States} where
-    pub made_stuck : (e : Refusal) {r : Result ℕ Refusal} → IsErr r × IsErrAnd r (λ x. x ≡ e) → o (states_in x) ≡ outcome (λ i. i) (Err e) (table st.words.now st.count) → GoesList k 832 whole x r (stated x st)
+    pub made_stuck : (e : Refusal) {r : Result ℕ Refusal} → IsErr r × IsErrAnd r (λ x. x ≡ e) → o (states_in x) ≡ outcome (λ i. i) (Err e) (table st.words.now st.count) → GoesInsert k whole x r (stated x st)
     made_stuck e q p = run_stuck then_single made_0 q (goes_stated o {r = Err e} A.asked M.state p)
 
     module _ {i : ℕ} (same : SameSlice x.states.words st.words) (p : o (states_in x) ≡ outcome (λ i. i) (Ok i) (table st.words.now st.count)) where
@@ -133,7 +127,7 @@ module _ {k : Config} {x : Lent} (A : AloneAsked k x) {whole : Step Aut (List Ed
       pub made_ready : AloneAsked k (stated x st) × EdgeAt k.fields (aut_in (stated x st)) (edge i h)
       made_ready = (record { asked = made_1.asked; some = A.some }, record { state = state_made.post.then.holds; relation = (M.label (aut_in (stated x st)) made_1.asked.ready.good).at })
 
-      pub made_done : {r : Result ℕ Refusal} {y : Lent} → GoesList k 832 (then_single i) (stated x st) r y → GoesList k 832 whole x r y
+      pub made_done : {r : Result ℕ Refusal} {y : Lent} → GoesInsert k (then_single i) (stated x st) r y → GoesInsert k whole x r y
       made_done G = run_finish made_1 (all_of 0 832) G
 
 -- Dup: the identity, and its state

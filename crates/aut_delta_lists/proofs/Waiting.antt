@@ -2,7 +2,6 @@
 use mathlib.Core.Path.{◌≡◌}
 use mathlib.Core.List.{List}
 use Prim.Native.Nat.{ℕ, ◌≤◌}
-use native.Mathlib.Omega.{arith}
 use lib.ListN.{length}
 use Rattle.std.specs.Prelude.{Result, Ok, Err}
 use Rattle.std.specs.Result.{IsErr, IsErrAnd}
@@ -10,43 +9,29 @@ use Rattle.common.specs.Outcome.{Step, after}
 use Rattle.refusal.specs.declared.Refusal.{Refusal}
 use Rattle.netkat_steps.specs.ListSteps.{Edge}
 use Rattle.aut_steps.specs.Tables.{Aut}
-use Rattle.aut_st_steps.specs.ListSpec.{ListAt}
-use Rattle.aut_states.specs.Clauses.{limits_of}
 use Rattle.aut_states.specs.declared.Config.{Config}
 use Rattle.aut_relations.specs.declared.Aut.{Aut as Lent}
 use Rattle.aut_relations.specs.Lent.{Keeps}
-use Rattle.aut_stage.specs.OnLent.{Goes}
-use Rattle.aut_stage.proofs.Rule.{Inside}
-use Rattle.aut_st_insert.specs.Clauses.{RESULT, list_in}
+use Rattle.aut_st_insert.specs.Clauses.{RESULT, FIRST, SECOND, list_in, GoesInsert, GoesList}
 use Rattle.aut_st_edges.specs.Clauses.{Wrote, CopyReady}
 use Rattle.aut_st_source.specs.declared.Source.{Source}
 use Rattle.aut_st_source.specs.Clauses.{scratched}
 use Rattle.aut_st_stage.proofs.Turns.{source_in}
-use Rattle.aut_st_stage.proofs.Run.{Run, written, run_next, run_stuck}
+use Rattle.aut_st_stage.proofs.Run.{list_made, Run, written, run_next, run_stuck}
 use Rattle.aut_st_stage.proofs.Waits.{Waits, with_it, copy_ready, copy_waits, run_copied}
-
-pub part : Inside 0 1088 0 832
-part = record { from = omega arith; to = omega arith }
-
--- the whole list operation
-pub all : Inside 0 832 0 832
-all = record { from = omega arith; to = omega arith }
-
-abbrev pub GoesList : Config → ℕ → Step Aut (List Edge) → Lent → Result ℕ Refusal → Lent → Type 0
-GoesList k m o x r y = Goes k 0 m (ListAt k.fields (limits_of k.limits)) (list_in y) o x r y
 
 -- by `make` of the list us, which u is in the tables x; f is left to do with it
 module _ {k : Config} (limit : k.limits.transitions ≤ 64) {whole : Step Aut (List Edge)} {b x : Lent} {u : Source} {us : List Edge} (make : List Edge → Step Aut (List Edge)) (f : List Edge → Step Aut (List Edge))
     (g : Run k 0 1088 whole (λ σ. after (make us σ) f) b x) (W : Waits k x u us) where
-  pub list_stuck : {y : Lent} {e : Refusal} {z : Result ℕ Refusal} → IsErr z × IsErrAnd z (λ x. x ≡ e) → GoesList k 832 (make (source_in u x)) x (Err e) y → GoesList k 1088 whole b z y
+  pub list_stuck : {y : Lent} {e : Refusal} {z : Result ℕ Refusal} → IsErr z × IsErrAnd z (λ x. x ≡ e) → GoesInsert k (make (source_in u x)) x (Err e) y → GoesList k whole b z y
   list_stuck q G = run_stuck f g q (with_it W make G)
 
-  module _ {y : Lent} {n : ℕ} (K : Keeps x y) (G : GoesList k 832 (make (source_in u x)) x (Ok n) y) where
+  module _ {y : Lent} {n : ℕ} (K : Keeps x y) (G : GoesInsert k (make (source_in u x)) x (Ok n) y) where
     made : Run k 0 1088 whole (f (list_in y n)) b y
-    made = run_next f g part K (with_it W make G)
+    made = run_next f g list_made K (with_it W make G)
 
     -- it is copied to `at`
-    module _ (at : ℕ) (from : 416 ≤ at) (to : at ≤ 480) where
+    module _ (at : ℕ) (from : FIRST ≤ at) (to : at ≤ SECOND) where
       pub list_copy : CopyReady y.scratch.now RESULT n at
       list_copy = copy_ready y n limit G.post.then.holds at from to made.asked
 

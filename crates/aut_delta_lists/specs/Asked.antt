@@ -7,6 +7,7 @@ use Rattle.aut_relations.specs.Lent.{aut_in, Asked}
 use Rattle.aut_st_source.specs.declared.Source.{Source}
 use Rattle.aut_st_source.specs.declared.Span.{Span}
 use Rattle.aut_st_source.specs.Clauses.{stored, Walked}
+pub use Rattle.aut_st_each.specs.Asked.{OneAsked}
 
 -- a list that is walked
 abbrev pub Lists : Config → Lent → Source → Type 0

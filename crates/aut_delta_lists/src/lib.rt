@@ -3,22 +3,22 @@
 
 ghost use Rattle.std.specs.Prelude.{◌≡◌};
 ghost use Rattle.netkat_steps.specs.ListSteps as St;
-ghost use Rattle.netkat_steps.specs.ListSteps.{edge};
 ghost use Rattle.aut_steps.specs.Relations.{top_at};
 ghost use Rattle.aut_st_steps.specs.Operations.{ops};
 ghost use Rattle.aut_st_steps.specs.Edges.{edges, EdgeAt};
-ghost use Rattle.aut_st_steps.specs.ListSpec.{ListAt, State, Label};
+ghost use Rattle.aut_st_steps.specs.ListSpec.{State, Label};
 ghost use Rattle.aut_delta_steps.specs.Delta as Delta;
 ghost use Rattle.aut_states.specs.Clauses.{limits_of};
 ghost use Rattle.aut_relations.specs.Lent.{aut_in, Keeps};
-ghost use Rattle.aut_stage.specs.OnLent.{Goes};
-ghost use Rattle.aut_st_insert.specs.Clauses.{list_in};
+ghost use Rattle.aut_st_edges.specs.Clauses.{edge_of};
+ghost use Rattle.aut_st_insert.specs.Clauses.{GoesInsert, GoesList};
 ghost use Rattle.aut_st_source.specs.Clauses.{source_of};
 ghost use Rattle.aut_st_each.specs.Asked.{OneAsked};
 ghost use Rattle.aut_delta_lists.specs.Asked.{SequenceAsked, StarAsked, UntilAsked, AloneAsked};
 
 use aut_relations::Aut;
 use aut_st_each::Each;
+use aut_st_edges::Transition;
 use aut_st_insert::{FIRST, RESULT, SECOND};
 use aut_st_source::{Source, Span};
 use aut_states::Config;
@@ -37,9 +37,7 @@ pub fn st_postcompose(
 ) -> Result<usize, Refusal>
     requires { OneAsked config aut.old source × State (aut_in aut.old) e }
     ensures keeps { Keeps aut.old aut.new }
-    ensures gives { Goes config 0 832 (ListAt config.fields (limits_of config.limits))
-        (list_in aut.new)
-        (St.st_postcompose (ops config.fields (limits_of config.limits))
+    ensures gives { GoesInsert config (St.st_postcompose (ops config.fields (limits_of config.limits))
         (source_of source aut.old.transitions.words.now aut.old.scratch.now) e)
         aut.old result aut.new }
 {
@@ -56,9 +54,7 @@ pub fn st_precompose(
 ) -> Result<usize, Refusal>
     requires { OneAsked config aut.old source × Label config.fields (aut_in aut.old) l.0 }
     ensures keeps { Keeps aut.old aut.new }
-    ensures gives { Goes config 0 832 (ListAt config.fields (limits_of config.limits))
-        (list_in aut.new)
-        (St.st_precompose (ops config.fields (limits_of config.limits)) l.0
+    ensures gives { GoesInsert config (St.st_precompose (ops config.fields (limits_of config.limits)) l.0
         (source_of source aut.old.transitions.words.now aut.old.scratch.now))
         aut.old result aut.new }
 {
@@ -75,41 +71,31 @@ pub fn st_intersect_expr(
 ) -> Result<usize, Refusal>
     requires { OneAsked config aut.old source × State (aut_in aut.old) e }
     ensures keeps { Keeps aut.old aut.new }
-    ensures gives { Goes config 0 832 (ListAt config.fields (limits_of config.limits))
-        (list_in aut.new)
-        (St.st_intersect_expr (ops config.fields (limits_of config.limits))
+    ensures gives { GoesInsert config (St.st_intersect_expr (ops config.fields (limits_of config.limits))
         (source_of source aut.old.transitions.words.now aut.old.scratch.now) e)
         aut.old result aut.new }
 {
     aut_st_each::insert_each(aut, config, Each::Intersect(e), source, 0)
 }
 
-// one transition, to `target` with the label `label`; none where the label is zero, or the target the zero state, which is interned for that
-pub fn st_singleton(
-    aut: &mut Aut,
-    config: Config,
-    label: SPP,
-    target: u32,
-) -> Result<usize, Refusal>
+// the transition t alone; none where its label is zero, or its target the zero state, which is interned for that
+pub fn st_singleton(aut: &mut Aut, config: Config, t: Transition) -> Result<usize, Refusal>
     requires { AloneAsked config aut.old }
     ensures keeps { Keeps aut.old aut.new }
     ensures spp { aut.new.spp ≡ aut.old.spp }
     ensures members { aut.new.members ≡ aut.old.members }
-    ensures gives { EdgeAt config.fields (aut_in aut.old) (edge target label.0) → Goes config 0 832 (ListAt config.fields (limits_of config.limits))
-        (list_in aut.new)
-        (St.st_singleton (ops config.fields (limits_of config.limits)) label.0 target)
+    ensures gives { EdgeAt config.fields (aut_in aut.old) (edge_of t) → GoesInsert config (St.st_singleton (ops config.fields (limits_of config.limits)) t.label.0 t.target)
         aut.old result aut.new }
 {
-    let zero = spp::zero_at_depth(config.fields);
-    if label == zero {
+    let zero = config.zero();
+    if t.label == zero {
         return Ok(0);
     }
     let z = aut.states.mk_spp(zero)?;
-    if target == z {
+    if t.target == z {
         return Ok(0);
     }
-    aut.scratch[2 * RESULT] = target;
-    aut.scratch[2 * RESULT + 1] = label.0;
+    aut_st_edges::put(aut.scratch, RESULT, t);
     Ok(1)
 }
 
@@ -126,22 +112,15 @@ pub fn sequence_list(
 ) -> Result<usize, Refusal>
     requires { SequenceAsked config aut.old y eps.0 first second }
     ensures keeps { Keeps aut.old aut.new }
-    ensures gives { Goes config 0 1088 (ListAt config.fields (limits_of config.limits))
-        (list_in aut.new)
-        (Delta.sequence_list config.fields (limits_of config.limits) y eps.0
+    ensures gives { GoesList config (Delta.sequence_list config.fields (limits_of config.limits) y eps.0
         (edges aut.old.transitions.words.now first.start first.count)
         (edges aut.old.transitions.words.now second.start second.count)) aut.old result aut.new }
 {
     let n = st_postcompose(aut, config, first.source(), y)?;
-    aut_st_edges::copy(aut.scratch, RESULT, n, FIRST);
+    let late = aut_st_source::set_aside(aut.scratch, n, FIRST);
     let m = st_precompose(aut, config, eps, second.source())?;
-    aut_st_edges::copy(aut.scratch, RESULT, m, SECOND);
-    aut_st_ops::st_union(
-        aut,
-        config,
-        Source::scratch(FIRST, n),
-        Source::scratch(SECOND, m),
-    )
+    let early = aut_st_source::set_aside(aut.scratch, m, SECOND);
+    aut_st_ops::st_union(aut, config, late, early)
 }
 
 // of the Star x; eps is the star of its operand's epsilon
@@ -154,14 +133,12 @@ pub fn star_list(
 ) -> Result<usize, Refusal>
     requires { StarAsked config aut.old x eps.0 list }
     ensures keeps { Keeps aut.old aut.new }
-    ensures gives { Goes config 0 1088 (ListAt config.fields (limits_of config.limits))
-        (list_in aut.new)
-        (Delta.star_list config.fields (limits_of config.limits) x eps.0
+    ensures gives { GoesList config (Delta.star_list config.fields (limits_of config.limits) x eps.0
         (edges aut.old.transitions.words.now list.start list.count)) aut.old result aut.new }
 {
     let n = st_postcompose(aut, config, list.source(), x)?;
-    aut_st_edges::copy(aut.scratch, RESULT, n, FIRST);
-    st_precompose(aut, config, eps, Source::scratch(FIRST, n))
+    let late = aut_st_source::set_aside(aut.scratch, n, FIRST);
+    st_precompose(aut, config, eps, late)
 }
 
 // of the LtlUntil of a and b
@@ -175,16 +152,14 @@ pub fn until_list(
 ) -> Result<usize, Refusal>
     requires { UntilAsked config aut.old a b first second }
     ensures keeps { Keeps aut.old aut.new }
-    ensures gives { Goes config 0 1088 (ListAt config.fields (limits_of config.limits))
-        (list_in aut.new)
-        (Delta.until_list config.fields (limits_of config.limits) a b
+    ensures gives { GoesList config (Delta.until_list config.fields (limits_of config.limits) a b
         (edges aut.old.transitions.words.now first.start first.count)
         (edges aut.old.transitions.words.now second.start second.count)) aut.old result aut.new }
 {
     let u = aut.states.mk_until(config.limits, a, b)?;
     let n = st_intersect_expr(aut, config, first.source(), u)?;
-    aut_st_edges::copy(aut.scratch, RESULT, n, FIRST);
-    aut_st_ops::st_union(aut, config, second.source(), Source::scratch(FIRST, n))
+    let met = aut_st_source::set_aside(aut.scratch, n, FIRST);
+    aut_st_ops::st_union(aut, config, second.source(), met)
 }
 
 pub fn dup_list(aut: &mut Aut, config: Config) -> Result<usize, Refusal>
@@ -192,13 +167,11 @@ pub fn dup_list(aut: &mut Aut, config: Config) -> Result<usize, Refusal>
     ensures keeps { Keeps aut.old aut.new }
     ensures spp { aut.new.spp ≡ aut.old.spp }
     ensures members { aut.new.members ≡ aut.old.members }
-    ensures gives { Goes config 0 832 (ListAt config.fields (limits_of config.limits))
-        (list_in aut.new)
-        (Delta.dup_list config.fields (limits_of config.limits)) aut.old result aut.new }
+    ensures gives { GoesInsert config (Delta.dup_list config.fields (limits_of config.limits)) aut.old result aut.new }
 {
-    let one = spp::one_at_depth(config.fields, config.fields);
-    let x = aut.states.mk_spp(one)?;
-    st_singleton(aut, config, one, x)
+    let label = config.one();
+    let target = aut.states.mk_spp(label)?;
+    st_singleton(aut, config, Transition { target, label })
 }
 
 // of the LtlNext of a
@@ -207,13 +180,11 @@ pub fn next_list(aut: &mut Aut, config: Config, a: u32) -> Result<usize, Refusal
     ensures keeps { Keeps aut.old aut.new }
     ensures spp { aut.new.spp ≡ aut.old.spp }
     ensures members { aut.new.members ≡ aut.old.members }
-    ensures gives { State (aut_in aut.old) a → Goes config 0 832 (ListAt config.fields (limits_of config.limits))
-        (list_in aut.new)
-        (St.st_singleton (ops config.fields (limits_of config.limits)) (top_at config.fields) a)
+    ensures gives { State (aut_in aut.old) a → GoesInsert config (St.st_singleton (ops config.fields (limits_of config.limits)) (top_at config.fields) a)
         aut.old result aut.new }
 {
-    let top = spp::top_at_depth(config.fields, config.fields);
-    st_singleton(aut, config, top, a)
+    let label = config.top();
+    st_singleton(aut, config, Transition { target: a, label })
 }
 
 pub fn top_list(aut: &mut Aut, config: Config) -> Result<usize, Refusal>
@@ -221,11 +192,9 @@ pub fn top_list(aut: &mut Aut, config: Config) -> Result<usize, Refusal>
     ensures keeps { Keeps aut.old aut.new }
     ensures spp { aut.new.spp ≡ aut.old.spp }
     ensures members { aut.new.members ≡ aut.old.members }
-    ensures gives { Goes config 0 832 (ListAt config.fields (limits_of config.limits))
-        (list_in aut.new)
-        (Delta.top_list config.fields (limits_of config.limits)) aut.old result aut.new }
+    ensures gives { GoesInsert config (Delta.top_list config.fields (limits_of config.limits)) aut.old result aut.new }
 {
-    let x = aut.states.mk_top()?;
-    let top = spp::top_at_depth(config.fields, config.fields);
-    st_singleton(aut, config, top, x)
+    let target = aut.states.mk_top()?;
+    let label = config.top();
+    st_singleton(aut, config, Transition { target, label })
 }

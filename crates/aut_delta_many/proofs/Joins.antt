@@ -32,17 +32,17 @@ use Rattle.aut_states.specs.declared.Config.{Config}
 use Rattle.aut_relations.specs.declared.Aut.{Aut as Lent}
 use Rattle.aut_relations.specs.declared.Transitions.{Transitions}
 use Rattle.aut_relations.specs.Lent.{aut_in, Keeps, Asked}
-use Rattle.aut_stage.specs.OnLent.{lent_layer, Goes}
+use Rattle.aut_stage.specs.OnLent.{lent_layer}
 use Rattle.aut_stage.proofs.OnLent.{lent_laws}
-use Rattle.aut_stage.proofs.Rule.{Inside, Folds, Turned, begin, stuck, done, turn, over, again, all_of}
-use Rattle.aut_st_insert.specs.Clauses.{RESULT, list_in}
+use Rattle.aut_stage.proofs.Rule.{Folds, Turned, begin, stuck, done, turn, over, again, all_of}
+use Rattle.aut_st_insert.specs.Clauses.{RESULT, FIRST, list_in, GoesInsert, GoesList}
 use Rattle.aut_relations.proofs.Kept.{keeps_refl, keeps_trans}
 use Rattle.aut_st_edges.specs.Clauses.{Wrote, CopyReady}
 use Rattle.aut_st_source.specs.declared.Source.{Source}
 use Rattle.aut_st_source.specs.Clauses.{stored, scratched}
 use Rattle.aut_st_ops.specs.Asked.{TwoAsked}
 use Rattle.aut_st_stage.proofs.Turns.{source_in}
-use Rattle.aut_st_stage.proofs.Run.{Run, written, run_begin, run_wrote, run_finish}
+use Rattle.aut_st_stage.proofs.Run.{list_made, Run, written, run_begin, run_wrote, run_finish}
 use Rattle.aut_st_stage.proofs.Waits.{Waits, waits_as, with_two, waits_copied, copy_ready, copy_waits, run_copied}
 use Rattle.aut_delta_many.specs.declared.Join.{Join}
 use Rattle.aut_delta_many.specs.declared.Join.TheVariants as join
@@ -52,16 +52,6 @@ use Rattle.aut_st_source.specs.Stored.{PreFind, PostFind}
 use Rattle.aut_delta_many.specs.Joins.{join_one, join_all}
 use Rattle.aut_delta_many.specs.Asked.{NextAsked, AllAsked, ManyAsked}
 use Rattle.aut_delta_many.proofs.Lists.{find_ready, found_is, found_in, found_at, found_few, found_list, words_first}
-
--- the list so far while the next one is joined, by record
-abbrev FIRST : ℕ
-FIRST = 416
-
-part : Inside 0 1088 0 832
-part = record { from = omega arith; to = omega arith }
-
-abbrev GoesList : Config → ℕ → Step Aut (List Edge) → Lent → Result ℕ Refusal → Lent → Type 0
-GoesList k m o x r y = Goes k 0 m (ListAt k.fields (limits_of k.limits)) (list_in y) o x r y
 
 abbrev asked : {k : Config} {x : Lent} → StoreAsked k x → Asked k x
 asked R = record { fields = R.fields; ready = R.prepared.ready }
@@ -97,10 +87,10 @@ module _ {k : Config} {x : Lent} {n y : ℕ} (W : NextAsked k x n y) where
         next_ready = record { first = record { asked = next_1.asked; limit = W.limit; walked = so_far.walked }; second = found.walked }
 
         pub next_done : (i : Join) → j ≡ i → {r : Result ℕ Refusal} {z : Lent}
-            → GoesList k 832 (join_one k.fields (limits_of k.limits) i (source_in u (written x w)) (source_in v (written x w))) (written x w) r z
-            → GoesList k 1088 (one (list_in x n) (list_at (store_in x) y)) x r z
-        next_done i q {r} {z} G = run_finish next_1 part
-            (with_two so_far found one (subst (λ (i : Join). GoesList k 832 (join_one k.fields (limits_of k.limits) i (source_in u (written x w)) (source_in v (written x w))) (written x w) r z) (sym q) G))
+            → GoesInsert k (join_one k.fields (limits_of k.limits) i (source_in u (written x w)) (source_in v (written x w))) (written x w) r z
+            → GoesList k (one (list_in x n) (list_at (store_in x) y)) x r z
+        next_done i q {r} {z} G = run_finish next_1 list_made
+            (with_two so_far found one (subst (λ (i : Join). GoesInsert k (join_one k.fields (limits_of k.limits) i (source_in u (written x w)) (source_in v (written x w))) (written x w) r z) (sym q) G))
 
 -- ---- join_all
 
@@ -141,7 +131,7 @@ module _ {c : Config} {j : Join} {x : Lent} {n from k : ℕ} where
   }
 
   module _ {now : Lent} {m i : ℕ} (v : Joined c j x n from k now m i) where
-    pub all_end : k ≤ i → GoesList c 1088 (all c j x n from k) x (Ok m) now
+    pub all_end : k ≤ i → GoesList c (all c j x n from k) x (Ok m) now
     all_end le = record { post = done (lent_laws c.fields c.limits) 0 1088 (over (lent_laws c.fields c.limits) 0 1088 (folds c.fields (limits_of c.limits) j) v.turned (ap (map (list_at (store_in x))) (words_done x.members.words.now (from + i) k i le))) v.turned.holds }
 
     module _ (lt : i < k) where
@@ -192,11 +182,11 @@ module _ {c : Config} {j : Join} {x : Lent} {n from k : ℕ} where
           (sym (ap (list_at (store_in now)) same_member ∙ same_list (store_in now) v.start.asked.prepared.worked.lists went.transitions y state has (went.lists y has)))
 
       module _ {then : Lent} where
-        pub all_stuck : {e : Refusal} {r : Result ℕ Refusal} → IsErr r × IsErrAnd r (λ a. a ≡ e) → GoesList c 1088 (one_more c j now from m i) now (Err e) then → GoesList c 1088 (all c j x n from k) x r then
-        all_stuck q G = subst (λ (r : Result ℕ Refusal). GoesList c 1088 (all c j x n from k) x r then) (sym (passed q))
+        pub all_stuck : {e : Refusal} {r : Result ℕ Refusal} → IsErr r × IsErrAnd r (λ a. a ≡ e) → GoesList c (one_more c j now from m i) now (Err e) then → GoesList c (all c j x n from k) x r then
+        all_stuck q G = subst (λ (r : Result ℕ Refusal). GoesList c (all c j x n from k) x r then) (sym (passed q))
             (record { post = stuck (lent_laws c.fields c.limits) 0 1088 G.post (join_all c.fields (limits_of c.limits) j (lists_from (store_in x) from k (i + 1))) (turn (lent_laws c.fields c.limits) 0 1088 (folds c.fields (limits_of c.limits) j) v.turned on_next) })
 
-        pub all_again : {m2 : ℕ} → Keeps now then → GoesList c 1088 (one_more c j now from m i) now (Ok m2) then → Joined c j x n from k then m2 (i + 1)
+        pub all_again : {m2 : ℕ} → Keeps now then → GoesList c (one_more c j now from m i) now (Ok m2) then → Joined c j x n from k then m2 (i + 1)
         all_again K G = record {
           start = v.start;
           keeps = keeps_trans v.keeps K;
@@ -261,5 +251,5 @@ module _ {c : Config} {x : Lent} {from k : ℕ} (W : ManyAsked c x from k) where
         lists = lists_in_lem.1;
       }
 
-      pub intersect_done : {r : Result ℕ Refusal} {z : Lent} → GoesList c 1088 rest (written x w) r z → GoesList c 1088 (intersect_first c.fields (limits_of c.limits) (lists_at σ from k)) x r z
+      pub intersect_done : {r : Result ℕ Refusal} {z : Lent} → GoesList c rest (written x w) r z → GoesList c (intersect_first c.fields (limits_of c.limits) (lists_at σ from k)) x r z
       intersect_done G = run_finish first_1 (all_of 0 1088) G

@@ -4,13 +4,11 @@
 
 ghost use Rattle.std.specs.Prelude.{[], ◌+◌, ◌*◌, ◌≤◌, length};
 ghost use Rattle.aut_st_steps.specs.Edges.{edges};
-ghost use Rattle.aut_st_steps.specs.ListSpec.{ListAt};
 ghost use Rattle.aut_delta_steps.specs.Delta.{list_at, union_all, intersect_first};
 ghost use Rattle.aut_states.specs.Clauses.{limits_of};
 ghost use Rattle.aut_relations.specs.Lent.{Keeps};
-ghost use Rattle.aut_stage.specs.OnLent.{Goes};
 ghost use Rattle.aut_st_insert.specs.Clauses as Seen;
-ghost use Rattle.aut_st_insert.specs.Clauses.{list_in};
+ghost use Rattle.aut_st_insert.specs.Clauses.{list_in, GoesList};
 ghost use Rattle.aut_st_edges.specs.Clauses.{Wrote};
 ghost use Rattle.aut_delta_stage.specs.OnTables.{store_in};
 ghost use Rattle.aut_delta_many.specs.Clauses.{lists_at};
@@ -19,7 +17,7 @@ ghost use Rattle.aut_delta_many.specs.Asked.{NextAsked, AllAsked, ManyAsked};
 
 use aut_relations::{Aut, Transitions};
 use aut_st_insert::{FIRST, RESULT};
-use aut_st_source::{Source, Span, stored_list};
+use aut_st_source::{Span, stored_list};
 use aut_states::Config;
 use refusal::Refusal;
 
@@ -38,24 +36,20 @@ fn take(scratch: &mut [u32], transitions: &Transitions, list: Span)
         (edges transitions.now.words.now list.start list.count) scratch.old scratch.new }
 {
     let at = 2 * RESULT;
-    let from = 2 * list.start;
-    let n = 2 * list.count;
-    scratch[at..at + n].copy_from_slice(&transitions.words[from..from + n]);
+    let words = list.words(transitions);
+    scratch[at..at + words.len()].copy_from_slice(words);
 }
 
 // the n transitions at RESULT and the list of y
 fn join_next(aut: &mut Aut, config: Config, join: Join, n: usize, y: u32) -> Result<usize, Refusal>
     requires { NextAsked config aut.old n y }
     ensures keeps { Keeps aut.old aut.new }
-    ensures gives { Goes config 0 1088 (ListAt config.fields (limits_of config.limits))
-        (list_in aut.new)
-        (join_one config.fields (limits_of config.limits) join
+    ensures gives { GoesList config (join_one config.fields (limits_of config.limits) join
         (list_in aut.old n) (list_at (store_in aut.old) y))
         aut.old result aut.new }
 {
     let list = stored_list(aut, y);
-    aut_st_edges::copy(aut.scratch, RESULT, n, FIRST);
-    let first = Source::scratch(FIRST, n);
+    let first = aut_st_source::set_aside(aut.scratch, n, FIRST);
     let second = list.source();
     match join {
         Join::Union => aut_st_ops::st_union(aut, config, first, second),
@@ -74,9 +68,7 @@ fn join_all(
 ) -> Result<usize, Refusal>
     requires { AllAsked config aut.old n from k }
     ensures keeps { Keeps aut.old aut.new }
-    ensures gives { Goes config 0 1088 (ListAt config.fields (limits_of config.limits))
-        (list_in aut.new)
-        (join_all config.fields (limits_of config.limits) join
+    ensures gives { GoesList config (join_all config.fields (limits_of config.limits) join
         (lists_at (store_in aut.old) from k) (list_in aut.old n))
         aut.old result aut.new }
 {
@@ -93,9 +85,7 @@ fn join_all(
 pub fn union_all(aut: &mut Aut, config: Config, from: usize, k: usize) -> Result<usize, Refusal>
     requires { ManyAsked config aut.old from k }
     ensures keeps { Keeps aut.old aut.new }
-    ensures gives { Goes config 0 1088 (ListAt config.fields (limits_of config.limits))
-        (list_in aut.new)
-        (union_all config.fields (limits_of config.limits)
+    ensures gives { GoesList config (union_all config.fields (limits_of config.limits)
         (lists_at (store_in aut.old) from k) []) aut.old result aut.new }
 {
     join_all(aut, config, Join::Union, 0, from, k)
@@ -105,9 +95,7 @@ pub fn union_all(aut: &mut Aut, config: Config, from: usize, k: usize) -> Result
 pub fn intersect_all(aut: &mut Aut, config: Config, from: usize, k: usize) -> Result<usize, Refusal>
     requires { ManyAsked config aut.old from k }
     ensures keeps { Keeps aut.old aut.new }
-    ensures gives { Goes config 0 1088 (ListAt config.fields (limits_of config.limits))
-        (list_in aut.new)
-        (intersect_first config.fields (limits_of config.limits)
+    ensures gives { GoesList config (intersect_first config.fields (limits_of config.limits)
         (lists_at (store_in aut.old) from k)) aut.old result aut.new }
 {
     let y = aut.members.words[from];

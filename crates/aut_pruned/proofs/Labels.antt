@@ -22,8 +22,8 @@ use Rattle.aut_steps.specs.Relations as Rel
 use Rattle.aut_steps.specs.Tables.{on_nodes}
 use Rattle.aut_steps.proofs.Scratch.{kept_refl, kept_wide}
 use Rattle.aut_st_steps.specs.Edges.{edges}
-use Rattle.aut_st_steps.specs.Places.{put_edge}
-use Rattle.aut_st_steps.proofs.Places.{put_kept, edges_snoc}
+use Rattle.aut_st_edges.specs.Clauses.{Wrote}
+use Rattle.aut_st_edges.proofs.Moves.{put_behind}
 use Rattle.aut_delta_steps.specs.Delta.{on_aut}
 use Rattle.aut_query_steps.specs.Tables.{live_of, on_base, making_relations}
 use Rattle.aut_query_steps.specs.Pruned as M
@@ -105,10 +105,12 @@ module _ {N : ℕ} {s : List ℕ} {m : ℕ} (P : PreKeep N s m) (t g : ℕ) wher
     most = omega arith;
   }
 
-  pub keep_some : Spp.is_zero N N g ≡ false → PostKeep N m t g (m + 1) s (put_edge s (RESULT + m) t g)
+  pub keep_some : Spp.is_zero N N g ≡ false → {s' : List ℕ} → Wrote (RESULT + m) 1 (edge t g ∷ []) s s' → PostKeep N m t g (m + 1) s s'
   unfolding Spp.is_zero
-  keep_some q = record {
-    is = edges_snoc s RESULT m t g (omega (arith, P.room, P.least)) ∙ sym (ap (λ (b : Bool). if b then edges s RESULT m else (edges s RESULT m ++ edge t g ∷ [])) q);
-    kept = kept_wide (put_kept s (RESULT + m) t g) (omega arith) (omega (arith, P.least));
-    most = omega arith;
-  }
+  keep_some q W =
+      let w = put_behind RESULT m W in
+      record {
+        is = w.is ∙ sym (ap (λ (b : Bool). if b then edges s RESULT m else (edges s RESULT m ++ edge t g ∷ [])) q);
+        kept = kept_wide w.kept (omega arith) (omega (arith, P.least));
+        most = omega arith;
+      }

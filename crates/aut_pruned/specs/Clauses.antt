@@ -1,5 +1,5 @@
 -- 01, "Strings" (pruned): what delta_pruned in code asks and promises. The list stands in scratch.
-use Rattle.std.specs.Prelude.{◌≡◌, List, ℕ, ◌+◌, ◌-◌, ◌/◌, ◌≤◌, ◌<◌, length, Result}
+use Rattle.std.specs.Prelude.{◌≡◌, List, ℕ, ◌+◌, ◌-◌, ◌*◌, ◌/◌, ◌≤◌, ◌<◌, length, Result}
 use Rattle.refusal.specs.declared.Refusal.{Refusal}
 use Rattle.netkat_steps.specs.ListSteps.{Edge}
 use Rattle.sp_steps.specs.Wf as SpLaws
@@ -17,7 +17,7 @@ use Rattle.aut_relations.specs.declared.Aut.{Aut as Lent}
 use Rattle.aut_relations.specs.Behind.{LISTS}
 use Rattle.aut_relations.specs.Lent.{nodes_in}
 use Rattle.aut_sets.specs.Lent.{sets_in}
-use Rattle.aut_st_insert.specs.Clauses.{RESULT}
+use Rattle.aut_st_insert.specs.Clauses.{RESULT, END}
 use Rattle.aut_pruned.specs.Onto.{behind}
 
 -- targets are states, labels relations; there are at most 64
@@ -27,7 +27,7 @@ pub record PrunedAt (N : ℕ) (τ : Tables) (es : List Edge) : Type 0 where
 
 -- the step has been done: the list of m transitions stands at RESULT
 abbrev pub Prunes : Config → ℕ → Lent → Result ℕ Refusal → Lent → Type 0
-Prunes k i x r y = GoesQuery k 0 1088 tables_in (PrunedAt k.fields) (λ m. edges y.scratch.now RESULT m) (M.delta_pruned k.fields (limits_of k.limits) (length x.pending.now / 2) i) x r y
+Prunes k i x r y = GoesQuery k 0 (2 * END) tables_in (PrunedAt k.fields) (λ m. edges y.scratch.now RESULT m) (M.delta_pruned k.fields (limits_of k.limits) (length x.pending.now / 2) i) x r y
 
 -- ---- one label
 
@@ -49,7 +49,7 @@ pub record PreKeep (N : ℕ) (s : List ℕ) (m : ℕ) : Type 0 where
 
 pub record PostKeep (N m t g r : ℕ) (s s' : List ℕ) : Type 0 where
   pub is : edges s' RESULT r ≡ behind N (edges s RESULT m) t g
-  pub kept : Kept 576 128 s s'
+  pub kept : Kept (2 * RESULT) 128 s s'
   pub most : r ≤ m + 1
 
 -- ---- all labels
@@ -63,4 +63,4 @@ pub record PruneAsked (k : Config) (x : Lent) (i : ℕ) : Type 0 where
 
 -- its stored list has been cut
 abbrev pub PrunesAll : Config → ℕ → Lent → Result ℕ Refusal → Lent → Type 0
-PrunesAll k i x r y = GoesQuery k 0 1088 tables_in (PrunedAt k.fields) (λ m. edges y.scratch.now RESULT m) (λ τ. M.prune k.fields (list_at τ.base i) τ) x r y
+PrunesAll k i x r y = GoesQuery k 0 (2 * END) tables_in (PrunedAt k.fields) (λ m. edges y.scratch.now RESULT m) (λ τ. M.prune k.fields (list_at τ.base i) τ) x r y

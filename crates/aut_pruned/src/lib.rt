@@ -39,9 +39,7 @@ fn keep(aut: &mut Aut, config: Config, m: usize, t: Transition) -> usize
     if spp::is_zero(config.fields, t.label) {
         return m;
     }
-    let at = 2 * (aut_st_insert::RESULT + m);
-    aut.scratch[at] = t.target;
-    aut.scratch[at + 1] = t.label.0;
+    aut_st_edges::put(aut.scratch, aut_st_insert::RESULT + m, t);
     m + 1
 }
 

@@ -31,13 +31,13 @@ use Rattle.aut_relations.specs.Lent.{nodes_in, states_in, aut_in, Keeps, KeepsEx
 use Rattle.aut_relations.proofs.Order.{fits}
 use Rattle.aut_stage.specs.OnLent.{Goes}
 use Rattle.aut_stage.proofs.OnLent.{related}
-use Rattle.aut_stage.proofs.Rule.{Inside, all_of}
-use Rattle.aut_st_insert.specs.Clauses.{RESULT}
+use Rattle.aut_stage.proofs.Rule.{all_of}
+use Rattle.aut_st_insert.specs.Clauses.{RESULT, GoesInsert}
 use Rattle.aut_st_insert.specs.Asked.{ListAsked}
 use Rattle.aut_st_insert.proofs.Join.{edges_behind, list_few}
 use Rattle.aut_st_source.specs.declared.Source.{Source}
 use Rattle.aut_st_stage.proofs.Turns.{source_in}
-use Rattle.aut_st_stage.proofs.Run.{Run, run_begin, run_next, run_as, run_finish, stated, keeps_stated, goes_stated}
+use Rattle.aut_st_stage.proofs.Run.{no_list, Run, run_begin, run_next, run_as, run_finish, stated, keeps_stated, goes_stated}
 use Rattle.aut_st_stage.proofs.Waits.{Waits, waits, waits_later, with_it}
 use Rattle.aut_st_each.specs.Asked.{EachAsked}
 use Rattle.aut_relations.proofs.Kept.{keeps_of}
@@ -48,9 +48,6 @@ use Rattle.aut_st_complement.proofs.Cover.{cover}
 none_at : (s : List ℕ) → edges s RESULT 0 ≡ []
 unfolding edges
 none_at s = refl
-
-no_list : Inside 0 832 0 0
-no_list = record { from = omega arith; to = omega arith }
 
 -- the complement is an operation on relations
 as_complement : {N : ℕ} (h : ℕ) {r : Result SPP Refusal} {x y : Lent} → Does N 0 0 nodes_in (λ h. h.0) (Spp.apply N Spp.not N h h) x r y → Does N 0 0 nodes_in (λ h. h.0) (Spp.complement N N h) x r y
@@ -88,7 +85,7 @@ module _ {k : Config} {x : Lent} {z : Source} (R : OneAsked k x z) where
   }
 
   -- the targets are made, in a list of n
-  module _ {y : Lent} {n : ℕ} (K : Keeps x y) (D : Goes k 0 832 (ListAt k.fields (limits_of k.limits)) (λ k. edges y.scratch.now RESULT k) targets x (Ok n) y) where
+  module _ {y : Lent} {n : ℕ} (K : Keeps x y) (D : GoesInsert k targets x (Ok n) y) where
     abbrev es : List Edge
     es = edges y.scratch.now RESULT n
 

@@ -4,11 +4,11 @@
 ghost use Rattle.netkat_steps.specs.ListSteps as St;
 ghost use Rattle.aut_steps.specs.Relations.{zero_at};
 ghost use Rattle.aut_st_steps.specs.Operations.{ops};
-ghost use Rattle.aut_st_steps.specs.ListSpec.{ListAt, Label};
+ghost use Rattle.aut_st_steps.specs.ListSpec.{Label};
 ghost use Rattle.aut_states.specs.Clauses.{limits_of};
 ghost use Rattle.aut_relations.specs.Lent.{Keeps, KeepsExprs};
 ghost use Rattle.aut_stage.specs.OnLent.{Goes};
-ghost use Rattle.aut_st_insert.specs.Clauses.{list_in};
+ghost use Rattle.aut_st_insert.specs.Clauses.{GoesInsert};
 ghost use Rattle.aut_st_source.specs.Clauses.{source_of};
 ghost use Rattle.aut_st_each.specs.Asked.{OneAsked};
 
@@ -29,9 +29,9 @@ fn cover_all(aut: &mut Aut, config: Config, source: Source) -> Result<SPP, Refus
         (source_of source aut.old.transitions.words.now aut.old.scratch.now)
         (zero_at config.fields)) aut.old result aut.new }
 {
-    let mut sum = spp::zero_at_depth(config.fields);
+    let mut sum = config.zero();
     for i in 0..source.length {
-        let t = aut_st_source::read(aut, source, i);
+        let t = source.get(aut, i);
         sum = aut.apply(config, Op::Union, sum, t.label)?;
     }
     Ok(sum)
@@ -41,9 +41,7 @@ fn cover_all(aut: &mut Aut, config: Config, source: Source) -> Result<SPP, Refus
 pub fn st_complement(aut: &mut Aut, config: Config, source: Source) -> Result<usize, Refusal>
     requires { OneAsked config aut.old source }
     ensures keeps { Keeps aut.old aut.new }
-    ensures gives { Goes config 0 832 (ListAt config.fields (limits_of config.limits))
-        (list_in aut.new)
-        (St.st_complement (ops config.fields (limits_of config.limits))
+    ensures gives { GoesInsert config (St.st_complement (ops config.fields (limits_of config.limits))
         (source_of source aut.old.transitions.words.now aut.old.scratch.now)) aut.old result aut.new }
 {
     let n = aut_st_each::insert_each(aut, config, Each::Complement, source, 0)?;

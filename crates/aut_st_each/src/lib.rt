@@ -1,15 +1,15 @@
 // Loops over transition lists of aut.rs: something is made of each transition, and inserted into the list at RESULT.
 #![tactic(auto)]
 
+ghost use Rattle.std.specs.Prelude.{◌*◌};
 ghost use Rattle.netkat_steps.specs.ListSteps as St;
 ghost use Rattle.aut_st_steps.specs.Operations.{ops};
 ghost use Rattle.aut_st_steps.specs.Edges.{EdgeAt};
-ghost use Rattle.aut_st_steps.specs.ListSpec.{ListAt};
 ghost use Rattle.aut_st_steps.specs.EachSteps as M;
 ghost use Rattle.aut_states.specs.Clauses.{limits_of};
 ghost use Rattle.aut_relations.specs.Lent.{Keeps};
 ghost use Rattle.aut_stage.specs.OnLent.{Goes};
-ghost use Rattle.aut_st_insert.specs.Clauses.{list_in};
+ghost use Rattle.aut_st_insert.specs.Clauses.{RESULT, list_in, GoesInsert};
 ghost use Rattle.aut_st_insert.specs.Asked.{ListAsked};
 ghost use Rattle.aut_st_edges.specs.Clauses.{edge_of};
 ghost use Rattle.aut_st_source.specs.Clauses.{source_of};
@@ -45,7 +45,7 @@ fn meet_of(
 ) -> Result<Transition, Refusal>
     requires { MakeAsked config aut.old (M.meet (edge_of u)) (edge_of t) }
     ensures keeps { Keeps aut.old aut.new }
-    ensures gives { Goes config 0 576 (EdgeAt config.fields) edge_of
+    ensures gives { Goes config 0 (2 * RESULT) (EdgeAt config.fields) edge_of
         (M.made config.fields (limits_of config.limits) (M.meet (edge_of u)) (edge_of t))
         aut.old result aut.new }
 {
@@ -62,7 +62,7 @@ fn make_edge(
 ) -> Result<Transition, Refusal>
     requires { MakeAsked config aut.old (each_of each) (edge_of t) }
     ensures keeps { Keeps aut.old aut.new }
-    ensures gives { Goes config 0 576 (EdgeAt config.fields) edge_of
+    ensures gives { Goes config 0 (2 * RESULT) (EdgeAt config.fields) edge_of
         (M.made config.fields (limits_of config.limits) (each_of each) (edge_of t)) aut.old result
         aut.new }
 {
@@ -102,9 +102,7 @@ fn insert_made(
 ) -> Result<usize, Refusal>
     requires { ListAsked config aut.old m × MakeAsked config aut.old (each_of each) (edge_of t) }
     ensures keeps { Keeps aut.old aut.new }
-    ensures gives { Goes config 0 832 (ListAt config.fields (limits_of config.limits))
-        (list_in aut.new)
-        (M.insert_made config.fields (limits_of config.limits) (each_of each) (edge_of t)
+    ensures gives { GoesInsert config (M.insert_made config.fields (limits_of config.limits) (each_of each) (edge_of t)
         (list_in aut.old m)) aut.old result aut.new }
 {
     let new = make_edge(aut, config, each, t)?;
@@ -121,16 +119,14 @@ pub fn insert_each(
 ) -> Result<usize, Refusal>
     requires { EachAsked config aut.old (each_of each) source m }
     ensures keeps { Keeps aut.old aut.new }
-    ensures gives { Goes config 0 832 (ListAt config.fields (limits_of config.limits))
-        (list_in aut.new)
-        (St.insert_each (ops config.fields (limits_of config.limits))
+    ensures gives { GoesInsert config (St.insert_each (ops config.fields (limits_of config.limits))
         (M.made config.fields (limits_of config.limits) (each_of each))
         (source_of source aut.old.transitions.words.now aut.old.scratch.now)
         (list_in aut.old m)) aut.old result aut.new }
 {
     let mut n = m;
     for i in 0..source.length {
-        let t = aut_st_source::read(aut, source, i);
+        let t = source.get(aut, i);
         n = insert_made(aut, config, each, t, n)?;
     }
     Ok(n)
@@ -146,9 +142,7 @@ pub fn insert_pairs(
 ) -> Result<usize, Refusal>
     requires { PairsAsked config aut.old first second m }
     ensures keeps { Keeps aut.old aut.new }
-    ensures gives { Goes config 0 832 (ListAt config.fields (limits_of config.limits))
-        (list_in aut.new)
-        (St.insert_pairs (ops config.fields (limits_of config.limits))
+    ensures gives { GoesInsert config (St.insert_pairs (ops config.fields (limits_of config.limits))
         (St.meet_of (ops config.fields (limits_of config.limits)))
         (source_of first aut.old.transitions.words.now aut.old.scratch.now)
         (source_of second aut.old.transitions.words.now aut.old.scratch.now)
@@ -156,7 +150,7 @@ pub fn insert_pairs(
 {
     let mut n = m;
     for i in 0..first.length {
-        let t = aut_st_source::read(aut, first, i);
+        let t = first.get(aut, i);
         n = insert_each(aut, config, Each::Meet(t), second, n)?;
     }
     Ok(n)

@@ -28,6 +28,7 @@ use Rattle.aut_stage.specs.OnLent.{Goes}
 use Rattle.aut_stage.proofs.OnLent.{lent_laws, made, asked_after}
 use Rattle.aut_stage.proofs.Rule.{Inside, all_of, begin, instead, next, stuck, finish, done}
 use Rattle.aut_union.specs.Clauses.{PairAt}
+use Rattle.aut_st_insert.specs.declared.Met.{Met}
 use Rattle.aut_st_insert.specs.Clauses.{list_in, part_in}
 use Rattle.aut_st_insert.specs.Asked.{ListAsked, PlaceAsked, MeetAsked, RestAsked}
 use Rattle.aut_st_insert.proofs.Join.{list_same, list_after}
@@ -48,7 +49,7 @@ module _ {k : Config} {a n : ℕ} {x : Lent} {m : ℕ} {whole : Step Aut Part} {
   pub half_stuck : {V : Type 0} {see : V → Part} {q : Refusal} {o o' : Lent} → Placed (Err q) o → Goes k a n (PartAt k.fields (limits_of k.limits)) see whole x (Err q) o'
   half_stuck g = record { post = stuck (lent_laws k.fields k.limits) a n g.post (λ fs. return (part u.0 fs)) H.stage }
 
-  pub half_done : {q : ℕ} {o : Lent} → Placed (Ok q) o → Goes k a n (PartAt k.fields (limits_of k.limits)) (part_in o) whole x (Ok (u, q)) o
+  pub half_done : {q : ℕ} {o : Lent} → Placed (Ok q) o → Goes k a n (PartAt k.fields (limits_of k.limits)) (part_in o) whole x (Ok (record { sum = u; count = q })) o
   half_done g = record {
     post = done (lent_laws k.fields k.limits) a n (next (lent_laws k.fields k.limits) a n g.post H.inside (λ fs. return (part u.0 fs)) H.stage)
         (record { label = label_grown g.post.then.ext.grown H.label; list = g.post.then.holds });
@@ -189,8 +190,8 @@ module _ {k : Config} {x : Lent} {m s h total s2 h2 : ℕ} (R : MeetAsked k x m 
     pub not_split : {V : Type 0} {see : V → Part} {e : Refusal} {z : Lent} → Goes k 192 512 (PartAt k.fields Lˢ) (part_in y) (meet_in k.fields Lˢ s h (edge s2 h2) (list_in x m)) x (Err e) y → Goes k 192 512 (PartAt k.fields Lˢ) see one x (Err e) z
     not_split g = record { post = stuck (lent_laws k.fields k.limits) 192 512 g.post half stage }
 
-    module _ (K : Keeps x y) {u : SPP} {n : ℕ} (g : Goes k 192 512 (PartAt k.fields Lˢ) (part_in y) (meet_in k.fields Lˢ s h (edge s2 h2) (list_in x m)) x (Ok (u, n)) y) where
-      pub rest_asked : RestAsked k y n total u.0 (edge s2 h2)
+    module _ (K : Keeps x y) {q : Met} (g : Goes k 192 512 (PartAt k.fields Lˢ) (part_in y) (meet_in k.fields Lˢ s h (edge s2 h2) (list_in x m)) x (Ok q) y) where
+      pub rest_asked : RestAsked k y q.count total q.sum.0 (edge s2 h2)
       rest_asked = record {
         list = record { asked = asked_after R.0.list.asked K.spp g; list = g.post.then.holds.list; limit = R.0.list.limit };
         at_total = label_grown g.post.then.ext.grown R.1;
@@ -198,5 +199,5 @@ module _ {k : Config} {x : Lent} {m s h total s2 h2 : ℕ} (R : MeetAsked k x m 
         edge = edge_grown g.post.then.ext.grown R.0.edge;
       }
 
-      pub splits : {r : Result (SPP × ℕ) Refusal} {z : Lent} → Goes k 576 128 (PartAt k.fields Lˢ) (part_in z) (rest_in k.fields Lˢ total u.0 (edge s2 h2) (list_in y n)) y r z → Goes k 192 512 (PartAt k.fields Lˢ) (part_in z) one x r z
+      pub splits : {r : Result Met Refusal} {z : Lent} → Goes k 576 128 (PartAt k.fields Lˢ) (part_in z) (rest_in k.fields Lˢ total q.sum.0 (edge s2 h2) (list_in y q.count)) y r z → Goes k 192 512 (PartAt k.fields Lˢ) (part_in z) one x r z
       splits {r} f = record { post = finish (lent_laws k.fields k.limits) 192 512 (next (lent_laws k.fields k.limits) 192 512 g.post (all_of 192 512) half stage) r f.post (record { from = omega arith; to = omega arith }) }

@@ -32,7 +32,8 @@ use Rattle.aut_stage.proofs.OnLent.{lent_laws, asked_after}
 use Rattle.aut_stage.proofs.Rule.{Folds, Turned, begin, instead, wrote, next, stuck, finish}
 use Rattle.aut_stage.proofs.Turns.{Entries, read_begin, read_at, read_stuck, read_again, read_end}
 use Rattle.aut_st_edges.specs.Clauses.{Wrote, CopyReady}
-use Rattle.aut_st_insert.specs.Clauses.{RESULT, TAKEN, list_in, part_in}
+use Rattle.aut_st_insert.specs.declared.Met.{Met}
+use Rattle.aut_st_insert.specs.Clauses.{RESULT, TAKEN, list_in, part_in, GoesInsert}
 use Rattle.aut_st_insert.specs.Asked.{ListAsked, PlaceAsked, MeetAsked, WalkAsked}
 use Rattle.aut_relations.proofs.Kept.{keeps_refl, keeps_trans}
 use Rattle.aut_st_insert.proofs.Join.{list_few, ready_few, list_none, list_same, list_after}
@@ -44,13 +45,16 @@ edges_none s a = refl
 
 -- ---- walk
 
--- i transitions are done: the tables b have become `now`, the labels met so far are the total, and n transitions stand at RESULT
-pub record Walking (k : Config) (x h m : ℕ) (b now : Lent) (total n i : ℕ) : Type 0 where
+-- i transitions are done: the tables b have become `now`, and the labels met so far and the list are p
+abbrev Turns : Config → ℕ → ℕ → ℕ → Lent → Lent → Part → ℕ → Type 0
+Turns k x h m b now p i = Turned (lent_layer k.fields k.limits) 192 512 (walk k.fields (limits_of k.limits) x h) (λ i. edges b.scratch.now (TAKEN + i) (m - i)) m (PartAt k.fields (limits_of k.limits))
+    (walk k.fields (limits_of k.limits) x h (edges b.scratch.now TAKEN m) (part (Rel.zero_at k.fields) []) (aut_in b)) (aut_in b) (aut_in now) b.scratch.now now.scratch.now p i
+
+pub record Walking (k : Config) (x h m : ℕ) (b now : Lent) (met : Met) (i : ℕ) : Type 0 where
   pub begun : WalkAsked k b m (edge x h)
   pub keeps : Keeps b now
   pub asked : Asked k now
-  pub turned : Turned (lent_layer k.fields k.limits) 192 512 (walk k.fields (limits_of k.limits) x h) (λ i. edges b.scratch.now (TAKEN + i) (m - i)) m (PartAt k.fields (limits_of k.limits))
-      (walk k.fields (limits_of k.limits) x h (edges b.scratch.now TAKEN m) (part (Rel.zero_at k.fields) []) (aut_in b)) (aut_in b) (aut_in now) b.scratch.now now.scratch.now (part total (list_in now n)) i
+  pub turned : Turns k x h m b now (part_in now met) i
 
 folds : (N : ℕ) (L : T.Limits) (x h : ℕ) → Folds (split_one N L x h) (walk N L x h)
 unfolding walk
@@ -68,25 +72,25 @@ module _ {k : Config} {x h m : ℕ} {b : Lent} where
     at = λ τ g i lt. edge_grown g.grown (edge_at_lem b.scratch.now TAKEN m i lt R.taken.edges);
   }
 
-  pub walk_begin : WalkAsked k b m (edge x h) → {z : ℕ} → Rel.zero_at k.fields ≡ z → Walking k x h m b b z 0 0
-  walk_begin R e = subst (λ (z : ℕ). Walking k x h m b b z 0 0) e (record {
+  pub walk_begin : WalkAsked k b m (edge x h) → {z : SPP} → Rel.zero_at k.fields ≡ z.0 → Walking k x h m b b (record { sum = z; count = 0 }) 0
+  walk_begin R e = record {
     begun = R;
     keeps = keeps_refl b;
     asked = R.asked;
-    turned = read_begin (lent_laws k.fields k.limits) 192 512 (folds k.fields (limits_of k.limits) x h) (entries R) R.asked.ready
+    turned = subst (λ (z : ℕ). Turns k x h m b b (part z (list_in b 0)) 0) e (read_begin (lent_laws k.fields k.limits) 192 512 (folds k.fields (limits_of k.limits) x h) (entries R) R.asked.ready
         (ap₂ (λ (a n : ℕ). walk k.fields (limits_of k.limits) x h (edges b.scratch.now a n) (part (Rel.zero_at k.fields) []) (aut_in b)) {x = TAKEN} {y = TAKEN + 0} {u = m} {v = m - 0} (omega arith) (omega arith)
         ∙ ap (λ (es : List Edge). walk k.fields (limits_of k.limits) x h (edges b.scratch.now (TAKEN + 0) (m - 0)) (part (Rel.zero_at k.fields) es) (aut_in b)) (sym (edges_none b.scratch.now RESULT)))
-        (record { label = zero_label R.asked.ready.good; list = (list_none R.asked R.limit).list });
-  })
+        (record { label = zero_label R.asked.ready.good; list = (list_none R.asked R.limit).list }));
+  }
 
-  module _ {now : Lent} {total n i : ℕ} (v : Walking k x h m b now total n i) where
+  module _ {now : Lent} {met : Met} {i : ℕ} (v : Walking k x h m b now met i) where
     -- the word that is read
     pub word_in : i < m → 2 * (TAKEN + i) + 1 < length now.scratch.now
     word_in lt = omega (arith, lt, taken_few v.begun, v.asked.ready.room)
 
     -- the transition that is read
     module _ (lt : i < m) {u : Edge} (read : u ≡ edge_at now.scratch.now (TAKEN + i)) where
-      pub split_asked : MeetAsked k now n (edge x h) u × Label k.fields (aut_in now) total
+      pub split_asked : MeetAsked k now met.count (edge x h) u × Label k.fields (aut_in now) met.sum.0
       split_asked = (
         record {
           list = record { asked = v.asked; list = v.turned.holds.list; limit = v.begun.limit };
@@ -97,12 +101,12 @@ module _ {k : Config} {x h m : ℕ} {b : Lent} where
       )
 
       module _ {next : Lent} where
-        pub walk_stuck : {V : Type 0} {see : V → Part} {e : Refusal} {z : Lent} → Goes k 192 512 (PartAt k.fields (limits_of k.limits)) (part_in next) (split_one k.fields (limits_of k.limits) x h u (part total (list_in now n))) now (Err e) next
+        pub walk_stuck : {V : Type 0} {see : V → Part} {e : Refusal} {z : Lent} → Goes k 192 512 (PartAt k.fields (limits_of k.limits)) (part_in next) (split_one k.fields (limits_of k.limits) x h u (part_in now met)) now (Err e) next
             → Goes k 192 512 (PartAt k.fields (limits_of k.limits)) see (walk k.fields (limits_of k.limits) x h (edges b.scratch.now TAKEN m) (part (Rel.zero_at k.fields) [])) b (Err e) z
         walk_stuck g = record { post = read_stuck (lent_laws k.fields k.limits) 192 512 (folds k.fields (limits_of k.limits) x h) (entries v.begun) v.turned lt read g.post }
 
-        pub walk_again : {w : SPP} {p : ℕ} → Keeps now next → Goes k 192 512 (PartAt k.fields (limits_of k.limits)) (part_in next) (split_one k.fields (limits_of k.limits) x h u (part total (list_in now n))) now (Ok (w, p)) next
-            → Walking k x h m b next w.0 p (i + 1)
+        pub walk_again : {q : Met} → Keeps now next → Goes k 192 512 (PartAt k.fields (limits_of k.limits)) (part_in next) (split_one k.fields (limits_of k.limits) x h u (part_in now met)) now (Ok q) next
+            → Walking k x h m b next q (i + 1)
         walk_again K g = record {
           begun = v.begun;
           keeps = keeps_trans v.keeps K;
@@ -110,8 +114,8 @@ module _ {k : Config} {x h m : ℕ} {b : Lent} where
           turned = read_again (lent_laws k.fields k.limits) 192 512 (folds k.fields (limits_of k.limits) x h) (entries v.begun) v.turned lt read g.post;
         }
 
-  pub walk_end : {now : Lent} {u : SPP} {n i : ℕ} → Walking k x h m b now u.0 n i → m ≤ i
-      → Goes k 192 512 (PartAt k.fields (limits_of k.limits)) (part_in now) (walk k.fields (limits_of k.limits) x h (edges b.scratch.now TAKEN m) (part (Rel.zero_at k.fields) [])) b (Ok (u, n)) now
+  pub walk_end : {now : Lent} {met : Met} {i : ℕ} → Walking k x h m b now met i → m ≤ i
+      → Goes k 192 512 (PartAt k.fields (limits_of k.limits)) (part_in now) (walk k.fields (limits_of k.limits) x h (edges b.scratch.now TAKEN m) (part (Rel.zero_at k.fields) [])) b (Ok met) now
   walk_end v le = record { post = read_end (lent_laws k.fields k.limits) 192 512 (folds k.fields (limits_of k.limits) x h) (entries v.begun) v.turned le }
 
 -- ---- insert
@@ -149,37 +153,37 @@ module _ {k : Config} {a : Lent} {m x h : ℕ} (R : ListAsked k a m × EdgeAt k.
           → Goes k 0 832 (ListAt k.fields L) see insert a (Err e) z
       no_walk g = record { post = stuck (lent_laws k.fields k.limits) 0 832 g.post rest_of stage_0 }
 
-      module _ (K : Keeps b c) {u : SPP} {n : ℕ} (g : Goes k 192 512 (PartAt k.fields L) (part_in c) (walk k.fields L x h (edges b.scratch.now TAKEN m) (part (Rel.zero_at k.fields) [])) b (Ok (u, n)) c) where
-        list_1 : ListAsked k c n
+      module _ (K : Keeps b c) {met : Met} (g : Goes k 192 512 (PartAt k.fields L) (part_in c) (walk k.fields L x h (edges b.scratch.now TAKEN m) (part (Rel.zero_at k.fields) [])) b (Ok met) c) where
+        list_1 : ListAsked k c met.count
         list_1 = record { asked = asked_after walk_asked.asked K.spp g; list = g.post.then.holds.list; limit = R.0.limit }
 
         new_1 : EdgeAt k.fields (aut_in c) (edge x h)
         new_1 = edge_grown g.post.then.ext.grown walk_asked.new
 
         abbrev last : ℕ → Step Aut (List Edge)
-        last rest = St.place (ops k.fields L) x rest (list_in c n)
+        last rest = St.place (ops k.fields L) x rest (list_in c met.count)
 
-        stage_1 : Run k 0 832 insert a (after (on_nodes (Rel.difference k.fields h u.0) (aut_in c)) last) c
+        stage_1 : Run k 0 832 insert a (after (on_nodes (Rel.difference k.fields h met.sum.0) (aut_in c)) last) c
         unfolding place_rest
         stage_1 = next (lent_laws k.fields k.limits) 0 832 g.post (record { from = omega arith; to = omega arith }) rest_of stage_0
 
-        pub rest_handles : Handles k.fields c h u.0
+        pub rest_handles : Handles k.fields c h met.sum.0
         rest_handles = handles list_1.asked (relation_of new_1) g.post.then.holds.label
 
         module _ {d : Lent} (K2 : KeepsExprs c d) where
-          rest_call : {r : Result SPP Refusal} → Does k.fields 0 0 nodes_in (λ (w : SPP). w.0) (Rel.difference k.fields h u.0) c r d → Goes k 0 0 (Label k.fields) (λ (w : SPP). w.0) (on_nodes (Rel.difference k.fields h u.0)) c r d
+          rest_call : {r : Result SPP Refusal} → Does k.fields 0 0 nodes_in (λ (w : SPP). w.0) (Rel.difference k.fields h met.sum.0) c r d → Goes k 0 0 (Label k.fields) (λ (w : SPP). w.0) (on_nodes (Rel.difference k.fields h met.sum.0)) c r d
           rest_call E = subtracts list_1.asked (relation_of new_1) g.post.then.holds.label K2 E
 
-          pub no_rest : {V : Type 0} {see : V → List Edge} {e : Refusal} {z : Lent} → Does k.fields 0 0 nodes_in (λ (w : SPP). w.0) (Rel.difference k.fields h u.0) c (Err e) d → Goes k 0 832 (ListAt k.fields L) see insert a (Err e) z
+          pub no_rest : {V : Type 0} {see : V → List Edge} {e : Refusal} {z : Lent} → Does k.fields 0 0 nodes_in (λ (w : SPP). w.0) (Rel.difference k.fields h met.sum.0) c (Err e) d → Goes k 0 832 (ListAt k.fields L) see insert a (Err e) z
           no_rest E = record { post = stuck (lent_laws k.fields k.limits) 0 832 (rest_call E).post last stage_1 }
 
-          module _ {w : SPP} (E : Does k.fields 0 0 nodes_in (λ (w : SPP). w.0) (Rel.difference k.fields h u.0) c (Ok w) d) where
-            pub last_placed : PlaceAsked k d n (edge x w.0)
+          module _ {w : SPP} (E : Does k.fields 0 0 nodes_in (λ (w : SPP). w.0) (Rel.difference k.fields h met.sum.0) c (Ok w) d) where
+            pub last_placed : PlaceAsked k d met.count (edge x w.0)
             last_placed = record { list = list_after list_1 (rest_call E) (omega arith) K2.spp; edge = record { state = (edge_grown (rest_call E).post.then.ext.grown new_1).state; relation = (rest_call E).post.then.holds.at } }
 
-            stage_2 : Run k 0 832 insert a (St.place (ops k.fields L) x w.0 (list_in d n) (aut_in d)) d
+            stage_2 : Run k 0 832 insert a (St.place (ops k.fields L) x w.0 (list_in d met.count) (aut_in d)) d
             stage_2 = instead (lent_laws k.fields k.limits) 0 832 (next (lent_laws k.fields k.limits) 0 832 (anywhere 0 832 (omega arith) (rest_call E)).post (record { from = omega arith; to = omega arith }) last stage_1)
                 (ap (λ (es : List Edge). St.place (ops k.fields L) x w.0 es (aut_in d)) (sym (list_same list_1 (rest_call E) (omega arith))))
 
-            pub inserted : {r : Result ℕ Refusal} {z : Lent} → Goes k 576 128 (ListAt k.fields L) (list_in z) (St.place (ops k.fields L) x w.0 (list_in d n)) d r z → Goes k 0 832 (ListAt k.fields L) (list_in z) insert a r z
+            pub inserted : {r : Result ℕ Refusal} {z : Lent} → Goes k 576 128 (ListAt k.fields L) (list_in z) (St.place (ops k.fields L) x w.0 (list_in d met.count)) d r z → GoesInsert k insert a r z
             inserted {r} f = record { post = finish (lent_laws k.fields k.limits) 0 832 stage_2 r f.post (record { from = omega arith; to = omega arith }) }

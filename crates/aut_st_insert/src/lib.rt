@@ -20,7 +20,7 @@ ghost use Rattle.aut_relations.specs.Lent.{aut_in, Keeps, KeepsExprs};
 ghost use Rattle.aut_stage.specs.OnLent.{Goes};
 ghost use Rattle.aut_st_edges.specs.Clauses.{edge_of, Finds};
 ghost use Rattle.aut_st_insert.specs.Clauses as Seen;
-ghost use Rattle.aut_st_insert.specs.Clauses.{list_in, part_in};
+ghost use Rattle.aut_st_insert.specs.Clauses.{list_in, part_in, GoesInsert};
 ghost use Rattle.aut_st_insert.specs.Asked.{ListAsked, PlaceAsked, RestAsked, MeetAsked, WalkAsked};
 
 use aut_relations::Aut;
@@ -37,6 +37,13 @@ pub const FIRST: usize = 416;
 
 pub const SECOND: usize = 480;
 
+// labels met, united, and how many transitions stand at RESULT
+#[derive(Clone, Copy)]
+pub struct Met {
+    pub sum: SPP,
+    pub count: usize,
+}
+
 // where the first of the m at RESULT to s is
 fn place_of(aut: &Aut, s: u32, m: usize) -> Option<usize>
     requires { 2 * (Seen.RESULT + m) ≤ length aut.now.scratch.now }
@@ -50,7 +57,7 @@ fn place_of(aut: &Aut, s: u32, m: usize) -> Option<usize>
 fn place_in(aut: &mut Aut, config: Config, t: Transition, m: usize) -> Result<usize, Refusal>
     requires { PlaceAsked config aut.old m (edge_of t) }
     ensures keeps { KeepsExprs aut.old aut.new }
-    ensures gives { Goes config 576 128 (ListAt config.fields (limits_of config.limits))
+    ensures gives { Goes config (2 * Seen.RESULT) 128 (ListAt config.fields (limits_of config.limits))
         (list_in aut.new)
         (M.place_in config.fields (limits_of config.limits) t.target t.label.0 (list_in aut.old m)) aut.old result
         aut.new }
@@ -79,12 +86,12 @@ fn st_insert_helper(
     requires { PlaceAsked config aut.old m (edge_of t) }
     ensures keeps { Keeps aut.old aut.new }
     ensures members { aut.new.members ≡ aut.old.members }
-    ensures gives { Goes config 576 128 (ListAt config.fields (limits_of config.limits))
+    ensures gives { Goes config (2 * Seen.RESULT) 128 (ListAt config.fields (limits_of config.limits))
         (list_in aut.new)
         (St.place (ops config.fields (limits_of config.limits)) t.target t.label.0 (list_in aut.old m)) aut.old
         result aut.new }
 {
-    let zero = spp::zero_at_depth(config.fields);
+    let zero = config.zero();
     if t.label == zero {
         return Ok(m);
     }
@@ -102,7 +109,7 @@ fn meet_in(
     t: Transition,
     u: Transition,
     m: usize,
-) -> Result<(SPP, usize), Refusal>
+) -> Result<Met, Refusal>
     requires { MeetAsked config aut.old m (edge_of t) (edge_of u) }
     ensures keeps { Keeps aut.old aut.new }
     ensures gives { Goes config 192 512 (PartAt config.fields (limits_of config.limits))
@@ -112,8 +119,8 @@ fn meet_in(
 {
     let label = aut.apply(config, Op::Intersect, t.label, u.label)?;
     let target = aut_union::mk_union(aut, config, t.target, u.target)?;
-    let n = st_insert_helper(aut, config, Transition { target, label }, m)?;
-    Ok((label, n))
+    let count = st_insert_helper(aut, config, Transition { target, label }, m)?;
+    Ok(Met { sum: label, count })
 }
 
 // its rest stays with u's target
@@ -121,22 +128,21 @@ fn rest_in(
     aut: &mut Aut,
     config: Config,
     total: SPP,
-    meet: SPP,
+    met: Met,
     u: Transition,
-    m: usize,
-) -> Result<(SPP, usize), Refusal>
-    requires { RestAsked config aut.old m total.0 meet.0 (edge_of u) }
+) -> Result<Met, Refusal>
+    requires { RestAsked config aut.old met.count total.0 met.sum.0 (edge_of u) }
     ensures keeps { Keeps aut.old aut.new }
     ensures members { aut.new.members ≡ aut.old.members }
-    ensures gives { Goes config 576 128 (PartAt config.fields (limits_of config.limits))
+    ensures gives { Goes config (2 * Seen.RESULT) 128 (PartAt config.fields (limits_of config.limits))
         (part_in aut.new)
-        (M.rest_in config.fields (limits_of config.limits) total.0 meet.0 (edge_of u)
-        (list_in aut.old m)) aut.old result aut.new }
+        (M.rest_in config.fields (limits_of config.limits) total.0 met.sum.0 (edge_of u)
+        (list_in aut.old met.count)) aut.old result aut.new }
 {
-    let sum = aut.apply(config, Op::Union, total, meet)?;
-    let label = aut.apply(config, Op::Difference, u.label, meet)?;
-    let n = st_insert_helper(aut, config, Transition { label, ..u }, m)?;
-    Ok((sum, n))
+    let sum = aut.apply(config, Op::Union, total, met.sum)?;
+    let label = aut.apply(config, Op::Difference, u.label, met.sum)?;
+    let count = st_insert_helper(aut, config, Transition { label, ..u }, met.count)?;
+    Ok(Met { sum, count })
 }
 
 // one transition of the list
@@ -144,20 +150,19 @@ fn split_one(
     aut: &mut Aut,
     config: Config,
     t: Transition,
-    total: SPP,
     u: Transition,
-    m: usize,
-) -> Result<(SPP, usize), Refusal>
-    requires { MeetAsked config aut.old m (edge_of t) (edge_of u) ×
-        Label config.fields (aut_in aut.old) total.0 }
+    met: Met,
+) -> Result<Met, Refusal>
+    requires { MeetAsked config aut.old met.count (edge_of t) (edge_of u) ×
+        Label config.fields (aut_in aut.old) met.sum.0 }
     ensures keeps { Keeps aut.old aut.new }
     ensures gives { Goes config 192 512 (PartAt config.fields (limits_of config.limits))
         (part_in aut.new)
         (M.split_one config.fields (limits_of config.limits) t.target t.label.0 (edge_of u)
-        (part total.0 (list_in aut.old m))) aut.old result aut.new }
+        (part_in aut.old met)) aut.old result aut.new }
 {
-    let (meet, n) = meet_in(aut, config, t, u, m)?;
-    rest_in(aut, config, total, meet, u, n)
+    let one = meet_in(aut, config, t, u, met.count)?;
+    rest_in(aut, config, met.sum, one, u)
 }
 
 // transition i at TAKEN
@@ -170,7 +175,7 @@ fn taken(aut: &Aut, i: usize) -> Transition
 }
 
 // the m transitions at TAKEN, one after the other; the new list begins empty
-fn walk(aut: &mut Aut, config: Config, t: Transition, m: usize) -> Result<(SPP, usize), Refusal>
+fn walk(aut: &mut Aut, config: Config, t: Transition, m: usize) -> Result<Met, Refusal>
     requires { WalkAsked config aut.old m (edge_of t) }
     ensures keeps { Keeps aut.old aut.new }
     ensures gives { Goes config 192 512 (PartAt config.fields (limits_of config.limits))
@@ -178,28 +183,24 @@ fn walk(aut: &mut Aut, config: Config, t: Transition, m: usize) -> Result<(SPP, 
         (M.walk config.fields (limits_of config.limits) t.target t.label.0 (edges aut.old.scratch.now Seen.TAKEN m)
         (part (zero_at config.fields) [])) aut.old result aut.new }
 {
-    let mut total = spp::zero_at_depth(config.fields);
-    let mut k = 0;
+    let sum = config.zero();
+    let mut met = Met { sum, count: 0 };
     for i in 0..m {
         let u = taken(aut, i);
-        let (sum, n) = split_one(aut, config, t, total, u, k)?;
-        total = sum;
-        k = n;
+        met = split_one(aut, config, t, u, met)?;
     }
-    Ok((total, k))
+    Ok(met)
 }
 
 // t goes into the m at RESULT
 pub fn st_insert(aut: &mut Aut, config: Config, t: Transition, m: usize) -> Result<usize, Refusal>
     requires { ListAsked config aut.old m × EdgeAt config.fields (aut_in aut.old) (edge_of t) }
     ensures keeps { Keeps aut.old aut.new }
-    ensures gives { Goes config 0 832 (ListAt config.fields (limits_of config.limits))
-        (list_in aut.new)
-        (St.insert (ops config.fields (limits_of config.limits)) t.target t.label.0 (list_in aut.old m)) aut.old
+    ensures gives { GoesInsert config (St.insert (ops config.fields (limits_of config.limits)) t.target t.label.0 (list_in aut.old m)) aut.old
         result aut.new }
 {
     aut_st_edges::copy(aut.scratch, RESULT, m, TAKEN);
-    let (total, k) = walk(aut, config, t, m)?;
-    let label = aut.apply(config, Op::Difference, t.label, total)?;
-    st_insert_helper(aut, config, Transition { label, ..t }, k)
+    let met = walk(aut, config, t, m)?;
+    let label = aut.apply(config, Op::Difference, t.label, met.sum)?;
+    st_insert_helper(aut, config, Transition { label, ..t }, met.count)
 }

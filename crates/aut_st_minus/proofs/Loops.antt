@@ -20,7 +20,7 @@ use Rattle.aut_st_insert.specs.Clauses.{list_in}
 use Rattle.aut_st_insert.specs.Asked.{ListAsked}
 use Rattle.aut_st_source.specs.declared.Source.{Source}
 use Rattle.aut_st_stage.proofs.Turns.{source_in, WalkedIn, Turning, turn_row}
-use Rattle.aut_st_minus.specs.declared.Met.{Met}
+use Rattle.aut_st_insert.specs.declared.Met.{Met}
 use Rattle.aut_st_minus.specs.Clauses.{sum_in}
 
 -- ---- subtract_row

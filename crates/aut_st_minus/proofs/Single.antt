@@ -20,7 +20,7 @@ use Rattle.aut_steps.proofs.StateLaws.{mk_difference_goes}
 use Rattle.aut_st_steps.specs.Operations.{ops}
 use Rattle.aut_st_steps.specs.Edges.{EdgeAt}
 use Rattle.aut_st_steps.proofs.Edges.{edge_grown}
-use Rattle.aut_st_steps.specs.ListSpec.{Label, State, ListAt, SumAt}
+use Rattle.aut_st_steps.specs.ListSpec.{Label, State}
 use Rattle.aut_st_steps.proofs.ListSpec.{label_grown, relation_of}
 use Rattle.aut_st_steps.specs.EachSteps.{subtract_one}
 use Rattle.aut_st_steps.proofs.MinusSteps.{summed}
@@ -30,19 +30,15 @@ use Rattle.aut_relations.specs.declared.Aut.{Aut as Lent}
 use Rattle.aut_relations.specs.Lent.{nodes_in, aut_in, Keeps, KeepsExprs, Does, Handles}
 use Rattle.aut_relations.proofs.Kept.{keeps_of}
 use Rattle.aut_stage.specs.OnLent.{Goes}
-use Rattle.aut_stage.proofs.Rule.{Inside, all_of}
+use Rattle.aut_stage.proofs.Rule.{all_of}
 use Rattle.aut_stage.proofs.OnLent.{made}
-use Rattle.aut_st_insert.specs.Clauses.{list_in}
+use Rattle.aut_st_insert.specs.Clauses.{list_in, GoesInsert}
 use Rattle.aut_st_insert.specs.Asked.{ListAsked}
 use Rattle.aut_st_insert.proofs.Join.{list_same, list_after}
 use Rattle.aut_st_insert.proofs.Calls.{handles, intersects, unites}
-use Rattle.aut_st_stage.proofs.Run.{Run, run_begin, run_next, run_stuck, run_as, run_done}
-use Rattle.aut_st_minus.specs.declared.Met.{Met}
-use Rattle.aut_st_minus.specs.Clauses.{OneAsked, sum_in}
-
--- a call that writes no list
-none_in : Inside 0 832 0 0
-none_in = record { from = omega arith; to = omega arith }
+use Rattle.aut_st_stage.proofs.Run.{no_list, Run, run_begin, run_next, run_stuck, run_as, run_done}
+use Rattle.aut_st_insert.specs.declared.Met.{Met}
+use Rattle.aut_st_minus.specs.Clauses.{OneAsked, GoesSum}
 
 module _ {k : Config} {x : Lent} {t u : Edge} {h m : ℕ} (R : OneAsked k x t u h m) where
   abbrev N : ℕ
@@ -64,7 +60,7 @@ module _ {k : Config} {x : Lent} {t u : Edge} {h m : ℕ} (R : OneAsked k x t u 
   second a = on_nodes (Rel.intersect N t.label u.label) >>= third a
 
   abbrev Done : Result Met Refusal → Lent → Type 0
-  Done r y = Goes k 0 832 (SumAt N L) (sum_in y) whole x r y
+  Done r y = GoesSum k whole x r y
 
   run_0 : Run k 0 832 whole (λ σ. after (mk_difference N L t.target u.target σ) second) x x
   unfolding subtract_one
@@ -81,7 +77,7 @@ module _ {k : Config} {x : Lent} {t u : Edge} {h m : ℕ} (R : OneAsked k x t u 
 
   module _ {y1 : Lent} {a : ℕ} (K1 : Keeps x y1) (D1 : Does N 0 0 aut_in (λ i. i) (mk_difference N L t.target u.target) x (Ok a) y1) where
     run_1 : Run k 0 832 whole (λ σ. after (on_nodes (Rel.intersect N t.label u.label) σ) (third a)) x y1
-    run_1 = run_next second run_0 none_in K1 (differs K1 D1)
+    run_1 = run_next second run_0 no_list K1 (differs K1 D1)
 
     list_1 : ListAsked k y1 m
     list_1 = list_after R.list (differs K1 D1) (omega arith) K1.spp
@@ -106,7 +102,7 @@ module _ {k : Config} {x : Lent} {t u : Edge} {h m : ℕ} (R : OneAsked k x t u 
 
     module _ {y2 : Lent} {v : SPP} (K2 : KeepsExprs y1 y2) (D2 : Does N 0 0 nodes_in (λ (l : SPP). l.0) (Rel.intersect N t.label u.label) y1 (Ok v) y2) where
       run_2 : Run k 0 832 whole (λ σ. after (on_nodes (Rel.union N h v.0) σ) (fourth a v.0)) x y2
-      run_2 = run_next (third a) run_1 none_in (keeps_of K2) (meets K2 D2)
+      run_2 = run_next (third a) run_1 no_list (keeps_of K2) (meets K2 D2)
 
       list_2 : ListAsked k y2 m
       list_2 = list_after list_1 (meets K2 D2) (omega arith) K2.spp
@@ -140,7 +136,7 @@ module _ {k : Config} {x : Lent} {t u : Edge} {h m : ℕ} (R : OneAsked k x t u 
         same = list_same list_2 (sums K3 D3) (omega arith) ∙ list_same list_1 (meets K2 D2) (omega arith) ∙ list_same R.list (differs K1 D1) (omega arith)
 
         run_3 : Run k 0 832 whole (λ σ. after (put (list_in y3 m) σ) last) x y3
-        run_3 = run_as (run_next (fourth a v.0) run_2 none_in (keeps_of K3) (sums K3 D3)) (ap (λ (fs : List Edge). after (put fs (aut_in y3)) last) (sym same))
+        run_3 = run_as (run_next (fourth a v.0) run_2 no_list (keeps_of K3) (sums K3 D3)) (ap (λ (fs : List Edge). after (put fs (aut_in y3)) last) (sym same))
 
         -- ---- the insertion
 
@@ -152,8 +148,8 @@ module _ {k : Config} {x : Lent} {t u : Edge} {h m : ℕ} (R : OneAsked k x t u 
             )
 
         module _ {y4 : Lent} where
-          pub stuck_4 : {e : Refusal} {r : Result Met Refusal} → IsErr r × IsErrAnd r (λ z. z ≡ e) → Goes k 0 832 (ListAt N L) (list_in y4) (put (list_in y3 m)) y3 (Err e) y4 → Done r y4
+          pub stuck_4 : {e : Refusal} {r : Result Met Refusal} → IsErr r × IsErrAnd r (λ z. z ≡ e) → GoesInsert k (put (list_in y3 m)) y3 (Err e) y4 → Done r y4
           stuck_4 q G = run_stuck last run_3 q G
 
-          pub met : {n : ℕ} → Keeps y3 y4 → Goes k 0 832 (ListAt N L) (list_in y4) (put (list_in y3 m)) y3 (Ok n) y4 → Done (Ok (record { sum = w; count = n })) y4
+          pub met : {n : ℕ} → Keeps y3 y4 → GoesInsert k (put (list_in y3 m)) y3 (Ok n) y4 → Done (Ok (record { sum = w; count = n })) y4
           met K4 G = run_done (run_next last run_3 (all_of 0 832) K4 G) (record { sum = label_grown G.post.then.ext.grown (sums K3 D3).post.then.holds; result = G.post.then.holds })

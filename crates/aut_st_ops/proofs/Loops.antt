@@ -22,7 +22,7 @@ use Rattle.aut_relations.specs.declared.Aut.{Aut as Lent}
 use Rattle.aut_relations.specs.Lent.{aut_in, Keeps}
 use Rattle.aut_stage.specs.OnLent.{Goes}
 use Rattle.aut_stage.proofs.Rule.{all_of}
-use Rattle.aut_st_insert.specs.Clauses.{list_in}
+use Rattle.aut_st_insert.specs.Clauses.{list_in, GoesInsert}
 use Rattle.aut_st_insert.proofs.Join.{list_none}
 use Rattle.aut_st_source.specs.declared.Source.{Source}
 use Rattle.aut_st_stage.proofs.Turns.{source_in}
@@ -56,7 +56,7 @@ module _ {k : Config} {x : Lent} {z : Source} {B : Type 0} {whole : Step Aut (Li
 
   -- a list made, which stands at RESULT
   abbrev Lists : Lent → Step Aut (List Edge) → Result ℕ Refusal → Lent → Type 0
-  Lists b o r y = Goes k 0 832 (ListAt k.fields (limits_of k.limits)) (list_in y) o b r y
+  Lists b o r y = GoesInsert k o b r y
 
   run_0 : Run k 0 832 whole (λ σ. after (first σ) (loop (source_in z x))) x x
   run_0 = run_begin R.asked.asked R.is

@@ -3,17 +3,15 @@
 
 ghost use Rattle.netkat_steps.specs.ListSteps as St;
 ghost use Rattle.aut_st_steps.specs.Operations.{ops};
-ghost use Rattle.aut_st_steps.specs.ListSpec.{ListAt};
 ghost use Rattle.aut_states.specs.Clauses.{limits_of};
 ghost use Rattle.aut_relations.specs.Lent.{Keeps};
-ghost use Rattle.aut_stage.specs.OnLent.{Goes};
-ghost use Rattle.aut_st_insert.specs.Clauses.{list_in};
+ghost use Rattle.aut_st_insert.specs.Clauses.{GoesInsert};
 ghost use Rattle.aut_st_source.specs.Clauses.{source_of};
 ghost use Rattle.aut_st_ops.specs.Asked.{TwoAsked};
 
 use aut_relations::Aut;
 use aut_st_each::Each;
-use aut_st_minus::Met;
+use aut_st_insert::Met;
 use aut_st_source::Source;
 use aut_states::Config;
 use refusal::Refusal;
@@ -26,9 +24,7 @@ pub fn st_union(
 ) -> Result<usize, Refusal>
     requires { TwoAsked config aut.old first second }
     ensures keeps { Keeps aut.old aut.new }
-    ensures gives { Goes config 0 832 (ListAt config.fields (limits_of config.limits))
-        (list_in aut.new)
-        (St.st_union (ops config.fields (limits_of config.limits))
+    ensures gives { GoesInsert config (St.st_union (ops config.fields (limits_of config.limits))
         (source_of first aut.old.transitions.words.now aut.old.scratch.now)
         (source_of second aut.old.transitions.words.now aut.old.scratch.now)) aut.old result aut.new }
 {
@@ -45,9 +41,7 @@ pub fn st_intersect(
 ) -> Result<usize, Refusal>
     requires { TwoAsked config aut.old first second }
     ensures keeps { Keeps aut.old aut.new }
-    ensures gives { Goes config 0 832 (ListAt config.fields (limits_of config.limits))
-        (list_in aut.new)
-        (St.st_intersect (ops config.fields (limits_of config.limits))
+    ensures gives { GoesInsert config (St.st_intersect (ops config.fields (limits_of config.limits))
         (source_of first aut.old.transitions.words.now aut.old.scratch.now)
         (source_of second aut.old.transitions.words.now aut.old.scratch.now)) aut.old result aut.new }
 {
@@ -62,13 +56,11 @@ pub fn st_difference(
 ) -> Result<usize, Refusal>
     requires { TwoAsked config aut.old first second }
     ensures keeps { Keeps aut.old aut.new }
-    ensures gives { Goes config 0 832 (ListAt config.fields (limits_of config.limits))
-        (list_in aut.new)
-        (St.st_difference (ops config.fields (limits_of config.limits))
+    ensures gives { GoesInsert config (St.st_difference (ops config.fields (limits_of config.limits))
         (source_of first aut.old.transitions.words.now aut.old.scratch.now)
         (source_of second aut.old.transitions.words.now aut.old.scratch.now)) aut.old result aut.new }
 {
-    let sum = spp::zero_at_depth(config.fields);
+    let sum = config.zero();
     let met = aut_st_minus::subtract_rows(aut, config, first, second, Met { sum, count: 0 })?;
     aut_st_each::insert_each(aut, config, Each::Rest(met.sum), first, met.count)
 }

@@ -3,6 +3,7 @@ use Rattle.std.specs.Prelude.{List, ℕ, ◌+◌, ◌*◌, ◌≤◌, ◌<◌, l
 use Rattle.netkat_steps.specs.ListSteps.{Edge, edge}
 use Rattle.aut_steps.specs.Tables.{Aut}
 use Rattle.aut_st_steps.specs.Edges.{edges, EdgesAt}
+use Rattle.aut_st_insert.specs.Clauses.{FIRST, END}
 use Rattle.aut_st_source.specs.declared.Place.{Place}
 use Rattle.aut_st_source.specs.declared.Place.TheVariants as place
 use Rattle.aut_st_source.specs.declared.Source.{Source}
@@ -21,10 +22,10 @@ abbrev pub InAt : List ℕ → List ℕ → Place → ℕ → Type 0
 InAt tr s (place.Stored a) i = 2 * (a + i) + 1 < length tr
 InAt tr s (place.Scratch a) i = 2 * (a + i) + 1 < length s
 
--- stored, or from record 416 (FIRST) on, where no insertion writes
+-- stored, or from FIRST on, where no insertion writes
 abbrev pub WithinAt : List ℕ → Place → ℕ → Type 0
 WithinAt tr (place.Stored a) k = 2 * (a + k) ≤ length tr
-WithinAt tr (place.Scratch a) k = (416 ≤ a) × (a + k ≤ 544)
+WithinAt tr (place.Scratch a) k = (FIRST ≤ a) × (a + k ≤ END)
 
 -- ---- the lists that are walked
 

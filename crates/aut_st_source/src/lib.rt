@@ -1,13 +1,16 @@
 // A transition list that is walked: where it is, and its transitions one by one.
 #![tactic(auto)]
 
-ghost use Rattle.std.specs.Prelude.{◌≡◌, ◌+◌, ◌*◌, ◌<◌, length, get_or};
+ghost use Rattle.std.specs.Prelude.{◌≡◌, ◌+◌, ◌*◌, ◌<◌, ◌≤◌, length, get_or};
+ghost use Rattle.aut_steps.specs.Tables.{words};
 ghost use Rattle.netkat_steps.specs.ListSteps.{edge};
-ghost use Rattle.aut_st_edges.specs.Clauses.{edge_of};
+ghost use Rattle.aut_st_steps.specs.Edges.{edges};
+ghost use Rattle.aut_st_edges.specs.Clauses.{edge_of, Wrote, CopyReady};
+ghost use Rattle.aut_st_insert.specs.Clauses as Seen;
 ghost use Rattle.aut_st_source.specs.Clauses.{stored, scratched, entry_of, EntryIn};
 ghost use Rattle.aut_st_source.specs.Stored.{PreFind, PostFind};
 
-use aut_relations::Aut;
+use aut_relations::{Aut, Transitions};
 use aut_st_edges::Transition;
 
 // a list's first record: among the stored transitions, or in scratch, from record FIRST of st on
@@ -34,17 +37,27 @@ impl Source {
             length: n,
         }
     }
+
+    // its transition i
+    pub fn get(self, aut: &Aut, i: usize) -> Transition
+        requires { EntryIn aut.now.transitions.words.now aut.now.scratch.now self i }
+        ensures { edge_of result ≡ entry_of self aut.now.transitions.words.now aut.now.scratch.now i }
+    {
+        match self.place {
+            Place::Stored(a) => aut_st_edges::entry(aut.transitions.words, a + i),
+            Place::Scratch(a) => aut_st_edges::entry(aut.scratch, a + i),
+        }
+    }
 }
 
-// transition i of the list
-pub fn read(aut: &Aut, source: Source, i: usize) -> Transition
-    requires { EntryIn aut.now.transitions.words.now aut.now.scratch.now source i }
-    ensures { edge_of result ≡ entry_of source aut.now.transitions.words.now aut.now.scratch.now i }
+// the n transitions at RESULT go to `to`, to be walked there
+pub fn set_aside(words: &mut [u32], n: usize, to: usize) -> Source
+    requires { CopyReady words.old Seen.RESULT n to }
+    ensures copied { Wrote to n (edges words.old Seen.RESULT n) words.old words.new }
+    ensures source { result ≡ scratched to n }
 {
-    match source.place {
-        Place::Stored(a) => aut_st_edges::entry(aut.transitions.words, a + i),
-        Place::Scratch(a) => aut_st_edges::entry(aut.scratch, a + i),
-    }
+    aut_st_edges::copy(words, aut_st_insert::RESULT, n, to);
+    Source::scratch(to, n)
 }
 
 // a list among the transitions: its first record, and how many
@@ -65,6 +78,17 @@ impl Span {
         }
     }
 
+    // its words
+    #[tactic(auto, using(aut_states::proofs::Slices::part))]
+    pub fn words<'a>(self, transitions: &'a Transitions) -> &'a [u32]
+        requires { 2 * (self.start + self.count) ≤ length transitions.now.words.now }
+        ensures { result.now ≡ words transitions.now.words.now (2 * self.start) (2 * self.count) }
+    {
+        let a = 2 * self.start;
+        let n = 2 * self.count;
+        &transitions.words[a..a + n]
+    }
+
     // its transition i
     pub fn get(self, aut: &Aut, i: usize) -> Transition
         requires { 2 * (self.start + i) + 1 < length aut.now.transitions.words.now }
@@ -81,9 +105,8 @@ pub fn stored_list(aut: &Aut, y: u32) -> Span
     requires { PreFind aut.now.states.words.now y }
     ensures { PostFind aut.now.states.words.now y result }
 {
-    let i = aut_states::STATE * y as usize;
     Span {
-        start: aut.states.words[i + aut_states::word::START] as usize,
-        count: aut.states.words[i + aut_states::word::COUNT] as usize - 1,
+        start: aut.states.word(y, aut_states::word::START) as usize,
+        count: aut.states.word(y, aut_states::word::COUNT) as usize - 1,
     }
 }

@@ -8,6 +8,7 @@
 use mathlib.Core.Path.{◌≡◌, refl, sym, ap, subst}
 use mathlib.Core.List.{List}
 use Prim.Native.Nat.{ℕ, ◌+◌, ◌≤◌}
+use native.Mathlib.Omega.{arith}
 use lib.ListN.{length}
 use borrow.Rule.Slice.Mut.{set_vals}
 use Rattle.slices.specs.Same.{SameSlice}
@@ -34,6 +35,15 @@ use Rattle.aut_stage.specs.OnLent.{lent_layer, Goes}
 use Rattle.aut_stage.proofs.OnLent.{lent_laws, by_law, asked_after}
 use Rattle.aut_stage.proofs.Rule.{Inside, begin, instead, wrote, next, stuck, finish, done}
 use Rattle.aut_relations.proofs.Kept.{same_refl, keeps_refl, keeps_trans}
+
+-- ---- what a call writes of the lists, within what the whole may write
+
+pub no_list : Inside 0 832 0 0
+no_list = record { from = omega arith; to = omega arith }
+
+-- a list made by insertions, where others are set aside
+pub list_made : Inside 0 1088 0 832
+list_made = record { from = omega arith; to = omega arith }
 
 -- ---- tables of which a part was written
 

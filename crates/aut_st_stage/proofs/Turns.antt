@@ -2,10 +2,10 @@
 --
 --     invariant-loop-i l = Turning l.config P one all l.source l.initial.aut (the value before the loop) l.aut (the value now) l.i
 --     loop-i-init c = turn_begin F W R p      F : Folds one all, W : Walked .., R : Asked .., p : P of the value before the loop
---     read-t-requires c = turn_read v lt
---     what the call asks: v.asked, turn_edge v lt c.read-t.ensures, turn_list v limit (where the value is the list at RESULT), turn_walked v W (another source)
---     loop-i-preserved c = turn_again v lt c.read-t.ensures c.in_ok-n.ensures.keeps c.in_ok-n.ensures.gives
---     returns-in_err-n-clause-gives c = turn_stuck v lt c.read-t.ensures c.in_err-n.ensures.gives
+--     get-t-requires c = turn_read v lt
+--     what the call asks: v.asked, turn_edge v lt c.get-t.ensures, turn_list v limit (where the value is the list at RESULT), turn_walked v W (another source)
+--     loop-i-preserved c = turn_again v lt c.get-t.ensures c.in_ok-n.ensures.keeps c.in_ok-n.ensures.gives
+--     returns-in_err-n-clause-gives c = turn_stuck v lt c.get-t.ensures c.in_err-n.ensures.gives
 --     returns-clause-gives c = turn_end v c.loop-i-test.false
 --     the clause keeps: v.keeps, and keeps_trans v.keeps c.in_err-n.ensures.keeps
 use mathlib.Core.Path.{◌≡◌, sym, ◌∙◌, ap, subst}
@@ -31,8 +31,8 @@ use Rattle.aut_stage.proofs.OnLent.{lent_laws, asked_after}
 use Rattle.aut_relations.proofs.Behind.{left_wide}
 use Rattle.aut_stage.proofs.Rule.{Inside, all_of, Folds, Turned}
 use Rattle.aut_stage.proofs.Turns.{Entries, read_begin, read_at, read_stuck, read_again, read_end}
-use Rattle.aut_st_insert.specs.Clauses.{RESULT}
-use Rattle.aut_st_insert.specs.Asked.{ListAsked}
+use Rattle.aut_st_source.specs.Insert.{RESULT}
+use Rattle.aut_st_source.specs.Asked.{ListAsked}
 use Rattle.aut_relations.proofs.Kept.{keeps_refl, keeps_trans}
 use Rattle.aut_st_source.specs.declared.Source.{Source}
 use Rattle.aut_st_source.specs.Clauses.{source_of, entry_of, EntryIn, Walked}

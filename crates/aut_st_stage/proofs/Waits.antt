@@ -22,8 +22,8 @@ use Rattle.aut_relations.specs.Lent.{aut_in, Keeps, Asked}
 use Rattle.aut_stage.specs.OnLent.{Goes}
 use Rattle.aut_stage.proofs.OnLent.{lent_laws}
 use Rattle.aut_stage.proofs.Rule.{Inside}
-use Rattle.aut_st_insert.specs.Clauses.{RESULT}
-use Rattle.aut_st_insert.proofs.Join.{list_few}
+use Rattle.aut_st_source.specs.Insert.{RESULT, FIRST, SECOND}
+use Rattle.aut_st_source.proofs.Join.{list_few}
 use Rattle.aut_st_edges.specs.Clauses.{Wrote, CopyReady}
 use Rattle.aut_st_source.specs.declared.Place.{Place}
 use Rattle.aut_st_source.specs.declared.Place.TheVariants as place
@@ -82,7 +82,7 @@ with_two {x = x} {v = v} {es = es} W W' o G = with_it W' (λ us. o es us) (with_
 
 -- ---- the list at RESULT is copied, to FIRST or to SECOND
 
-module _ {k : Config} (x : Lent) (n : ℕ) (limit : k.limits.transitions ≤ 64) (p : ListAt k.fields (limits_of k.limits) (aut_in x) (edges x.scratch.now RESULT n)) (at : ℕ) (from : 416 ≤ at) (to : at ≤ 480) where
+module _ {k : Config} (x : Lent) (n : ℕ) (limit : k.limits.transitions ≤ 64) (p : ListAt k.fields (limits_of k.limits) (aut_in x) (edges x.scratch.now RESULT n)) (at : ℕ) (from : FIRST ≤ at) (to : at ≤ SECOND) where
   few : n ≤ 64
   few = list_few x.scratch.now RESULT n p limit
 

@@ -13,33 +13,20 @@ use Rattle.netkat_steps.specs.ListSteps.{Edge}
 use Rattle.aut_steps.specs.Tables.{Aut}
 use Rattle.aut_st_steps.specs.Operations.{ops}
 use Rattle.aut_st_steps.specs.Edges.{edges}
-use Rattle.aut_st_steps.specs.ListSpec.{ListAt}
 use Rattle.aut_states.specs.Clauses.{limits_of}
 use Rattle.aut_states.specs.declared.Config.{Config}
 use Rattle.aut_relations.specs.declared.Aut.{Aut as Lent}
 use Rattle.aut_relations.specs.Lent.{aut_in, Keeps, Asked}
-use Rattle.aut_stage.specs.OnLent.{Goes}
-use Rattle.aut_stage.proofs.Rule.{Inside, all_of}
-use Rattle.aut_st_insert.specs.Clauses.{RESULT}
+use Rattle.aut_stage.proofs.Rule.{all_of}
+use Rattle.aut_st_insert.specs.Clauses.{RESULT, FIRST, SECOND, GoesInsert, GoesList}
 use Rattle.aut_st_insert.proofs.Join.{list_few}
 use Rattle.aut_st_edges.specs.Clauses.{Wrote, CopyReady}
 use Rattle.aut_st_source.specs.declared.Source.{Source}
 use Rattle.aut_st_source.specs.Clauses.{stored, scratched}
 use Rattle.aut_st_stage.proofs.Turns.{source_in}
-use Rattle.aut_st_stage.proofs.Run.{Run, written, run_begin, run_next, run_stuck, run_finish}
+use Rattle.aut_st_stage.proofs.Run.{list_made, Run, written, run_begin, run_next, run_stuck, run_finish}
 use Rattle.aut_st_stage.proofs.Waits.{Waits, waits_as, with_two, waits_later, waits_copied, copy_ready, copy_waits, run_copied}
 use Rattle.aut_st_ops.specs.Asked.{TwoAsked}
-
--- places, by record
-abbrev FIRST : ℕ
-FIRST = 416
-
-abbrev SECOND : ℕ
-SECOND = 480
-
--- an operation on lists
-first_in : Inside 0 1088 0 832
-first_in = record { from = omega arith; to = omega arith }
 
 pub record Joins (k : Config) (x : Lent) (whole left right : Step Aut (List Edge)) : Type 0 where
   pub asked : Asked k x
@@ -52,10 +39,10 @@ module _ {k : Config} {x : Lent} {whole left right : Step Aut (List Edge)} (J : 
 
   -- a list made by the steps o, which stands at RESULT
   abbrev Lists : Lent → Step Aut (List Edge) → Result ℕ Refusal → Lent → Type 0
-  Lists b o r y = Goes k 0 832 (ListAt k.fields (limits_of k.limits)) (λ i. edges y.scratch.now RESULT i) o b r y
+  Lists b o r y = GoesInsert k o b r y
 
   abbrev Whole : Result ℕ Refusal → Lent → Type 0
-  Whole r y = Goes k 0 1088 (ListAt k.fields (limits_of k.limits)) (λ i. edges y.scratch.now RESULT i) whole x r y
+  Whole r y = GoesList k whole x r y
 
   run_0 : Run k 0 1088 whole (λ σ. after (left σ) (λ ls. right >>= join ls)) x x
   run_0 = run_begin J.asked J.is
@@ -65,7 +52,7 @@ module _ {k : Config} {x : Lent} {whole left right : Step Aut (List Edge)} (J : 
 
   module _ {y : Lent} {n : ℕ} (K1 : Keeps x y) (G1 : Lists x left (Ok n) y) where
     run_1 : Run k 0 1088 whole (λ σ. after (right σ) (join (edges y.scratch.now RESULT n))) x y
-    run_1 = run_next (λ ls. right >>= join ls) run_0 first_in K1 G1
+    run_1 = run_next (λ ls. right >>= join ls) run_0 list_made K1 G1
 
     pub copy_1 : CopyReady y.scratch.now RESULT n FIRST
     copy_1 = copy_ready y n J.limit G1.post.then.holds FIRST (omega arith) (omega arith) run_1.asked
@@ -84,7 +71,7 @@ module _ {k : Config} {x : Lent} {whole left right : Step Aut (List Edge)} (J : 
 
       module _ {z : Lent} {m : ℕ} (K2 : Keeps (written y w) z) (G2 : Lists (written y w) right (Ok m) z) where
         run_3 : Run k 0 1088 whole (join (edges y.scratch.now RESULT n) (edges z.scratch.now RESULT m)) x z
-        run_3 = run_next (join (edges y.scratch.now RESULT n)) run_2 first_in K2 G2
+        run_3 = run_next (join (edges y.scratch.now RESULT n)) run_2 list_made K2 G2
 
         left_3 : Waits k z (scratched FIRST n) (edges y.scratch.now RESULT n)
         left_3 = waits_later (copy_waits y n J.limit G1.post.then.holds FIRST (omega arith) (omega arith) C1) (all_of 0 832) K2 G2
@@ -108,4 +95,4 @@ module _ {k : Config} {x : Lent} {whole left right : Step Aut (List Edge)} (J : 
             join_asked = record { first = record { asked = run_4.asked; limit = J.limit; walked = (waits_as left_4 first).walked }; second = (waits_as right_4 second).walked }
 
             pub joined : {r : Result ℕ Refusal} {u : Lent} → Lists (written z v) (join (source_in s (written z v)) (source_in t (written z v))) r u → Whole r u
-            joined G = run_finish run_4 first_in (with_two (waits_as left_4 first) (waits_as right_4 second) join G)
+            joined G = run_finish run_4 list_made (with_two (waits_as left_4 first) (waits_as right_4 second) join G)

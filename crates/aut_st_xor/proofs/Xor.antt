@@ -12,13 +12,11 @@ use Rattle.netkat_steps.specs.ListSteps.{Edge}
 use Rattle.aut_steps.specs.Tables.{Aut}
 use Rattle.aut_st_steps.specs.Operations.{ops}
 use Rattle.aut_st_steps.specs.Edges.{edges}
-use Rattle.aut_st_steps.specs.ListSpec.{ListAt}
 use Rattle.aut_states.specs.Clauses.{limits_of}
 use Rattle.aut_states.specs.declared.Config.{Config}
 use Rattle.aut_relations.specs.declared.Aut.{Aut as Lent}
 use Rattle.aut_relations.specs.Lent.{Keeps}
-use Rattle.aut_stage.specs.OnLent.{Goes}
-use Rattle.aut_st_insert.specs.Clauses.{RESULT, list_in}
+use Rattle.aut_st_insert.specs.Clauses.{RESULT, FIRST, SECOND, GoesInsert, GoesList}
 use Rattle.aut_st_source.specs.declared.Source.{Source}
 use Rattle.aut_st_source.specs.Clauses.{stored, scratched}
 use Rattle.aut_st_stage.proofs.Turns.{source_in}
@@ -48,10 +46,10 @@ module _ {q : Config} {x : Lent} {a k b j : ℕ} {u v : Source} (R : Xors q x a 
 
   -- a list made by the steps o, which stands at RESULT; the whole
   abbrev Lists : Lent → Step Aut (List Edge) → Result ℕ Refusal → Lent → Type 0
-  Lists b o r y = Goes q 0 832 (ListAt q.fields (limits_of q.limits)) (list_in y) o b r y
+  Lists b o r y = GoesInsert q o b r y
 
   abbrev Whole : Result ℕ Refusal → Lent → Type 0
-  Whole r y = Goes q 0 1088 (ListAt q.fields (limits_of q.limits)) (list_in y) (St.st_xor (ops q.fields (limits_of q.limits)) ts us) x r y
+  Whole r y = GoesList q (St.st_xor (ops q.fields (limits_of q.limits)) ts us) x r y
 
   joins : Joins q x (St.st_xor (ops q.fields (limits_of q.limits)) ts us) (minus ts us) (minus us ts)
   unfolding St.st_xor
@@ -73,10 +71,10 @@ module _ {q : Config} {x : Lent} {a k b j : ℕ} {u v : Source} (R : Xors q x a 
   stuck_1 p G = join.stuck_1 joins p (one G)
 
   module _ {y : Lent} {n : ℕ} (K1 : Keeps x y) (G1 : One (Ok n) y) where
-    pub copy_1 : CopyReady y.scratch.now RESULT n 416
+    pub copy_1 : CopyReady y.scratch.now RESULT n FIRST
     copy_1 = join.copy_1 joins K1 (one G1)
 
-    module _ {w : List ℕ} (C1 : Wrote 416 n (edges y.scratch.now RESULT n) y.scratch.now w) (len1 : length w ≡ length y.scratch.now) where
+    module _ {w : List ℕ} (C1 : Wrote FIRST n (edges y.scratch.now RESULT n) y.scratch.now w) (len1 : length w ≡ length y.scratch.now) where
       first_2 : Waits q (written y w) u ts
       first_2 = waits_as (join.stored_waits joins K1 (one G1) C1 len1 (waits R.asked.first.walked)) R.first
 
@@ -96,10 +94,10 @@ module _ {q : Config} {x : Lent} {a k b j : ℕ} {u v : Source} (R : Xors q x a 
       stuck_2 p G = join.stuck_2 joins K1 (one G1) C1 len1 p (other G)
 
       module _ {z : Lent} {m : ℕ} (K2 : Keeps (written y w) z) (G2 : Other (Ok m) z) where
-        pub copy_2 : CopyReady z.scratch.now RESULT m 480
+        pub copy_2 : CopyReady z.scratch.now RESULT m SECOND
         copy_2 = join.copy_2 joins K1 (one G1) C1 len1 K2 (other G2)
 
-        module _ {w' : List ℕ} (C2 : Wrote 480 m (edges z.scratch.now RESULT m) z.scratch.now w') (len2 : length w' ≡ length z.scratch.now) {s t : Source} (first : s ≡ scratched 416 n) (second : t ≡ scratched 480 m) where
+        module _ {w' : List ℕ} (C2 : Wrote SECOND m (edges z.scratch.now RESULT m) z.scratch.now w') (len2 : length w' ≡ length z.scratch.now) {s t : Source} (first : s ≡ scratched FIRST n) (second : t ≡ scratched SECOND m) where
           pub join_asked : TwoAsked q (written z w') s t
           join_asked = join.join_asked joins K1 (one G1) C1 len1 K2 (other G2) C2 len2 first second
 

@@ -4,14 +4,14 @@ use Rattle.aut_delta_stage.proofs.Kept.{store_keeps}
 use Rattle.aut_delta.proofs.Turns as turns
 use Rattle.aut_delta.proofs.+delta.Goals as goal
 
-pub returns-then-not-is_open-clause-gives : goal.returns-then-not-is_open-clause-gives
-returns-then-not-is_open-clause-gives t c = turns.listed c.requires c.loop-config.invariant c.if-not-is_open.ensures
+pub returns-clause-gives : goal.returns-clause-gives
+returns-clause-gives t c = turns.listed c.requires c.loop-config.invariant c.loop-config-test.ensures
 
 pub returns-in_err-y-clause-gives : goal.returns-in_err-y-clause-gives
 returns-in_err-y-clause-gives t c = turns.full c.requires c.loop-config.invariant (passed c.from_residual.ensures) c.in_err-y.ensures.gives
 
 pub finish-requires : goal.finish-requires
-finish-requires t c = let e = c.in_ok-y.ensures in turns.finish_ready c.requires c.loop-config.invariant e.gives c.if-y-x.true e.keeps c.if-not-is_open.ensures
+finish-requires t c = let e = c.in_ok-y.ensures in turns.finish_ready c.requires c.loop-config.invariant e.gives c.if-y-x.true e.keeps c.loop-config-test.ensures
 
 pub returns-then-y-x-clause-gives : goal.returns-then-y-x-clause-gives
 returns-then-y-x-clause-gives t c = turns.finished c.requires c.loop-config.invariant c.in_ok-y.ensures.gives c.if-y-x.true c.finish.ensures.gives

@@ -2,12 +2,12 @@ use mathlib.Core.Path.{refl}
 use Rattle.aut_delta_lists.proofs.Alone as alone
 use Rattle.aut_delta_lists.proofs.top_list.Goals as goal
 
-pub returns-in_err-x-clause-gives : goal.returns-in_err-x-clause-gives
-returns-in_err-x-clause-gives c = alone.made_stuck c.requires (alone.top c.requires refl) _ c.from_residual.ensures c.in_err-x.ensures.gives
+pub returns-in_err-target-clause-gives : goal.returns-in_err-target-clause-gives
+returns-in_err-target-clause-gives c = alone.made_stuck c.requires (alone.top c.requires refl) _ c.from_residual.ensures c.in_err-target.ensures.gives
 
 pub st_singleton-requires : goal.st_singleton-requires
-st_singleton-requires c = (alone.made_ready c.requires (alone.top c.requires c.top_at_depth-top.ensures) c.in_ok-x.ensures.same_table c.in_ok-x.ensures.gives).0
+st_singleton-requires c = (alone.made_ready c.requires (alone.top c.requires c.top-label.ensures) c.in_ok-target.ensures.same_table c.in_ok-target.ensures.gives).0
 
 pub returns-clause-gives : goal.returns-clause-gives
 returns-clause-gives c =
-    alone.made_done c.requires (alone.top c.requires c.top_at_depth-top.ensures) c.in_ok-x.ensures.same_table c.in_ok-x.ensures.gives (c.st_singleton.ensures.gives (alone.made_ready c.requires (alone.top c.requires c.top_at_depth-top.ensures) {st = c.mk_top.new.self} c.in_ok-x.ensures.same_table c.in_ok-x.ensures.gives).1)
+    alone.made_done c.requires (alone.top c.requires c.top-label.ensures) c.in_ok-target.ensures.same_table c.in_ok-target.ensures.gives (c.st_singleton.ensures.gives (alone.made_ready c.requires (alone.top c.requires c.top-label.ensures) {st = c.mk_top.new.self} c.in_ok-target.ensures.same_table c.in_ok-target.ensures.gives).1)

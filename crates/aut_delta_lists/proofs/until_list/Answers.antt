@@ -14,13 +14,13 @@ pub returns-in_err-n-clause-gives : goal.returns-in_err-n-clause-gives
 returns-in_err-n-clause-gives c =
     lists.until_stuck_2 c.requires c.in_ok-u.ensures.same_table c.in_ok-u.ensures.gives c.source.ensures c.from_residual-in_err-n.ensures c.in_err-n.ensures.gives
 
-pub copy-requires : goal.copy-requires
-copy-requires c = lists.until_copy c.requires c.in_ok-u.ensures.same_table c.in_ok-u.ensures.gives c.source.ensures c.in_ok-n.ensures.keeps c.in_ok-n.ensures.gives
+pub set_aside-met-requires : goal.set_aside-met-requires
+set_aside-met-requires c = lists.until_copy c.requires c.in_ok-u.ensures.same_table c.in_ok-u.ensures.gives c.source.ensures c.in_ok-n.ensures.keeps c.in_ok-n.ensures.gives
 
 pub st_union-requires : goal.st_union-requires
 st_union-requires c =
-    lists.until_join c.requires c.in_ok-u.ensures.same_table c.in_ok-u.ensures.gives c.source.ensures c.in_ok-n.ensures.keeps c.in_ok-n.ensures.gives c.copy.ensures c.copy.auto.words c.source-2.ensures c.scratch.ensures
+    lists.until_join c.requires c.in_ok-u.ensures.same_table c.in_ok-u.ensures.gives c.source.ensures c.in_ok-n.ensures.keeps c.in_ok-n.ensures.gives c.set_aside-met.ensures.copied c.set_aside-met.auto.words c.source-2.ensures c.set_aside-met.ensures.source
 
 pub returns-clause-gives : goal.returns-clause-gives
 returns-clause-gives c =
-    lists.until_done c.requires c.in_ok-u.ensures.same_table c.in_ok-u.ensures.gives c.source.ensures c.in_ok-n.ensures.keeps c.in_ok-n.ensures.gives c.copy.ensures c.copy.auto.words c.source-2.ensures c.scratch.ensures c.st_union.ensures.gives
+    lists.until_done c.requires c.in_ok-u.ensures.same_table c.in_ok-u.ensures.gives c.source.ensures c.in_ok-n.ensures.keeps c.in_ok-n.ensures.gives c.set_aside-met.ensures.copied c.set_aside-met.auto.words c.source-2.ensures c.set_aside-met.ensures.source c.st_union.ensures.gives

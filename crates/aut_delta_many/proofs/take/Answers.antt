@@ -1,12 +1,25 @@
+use mathlib.Core.Path.{◌∙◌, ap}
 use Prim.Native.Nat.{◌*◌}
 use native.Mathlib.Omega.{arith}
-use Rattle.aut_delta_stage.proofs.Copied.{copied_words}
+use lib.ListN.{length}
+use Rattle.aut_steps.specs.Tables.{words}
+use Rattle.aut_steps.proofs.Facts.{words_length}
+use Rattle.aut_states.proofs.Slices.{pasted}
+use Rattle.aut_st_insert.specs.Clauses.{RESULT}
 use Rattle.aut_delta_many.proofs.Lists.{copied}
 use Rattle.aut_delta_many.proofs.take.Goals as goal
+
+pub slice_bounds-copy_from_slice-end : goal.slice_bounds-copy_from_slice-end
+slice_bounds-copy_from_slice-end c =
+    let l = c.args.list in
+    omega (arith, c.requires.0, ap length c.words-words.ensures, words_length c.args.transitions.now.words.now (2 * l.start) (2 * l.count))
 
 pub returns : goal.returns
 returns c =
     let s = c.args.scratch.now in
     let u = c.args.transitions.now.words.now in
     let l = c.args.list in
-    copied s u 288 l.start l.count c.requires.0 (copied_words s u 576 (2 * l.start) (2 * l.count) c.copy_from_slice.ensures.after (omega (arith, c.requires.0)) (omega (arith, c.requires.1)))
+    let n = words_length u (2 * l.start) (2 * l.count) in
+    let e = c.words-words.ensures in
+    copied s u RESULT l.start l.count c.requires.0
+    (pasted s _ (words u (2 * l.start) (2 * l.count)) (2 * RESULT) _ (c.copy_from_slice.ensures.after ∙ e) (ap length e) (omega (arith, c.requires.0, ap length e, n)))

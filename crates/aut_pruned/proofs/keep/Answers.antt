@@ -8,4 +8,4 @@ returns-then-is_zero-clause-kept c =
 
 pub returns-clause-kept : goal.returns-clause-kept
 returns-clause-kept c =
-    one.keep_some c.requires c.args.t.target c.args.t.label.0 (c.is_zero.ensures c.args.config.fields ∙ c.if-is_zero.false)
+    one.keep_some c.requires c.args.t.target c.args.t.label.0 (c.is_zero.ensures c.args.config.fields ∙ c.if-is_zero.false) c.put.ensures

@@ -15,9 +15,9 @@ returns-in_err-label-clause-gives c =
 pub st_insert_helper-requires : goal.st_insert_helper-requires
 st_insert_helper-requires c = (halves.rest_half c.requires c.in_ok-sum.ensures.keeps c.in_ok-sum.ensures.gives c.in_ok-label.ensures.keeps c.in_ok-label.ensures.gives).asked
 
-pub returns-in_err-n-clause-gives : goal.returns-in_err-n-clause-gives
-returns-in_err-n-clause-gives c =
-    rw (passed c.from_residual-in_err-n.ensures) (halves.half_stuck (halves.rest_half c.requires c.in_ok-sum.ensures.keeps c.in_ok-sum.ensures.gives c.in_ok-label.ensures.keeps c.in_ok-label.ensures.gives) c.in_err-n.ensures.gives)
+pub returns-in_err-count-clause-gives : goal.returns-in_err-count-clause-gives
+returns-in_err-count-clause-gives c =
+    rw (passed c.from_residual-in_err-count.ensures) (halves.half_stuck (halves.rest_half c.requires c.in_ok-sum.ensures.keeps c.in_ok-sum.ensures.gives c.in_ok-label.ensures.keeps c.in_ok-label.ensures.gives) c.in_err-count.ensures.gives)
 
 pub returns-clause-gives : goal.returns-clause-gives
-returns-clause-gives c = halves.half_done (halves.rest_half c.requires c.in_ok-sum.ensures.keeps c.in_ok-sum.ensures.gives c.in_ok-label.ensures.keeps c.in_ok-label.ensures.gives) c.in_ok-n.ensures.gives
+returns-clause-gives c = halves.half_done (halves.rest_half c.requires c.in_ok-sum.ensures.keeps c.in_ok-sum.ensures.gives c.in_ok-label.ensures.keeps c.in_ok-label.ensures.gives) c.in_ok-count.ensures.gives

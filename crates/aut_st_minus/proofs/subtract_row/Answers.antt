@@ -12,15 +12,15 @@ loop-i-init c =
 pub subtract_one-requires : goal.subtract_one-requires
 subtract_one-requires c =
     let v = c.loop-i.invariant in
-    record { list = sum_list v c.requires.list.limit; first = edge_grown v.turned.stage.ext.grown c.requires.first; second = turn_edge v c.loop-i-test.true c.read-u.ensures; sum = v.turned.holds.sum }
+    record { list = sum_list v c.requires.list.limit; first = edge_grown v.turned.stage.ext.grown c.requires.first; second = turn_edge v c.loop-i-test.true c.get-u.ensures; sum = v.turned.holds.sum }
 
 pub returns-in_err-met-clause-gives : goal.returns-in_err-met-clause-gives
 returns-in_err-met-clause-gives c =
     rw (passed c.from_residual.ensures)
-    (turn_stuck c.loop-i.invariant c.loop-i-test.true c.read-u.ensures c.in_err-met.ensures.gives)
+    (turn_stuck c.loop-i.invariant c.loop-i-test.true c.get-u.ensures c.in_err-met.ensures.gives)
 
 pub loop-i-preserved : goal.loop-i-preserved
-loop-i-preserved c = turn_again c.loop-i.invariant c.loop-i-test.true c.read-u.ensures c.in_ok-met.ensures.keeps c.in_ok-met.ensures.gives
+loop-i-preserved c = turn_again c.loop-i.invariant c.loop-i-test.true c.get-u.ensures c.in_ok-met.ensures.keeps c.in_ok-met.ensures.gives
 
 pub returns-clause-gives : goal.returns-clause-gives
 returns-clause-gives c = turn_end c.loop-i.invariant c.loop-i-test.false

@@ -10,16 +10,16 @@ loop-i-init c =
 pub subtract_row-requires : goal.subtract_row-requires
 subtract_row-requires c =
     let v = c.loop-i.invariant in
-    record { list = sum_list v c.requires.list.limit; first = turn_edge v c.loop-i-test.true c.read-t.ensures; second = turn_walked v c.requires.second; sum = v.turned.holds.sum }
+    record { list = sum_list v c.requires.list.limit; first = turn_edge v c.loop-i-test.true c.get-t.ensures; second = turn_walked v c.requires.second; sum = v.turned.holds.sum }
 
 pub returns-in_err-met-clause-gives : goal.returns-in_err-met-clause-gives
 returns-in_err-met-clause-gives c =
     rw (passed c.from_residual.ensures)
-    (turn_stuck c.loop-i.invariant c.loop-i-test.true c.read-t.ensures (sum_row c.loop-i.invariant c.requires.second _ c.in_err-met.ensures.gives))
+    (turn_stuck c.loop-i.invariant c.loop-i-test.true c.get-t.ensures (sum_row c.loop-i.invariant c.requires.second _ c.in_err-met.ensures.gives))
 
 pub loop-i-preserved : goal.loop-i-preserved
 loop-i-preserved c =
-    turn_again c.loop-i.invariant c.loop-i-test.true c.read-t.ensures c.in_ok-met.ensures.keeps (sum_row c.loop-i.invariant c.requires.second _ c.in_ok-met.ensures.gives)
+    turn_again c.loop-i.invariant c.loop-i-test.true c.get-t.ensures c.in_ok-met.ensures.keeps (sum_row c.loop-i.invariant c.requires.second _ c.in_ok-met.ensures.gives)
 
 pub returns-clause-gives : goal.returns-clause-gives
 returns-clause-gives c = turn_end c.loop-i.invariant c.loop-i-test.false
