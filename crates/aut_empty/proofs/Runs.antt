@@ -39,8 +39,8 @@ use Rattle.aut_query_calls.proofs.Works.{prepared, working_begin, clear_end, mar
 use Rattle.aut_empty_words.specs.Words.{entry_at, entries_of, seen_in, Stack, Puts, Rested, Emptied}
 use Rattle.aut_relations.proofs.Kept.{keeps_refl, keeps_trans}
 use Rattle.aut_empty_words.proofs.Stacks.{entries_pop, entries_none, entries_put, stack_put, fits_in, seen_none, same_tables}
-use Rattle.aut_empty_walk.specs.Clauses.{search_in}
-use Rattle.aut_empty_pair.specs.Clauses.{Over, SeekingIn, turn_of}
+use Rattle.aut_empty_turn.specs.Clauses.{search_in}
+use Rattle.aut_empty_turn.specs.Clauses.{Over, SeekingIn, turn_of}
 use Rattle.aut_empty_turn.specs.Clauses.{TurnAsked, Turns}
 use Rattle.aut_empty.specs.declared.Verdict.{Verdict}
 use Rattle.aut_empty.specs.declared.Verdict.TheVariants as verdict

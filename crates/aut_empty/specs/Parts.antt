@@ -7,8 +7,8 @@ use Rattle.aut_states.specs.declared.Config.{Config}
 use Rattle.aut_relations.specs.declared.Aut.{Aut as Lent}
 use Rattle.aut_query_calls.specs.Working.{clear_in}
 use Rattle.aut_empty_words.specs.Words.{entries_of, seen_in}
-use Rattle.aut_empty_walk.specs.Clauses.{search_in}
-use Rattle.aut_empty_pair.specs.Clauses.{Over}
+use Rattle.aut_empty_turn.specs.Clauses.{search_in}
+use Rattle.aut_empty_turn.specs.Clauses.{Over}
 use Rattle.aut_empty.specs.declared.Verdict.{Verdict}
 use Rattle.aut_empty.specs.Clauses.{verdict_of}
 

@@ -5,10 +5,11 @@ ghost use Rattle.std.specs.Prelude.{OnOk};
 ghost use Rattle.aut_query_stage.specs.Layer.{Zeroed};
 ghost use Rattle.aut_query_stage.specs.Lent.{QueryAsked};
 ghost use Rattle.aut_sets.specs.Lent.{SameLent};
-ghost use Rattle.aut_empty_pair.specs.Clauses.{SeekingIn};
+ghost use Rattle.aut_empty_turn.specs.Clauses.{SeekingIn};
 ghost use Rattle.aut_empty.specs.Clauses.{Empties};
 ghost use Rattle.aut_empty.specs.Parts.{Searches};
 
+use aut_empty_words::Entry;
 use aut_relations::Aut;
 use aut_states::Config;
 use refusal::Refusal;
@@ -59,7 +60,11 @@ pub fn is_empty(
     ensures gives { Empties config budget x aut.old result aut.new }
 {
     let one = sp::one_at_depth(config.fields);
-    let first = aut_empty_words::put(aut, 0, x, one).ok_or(Refusal::Pending)?;
+    let all = Entry {
+        state: x,
+        packets: one,
+    };
+    let first = aut_empty_words::put(aut, 0, all).ok_or(Refusal::Pending)?;
     let (verdict, count, n) = search(aut, config, budget, first)?;
     aut_empty_words::clear_seen(aut);
     aut_empty_words::clear_pending(aut, n);

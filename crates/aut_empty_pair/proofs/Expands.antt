@@ -45,7 +45,7 @@ use Rattle.aut_empty_words.specs.Words.{entries_of, seen_in}
 use Rattle.aut_sets.proofs.Small.{set_small}
 use Rattle.aut_empty_words.proofs.Stacks.{after_after, stack_later, seen_same, seen_set}
 use Rattle.aut_empty_walk.specs.Clauses.{search_in, spread_of, SpreadAsked, Spreads}
-use Rattle.aut_empty_walk.proofs.Spreads.{none_of}
+pub use Rattle.aut_empty_walk.proofs.Spreads.{none_of}
 use Rattle.aut_empty_pair.specs.Clauses.{ExpandAsked, Expands}
 
 module _ {k : Config} {x : Lent} {n i fresh : ℕ} (R : ExpandAsked k x n i fresh) where

@@ -15,7 +15,7 @@ use Rattle.aut_relations.specs.declared.Aut.{Aut as Lent}
 use Rattle.aut_sets.specs.Lent.{sets_in}
 use Rattle.aut_query_calls.specs.Working.{clear_in, Working}
 use Rattle.aut_empty_words.specs.Words.{entries_of, seen_in, Stack}
-use Rattle.aut_empty_walk.specs.Clauses.{search_in}
+pub use Rattle.aut_empty_walk.specs.Clauses.{search_in}
 
 -- words 9 to 11 of the states are 0
 abbrev pub Spare : List ℕ → Type 0

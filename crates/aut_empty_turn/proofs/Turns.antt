@@ -35,9 +35,8 @@ use Rattle.aut_query_calls.proofs.Works.{prepared}
 use Rattle.aut_query_calls.proofs.Calls.{asks_sets, difference_ran}
 use Rattle.aut_empty_words.specs.Words.{entry_at, entries_of, seen_in, Stack}
 use Rattle.aut_empty_words.proofs.Stacks.{stack_later, top, taken_rest, stack_pop, same_tables}
-use Rattle.aut_empty_walk.specs.Clauses.{search_in}
-use Rattle.aut_empty_walk.proofs.Spreads.{none_of}
-use Rattle.aut_empty_pair.specs.Clauses.{SeekingIn, turn_of, ExpandAsked, Expands}
+use Rattle.aut_empty_pair.proofs.Expands.{none_of}
+use Rattle.aut_empty_pair.specs.Clauses.{search_in, SeekingIn, turn_of, ExpandAsked, Expands}
 use Rattle.aut_empty_turn.specs.Clauses.{Takes, TurnAsked, Turns}
 
 module _ {k : Config} {x : Lent} {n : ℕ} (R : TurnAsked k x n) where

@@ -7,8 +7,8 @@ use Rattle.aut_states.specs.declared.Config.{Config}
 use Rattle.aut_relations.specs.declared.Aut.{Aut as Lent}
 use Rattle.aut_query_calls.specs.Working.{clear_in}
 use Rattle.aut_empty_words.specs.Words.{entry_at, entries_of, seen_in}
-use Rattle.aut_empty_walk.specs.Clauses.{search_in}
-use Rattle.aut_empty_pair.specs.Clauses.{SeekingIn, turn_of, TurnedTo}
+use Rattle.aut_empty_pair.specs.Clauses.{TurnedTo}
+pub use Rattle.aut_empty_pair.specs.Clauses.{search_in, Over, SeekingIn, turn_of}
 
 -- the words of entry k have been read, and are 0
 pub record Takes (p : List ℕ) (k i h : ℕ) (p' : List ℕ) : Type 0 where

@@ -5,23 +5,26 @@ ghost use Rattle.std.specs.Prelude.{◌≡◌, ◌+◌, ◌*◌, ◌<◌, length
 ghost use Rattle.aut_sets.specs.Lent.{OnlyMarks, SameLent};
 ghost use Rattle.aut_empty_turn.specs.Clauses.{Takes, TurnAsked, Turns};
 
+use aut_empty_words::Entry;
 use aut_relations::Aut;
 use aut_states::Config;
 use refusal::Refusal;
 use sp::SP;
 
-// entry k is taken out: a state and a packet set
-fn take(aut: &mut Aut, k: usize) -> (u32, SP)
+// entry k is taken out
+fn take(aut: &mut Aut, k: usize) -> Entry
     requires { 2 * k + 1 < length aut.old.pending.now }
     ensures keeps { OnlyMarks aut.old aut.new }
     ensures states { aut.new.states ≡ aut.old.states }
-    ensures gives { Takes aut.old.pending.now k result.0 result.1.0 aut.new.pending.now }
+    ensures gives { Takes aut.old.pending.now k result.state result.packets.0 aut.new.pending.now }
 {
-    let x = aut.pending[2 * k];
-    let packets = SP(aut.pending[2 * k + 1]);
+    let e = Entry {
+        state: aut.pending[2 * k],
+        packets: SP(aut.pending[2 * k + 1]),
+    };
     aut.pending[2 * k] = 0;
     aut.pending[2 * k + 1] = 0;
-    (x, packets)
+    e
 }
 
 // the last pending entry is taken: a string is found (None), or so many entries are left
@@ -31,11 +34,15 @@ pub fn turn(aut: &mut Aut, config: Config, n: usize) -> Result<Option<usize>, Re
     ensures gives { Turns config n aut.old result aut.new }
 {
     let k = n - 1;
-    let (x, packets) = take(aut, k);
-    let seen = aut_empty_words::seen_at(aut, config, x);
-    let fresh = aut_sets::difference(aut, config, packets, seen)?;
+    let e = take(aut, k);
+    let seen = aut_empty_words::seen_at(aut, config, e.state);
+    let fresh = aut_sets::difference(aut, config, e.packets, seen)?;
     if sp::is_zero(config.fields, fresh) {
         return Ok(Some(k));
     }
-    aut_empty_pair::expand(aut, config, k, x, fresh)
+    let fresh = Entry {
+        packets: fresh,
+        ..e
+    };
+    aut_empty_pair::expand(aut, config, k, fresh)
 }

@@ -8,8 +8,10 @@ use mathlib.Core.List.{List, [], ◌∷◌}
 use Prim.Native.Nat.{ℕ, zero, suc, ◌+◌, ◌*◌, ◌-◌, ◌/◌, ◌≤◌, ◌<◌}
 use native.Mathlib.Omega.{arith}
 use lib.Dec.{eqb}
-use lib.ListN.{length, get_or, set, length-set}
+use lib.ListN.{length, get_or, set, length-set, drop, replicate, length-replicate, get_or-replicate}
+use Rattle.std.proofs.lemmas.List.{length-take-le, get_or_append_left, get_or-append_right, get_or-drop}
 use lib.Seq.{get_or-set_same, get_or-set_other}
+use borrow.Rule.Slice.PartMut.{put_mid, mid_of}
 use borrow.Author.Tests.{eqb-true, eqb-false, ne_eqb}
 use Rattle.common.specs.Outcome.{Outcome, refused, given, Step, after}
 use Rattle.netkat_steps.specs.Handles.{Entry}
@@ -22,10 +24,10 @@ use Rattle.aut_steps.proofs.Wf.{state_grown}
 use Rattle.aut_query_steps.specs.Tables.{Tables, ExtTables}
 use Rattle.aut_query_steps.specs.Search.{capacity}
 use Rattle.aut_query_steps.specs.Pending.{Pending, Entries}
-use Rattle.aut_query_stage.specs.Lent.{tables_in}
+use Rattle.aut_query_calls.specs.Lent.{tables_in}
 use Rattle.aut_relations.specs.declared.Aut.{Aut as Lent}
 use Rattle.aut_sets.specs.Lent.{OnlyMarks}
-use Rattle.aut_empty_words.specs.Words.{entry_at, entries_of, seen_in, Stack}
+use Rattle.aut_empty_words.specs.Words.{entry_at, entries_of, seen_in, Stack, Emptied}
 
 -- one step after two others
 pub after_after : {S A B X : Type 0} (o : Outcome S A) (f : A → Step S B) (g : B → Step S X) → after (after o f) g ≡ after o (λ a σ. after (f a σ) g)
@@ -115,6 +117,19 @@ module _ {N : ℕ} {σ : Tables} {p : List ℕ} {n : ℕ} (S : Stack N σ p n) (
     room = omega (arith, S.room, taken_length);
     idle = zeroed;
   }
+
+-- the first n entries are zeroed
+pub emptied : {p ys : List ℕ} {n k : ℕ} → k ≡ 2 * n → 2 * n ≤ length p → ys ≡ replicate (length (mid_of 0 k p)) 0 → Emptied p n (put_mid 0 k p ys)
+emptied {p} {ys} {n} {k} q l e = record {
+  zero = λ j a. get_or_append_left ys (drop k p) 0 j (omega (arith, len, q)) ∙ ap (λ (z : List ℕ). get_or z j 0) whole ∙ get_or-replicate {A = ℕ} k j 0 0 (omega (arith, q));
+  beyond = λ j a. get_or-append_right ys (drop k p) k j 0 len (omega (arith, q)) ∙ get_or-drop k p (j - k) 0 ∙ ap (λ (i : ℕ). get_or p i 0) {x = k + (j - k)} {y = j} (omega (arith, q));
+}
+  where
+    whole : ys ≡ replicate k 0
+    whole = e ∙ ap (λ (k : ℕ). replicate k 0) (length-take-le k p (omega (arith, q)))
+
+    len : length ys ≡ k
+    len = ap length whole ∙ length-replicate {A = ℕ} k 0
 
 -- ---- capacity
 

@@ -10,27 +10,33 @@ use aut_relations::Aut;
 use aut_states::{Config, STATE, word};
 use sp::SP;
 
+// packets at a state
+#[derive(Clone, Copy)]
+pub struct Entry {
+    pub state: u32,
+    pub packets: SP,
+}
+
 // the packets seen at a state
 pub fn seen_at(aut: &Aut, config: Config, x: u32) -> SP
     requires { (12 * x + 11 < length aut.now.states.words.now) × (config.fields ≤ 31) }
     ensures { result.0 ≡ seen_in config.fields aut.now.states.words.now x }
 {
-    let word = aut.states.words[STATE * x as usize + word::SEEN];
-    word.checked_sub(1)
-        .map_or(sp::zero_at_depth(config.fields), SP)
+    let zero = sp::zero_at_depth(config.fields);
+    aut_query_calls::find_set(aut, x, word::SEEN).unwrap_or(zero)
 }
 
 // one more pending entry: n + 1, or None if no entry is left
-pub fn put(aut: &mut Aut, n: usize, target: u32, packets: SP) -> Option<usize>
+pub fn put(aut: &mut Aut, n: usize, e: Entry) -> Option<usize>
     ensures keeps { OnlyMarks aut.old aut.new }
     ensures states { aut.new.states ≡ aut.old.states }
-    ensures gives { Puts result aut.old.pending.now n target packets.0 aut.new.pending.now }
+    ensures gives { Puts result aut.old.pending.now n e.state e.packets.0 aut.new.pending.now }
 {
     if n >= aut_query_calls::capacity(aut) {
         return None;
     }
-    aut.pending[2 * n] = target;
-    aut.pending[2 * n + 1] = packets.0;
+    aut.pending[2 * n] = e.state;
+    aut.pending[2 * n + 1] = e.packets.0;
     Some(n + 1)
 }
 
@@ -46,13 +52,6 @@ pub fn clear_seen(aut: &mut Aut)
     }
 }
 
-fn clear_entries(pending: &mut [u32], n: usize)
-    requires { 2 * n ≤ length pending.old }
-    ensures { Emptied pending.old n pending.new }
-{
-    pending[..2 * n].fill(0);
-}
-
 // the first n pending entries go
 pub fn clear_pending(aut: &mut Aut, n: usize)
     requires { 2 * n ≤ length aut.old.pending.now }
@@ -60,5 +59,5 @@ pub fn clear_pending(aut: &mut Aut, n: usize)
     ensures states { aut.new.states ≡ aut.old.states }
     ensures gives { Emptied aut.old.pending.now n aut.new.pending.now }
 {
-    clear_entries(aut.pending, n);
+    aut.pending[0..2 * n].fill(0);
 }

@@ -53,9 +53,9 @@ use Rattle.aut_query_calls.specs.Working.{clear_in}
 use Rattle.aut_query_calls.specs.Working.{SetIn}
 use Rattle.aut_query_calls.proofs.Works.{working_begin}
 use Rattle.aut_relations.proofs.Kept.{keeps_trans}
-use Rattle.aut_live_words.specs.Work.{work_of, live_by, seconds, stack, Held, Doubled, Reaches, there, new, full, keep_words, clear_words}
+use Rattle.aut_live_words.specs.Work.{work_of, live_by, seconds, stack, Held, Doubled, Reaches, there, new, full, copy_words, clear_words}
 use Rattle.aut_live_words.specs.Clauses.{PreReach, PreKeep, PostClear}
-use Rattle.aut_live_words.proofs.Words.{seconds_same, seconds_split, seconds_one}
+use Rattle.aut_live_words.proofs.Words.{seconds_same, seconds_split, seconds_one, copy_other}
 use Rattle.aut_live_words.proofs.Held.{live_reached, live_fresh, held_fits, held_reached, held_listed, held_second, held_there, reverse_behind, seconds_new, tables_marked, Moved, reach_moved}
 use Rattle.aut_query_calls.specs.Working.{with_words}
 use Rattle.aut_live_reach.specs.Clauses.{ExploreAsked, exploring, Explores}
@@ -233,22 +233,12 @@ module _ {k : Config} {x : Lent} {i : ℕ} (Q : QueryAsked k x i) where
 -- ---- words 7 are written
 
 -- of states whose words 9 are their sets + 1
-pub kept_is : (xs : List ℕ) (live : ℕ → ℕ) (st : List ℕ) (k : ℕ) → ((y : ℕ) → Memᴰ y xs → work_of st y ≡ live y + 1) → table (keep_words xs st) k ≡ keep_in xs live (table st k)
-unfolding keep_words keep_in set_word
+pub kept_is : (xs : List ℕ) (live : ℕ → ℕ) (st : List ℕ) (k : ℕ) → ((y : ℕ) → Memᴰ y xs → work_of st y ≡ live y + 1) → table (copy_words 9 7 xs st) k ≡ keep_in xs live (table st k)
+unfolding copy_words work_of keep_in set_word
 kept_is [] live st k f = refl
 kept_is (y ∷ xs) live st k f =
     kept_is xs live (set st (12 * y + 7) (work_of st y)) k (λ z m. work_seven st y (work_of st y) z ∙ f z (Memᴰ.tail m))
     ∙ ap (λ (v : ℕ). keep_in xs live (table (set st (12 * y + 7) v) k)) (f y (Memᴰ.head refl))
-
-keep_length : (xs st : List ℕ) → length (keep_words xs st) ≡ length st
-unfolding keep_words
-keep_length [] st = refl
-keep_length (y ∷ xs) st = keep_length xs (set st (12 * y + 7) (work_of st y)) ∙ length-set st (12 * y + 7) (work_of st y)
-
-pub keep_other : (xs st : List ℕ) (z w : ℕ) → 8 ≤ w → w < 12 → get_or (keep_words xs st) (12 * z + w) 0 ≡ get_or st (12 * z + w) 0
-unfolding keep_words
-keep_other [] st z w a b = refl
-keep_other (y ∷ xs) st z w a b = keep_other xs (set st (12 * y + 7) (work_of st y)) z w a b ∙ get_or-set_other st (12 * y + 7) (12 * z + w) (work_of st y) 0 (λ q. omega arith)
 
 -- ---- words 9 are cleared
 
@@ -298,9 +288,9 @@ module _ {k : Config} {x : Lent} {i : ℕ} (Q : QueryAsked k x i) where
   live_word = (sets_reach Q).state
 
   -- a set that is stored
-  pub live_stored : 0 < word → {h : SP} → h.0 ≡ word - 1 → Lives k i x (Ok h) x
+  pub live_stored : {h : SP} → (0 < word) × (h.0 ≡ word - 1) → Lives k i x (Ok h) x
   unfolding live_packets live_of
-  live_stored a q = rw q (record {
+  live_stored (a, q) = rw q (record {
     post = done (query_laws k.fields k.limits) 0 1088
         (begin (query_laws k.fields k.limits) 0 1088 Q.query.ready
         (ap (λ (b : Bool). if b then given (tables_in x) (word - 1) else anew_by) (lt-ltb 0 word a)))
@@ -310,11 +300,11 @@ module _ {k : Config} {x : Lent} {i : ℕ} (Q : QueryAsked k x i) where
   abbrev then_kept : Found → Step Tables ℕ
   then_kept f τ = given (keep_lives f.states f.live τ) (f.live i)
 
-  anew : word ≤ 0 → live_packets k.fields (limits_of k.limits) (length x.pending.now / 2) i (tables_in x) ≡ after (live_sets k.fields (limits_of k.limits) (length x.pending.now / 2) i (tables_in x)) then_kept
+  anew : word ≡ 0 → live_packets k.fields (limits_of k.limits) (length x.pending.now / 2) i (tables_in x) ≡ after (live_sets k.fields (limits_of k.limits) (length x.pending.now / 2) i (tables_in x)) then_kept
   unfolding live_packets live_anew live_of
-  anew a = ap (λ (b : Bool). if b then given (tables_in x) (word - 1) else anew_by) (le-ltb 0 word a)
+  anew a = ap (λ (b : Bool). if b then given (tables_in x) (word - 1) else anew_by) (le-ltb 0 word (omega (arith, a)))
 
-  module _ (free : word ≤ 0) {y : Lent} where
+  module _ (free : word ≡ 0) {y : Lent} where
     pub live_refused : {e : Refusal} {r : Result SP Refusal} → IsErr r × IsErrAnd r (λ a. a ≡ e) → SetsAt k i x (Err e) y → Lives k i x r y
     live_refused q S = subst (λ (r : Result SP Refusal). Lives k i x r y) (sym (passed q))
         (record { post = record { is = anew free ∙ ap (λ (o : Outcome Tables Found). after o then_kept) S.post.is; then = tt } })
@@ -339,7 +329,7 @@ module _ {k : Config} {x : Lent} {i : ℕ} (Q : QueryAsked k x i) where
       pub live_keeps : PreKeep st1 y.pending.now n
       live_keeps = record { fits = omega (arith, S.held.room); states = λ j a. held_there S.held (get_or y.pending.now (2 * j + 1) 0) (held_second S.held j a) }
 
-      module _ {z : Lent} (K : OnlyMarks y z) (same : z.pending ≡ y.pending) (G : z.states.words.now ≡ keep_words xs st1) where
+      module _ {z : Lent} (K : OnlyMarks y z) (same : z.pending ≡ y.pending) (G : z.states.words.now ≡ copy_words 9 7 xs st1) where
         abbrev st2 : List ℕ
         st2 = z.states.words.now
 
@@ -358,7 +348,7 @@ module _ {k : Config} {x : Lent} {i : ℕ} (Q : QueryAsked k x i) where
           marks = keeps_trans K K'
 
           word_same : (v w : ℕ) → 8 ≤ w → w < 12 → get_or st2 (12 * v + w) 0 ≡ get_or st1 (12 * v + w) 0
-          word_same v w a b = ap (λ (u : List ℕ). get_or u (12 * v + w) 0) G ∙ keep_other xs st1 v w a b
+          word_same v w a b = ap (λ (u : List ℕ). get_or u (12 * v + w) 0) G ∙ copy_other 9 7 (omega arith) xs st1 v w b (λ q. omega arith)
 
           at_rest : AtRest st3
           unfolding work_of

@@ -1,18 +1,18 @@
 // live_packets of aut.rs: the start packets of a state's strings.
 #![tactic(auto)]
 
-ghost use Rattle.std.specs.Prelude.{◌/◌, length, OnOk};
+ghost use Rattle.std.specs.Prelude.{◌*◌, ◌/◌, length, OnOk};
 ghost use Rattle.aut_query_steps.specs.Live as M;
 ghost use Rattle.aut_query_stage.specs.Layer.{Zeroed};
 ghost use Rattle.aut_query_stage.specs.Lent.{tables_in, QueryAsked, GoesQuery};
 ghost use Rattle.aut_states.specs.Clauses.{limits_of};
 ghost use Rattle.aut_sets.specs.Lent.{SameLent};
 ghost use Rattle.aut_query_calls.specs.Working.{SetIn};
-ghost use Rattle.aut_live.specs.Clauses.{SetsAt};
+ghost use Rattle.aut_live.specs.Clauses.{END, SetsAt};
 
-use aut_live_words::set_at;
+use aut_live_words::{find_set, set_at};
 use aut_relations::Aut;
-use aut_states::{Config, STATE, word};
+use aut_states::{Config, word};
 use refusal::Refusal;
 use sp::SP;
 
@@ -32,12 +32,12 @@ pub fn live_packets(aut: &mut Aut, config: Config, x: u32) -> Result<SP, Refusal
     requires { QueryAsked config aut.old x }
     ensures keeps { SameLent aut.old aut.new }
     ensures pending { OnOk result (Zeroed aut.new.pending.now) }
-    ensures gives { GoesQuery config 0 1088 tables_in (SetIn config.fields) (λ h. h.0)
+    ensures gives { GoesQuery config 0 (2 * END) tables_in (SetIn config.fields) (λ h. h.0)
         (M.live_packets config.fields (limits_of config.limits)
         (length aut.old.pending.now / 2) x) aut.old result aut.new }
 {
-    if aut.states.words[STATE * x as usize + word::LIVE] > 0 {
-        return Ok(set_at(aut, x, word::LIVE));
+    if let Some(live) = find_set(aut, x, word::LIVE) {
+        return Ok(live);
     }
     let n = live_sets(aut, config, x)?;
     let live = set_at(aut, x, word::WORK);

@@ -1,5 +1,4 @@
 -- visit and explore: a state's calls, one after another, by the rule for a run of calls (aut_stage), and the loop over the states that wait.
-use borrow.Rule.Slice.Mut.{set_vals}
 use Rattle.std.specs.Prelude.{Option, Some, None, Result, Ok, Err, ok_or, if◌then◌else◌}
 use mathlib.Core.Path.{◌≡◌, refl, sym, ◌∙◌, ap, ap₂, subst, fun_ext}
 use mathlib.Core.Bool.{Bool}
@@ -18,11 +17,10 @@ use Rattle.spp_steps.specs.ImageModel as Images
 use Rattle.spp.specs.declared.SPP.{SPP}
 use Rattle.spp_image.specs.Reuse.{Written}
 use Rattle.aut_steps.specs.Wf.{states}
-use Rattle.aut_st_steps.specs.Edges.{edges}
 use Rattle.aut_st_steps.proofs.Places.{edge_at}
 use Rattle.aut_delta_steps.specs.Epsilon.{epsilon}
 use Rattle.aut_delta_steps.specs.Delta.{on_aut, start_of, count_of, list_at, delta}
-use Rattle.aut_delta_stage.specs.OnTables.{store_in, KeepsStore}
+use Rattle.aut_query_stage.specs.OnTables.{store_in, KeepsStore}
 use Rattle.aut_query_steps.specs.Tables.{Tables, on_base, making_sets}
 use Rattle.aut_query_steps.specs.Search.{capacity}
 use Rattle.aut_query_steps.specs.Live as M
@@ -46,14 +44,14 @@ use Rattle.aut_query_calls.specs.Working.{clear_in, WorkingIn, ListIn}
 use Rattle.aut_query_calls.specs.Working.{SetIn, RelIn}
 use Rattle.aut_query_calls.proofs.Ran.{Ran}
 use Rattle.aut_query_calls.proofs.Listed.{edge_in}
-use Rattle.aut_query_calls.proofs.Works.{asks_store, asks_epsilon}
+use Rattle.aut_query_calls.proofs.Works.{asks_store, asks_epsilon, tables_put, clear_written}
 use Rattle.aut_query_calls.proofs.Calls.{asks_image, epsilon_ran, bwd_ran, delta_ran}
 use Rattle.aut_relations.proofs.Kept.{keeps_refl, keeps_trans}
 use Rattle.aut_sets.proofs.Small.{set_small}
 use Rattle.aut_live_words.specs.Work.{work_of, live_by, seconds, Held, Doubled, Enqueues}
 use Rattle.aut_live_words.specs.Clauses.{PreEnqueue, PostEnqueue}
 use Rattle.aut_live_words.proofs.Words.{seconds_same, seconds_split, seconds_one, seconds_on, seconds_done}
-use Rattle.aut_live_words.proofs.Held.{same_rest, live_set, live_unwritten, held_ran, held_state, held_second, held_write, held_there, held_fits, tables_marked, clear_set_in, Moved, enqueue_moved, enqueue_is, enqueue_refused}
+use Rattle.aut_live_words.proofs.Held.{same_rest, live_set, live_unwritten, held_ran, held_state, held_second, held_write, held_there, held_fits, tables_marked, Moved, enqueue_moved, enqueue_is, enqueue_refused}
 use Rattle.aut_query_calls.specs.Working.{with_words}
 use Rattle.aut_live_reach.specs.Clauses.{VisitAsked, visited_state, visiting, visit_in, Further, Visits, ExploreAsked, exploring, Explores}
 
@@ -65,18 +63,6 @@ pub seconds_parts : (p : List ℕ) (k n : ℕ) → k ≤ n → seconds p 0 k ++ 
 seconds_parts p k n l = ap (λ (a : ℕ). seconds p 0 k ++ seconds p a (n - k)) {x = k} {y = 0 + k} (omega arith) ∙ sym (seconds_split p 0 k (n - k)) ∙ ap (seconds p 0) {x = k + (n - k)} {y = n} (omega arith)
 
 -- ---- visit
-
--- x, with v in word WORK of the state i
-abbrev with_work : Lent → (i v : ℕ) → Lent
-with_work x i v = record {
-  sp = x.sp;
-  spp = x.spp;
-  states = record { words = set_vals (set x.states.words.now (12 * i + 9) v) x.states.words; count = x.states.count };
-  members = x.members;
-  transitions = x.transitions;
-  pending = x.pending;
-  scratch = x.scratch;
-}
 
 -- x is the state visited. The calls one after the other, each with what it promised
 module _ {k : Config} {x₀ : Lent} {head n : ℕ} (P : VisitAsked k x₀ head n) {x : ℕ} (is : x ≡ get_or x₀.pending.now (2 * head + 1) 0) where
@@ -169,167 +155,166 @@ module _ {k : Config} {x₀ : Lent} {head n : ℕ} (P : VisitAsked k x₀ head n
       at_2 = next (query_laws N l) 0 1088 R2.post (record { from = omega arith; to = omega arith }) k3 at_1
 
       -- h is the set of x now
-      abbrev x₃ : Lent
-      x₃ = with_work x₂ x (h.0 + 1)
+      module _ {x₃ : Lent} (K3 : OnlyMarks x₂ x₃) (same3 : x₃.pending ≡ x₂.pending) (w3 : x₃.states.words.now ≡ set x₂.states.words.now (12 * x + 9) (h.0 + 1)) where
+        H3 : Held N l (tables_in x₃) x₃.scratch.now p n n
+        H3 = rw (tables_put K3 w3, K3.scratch) (held_write H2 x h.0 (here H2) R2.post.then.holds)
 
-      H3 : Held N l (tables_in x₃) x₃.scratch.now p n n
-      H3 = held_write H2 x h.0 (here H2) R2.post.then.holds
+        at_3 : At (k3 h.0 (clear_in x₃)) x₃
+        at_3 = rw K3.scratch
+            (subst (λ (τ : Tables). Stage (query_layer N l) 0 1088 whole (k3 h.0 τ) (clear_in x₀) τ x₀.scratch.now x₂.scratch.now) (sym (clear_written K3 x 9 (h.0 + 1) (omega arith) (omega arith) w3)) at_2)
 
-      at_3 : At (k3 h.0 (clear_in x₃)) x₃
-      at_3 = subst (λ (τ : Tables). Stage (query_layer N l) 0 1088 whole (k3 h.0 τ) (clear_in x₀) τ x₀.scratch.now x₂.scratch.now) (sym (clear_set_in (tables_in x₂) x 9 (h.0 + 1) (omega arith) (omega arith))) at_2
+        known3 : x < x₃.states.count
+        known3 = held_state H3 x (here H3)
 
-      known3 : x < x₃.states.count
-      known3 = held_state H3 x (here H3)
+        working3 : WorkingIn k x₃
+        working3 = record { fields = ap (λ s. s.fields) (K3.spp ∙ K2.spp) ∙ K1.spp.fields ∙ P.fields; working = H3.working }
 
-      working3 : WorkingIn k x₃
-      working3 = record { fields = ap (λ s. s.fields) K2.spp ∙ K1.spp.fields ∙ P.fields; working = H3.working }
+        pub visit_delta : DeltaAsked k x₃ x
+        visit_delta = record { store = asks_store working3; limit = H3.working.ready.limit; has = known3 }
 
-      pub visit_delta : DeltaAsked k x₃ x
-      visit_delta = record { store = asks_store working3; limit = H3.working.ready.limit; has = known3 }
+        module _ {r : Result ℕ Refusal} {f : Refusal} {y : Lent} (q : r ≡ Err f) where
+          pub visit_stuck_3 : KeepsStore x₃ y → Deltas {V = Unit {0}} k x x₃ (Err f) y → Visits k head n x₀ r y
+          visit_stuck_3 K G = rw q (record { post = record { post = stuck (query_laws N l) 0 1088 (delta_ran working3 known3 K G).post (k4 h.0) at_3 }; further = tt })
 
-      module _ {r : Result ℕ Refusal} {f : Refusal} {y : Lent} (q : r ≡ Err f) where
-        pub visit_stuck_3 : KeepsStore x₃ y → Deltas {V = Unit {0}} k x x₃ (Err f) y → Visits k head n x₀ r y
-        visit_stuck_3 K G = rw q (record { post = record { post = stuck (query_laws N l) 0 1088 (delta_ran working3 known3 K G).post (k4 h.0) at_3 }; further = tt })
+        module _ {x₄ : Lent} {u : Unit {0}} (K4 : KeepsStore x₃ x₄) (G4 : Deltas k x x₃ (Ok u) x₄) where
+          R4 : Ran k 0 1088 (ListIn N x) (λ (v : Unit {0}). list_at (store_in x₄) x) (on_base (delta N (limits_of l) x)) x₃ (Ok u) x₄
+          R4 = delta_ran working3 known3 K4 G4
 
-      module _ {x₄ : Lent} {u : Unit {0}} (K4 : KeepsStore x₃ x₄) (G4 : Deltas k x x₃ (Ok u) x₄) where
-        R4 : Ran k 0 1088 (ListIn N x) (λ (v : Unit {0}). list_at (store_in x₄) x) (on_base (delta N (limits_of l) x)) x₃ (Ok u) x₄
-        R4 = delta_ran working3 known3 K4 G4
+          kept : x₄.pending.now ≡ p
+          kept = ap (λ p. p.now) (K4.pending ∙ same3 ∙ K2.pending ∙ K1.pending)
 
-        kept : x₄.pending.now ≡ p
-        kept = ap (λ p. p.now) (K4.pending ∙ K2.pending ∙ K1.pending)
+          abbrev st₄ : List ℕ
+          st₄ = x₄.states.words.now
 
-        abbrev st₄ : List ℕ
-        st₄ = x₄.states.words.now
+          abbrev tr₄ : List ℕ
+          tr₄ = x₄.transitions.words.now
 
-        abbrev tr₄ : List ℕ
-        tr₄ = x₄.transitions.words.now
+          abbrev es : List Edge
+          es = list_at (store_in x₄) x
 
-        abbrev es : List Edge
-        es = list_at (store_in x₄) x
+          H4 : Held N l (tables_in x₄) x₄.scratch.now p n n
+          H4 = held_ran H3 R4.working R4.post.then.ext.sets R4.unwritten
 
-        H4 : Held N l (tables_in x₄) x₄.scratch.now p n n
-        H4 = held_ran H3 R4.working R4.post.then.ext.sets R4.unwritten
+          at_4 : At (k4 h.0 es (clear_in x₄)) x₄
+          at_4 = next (query_laws N l) 0 1088 R4.post (all_of 0 1088) (k4 h.0) at_3
 
-        at_4 : At (k4 h.0 es (clear_in x₄)) x₄
-        at_4 = next (query_laws N l) 0 1088 R4.post (all_of 0 1088) (k4 h.0) at_3
+          listed : 0 < count_of st₄ x
+          unfolding count_of
+          listed = omega (arith, R4.post.then.holds.stored.marked, clear_kept st₄ x 6 (omega arith))
 
-        listed : 0 < count_of st₄ x
-        unfolding count_of
-        listed = omega (arith, R4.post.then.holds.stored.marked, clear_kept st₄ x 6 (omega arith))
+          inside : 2 * (start_of st₄ x + (count_of st₄ x - 1)) ≤ length tr₄
+          unfolding count_of start_of
+          inside = omega (
+            arith,
+            (H4.working.ready.ordered.worked.lists.held x (held_state H4 x (here H4))).inside (get_or (clear st₄) (12 * x + 6) 0 - 1) (omega (arith, listed, clear_kept st₄ x 6 (omega arith))),
+            H4.working.ready.ordered.worked.lists.fit,
+            clear_kept st₄ x 5 (omega arith),
+            clear_kept st₄ x 6 (omega arith),
+          )
 
-        inside : 2 * (start_of st₄ x + (count_of st₄ x - 1)) ≤ length tr₄
-        unfolding count_of start_of
-        inside = omega (
-          arith,
-          (H4.working.ready.ordered.worked.lists.held x (held_state H4 x (here H4))).inside (get_or (clear st₄) (12 * x + 6) 0 - 1) (omega (arith, listed, clear_kept st₄ x 6 (omega arith))),
-          H4.working.ready.ordered.worked.lists.fit,
-          clear_kept st₄ x 5 (omega arith),
-          clear_kept st₄ x 6 (omega arith),
-        )
+          targets : (g : Edge) → Memᴰ g es → g.target < states (tables_in x₄).base.aut
+          targets g m = (R4.post.then.holds.edges g m).known
 
-        targets : (g : Edge) → Memᴰ g es → g.target < states (tables_in x₄).base.aut
-        targets g m = (R4.post.then.holds.edges g m).known
+          target_in : (i : ℕ) → i < count_of st₄ x - 1 → Memᴰ (edge_at tr₄ (start_of st₄ x + i)) es
+          unfolding list_at
+          target_in i lt = edge_in tr₄ (start_of st₄ x) (count_of st₄ x - 1) i lt
 
-        target_in : (i : ℕ) → i < count_of st₄ x - 1 → Memᴰ (edge_at tr₄ (start_of st₄ x + i)) es
-        unfolding list_at
-        target_in i lt = edge_in tr₄ (start_of st₄ x) (count_of st₄ x - 1) i lt
+          pub visit_enqueue : PreEnqueue N st₄ tr₄ x₄.pending.now n x
+          visit_enqueue = rw kept (record {
+            few = H4.working.ready.ready.few;
+            listed = record { state = held_there H4 x (here H4); some = listed; inside = inside };
+            targets = λ i lt. held_fits H4 (get_or tr₄ (2 * (start_of st₄ x + i)) 0) (targets (edge_at tr₄ (start_of st₄ x + i)) (target_in i lt));
+            fits = omega (arith, H4.room);
+          })
 
-        pub visit_enqueue : PreEnqueue N st₄ tr₄ x₄.pending.now n x
-        visit_enqueue = rw kept (record {
-          few = H4.working.ready.ready.few;
-          listed = record { state = held_there H4 x (here H4); some = listed; inside = inside };
-          targets = λ i lt. held_fits H4 (get_or tr₄ (2 * (start_of st₄ x + i)) 0) (targets (edge_at tr₄ (start_of st₄ x + i)) (target_in i lt));
-          fits = omega (arith, H4.room);
-        })
+          to_here : seconds p 0 head ++ x ∷ [] ≡ seconds p 0 (head + 1)
+          to_here = rw is (seconds_to p head)
 
-        to_here : seconds p 0 head ++ x ∷ [] ≡ seconds p 0 (head + 1)
-        to_here = rw is (seconds_to p head)
+          parts : (seconds p 0 head ++ x ∷ []) ++ waiting ≡ seconds p 0 n
+          parts = ap (λ (a : List ℕ). a ++ waiting) to_here ∙ seconds_parts p (head + 1) n (omega (arith, P.waits))
 
-        parts : (seconds p 0 head ++ x ∷ []) ++ waiting ≡ seconds p 0 n
-        parts = ap (λ (a : List ℕ). a ++ waiting) to_here ∙ seconds_parts p (head + 1) n (omega (arith, P.waits))
+          module _ {x₅ : Lent} (only : OnlyMarks x₄ x₅) where
+            abbrev st₅ : List ℕ
+            st₅ = x₅.states.words.now
 
-        module _ {x₅ : Lent} (only : OnlyMarks x₄ x₅) where
-          abbrev st₅ : List ℕ
-          st₅ = x₅.states.words.now
+            abbrev p₅ : List ℕ
+            p₅ = x₅.pending.now
 
-          abbrev p₅ : List ℕ
-          p₅ = x₅.pending.now
+            module _ {o : Option ℕ} (Q : PostEnqueue N n x o st₄ tr₄ x₄.pending.now st₅ p₅) where
+              all : Enqueues N (capacity lent) es n st₄ p o st₅ p₅
+              unfolding list_at
+              all = subst (λ (q : List ℕ). Enqueues N (capacity (length q / 2)) es n st₄ q o st₅ p₅) kept Q
 
-          module _ {o : Option ℕ} (Q : PostEnqueue N n x o st₄ tr₄ x₄.pending.now st₅ p₅) where
-            all : Enqueues N (capacity lent) es n st₄ p o st₅ p₅
-            unfolding list_at
-            all = subst (λ (q : List ℕ). Enqueues N (capacity (length q / 2)) es n st₄ q o st₅ p₅) kept Q
-
-          pub visit_full : PostEnqueue N n x None st₄ tr₄ x₄.pending.now st₅ p₅ → Visits k head n x₀ (Err refusal.Pending) x₅
-          visit_full Q = record {
-            post = record {
+            pub visit_full : PostEnqueue N n x None st₄ tr₄ x₄.pending.now st₅ p₅ → Visits k head n x₀ (Err refusal.Pending) x₅
+            visit_full Q = record {
               post = record {
-                is = at_4.is ∙ ap (λ (o : Outcome Tables (List ℕ)). after o (λ w. return (record { ends = h.0; waiting = w })))
-                    (enqueue_refused refl H4 targets (all Q) (seconds p 0 head ++ x ∷ []) waiting parts (clear_in x₄));
-                then = tt;
+                post = record {
+                  is = at_4.is ∙ ap (λ (o : Outcome Tables (List ℕ)). after o (λ w. return (record { ends = h.0; waiting = w })))
+                      (enqueue_refused refl H4 targets (all Q) (seconds p 0 head ++ x ∷ []) waiting parts (clear_in x₄));
+                  then = tt;
+                };
               };
-            };
-            further = tt;
-          }
-
-          module _ {m : ℕ} (Q : PostEnqueue N n x (Some m) st₄ tr₄ x₄.pending.now st₅ p₅) where
-            Mv : Moved N l (tables_in x₄) x₄.scratch.now p n st₅ p₅ m
-            Mv = enqueue_moved refl H4 targets (all Q)
-
-            ahead : (w : List ℕ) × ((seconds p 0 head ++ x ∷ []) ++ w ≡ seconds p₅ 0 m) × ((τ : Tables) → M.enqueue (capacity lent) es (seconds p 0 head ++ x ∷ []) waiting τ ≡ given τ w)
-            ahead = enqueue_is refl H4 targets (all Q) (seconds p 0 head ++ x ∷ []) waiting parts
-
-            -- the states up to x are as they were
-            before : seconds p₅ 0 (head + 1) ≡ seconds p 0 (head + 1)
-            before = seconds_same p p₅ 0 (head + 1) (λ i a b. Mv.low (2 * i + 1) (omega (arith, P.waits)))
-
-            waiting_is : ahead.0 ≡ seconds p₅ (head + 1) (m - (head + 1))
-            waiting_is = same_rest (seconds p 0 (head + 1)) ahead.0 (seconds p₅ (head + 1) (m - (head + 1)))
-                (ap (λ (a : List ℕ). a ++ ahead.0) (sym to_here) ∙ ahead.1 ∙ sym (seconds_parts p₅ (head + 1) m (omega (arith, P.waits, Mv.more)))
-                ∙ ap (λ (a : List ℕ). a ++ seconds p₅ (head + 1) (m - (head + 1))) before)
-
-            live_is : (y : ℕ) → live_by N st₅ y ≡ live_at x h.0 (live_by N x₀.states.words.now) y
-            live_is y = Mv.live y ∙ live_unwritten N (tables_in x₃) (tables_in x₄) R4.unwritten y
-                ∙ live_set N x₂.states.words.now x h.0 (omega (arith, visit_there)) y
-                ∙ ap (λ (v : ℕ). if eqb x y then h.0 else v) (live_unwritten N (tables_in x₁) (tables_in x₂) R2.unwritten y ∙ live_unwritten N (tables_in x₀) (tables_in x₁) R1.unwritten y)
-
-            ends_is : live_by N st₅ x ≡ h.0
-            ends_is = live_is x ∙ ap (λ (b : Bool). if b then h.0 else live_by N x₀.states.words.now x) (eq-eqb x x refl)
-
-            -- of the entry's state
-            ends_at : live_by N st₅ (visited_state x₀ head) ≡ h.0
-            ends_at = subst (λ (i : ℕ). live_by N st₅ i ≡ h.0) is ends_is
-
-            live_at_entry : (y : ℕ) → live_by N st₅ y ≡ live_at (visited_state x₀ head) h.0 (live_by N x₀.states.words.now) y
-            live_at_entry y = subst (λ (i : ℕ). live_by N st₅ y ≡ live_at i h.0 (live_by N x₀.states.words.now) y) is (live_is y)
-
-            tables : tables_in x₅ ≡ with_words st₅ (tables_in x₄)
-            tables = tables_marked only
-
-            cleared : clear_in x₅ ≡ clear_in x₄
-            cleared = ap (λ (σ : Tables). clear_tables σ) tables ∙ ap (λ (u : List ℕ). with_words u (tables_in x₄)) Mv.clear
-
-            at_5 : At (given (clear_in x₅) (visit_in k x₅ head (visited_state x₀ head) m)) x₅
-            at_5 = rw only.scratch (subst (λ (τ : Tables). Stage (query_layer N l) 0 1088 whole (given τ (visit_in k x₅ head (visited_state x₀ head) m)) (clear_in x₀) τ x₀.scratch.now x₄.scratch.now) (sym cleared)
-                (instead (query_laws N l) 0 1088 at_4
-                (ap (λ (o : Outcome Tables (List ℕ)). after o (λ w. return (record { ends = h.0; waiting = w }))) (ahead.2 (clear_in x₄))
-                ∙ ap₂ (λ (a : ℕ) (b : List ℕ). given (clear_in x₄) (record { ends = a; waiting = b })) (sym ends_at) waiting_is)))
-
-            pub visit_some : Visits k head n x₀ (Ok m) x₅
-            visit_some = record {
-              post = record { post = done (query_laws N l) 0 1088 at_5 tt };
-              further = record {
-                held = rw tables (rw only.scratch Mv.held);
-                live = λ y. live_at_entry y ∙ ap (λ (v : ℕ). if eqb (visited_state x₀ head) y then v else live_by N x₀.states.words.now y) (sym ends_at);
-                low = Mv.low;
-                more = Mv.more;
-                doubled = Mv.doubled;
-              };
+              further = tt;
             }
 
-          pub visit_done : {r : Result ℕ Refusal} (o : Option ℕ) → PostEnqueue N n x o st₄ tr₄ x₄.pending.now st₅ p₅ → r ≡ ok_or o refusal.Pending → Visits k head n x₀ r x₅
-          visit_done None Q q = rw q (visit_full Q)
-          visit_done (Some m) Q q = rw q (visit_some Q)
+            module _ {m : ℕ} (Q : PostEnqueue N n x (Some m) st₄ tr₄ x₄.pending.now st₅ p₅) where
+              Mv : Moved N l (tables_in x₄) x₄.scratch.now p n st₅ p₅ m
+              Mv = enqueue_moved refl H4 targets (all Q)
+
+              ahead : (w : List ℕ) × ((seconds p 0 head ++ x ∷ []) ++ w ≡ seconds p₅ 0 m) × ((τ : Tables) → M.enqueue (capacity lent) es (seconds p 0 head ++ x ∷ []) waiting τ ≡ given τ w)
+              ahead = enqueue_is refl H4 targets (all Q) (seconds p 0 head ++ x ∷ []) waiting parts
+
+              -- the states up to x are as they were
+              before : seconds p₅ 0 (head + 1) ≡ seconds p 0 (head + 1)
+              before = seconds_same p p₅ 0 (head + 1) (λ i a b. Mv.low (2 * i + 1) (omega (arith, P.waits)))
+
+              waiting_is : ahead.0 ≡ seconds p₅ (head + 1) (m - (head + 1))
+              waiting_is = same_rest (seconds p 0 (head + 1)) ahead.0 (seconds p₅ (head + 1) (m - (head + 1)))
+                  (ap (λ (a : List ℕ). a ++ ahead.0) (sym to_here) ∙ ahead.1 ∙ sym (seconds_parts p₅ (head + 1) m (omega (arith, P.waits, Mv.more)))
+                  ∙ ap (λ (a : List ℕ). a ++ seconds p₅ (head + 1) (m - (head + 1))) before)
+
+              live_is : (y : ℕ) → live_by N st₅ y ≡ live_at x h.0 (live_by N x₀.states.words.now) y
+              live_is y = Mv.live y ∙ live_unwritten N (tables_in x₃) (tables_in x₄) R4.unwritten y
+                  ∙ ap (λ (u : List ℕ). live_by N u y) w3 ∙ live_set N x₂.states.words.now x h.0 (omega (arith, visit_there)) y
+                  ∙ ap (λ (v : ℕ). if eqb x y then h.0 else v) (live_unwritten N (tables_in x₁) (tables_in x₂) R2.unwritten y ∙ live_unwritten N (tables_in x₀) (tables_in x₁) R1.unwritten y)
+
+              ends_is : live_by N st₅ x ≡ h.0
+              ends_is = live_is x ∙ ap (λ (b : Bool). if b then h.0 else live_by N x₀.states.words.now x) (eq-eqb x x refl)
+
+              -- of the entry's state
+              ends_at : live_by N st₅ (visited_state x₀ head) ≡ h.0
+              ends_at = subst (λ (i : ℕ). live_by N st₅ i ≡ h.0) is ends_is
+
+              live_at_entry : (y : ℕ) → live_by N st₅ y ≡ live_at (visited_state x₀ head) h.0 (live_by N x₀.states.words.now) y
+              live_at_entry y = subst (λ (i : ℕ). live_by N st₅ y ≡ live_at i h.0 (live_by N x₀.states.words.now) y) is (live_is y)
+
+              tables : tables_in x₅ ≡ with_words st₅ (tables_in x₄)
+              tables = tables_marked only
+
+              cleared : clear_in x₅ ≡ clear_in x₄
+              cleared = ap (λ (σ : Tables). clear_tables σ) tables ∙ ap (λ (u : List ℕ). with_words u (tables_in x₄)) Mv.clear
+
+              at_5 : At (given (clear_in x₅) (visit_in k x₅ head (visited_state x₀ head) m)) x₅
+              at_5 = rw only.scratch (subst (λ (τ : Tables). Stage (query_layer N l) 0 1088 whole (given τ (visit_in k x₅ head (visited_state x₀ head) m)) (clear_in x₀) τ x₀.scratch.now x₄.scratch.now) (sym cleared)
+                  (instead (query_laws N l) 0 1088 at_4
+                  (ap (λ (o : Outcome Tables (List ℕ)). after o (λ w. return (record { ends = h.0; waiting = w }))) (ahead.2 (clear_in x₄))
+                  ∙ ap₂ (λ (a : ℕ) (b : List ℕ). given (clear_in x₄) (record { ends = a; waiting = b })) (sym ends_at) waiting_is)))
+
+              pub visit_some : Visits k head n x₀ (Ok m) x₅
+              visit_some = record {
+                post = record { post = done (query_laws N l) 0 1088 at_5 tt };
+                further = record {
+                  held = rw tables (rw only.scratch Mv.held);
+                  live = λ y. live_at_entry y ∙ ap (λ (v : ℕ). if eqb (visited_state x₀ head) y then v else live_by N x₀.states.words.now y) (sym ends_at);
+                  low = Mv.low;
+                  more = Mv.more;
+                  doubled = Mv.doubled;
+                };
+              }
+
+            pub visit_done : {r : Result ℕ Refusal} (o : Option ℕ) → PostEnqueue N n x o st₄ tr₄ x₄.pending.now st₅ p₅ → r ≡ ok_or o refusal.Pending → Visits k head n x₀ r x₅
+            visit_done None Q q = rw q (visit_full Q)
+            visit_done (Some m) Q q = rw q (visit_some Q)
 
 -- ---- explore
 

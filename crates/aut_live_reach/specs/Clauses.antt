@@ -12,6 +12,7 @@ use Rattle.aut_states.specs.declared.Config.{Config}
 use Rattle.aut_relations.specs.declared.Aut.{Aut as Lent}
 use Rattle.aut_query_calls.specs.Working.{clear_in}
 use Rattle.aut_live_words.specs.Work.{live_by, seconds, Held, Doubled}
+pub use Rattle.aut_delta.specs.Clauses.{END}
 
 -- ---- a visit
 
@@ -40,7 +41,7 @@ pub record Further (k : Config) (x : Lent) (head n : ℕ) (y : Lent) (m : ℕ) :
   pub doubled : Doubled x.pending.now n → Doubled y.pending.now m
 
 pub record Visits (k : Config) (head n : ℕ) (x : Lent) (r : Result ℕ Refusal) (y : Lent) : Type 0 where
-  pub post : GoesQuery k 0 1088 clear_in (λ τ v. Unit) (visit_in k y head (visited_state x head)) (visiting k x head n) x r y
+  pub post : GoesQuery k 0 (2 * END) clear_in (λ τ v. Unit) (visit_in k y head (visited_state x head)) (visiting k x head n) x r y
   pub further : IfOk r (Further k x head n y)
 
 -- ---- all visits
@@ -56,6 +57,6 @@ exploring k x = M.explore k.fields (limits_of k.limits) (length x.pending.now / 
 
 -- n states are reached, in the order of their entries, each with its set
 pub record Explores (k : Config) (x : Lent) (r : Result ℕ Refusal) (y : Lent) : Type 0 where
-  pub post : GoesQuery k 0 1088 clear_in (λ τ f. Unit) (λ n. found (seconds y.pending.now 0 n) (live_by k.fields y.states.words.now)) (exploring k x) x r y
+  pub post : GoesQuery k 0 (2 * END) clear_in (λ τ f. Unit) (λ n. found (seconds y.pending.now 0 n) (live_by k.fields y.states.words.now)) (exploring k x) x r y
   pub held : IfOk r (λ n. Held k.fields k.limits (tables_in y) y.scratch.now y.pending.now n n)
   pub doubled : IfOk r (λ n. Doubled y.pending.now n)

@@ -5,7 +5,7 @@ ghost use Rattle.aut_sets.specs.Lent.{SameLent};
 ghost use Rattle.aut_live_reach.specs.Clauses.{VisitAsked, Visits, ExploreAsked, Explores};
 
 use aut_relations::Aut;
-use aut_states::{Config, STATE, word};
+use aut_states::{Config, word};
 use refusal::Refusal;
 
 // the state of entry `head`: its set, its list, and the targets of that
@@ -17,7 +17,7 @@ fn visit(aut: &mut Aut, config: Config, head: usize, n: usize) -> Result<usize, 
     let x = aut_live_words::state_at(aut, head);
     let e = aut_epsilon::epsilon(aut, config, x)?;
     let ends = aut_sets::bwd(aut, config, e)?;
-    aut.states.words[STATE * x as usize + word::WORK] = ends.0 + 1;
+    aut_live_words::put_set(aut, x, word::WORK, ends);
     aut_delta::delta(aut, config, x)?;
     aut_live_words::enqueue(aut, config, n, x).ok_or(Refusal::Pending)
 }

@@ -26,15 +26,12 @@ use Rattle.aut_query_steps.specs.Search.{capacity}
 use Rattle.aut_query_steps.specs.Live as M
 use Rattle.aut_query_steps.specs.Live.{live_at}
 use Rattle.aut_query_steps.proofs.ExploreLaws.{any_mem}
-use Rattle.aut_query_stage.specs.Layer.{QueryReady}
-use Rattle.aut_query_stage.specs.Lent.{tables_in}
 use Rattle.aut_states.specs.declared.Limits.{Limits}
-use Rattle.aut_relations.specs.declared.Aut.{Aut as Lent}
-use Rattle.aut_sets.specs.Lent.{OnlyMarks}
-use Rattle.aut_free.specs.Clear.{clear_tables, clear}
+use Rattle.aut_free.specs.Clear.{clear}
 use Rattle.aut_free.proofs.Clearing.{clear_set, clear_length}
 use Rattle.aut_query_calls.specs.Working.{Working}
 use Rattle.aut_query_calls.specs.Working.{Unwritten, with_words}
+pub use Rattle.aut_query_calls.proofs.Works.{tables_marked, clear_set_in, working_set}
 use Rattle.aut_live_words.specs.Work.{work_of, live_by, seconds, Held, Doubled, Reaches, there, new, full, Enqueues, none, one, over}
 use Rattle.aut_live_words.proofs.Words.{seconds_length, seconds_same, seconds_split, seconds_one, second_in}
 
@@ -139,22 +136,6 @@ module _ {N : ℕ} {l : Limits} {σ : Tables} {s p : List ℕ} {n m : ℕ} (H : 
 
   pub held_second : (i : ℕ) → i < n → 0 < work_of st₀ (get_or p (2 * i + 1) 0)
   held_second i a = held_reached (get_or p (2 * i + 1) 0) (second_in p 0 n i (omega arith) (omega arith))
-
--- ---- tables with other words of states
-
--- what a call on words of states and pending entries alone leaves
-pub tables_marked : {x y : Lent} → OnlyMarks x y → tables_in y ≡ with_words y.states.words.now (tables_in x)
-tables_marked {x} {y} k = rw k.sp (rw k.spp (rw k.count (rw k.members (rw k.transitions refl))))
-
-module _ (σ : Tables) (x w v : ℕ) (a : 8 ≤ w) (b : w < 12) where
-  pub clear_set_in : clear_tables (with_words (set σ.base.aut.states.words (12 * x + w) v) σ) ≡ clear_tables σ
-  clear_set_in = ap (λ (u : List ℕ). with_words u σ) (clear_set σ.base.aut.states.words x w v a b)
-
-  pub working_set : {N : ℕ} {l : Limits} {s : List ℕ} → x < states σ.base.aut → Working N l σ s → Working N l (with_words (set σ.base.aut.states.words (12 * x + w) v) σ) s
-  working_set {N} {l} {s} k W = record {
-    ready = subst (λ (τ : Tables). QueryReady N l τ s) (sym clear_set_in) W.ready;
-    fresh = λ j y. get_or-set_other σ.base.aut.states.words (12 * x + w) j v 0 (λ q. omega arith) ∙ W.fresh j y;
-  }
 
 -- ---- a word 9 is written
 

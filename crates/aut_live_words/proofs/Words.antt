@@ -1,16 +1,19 @@
 -- Entries of the pending table and words of states: what is written, and the loops over lists of states.
-use Rattle.std.specs.Prelude.{Option, Some, None, if◌then◌else◌}
+use Rattle.std.specs.Prelude.{Option, Some, None, is_some, if◌then◌else◌}
 use mathlib.Core.Path.{◌≡◌, refl, sym, ◌∙◌, ap, ap₂, subst}
+use mathlib.Core.Logic.{◌≢◌}
 use mathlib.Core.List.{List, [], ◌∷◌, ◌++◌, Memᴰ}
 use Prim.Native.Nat.{ℕ, zero, suc, ◌+◌, ◌*◌, ◌-◌, ◌/◌, ◌≤◌, ◌<◌}
 use native.Mathlib.Omega.{arith}
 use lib.Dec.{eqb}
-use lib.ListN.{length, get_or, set, take, drop}
+use lib.ListN.{length, get_or, set, length-set}
 use lib.Seq.{get_or-set_same, get_or-set_other}
 use borrow.Author.Tests.{eqb-true, eqb-false}
 use Rattle.netkat_steps.specs.ListSteps.{Edge}
 use Rattle.sp_steps.specs.Model as Sp
 use Rattle.spp_steps.proofs.Laws.{by_test}
+use Rattle.aut_steps.specs.Tables.{words}
+use Rattle.aut_states.proofs.Slices.{words_take}
 use Rattle.aut_st_steps.specs.Edges.{edges}
 use Rattle.aut_st_steps.specs.Places.{put_edge, seek_edge, seek_target}
 use Rattle.aut_st_steps.proofs.Places.{edge_at, edges_length, edges_on, edges_done}
@@ -21,9 +24,11 @@ use Rattle.aut_st_edges.proofs.Parts.{found}
 use Rattle.aut_st_source.specs.declared.Span.{Span}
 use Rattle.aut_st_source.specs.Stored.{PostFind}
 use Rattle.aut_query_steps.specs.Search.{capacity}
-use Rattle.aut_live_words.specs.Work.{work_of, seconds, Reaches, there, new, full, Enqueues, none, one, over, keep_words, clear_words}
+use Rattle.sp.specs.declared.SP.{SP}
+use Rattle.aut_query_calls.specs.Working.{FoundSet}
+use Rattle.aut_live_words.specs.Work.{work_of, seconds, Reaches, there, new, full, Enqueues, none, one, over, copy_words, clear_words}
 use Rattle.aut_live_words.specs.Clauses.{PreReach, Listed, PreEnqueue, PostEnqueue, PostClear}
-use mathlib.Core.Bool.{Bool}
+use mathlib.Core.Bool.{Bool, true, false, true≢false}
 use Rattle.aut_query_steps.specs.Live as M
 use Rattle.aut_query_steps.specs.Live.{label_to}
 
@@ -70,18 +75,34 @@ second_in p a (suc k) i l r = by_test (eqb i a)
 
 -- ---- reach
 
-module _ {N : ℕ} {st p : List ℕ} {n y : ℕ} where
-  pub reach_there : 0 < get_or st (12 * y + 9) 0 → Reaches N (capacity (length p / 2)) n y st p (Some n) st p
-  unfolding work_of
-  reach_there l = there l
+-- whether a word holds a set, by what it is
+module _ {v : ℕ} (r : Option SP) (F : FoundSet v r) {b : Bool} (told : b ≡ is_some r) where
+  some : b ≡ true → 0 < v
+  some t = go r F (sym told ∙ t)
+    where
+      go : (r : Option SP) → FoundSet v r → is_some r ≡ true → 0 < v
+      go (Some s) (l, q) e = l
+      go None q e = absurd (true≢false (sym e))
 
-  pub reach_new : {z k : ℕ} → get_or st (12 * y + 9) 0 ≤ 0 → k ≡ capacity (length p / 2) → n < k → z ≡ Sp.zero_at N → Reaches N (capacity (length p / 2)) n y st p (Some (n + 1)) (set st (12 * y + 9) (z + 1)) (put_edge p n y y)
-  unfolding work_of
-  reach_new {z} {k} w q l e = subst (λ (v : ℕ). Reaches N (capacity (length p / 2)) n y st p (Some (n + 1)) (set st (12 * y + 9) (v + 1)) (put_edge p n y y)) (sym e) (new (omega (arith, w)) (omega (arith, q, l)))
+  none_there : b ≡ false → v ≡ 0
+  none_there t = go r F (sym told ∙ t)
+    where
+      go : (r : Option SP) → FoundSet v r → is_some r ≡ false → v ≡ 0
+      go (Some s) p e = absurd (true≢false e)
+      go None q e = q
 
-  pub reach_full : {k : ℕ} → get_or st (12 * y + 9) 0 ≤ 0 → k ≡ capacity (length p / 2) → k ≤ n → Reaches N (capacity (length p / 2)) n y st p None st p
+module _ {N : ℕ} {st p : List ℕ} {n y : ℕ} (r : Option SP) (F : FoundSet (get_or st (12 * y + 9) 0) r) {b : Bool} (told : b ≡ is_some r) where
+  pub reach_there : b ≡ true → Reaches N (capacity (length p / 2)) n y st p (Some n) st p
   unfolding work_of
-  reach_full w q l = full (omega (arith, w)) (omega (arith, q, l))
+  reach_there t = there (some r F told t)
+
+  pub reach_new : {z k : ℕ} → b ≡ false → k ≡ capacity (length p / 2) → n < k → z ≡ Sp.zero_at N → Reaches N (capacity (length p / 2)) n y st p (Some (n + 1)) (set st (12 * y + 9) (z + 1)) (put_edge p n y y)
+  unfolding work_of
+  reach_new {z} {k} t q l e = subst (λ (v : ℕ). Reaches N (capacity (length p / 2)) n y st p (Some (n + 1)) (set st (12 * y + 9) (v + 1)) (put_edge p n y y)) (sym e) (new (none_there r F told t) (omega (arith, q, l)))
+
+  pub reach_full : {k : ℕ} → b ≡ false → k ≡ capacity (length p / 2) → k ≤ n → Reaches N (capacity (length p / 2)) n y st p None st p
+  unfolding work_of
+  reach_full t q l = full (none_there r F told t) (omega (arith, q, l))
 
 -- there are no more entries than the table has
 pub reach_fits : {N n y m : ℕ} {st p st' p' : List ℕ} → n ≤ length p / 2 → Reaches N (capacity (length p / 2)) n y st p (Some m) st' p' → m ≤ length p / 2
@@ -153,25 +174,37 @@ module _ {N : ℕ} {st₀ tr p₀ : List ℕ} {n₀ x : ℕ} (P : PreEnqueue N s
     pub enqueue_end : list.count ≤ i → PostEnqueue N n₀ x (Some n) st₀ tr p₀ st p
     enqueue_end le = whole (v.comes (Some n) st p (subst (λ (es : List Edge). Enqueues N (capacity (length p₀ / 2)) es n st p (Some n) st p) (sym (edges_done tr (list.start + i) list.count i le)) none))
 
--- ---- keep
+-- ---- copy
 
-pub record Keeping (n : ℕ) (st₀ p st : List ℕ) (i : ℕ) : Type 0 where
-  pub is : keep_words (seconds p i (n - i)) st ≡ keep_words (seconds p 0 n) st₀
+pub record Copying (n a b : ℕ) (st₀ p st : List ℕ) (i : ℕ) : Type 0 where
+  pub is : copy_words a b (seconds p i (n - i)) st ≡ copy_words a b (seconds p 0 n) st₀
 
-module _ {st₀ p : List ℕ} {n : ℕ} where
-  pub keep_begin : Keeping n st₀ p st₀ 0
-  keep_begin = record { is = ap (λ (l : List ℕ). keep_words l st₀) (sym (seconds_all p n)) }
+module _ {st₀ p : List ℕ} {n a b : ℕ} where
+  pub copy_begin : Copying n a b st₀ p st₀ 0
+  copy_begin = record { is = ap (λ (l : List ℕ). copy_words a b l st₀) (sym (seconds_all p n)) }
 
-  module _ {st : List ℕ} {i : ℕ} (v : Keeping n st₀ p st i) where
-    pub keep_again : i < n → Keeping n st₀ p (set st (12 * get_or p (2 * i + 1) 0 + 7) (get_or st (12 * get_or p (2 * i + 1) 0 + 9) 0)) (i + 1)
-    unfolding keep_words work_of
-    keep_again l = record {
-      is = sym (ap (λ (l : List ℕ). keep_words l st) (seconds_on p n i l)) ∙ v.is;
+  module _ {st : List ℕ} {i : ℕ} (v : Copying n a b st₀ p st i) where
+    pub copy_again : i < n → Copying n a b st₀ p (set st (12 * get_or p (2 * i + 1) 0 + b) (get_or st (12 * get_or p (2 * i + 1) 0 + a) 0)) (i + 1)
+    unfolding copy_words
+    copy_again l = record {
+      is = sym (ap (λ (l : List ℕ). copy_words a b l st) (seconds_on p n i l)) ∙ v.is;
     }
 
-    pub keep_end : n ≤ i → st ≡ keep_words (seconds p 0 n) st₀
-    unfolding keep_words
-    keep_end l = sym (ap (λ (l : List ℕ). keep_words l st) (seconds_done p i n i l)) ∙ v.is
+    pub copy_end : n ≤ i → st ≡ copy_words a b (seconds p 0 n) st₀
+    unfolding copy_words
+    copy_end l = sym (ap (λ (l : List ℕ). copy_words a b l st) (seconds_done p i n i l)) ∙ v.is
+
+-- what it leaves
+pub copy_length : (a b : ℕ) (xs st : List ℕ) → length (copy_words a b xs st) ≡ length st
+unfolding copy_words
+copy_length a b [] st = refl
+copy_length a b (y ∷ xs) st = copy_length a b xs (set st (12 * y + b) (get_or st (12 * y + a) 0)) ∙ length-set st (12 * y + b) (get_or st (12 * y + a) 0)
+
+module _ (a b : ℕ) (less : b < 12) where
+  pub copy_other : (xs st : List ℕ) (z w : ℕ) → w < 12 → w ≢ b → get_or (copy_words a b xs st) (12 * z + w) 0 ≡ get_or st (12 * z + w) 0
+  unfolding copy_words
+  copy_other [] st z w k q = refl
+  copy_other (y ∷ xs) st z w k q = copy_other xs (set st (12 * y + b) (get_or st (12 * y + a) 0)) z w k q ∙ get_or-set_other st (12 * y + b) (12 * z + w) (get_or st (12 * y + a) 0) 0 (λ e. q (omega arith))
 
 -- ---- clear
 
@@ -233,16 +266,14 @@ label_none t tr a (suc k) l =
     (λ b. ap (λ (c : Bool). if c then M.by (get_or tr (2 * a + 1) 0) else label_to t (edges tr (a + 1) k)) b
     ∙ label_none t tr (a + 1) k (omega (arith, ap (λ (c : Bool). if c then 0 else suc (seek_edge (eqb t) (edges tr (a + 1) k))) b)))
 
--- of the list of s, found or not in the part where it stands
-module _ {st tr : List ℕ} {s : ℕ} (P : Listed st tr s) {list : Span} (F : PostFind st s list) (t : ℕ) where
-  abbrev to : ℕ
-  to = 2 * (list.start + list.count) - 2 * list.start
-
+-- of the list of s, found or not among its words
+module _ {st tr : List ℕ} {s : ℕ} (P : Listed st tr s) {list : Span} (F : PostFind st s list) (t : ℕ) {xs : List ℕ} (W : xs ≡ words tr (2 * list.start) (2 * list.count)) where
   abbrev Found : Option ℕ → Type 0
-  Found r = Finds t (listed (take to (drop (2 * list.start) tr))) r
+  Found r = Finds t (listed xs) r
 
   in_list : (r : Option ℕ) → Found r → Finds t (edges tr list.start list.count) r
-  in_list r f = found tr list.start list.count to (omega arith) (listed_inside P F) t r f
+  in_list r f = found tr list.start list.count (2 * list.count) refl (listed_inside P F) t r
+      (subst (λ (ys : List ℕ). Finds t (listed ys) r) (W ∙ words_take tr (2 * list.start) (2 * list.count) (omega (arith, listed_inside P F))) f)
 
   module _ {i : ℕ} (f : Found (Some i)) where
     pub label_inside : i < list.count

@@ -56,6 +56,11 @@ pub record PreKeep (st p : List ℕ) (n : ℕ) : Type 0 where
   pub fits : n ≤ length p / 2
   pub states : (i : ℕ) → i < n → 12 * get_or p (2 * i + 1) 0 + 11 < length st
 
+pub record PreCopy (st p : List ℕ) (n a b : ℕ) : Type 0 where
+  pub states : PreKeep st p n
+  pub from : a < 12
+  pub to : b < 12
+
 pub record PostClear (n : ℕ) (st p st' p' : List ℕ) : Type 0 where
   pub is : st' ≡ clear_words (seconds p 0 n) st
   pub pending : Cleared n p p'

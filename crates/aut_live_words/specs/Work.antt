@@ -65,10 +65,10 @@ pub data Enlarges (most m s h : ℕ) (st p : List ℕ) : Option ℕ → List ℕ
   more : (h ≡ work_of st s - 1 → ⊥) → m < most → Enlarges most m s h st p (Some (m + 1)) (set st (12 * s + 9) (h + 1)) (set p (2 * m) s)
   full : (h ≡ work_of st s - 1 → ⊥) → most ≤ m → Enlarges most m s h st p None st p
 
--- words 7 from words 9
-unfoldable pub keep_words : List ℕ → List ℕ → List ℕ
-keep_words [] st = st
-keep_words (x ∷ xs) st = keep_words xs (set st (12 * x + 7) (work_of st x))
+-- words b from words a
+unfoldable pub copy_words : (a b : ℕ) → List ℕ → List ℕ → List ℕ
+copy_words a b [] st = st
+copy_words a b (x ∷ xs) st = copy_words a b xs (set st (12 * x + b) (get_or st (12 * x + a) 0))
 
 -- words 9 zero
 unfoldable pub clear_words : List ℕ → List ℕ → List ℕ

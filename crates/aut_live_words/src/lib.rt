@@ -2,32 +2,24 @@
 // i-th state reached, its first word the i-th of the states to be looked at, the last on top.
 #![tactic(auto)]
 
-ghost use Rattle.std.specs.Prelude.{◌≡◌, ◌+◌, ◌*◌, ◌-◌, ◌/◌, ◌<◌, length, get_or};
+ghost use Rattle.std.specs.Prelude.{◌≡◌, ◌+◌, ◌*◌, ◌/◌, ◌<◌, length, get_or};
 ghost use Rattle.aut_query_steps.specs.Search as M;
 ghost use Rattle.aut_sets.specs.Lent.{OnlyMarks};
-ghost use Rattle.aut_live_words.specs.Work.{seconds, keep_words, Reaches, Enlarges};
-ghost use Rattle.aut_live_words.specs.Clauses.{PreReach, PreEnqueue, PostEnqueue, PreLabel, PostLabel, PreEnlarge, PreKeep, PostClear};
+ghost use Rattle.aut_live_words.specs.Work.{seconds, copy_words, Reaches, Enlarges};
+ghost use Rattle.aut_live_words.specs.Clauses.{PreReach, PreEnqueue, PostEnqueue, PreLabel, PostLabel, PreEnlarge, PreKeep, PreCopy, PostClear};
 
+pub use aut_query_calls::{find_set, put_set, set_at};
 use aut_relations::Aut;
 use aut_states::{Config, STATE, word};
 use sp::SP;
 use spp::SPP;
 
-// the set that word w of state x holds, as its handle + 1
-pub fn set_at(aut: &Aut, x: u32, w: usize) -> SP
-    requires { (12 * x + w < length aut.now.states.words.now) ×
-        (0 < get_or aut.now.states.words.now (12 * x + w) 0) }
-    ensures { result.0 ≡ get_or aut.now.states.words.now (12 * x + w) 0 - 1 }
+// the state reached of this entry
+pub fn state_at(aut: &Aut, entry: usize) -> u32
+    requires { 2 * entry + 1 < length aut.now.pending.now }
+    ensures { result ≡ get_or aut.now.pending.now (2 * entry + 1) 0 }
 {
-    SP(aut.states.words[STATE * x as usize + w] - 1)
-}
-
-// the i-th state reached
-pub fn state_at(aut: &Aut, i: usize) -> u32
-    requires { 2 * i + 1 < length aut.now.pending.now }
-    ensures { result ≡ get_or aut.now.pending.now (2 * i + 1) 0 }
-{
-    aut.pending[2 * i + 1]
+    aut.pending[2 * entry + 1]
 }
 
 // y goes behind the n states, unless it is there; how many there are then, or None if no entry is left
@@ -38,13 +30,12 @@ pub fn reach(aut: &mut Aut, config: Config, n: usize, y: u32) -> Option<usize>
         aut.old.states.words.now aut.old.pending.now result aut.new.states.words.now
         aut.new.pending.now }
 {
-    let i = STATE * y as usize + word::WORK;
-    if aut.states.words[i] > 0 {
+    if find_set(aut, y, word::WORK).is_some() {
         return Some(n);
     }
     if n < aut_query_calls::capacity(aut) {
         let zero = sp::zero_at_depth(config.fields);
-        aut.states.words[i] = zero.0 + 1;
+        put_set(aut, y, word::WORK, zero);
         aut.pending[2 * n] = y;
         aut.pending[2 * n + 1] = y;
         return Some(n + 1);
@@ -76,8 +67,7 @@ pub fn label_to(aut: &Aut, t: u32, s: u32) -> Option<SPP>
     ensures { PostLabel aut.now.states.words.now aut.now.transitions.words.now t s result }
 {
     let list = aut_st_source::stored_list(aut, s);
-    let (from, to) = (2 * list.start, 2 * (list.start + list.count));
-    let i = aut_st_edges::seek_target(&aut.transitions.words[from..to], t)?;
+    let i = aut_st_edges::seek_target(list.words(&aut.transitions), t)?;
     Some(list.get(aut, i).label)
 }
 
@@ -94,11 +84,25 @@ pub fn enlarge(aut: &mut Aut, m: usize, s: u32, combined: SP) -> Option<usize>
         return Some(m);
     }
     if m < aut_query_calls::capacity(aut) {
-        aut.states.words[STATE * s as usize + word::WORK] = combined.0 + 1;
+        put_set(aut, s, word::WORK, combined);
         aut.pending[2 * m] = s;
         return Some(m + 1);
     }
     None
+}
+
+// word `to` of the n states gets their word `from`
+pub fn copy_sets(aut: &mut Aut, n: usize, from: usize, to: usize)
+    requires { PreCopy aut.old.states.words.now aut.old.pending.now n from to }
+    ensures keeps { OnlyMarks aut.old aut.new }
+    ensures pending { aut.new.pending ≡ aut.old.pending }
+    ensures gives { aut.new.states.words.now ≡
+        copy_words from to (seconds aut.old.pending.now 0 n) aut.old.states.words.now }
+{
+    for i in 0..n {
+        let at = STATE * (state_at(aut, i) as usize);
+        aut.states.words[at + to] = aut.states.words[at + from];
+    }
 }
 
 // the sets of the n states are kept
@@ -107,12 +111,9 @@ pub fn keep(aut: &mut Aut, n: usize)
     ensures keeps { OnlyMarks aut.old aut.new }
     ensures pending { aut.new.pending ≡ aut.old.pending }
     ensures gives { aut.new.states.words.now ≡
-        keep_words (seconds aut.old.pending.now 0 n) aut.old.states.words.now }
+        copy_words 9 7 (seconds aut.old.pending.now 0 n) aut.old.states.words.now }
 {
-    for i in 0..n {
-        let at = STATE * state_at(aut, i) as usize;
-        aut.states.words[at + word::LIVE] = aut.states.words[at + word::WORK];
-    }
+    copy_sets(aut, n, word::WORK, word::LIVE);
 }
 
 // words WORK and the n entries are zero again

@@ -38,8 +38,8 @@ use Rattle.aut_steps.proofs.StateLaws.{nodes_goes}
 use Rattle.aut_delta_steps.specs.Epsilon.{epsilon}
 use Rattle.aut_delta_steps.specs.Delta.{Store, put_aut, on_aut, list_at, delta}
 use Rattle.aut_delta_steps.specs.Fits.{tables as readings}
-use Rattle.aut_delta_stage.specs.OnTables.{store_in, KeepsStore, GoesStore}
-use Rattle.aut_delta_stage.proofs.OnTables.{epsilon_goes}
+use Rattle.aut_query_stage.specs.OnTables.{store_in, KeepsStore, GoesStore}
+use Rattle.aut_query_stage.proofs.OnTables.{epsilon_goes}
 use Rattle.aut_query_steps.specs.Tables.{Tables, diagrams, put_sets, put_base, put_relations, on_sets, on_base, making_sets, making_relations, WfTables}
 use Rattle.aut_query_steps.proofs.Tables.{both_wf}
 use Rattle.aut_query_steps.proofs.Steps.{gone_refl, Ends, comes, Steps, ends_map, sets_step, images_step, relations_step, goes_ends, epsilon_ends, delta_ends}
@@ -51,7 +51,7 @@ use Rattle.aut_states.specs.declared.Limits.{Limits as Given}
 use Rattle.aut_relations.specs.declared.Aut.{Aut as Lent}
 use Rattle.aut_relations.specs.Behind.{Modifies}
 use Rattle.aut_relations.specs.Lent.{nodes_in, aut_in, Keeps, KeepsExprs, Does, Unless, Handles}
-use Rattle.aut_epsilon.specs.Asked.{Later}
+use Rattle.aut_query_stage.specs.Asked.{Later}
 use Rattle.aut_sets.specs.Lent.{sets_in, diagrams_in, OnlyScratch, OnlySets}
 use Rattle.aut_sets.specs.Clauses.{NotesBehind, Gives, PreSet, PreSets, PostSize, PreImage, PreLead, PostHas, PreLift, PreCount, PostCount}
 use Rattle.aut_free.specs.Clear.{clear_tables}

@@ -3,25 +3,22 @@ use mathlib.Core.Path.{◌≡◌, refl, sym, ◌∙◌, ap, subst}
 use mathlib.Core.List.{List}
 use Prim.Native.Nat.{ℕ, ◌+◌, ◌*◌, ◌≤◌, ◌<◌}
 use native.Mathlib.Omega.{arith}
-use lib.ListN.{get_or, set}
+use lib.ListN.{set}
 use lib.Seq.{get_or-set_other}
 use Rattle.std.specs.Prelude.{Result, Ok, Err}
 use Rattle.common.specs.Outcome.{refused, Step}
 use Rattle.refusal.specs.declared.Refusal.{Refusal}
 use Rattle.refusal.specs.Numbers.{number_of}
-use Rattle.common.specs.Runs.{table}
 use Rattle.spp_steps.proofs.Laws.{ext_refl}
 use Rattle.spp.specs.Clauses.{SameStore}
-use Rattle.aut_steps.specs.Tables.{aut}
-use Rattle.aut_steps.specs.Wf.{ExtAut, WfAut}
+use Rattle.aut_steps.specs.Wf.{ExtAut, WfAut, states}
 use Rattle.aut_steps.proofs.Wf.{extm_refl}
-use Rattle.aut_delta_steps.specs.Delta.{store}
 use Rattle.aut_delta_steps.specs.Epsilon.{epsilon_of}
 use Rattle.aut_delta_steps.proofs.Noted.{good_same}
 use Rattle.aut_delta_steps.specs.Wf.{Epsilons, WfStore}
 use Rattle.aut_delta_steps.proofs.Wf.{epsilons_grown, worked_aut}
-use Rattle.aut_delta_stage.specs.OnTables.{store_in, StoreAsked, Prepared}
-use Rattle.aut_query_steps.specs.Tables.{Tables, tables}
+use Rattle.aut_query_stage.specs.OnTables.{store_in, StoreAsked, Prepared}
+use Rattle.aut_query_steps.specs.Tables.{Tables}
 use Rattle.aut_query_steps.proofs.Tables.{later_refl}
 use Rattle.aut_query_stage.specs.Layer.{QueryReady}
 use Rattle.aut_query_stage.specs.Lent.{tables_in, QueryAsked, Leaves, query_layer, GoesQuery}
@@ -31,14 +28,14 @@ use Rattle.aut_states.specs.declared.Config.{Config}
 use Rattle.aut_states.specs.declared.Limits.{Limits}
 use Rattle.aut_stage.specs.Rule.{Post}
 use Rattle.aut_relations.specs.declared.Aut.{Aut as Lent}
-use Rattle.aut_relations.specs.Lent.{nodes_in, aut_in, members_in, transitions_in}
-use Rattle.aut_sets.specs.Lent.{sets_in, OnlyScratch, OnlyMarks}
-use Rattle.aut_epsilon.specs.Asked.{EpsilonAsked}
+use Rattle.aut_relations.specs.Lent.{nodes_in, aut_in, members_in}
+use Rattle.aut_sets.specs.Lent.{OnlyScratch, OnlyMarks}
+use Rattle.aut_query_stage.specs.Asked.{EpsilonAsked}
 use Rattle.aut_free.specs.Clear.{clear, clear_tables}
 use Rattle.aut_free.proofs.Clear.{clear_aut, clear_store, AtRest}
 use Rattle.aut_free.proofs.Clearing.{clear_length, clear_kept, clear_set}
 use Rattle.aut_free.proofs.Free.{clear_tables_rest}
-use Rattle.aut_query_calls.specs.Working.{clear_in, Working, WorkingIn}
+use Rattle.aut_query_calls.specs.Working.{clear_in, with_words, Working, WorkingIn}
 use Rattle.aut_query_calls.proofs.Ran.{Ran}
 
 -- ---- from the beginning, to the end
@@ -129,27 +126,31 @@ kept_working {N} {l = l} {x = x} {y = y} W K p =
 
 -- ---- words 8 to 11 were written
 
+module _ (σ : Tables) (x w v : ℕ) (a : 8 ≤ w) (b : w < 12) where
+  pub clear_set_in : clear_tables (with_words (set σ.base.aut.states.words (12 * x + w) v) σ) ≡ clear_tables σ
+  clear_set_in = ap (λ (u : List ℕ). with_words u σ) (clear_set σ.base.aut.states.words x w v a b)
+
+  pub working_set : {N : ℕ} {l : Limits} {s : List ℕ} → x < states σ.base.aut → Working N l σ s → Working N l (with_words (set σ.base.aut.states.words (12 * x + w) v) σ) s
+  working_set {N} {l} {s} k W = record {
+    ready = subst (λ (τ : Tables). QueryReady N l τ s) (sym clear_set_in) W.ready;
+    fresh = λ j y. get_or-set_other σ.base.aut.states.words (12 * x + w) j v 0 (λ q. omega arith) ∙ W.fresh j y;
+  }
+
+-- what a call on words of states and pending entries alone leaves: x's tables, with other words of states
+pub tables_marked : {x y : Lent} → OnlyMarks x y → tables_in y ≡ with_words y.states.words.now (tables_in x)
+tables_marked K = rw K.sp (rw K.spp (rw K.count (rw K.members (rw K.transitions refl))))
+
+-- .. the words st
+pub tables_put : {x y : Lent} {st : List ℕ} → OnlyMarks x y → y.states.words.now ≡ st → tables_in y ≡ with_words st (tables_in x)
+tables_put {x} K q = tables_marked K ∙ ap (λ (u : List ℕ). with_words u (tables_in x)) q
+
 module _ {x y : Lent} (K : OnlyMarks x y) where
-  -- y's tables are those of x, with other words of states
-  marked : tables_in y ≡ tables (sets_in x) (store (aut (nodes_in x) (table y.states.words.now x.states.count) (members_in x)) (transitions_in x))
-  marked = rw K.sp (rw K.spp (rw K.count (rw K.members (rw K.transitions refl))))
-
   pub marks_clear : clear y.states.words.now ≡ clear x.states.words.now → clear_in y ≡ clear_in x
-  marks_clear q = ap clear_tables marked ∙ ap (λ (u : List ℕ). tables (sets_in x) (store (aut (nodes_in x) (table u x.states.count) (members_in x)) (transitions_in x))) q
-
-  module _ {N : ℕ} {l : Limits} (W : Working N l (tables_in x) x.scratch.now) where
-    pub marks_working : clear y.states.words.now ≡ clear x.states.words.now → ((j : ℕ) → 12 * x.states.count ≤ j → get_or y.states.words.now j 0 ≡ 0) → Working N l (tables_in y) y.scratch.now
-    marks_working q f = record {
-      ready = rw K.scratch (subst (λ (τ : Tables). QueryReady N l τ x.scratch.now) (sym (marks_clear q)) W.ready);
-      fresh = rw K.count f;
-    }
+  marks_clear q = ap clear_tables (tables_marked K) ∙ ap (λ (u : List ℕ). with_words u (tables_in x)) q
 
   module _ (i w v : ℕ) (a : 8 ≤ w) (b : w < 12) (q : y.states.words.now ≡ set x.states.words.now (12 * i + w) v) where
-    clear_same : clear y.states.words.now ≡ clear x.states.words.now
-    clear_same = ap clear q ∙ clear_set x.states.words.now i w v a b
-
     pub clear_written : clear_in y ≡ clear_in x
-    clear_written = marks_clear clear_same
+    clear_written = ap clear_tables (tables_put K q) ∙ clear_set_in (tables_in x) i w v a b
 
     pub working_written : {N : ℕ} {l : Limits} → i < x.states.count → Working N l (tables_in x) x.scratch.now → Working N l (tables_in y) y.scratch.now
-    working_written m W = marks_working W clear_same (λ j z. ap (λ (u : List ℕ). get_or u j 0) q ∙ get_or-set_other x.states.words.now (12 * i + w) j v 0 (λ e. omega arith) ∙ W.fresh j z)
+    working_written m W = rw (tables_put K q, K.scratch) (working_set (tables_in x) i w v a b m W)

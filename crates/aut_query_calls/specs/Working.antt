@@ -1,8 +1,9 @@
 -- 01, "Lent tables": words 8 to 11 of the states are zero between queries. While a query runs, seen sets stand in words 8 (`is_empty`) and live sets under work in words 9 (`live_packets`), each as handle + 1,
 -- 0 for none. What holds then of the tables and of scratch: with words 8 to 11 zero they are as a query finds them. And what a call comes to: the step on the tables with these words zero.
-use Rattle.std.specs.Prelude.{◌≡◌, ℕ, ◌+◌, ◌*◌, ◌≤◌, ◌<◌, get_or}
+use Rattle.std.specs.Prelude.{◌≡◌, ℕ, Option, Some, None, ◌+◌, ◌*◌, ◌-◌, ◌≤◌, ◌<◌, get_or}
 use mathlib.Core.List.{List, Memᴰ}
 use Rattle.netkat_steps.specs.ListSteps.{Edge}
+use Rattle.sp.specs.declared.SP.{SP}
 use Rattle.sp_steps.specs.Wf as SpLaws
 use Rattle.spp_steps.specs.Wf.{ValidAt}
 use Rattle.aut_steps.specs.Wf.{states}
@@ -59,3 +60,10 @@ words_in σ = σ.base.aut.states.words
 
 abbrev pub with_words : List ℕ → Tables → Tables
 with_words st σ = in_tables (λ u. st) σ
+
+-- ---- a set in a word
+
+-- a word holds the set s, or none
+abbrev pub FoundSet : ℕ → Option SP → Type 0
+FoundSet v (Some s) = (0 < v) × (s.0 ≡ v - 1)
+FoundSet v None = v ≡ 0

@@ -27,7 +27,7 @@ use Rattle.aut_relations.specs.Behind.{cached}
 use Rattle.aut_relations.proofs.Behind.{cached_kept}
 use Rattle.aut_relations.specs.Lent.{Unless}
 use Rattle.aut_stage.specs.Rule.{Laws, Post}
-use Rattle.aut_query_stage.specs.Layer.{Readable, QueryReady}
+use Rattle.aut_query_stage.specs.Layer.{Readable, Resting, QueryReady}
 use Rattle.aut_query_stage.specs.Lent.{Notable, Leaves, query_layer}
 
 module _ (N : ℕ) (σ τ : Tables) (s : SpLaws.Ext σ.sets τ.sets) (t : Ext σ.base.aut.nodes τ.base.aut.nodes) where
@@ -77,24 +77,26 @@ pub sound_leaves : {N a n : ℕ} {σ τ : Tables} {s s' : List ℕ} → ExtTable
 sound_leaves {N} {σ = σ} {τ = τ} w p r =
     sound_notes (sound_map (readable_ext N σ τ w.sets w.grown.nodes) r) (notes_map (notable_readable τ) p.notes)
 
--- later tables in order, and scratch as it is left
+-- other tables in order and at rest, and scratch with a cache that is right for them
+pub query_with : {N : ℕ} {l : Limits} {σ τ : Tables} {s s' : List ℕ} → QueryReady N l σ s → WfTables N (limits_of l) τ → Resting τ.base.aut.states.words → length s' ≡ length s → Sound (Readable N τ) (cached s') → QueryReady N l τ s'
+query_with R o rest len b = record {
+  ready = record {
+    few = R.ready.few;
+    good = o.worked.good;
+    room = omega (arith, R.ready.room);
+    sound = sound_map (λ op x y r v. v.relations) b;
+    list = R.ready.list;
+    products = R.ready.products;
+  };
+  ordered = o;
+  limit = R.limit;
+  sound = b;
+  resting = rest;
+}
+
+-- later tables, and scratch as it is left
 pub query_ready : {N : ℕ} {l : Limits} {a n : ℕ} {σ τ : Tables} {s s' : List ℕ} → QueryReady N l σ s → ExtTables σ τ → WfTables N (limits_of l) τ → Leaves N a n τ s s' → length s' ≡ length s → QueryReady N l τ s'
-query_ready {N} {σ = σ} {τ = τ} {s' = s'} R w o p len =
-    let b : Sound (Readable N τ) (cached s') = sound_leaves w p R.sound in
-    record {
-      ready = record {
-        few = R.ready.few;
-        good = o.worked.good;
-        room = omega (arith, R.ready.room);
-        sound = sound_map (λ op x y r v. v.relations) b;
-        list = R.ready.list;
-        products = R.ready.products;
-      };
-      ordered = o;
-      limit = R.limit;
-      sound = b;
-      resting = λ x i l m. w.others x i l m ∙ R.resting x i l m;
-    }
+query_ready R w o p len = query_with R o (λ x i l m. w.others x i l m ∙ R.resting x i l m) len (sound_leaves w p R.sound)
 
 pub query_laws : (N : ℕ) (l : Limits) → Laws (query_layer N l)
 query_laws N l = record {

@@ -20,7 +20,7 @@ use sp::SP;
 use spp::{SPP, SPPstore, SPPview};
 
 // the relation nodes, to be read, for so many fields
-fn relations_of<'a>(spp: &'a SPPstore, fields: u32) -> SPPview<'a>
+pub fn relations_of<'a>(spp: &'a SPPstore, fields: u32) -> SPPview<'a>
     ensures { (result.nodes.now ≡ spp.now.nodes.now) × (result.count ≡ spp.now.count) × (result.fields ≡ fields) }
 {
     SPPview {

@@ -26,11 +26,11 @@ use Rattle.aut_relations.specs.declared.Aut.{Aut as Lent}
 use Rattle.aut_sets.specs.Lent.{OnlyMarks}
 use Rattle.aut_free.specs.Clear.{clear_tables}
 use Rattle.aut_query_calls.specs.Working.{clear_in}
-use Rattle.aut_live_words.specs.Work.{seconds}
-use Rattle.aut_live_words.specs.Clauses.{PreKeep}
+use Rattle.aut_live_words.specs.Work.{seconds, copy_words}
+use Rattle.aut_live_words.specs.Clauses.{PreKeep, PreCopy}
 use Rattle.aut_live_words.proofs.Words.{seconds_length}
 use Rattle.aut_why_words.specs.Walk.{Walk, HasSets}
-use Rattle.aut_why_words.specs.Words.{same_words, copy_words, PreCopy}
+use Rattle.aut_why_words.specs.Words.{same_words}
 use Rattle.aut_live_words.proofs.Held.{tables_marked}
 use Rattle.aut_query_calls.specs.Working.{with_words}
 use Rattle.aut_why_words.proofs.Walks.{walk_there, walk_keeps, walk_copied, clear_copied, has_copied, same_sets, no_test}

@@ -37,19 +37,20 @@ use Rattle.aut_sets.specs.Lent.{OnlyMarks}
 use Rattle.aut_free.specs.Clear.{clear_tables}
 use Rattle.aut_free.proofs.Free.{clear_keep_lives}
 use Rattle.aut_query_calls.specs.Working.{clear_in, Working}
-use Rattle.aut_live_words.specs.Work.{work_of, live_by, seconds, keep_words}
+use Rattle.aut_live_words.specs.Work.{work_of, live_by, seconds, copy_words}
 use Rattle.aut_live_words.specs.Clauses.{PreKeep}
+use Rattle.aut_live_words.proofs.Words.{copy_other}
 use Rattle.aut_live_words.proofs.Held.{tables_marked, live_reached, held_reached, held_listed, held_second, held_there}
 use Rattle.aut_query_calls.specs.Working.{with_words}
 use Rattle.aut_live.specs.Clauses.{SetsAt}
-use Rattle.aut_live.proofs.Living.{kept_is, keep_other}
+use Rattle.aut_live.proofs.Living.{kept_is}
 use Rattle.aut_why_words.specs.Walk.{Walk}
 use Rattle.aut_why.specs.Loop.{AllAsked, all_rounds, AllAt}
 use Rattle.aut_why.specs.Clauses.{as_rounds, WhyAt}
 
 -- words behind the states are not written
-keep_fresh : (xs st : List ℕ) (k j : ℕ) → ((x : ℕ) → Memᴰ x xs → x < k) → 12 * k ≤ j → get_or (keep_words xs st) j 0 ≡ get_or st j 0
-unfolding keep_words
+keep_fresh : (xs st : List ℕ) (k j : ℕ) → ((x : ℕ) → Memᴰ x xs → x < k) → 12 * k ≤ j → get_or (copy_words 9 7 xs st) j 0 ≡ get_or st j 0
+unfolding copy_words work_of
 keep_fresh [] st k j f l = refl
 keep_fresh (x ∷ xs) st k j f l =
     keep_fresh xs (set st (12 * x + 7) (work_of st x)) k j (λ y m. f y (Memᴰ.tail m)) l
@@ -97,7 +98,7 @@ module _ {k : Config} {x : Lent} {i : ℕ} (P : QueryAsked k x i) where
     ordered_2 : WfTables N (limits_of k.limits) kept
     ordered_2 = kept_ordered (clear_in y) ss live reach.ordered reach.links reach.lives
 
-    module _ {z : Lent} (K : OnlyMarks y z) (p : z.pending ≡ y.pending) (E : z.states.words.now ≡ keep_words ss y.states.words.now) where
+    module _ {z : Lent} (K : OnlyMarks y z) (p : z.pending ≡ y.pending) (E : z.states.words.now ≡ copy_words 9 7 ss y.states.words.now) where
       kept_tables : clear_in z ≡ kept
       kept_tables =
           ap clear_tables (tables_marked K) ∙ ap (λ (u : List ℕ). clear_tables (with_words u (tables_in y))) E
@@ -116,7 +117,7 @@ module _ {k : Config} {x : Lent} {i : ℕ} (P : QueryAsked k x i) where
       walk_at = record {
         working = working_2;
         links = λ v m. subst (λ (τ : Tables). Linked τ.base ss v) (sym kept_tables) (linked_ext reach.ordered.worked later_2 (reach.links v m));
-        rest = λ v w a b no. ap (λ (u : List ℕ). get_or u (12 * v + w) 0) E ∙ keep_other ss y.states.words.now v w a b ∙ by_test (eqb w 9)
+        rest = λ v w a b no. ap (λ (u : List ℕ). get_or u (12 * v + w) 0) E ∙ copy_other 9 7 (omega arith) ss y.states.words.now v w b (λ q. omega arith) ∙ by_test (eqb w 9)
             (λ e. subst (λ (w : ℕ). get_or y.states.words.now (12 * v + w) 0 ≡ 0) (sym (eqb-true w 9 e)) (by_test (ltb 0 (get_or y.states.words.now (12 * v + 9) 0))
             (λ t. absurd (no (held_listed S.held v (ltb-true 0 (get_or y.states.words.now (12 * v + 9) 0) t))))
             (λ t. omega (arith, ltb-false 0 (get_or y.states.words.now (12 * v + 9) 0) t))))

@@ -11,7 +11,7 @@ use Rattle.aut_relations.specs.declared.Aut.{Aut as Lent}
 use Rattle.aut_query_calls.specs.Working.{clear_in}
 use Rattle.aut_live_words.specs.Work.{seconds}
 use Rattle.aut_why_words.specs.Walk.{Standing}
-use Rattle.aut_why_rounds.specs.Clauses.{hops_of}
+pub use Rattle.aut_why_rounds.specs.Clauses.{hops_of}
 
 abbrev pub as_rounds : List ℕ → List Sets → Rounds
 as_rounds ss ws = record { states = ss; sets = ws }

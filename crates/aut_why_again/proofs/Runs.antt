@@ -7,7 +7,7 @@ use native.Mathlib.Omega.{arith}
 use lib.Dec.{eqb}
 use lib.ListN.{length, get_or}
 use borrow.Author.Tests.{eqb-true, eqb-false}
-use Rattle.std.specs.Prelude.{Ok, Err}
+use Rattle.std.specs.Prelude.{Result, Ok, Err, IsOk}
 use Rattle.common.specs.Outcome.{given}
 use Rattle.common.proofs.Follow.{given_same, refused≢given}
 use Rattle.refusal.specs.declared.Refusal.{Refusal}
@@ -101,6 +101,10 @@ module _ (g : Config) (x : Lent) {n : ℕ} {ws : List Sets} (S : StandingIn g x 
   module _ {before : Sets} {y : Lent} where
     pub zero_refused : {e : Refusal} → Rounded g true before n x (Err e) y → ⊥
     zero_refused D = refused≢given (sym D.post.post.is ∙ stands.1)
+
+    pub zero_stands : (r : Result Unit Refusal) → Rounded g true before n x r y → IsOk r
+    zero_stands (Ok u) D = refl
+    zero_stands (Err e) D = absurd (zero_refused D)
 
     pub zero_turned : {u : Unit} → Rounded g true before n x (Ok u) y → OnlySearch x y → y.pending ≡ x.pending → Turned N x.pending.now n (round_at N ws 0) (tables_in x) (tables_in y) x.scratch.now y.scratch.now
     zero_turned {u} D K P = record {

@@ -5,7 +5,7 @@ use mathlib.Core.List.{List, Memᴰ}
 use Prim.Native.Nat.{ℕ, suc, ◌+◌, ◌*◌, ◌-◌, ◌<◌}
 use native.Mathlib.Omega.{arith}
 use lib.ListN.{length, get_or, set}
-use Rattle.std.specs.Prelude.{Ok, Err}
+use Rattle.std.specs.Prelude.{Result, Ok, Err, IsOk}
 use Rattle.common.specs.Outcome.{Outcome, given, Step}
 use Rattle.common.proofs.Follow.{given_same, refused≢given}
 use Rattle.netkat_steps.specs.ListSteps.{Edge}
@@ -56,6 +56,10 @@ search_tables {x} {y} K e = ap₂ tables e base
 module _ {g : Config} {o : Step Tables ℕ} {x y : Lent} {u : ℕ} (q : o (clear_in x) ≡ given (clear_in x) u) where
   pub not_refused : {e : Refusal} → GivesSet g o x (Err e) y → ⊥
   not_refused D = refused≢given (sym D.post.is ∙ q)
+
+  pub stands_still : (r : Result SP Refusal) → GivesSet g o x r y → IsOk r
+  stands_still (Ok h) D = refl
+  stands_still (Err e) D = absurd (not_refused D)
 
   module _ {h : SP} (D : GivesSet g o x (Ok h) y) where
     same : given (clear_in y) h.0 ≡ given (clear_in x) u

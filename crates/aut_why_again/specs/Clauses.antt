@@ -122,10 +122,9 @@ pub record Earlier (N : ℕ) (l : Limits) (σ : Tables) (s p : List ℕ) (n : �
 abbrev pub EarlierIn : Config → Lent → (n : ℕ) → List Sets → (j mark : ℕ) → Type 0
 EarlierIn g x n ws j mark = Earlier g.fields g.limits (tables_in x) x.scratch.now x.pending.now n ws j mark
 
-pub record PreSetsFor (g : Config) (x : Lent) (n j mark step : ℕ) : Type 0 where
+pub record PreSetsFor (g : Config) (x : Lent) (n j mark : ℕ) : Type 0 where
   pub rounds : List Sets
   pub earlier : EarlierIn g x n rounds j mark
-  pub some : 0 < step
 
 pub record FromMark (N : ℕ) (p : List ℕ) (n : ℕ) (ws : List Sets) (j r : ℕ) (σ τ : Tables) (s s' : List ℕ) : Type 0 where
   pub low : r ≤ j

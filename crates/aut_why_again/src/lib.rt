@@ -1,13 +1,22 @@
 // An earlier round of `why` is worked out again, which makes no node: the sets that a hop is picked from. The words of the states are those of aut_why_words.
 #![tactic(auto)]
 
-ghost use Rattle.std.specs.Prelude.{◌≡◌};
+ghost use Rattle.std.specs.Prelude.{◌≡◌, ◌<◌};
 ghost use Rattle.aut_sets.specs.Lent.{OnlySearch};
 ghost use Rattle.aut_why_again.specs.Clauses.{PreTurnAgain, PostTurnAgain, PreStart, PostStart, PreTurns, PostTurns, PreForward, PostForward, PreRemake, PostRemake, PreSetsFor, PostFromMark, PostSetsFor};
 
 use aut_relations::Aut;
 use aut_states::{Config, STATE};
 use aut_why_words::word;
+
+// the rounds over n states: words KEPT have round `mark`, to go on from; an earlier one is made again up to a number that `step` divides
+#[derive(Clone, Copy)]
+pub struct Rounds {
+    pub n: usize,
+    pub step: usize,
+    pub mark: usize,
+    pub ghost some: { 0 < step },
+}
 
 // round 0; its sets stand, so it is not refused
 fn start(aut: &mut Aut, config: Config, n: usize)
@@ -16,9 +25,8 @@ fn start(aut: &mut Aut, config: Config, n: usize)
     ensures pending { aut.new.pending ≡ aut.old.pending }
     ensures gives { PostStart config n aut.old aut.new }
 {
-    if let Ok(()) = aut_why_rounds::round(aut, config, true, n) {
-        aut_why_marks::restore(aut, n, word::UNDER);
-    }
+    aut_why_rounds::round(aut, config, true, n).unwrap();
+    aut_why_marks::restore(aut, n, word::UNDER);
 }
 
 // the set of s in the next round, which stands, so it is not refused; where no target's set changed it stays
@@ -28,14 +36,13 @@ fn turn_again(aut: &mut Aut, config: Config, s: u32)
     ensures pending { aut.new.pending ≡ aut.old.pending }
     ensures gives { PostTurnAgain config s aut.old aut.new }
 {
-    let at = STATE * (s as usize);
     if !aut_why_marks::changed(aut, s) {
+        let at = STATE * (s as usize);
         aut.states.words[at + word::UNDER] = aut.states.words[at + word::BEFORE];
         return;
     }
-    if let Ok(h) = aut_why_rounds::turn(aut, config, s) {
-        aut.states.words[at + word::UNDER] = h.0 + 1;
-    }
+    let h = aut_why_rounds::turn(aut, config, s).unwrap();
+    aut_live_words::put_set(aut, s, word::UNDER, h);
 }
 
 // the next round, in words UNDER
@@ -77,36 +84,34 @@ fn remake(aut: &mut Aut, config: Config, n: usize, k: usize)
 }
 
 // a round up to j that is kept: the one that was, or the last one whose number `step` divides
-fn from_mark(aut: &mut Aut, config: Config, n: usize, j: usize, mark: usize, step: usize) -> usize
-    requires { PreSetsFor config aut.old n j mark step }
+fn from_mark(aut: &mut Aut, config: Config, rounds: Rounds, j: usize) -> usize
+    requires { PreSetsFor config aut.old rounds.n j rounds.mark }
     ensures keeps { OnlySearch aut.old aut.new }
     ensures pending { aut.new.pending ≡ aut.old.pending }
-    ensures gives { PostFromMark config n j mark aut.old result aut.new }
+    ensures gives { PostFromMark config rounds.n j rounds.mark aut.old result aut.new }
 {
-    if j < mark {
-        let k = j - j % step;
-        remake(aut, config, n, k);
+    if j < rounds.mark {
+        let k = j - j % rounds.step;
+        remake(aut, config, rounds.n, k);
         return k;
     }
-    aut_why_marks::restore(aut, n, word::KEPT);
-    mark
+    aut_why_marks::restore(aut, rounds.n, word::KEPT);
+    rounds.mark
 }
 
-// Words BEFORE of the n states get round j. Words KEPT have round `mark`, to go on from if it is not later than j; the round that they have now is given back.
-pub fn sets_for(
-    aut: &mut Aut,
-    config: Config,
-    n: usize,
-    j: usize,
-    mark: usize,
-    step: usize,
-) -> usize
-    requires { PreSetsFor config aut.old n j mark step }
+// Words BEFORE of the states get round j. The rounds are given back with the one that words KEPT have now.
+pub fn sets_for(aut: &mut Aut, config: Config, rounds: Rounds, j: usize) -> Rounds
+    requires { PreSetsFor config aut.old rounds.n j rounds.mark }
     ensures keeps { OnlySearch aut.old aut.new }
     ensures pending { aut.new.pending ≡ aut.old.pending }
-    ensures gives { PostSetsFor config n j mark aut.old result aut.new }
+    ensures same { result.n ≡ rounds.n }
+    ensures gives { PostSetsFor config rounds.n j rounds.mark aut.old result.mark aut.new }
 {
-    let k = from_mark(aut, config, n, j, mark, step);
-    forward(aut, config, n, k, j);
-    k
+    let k = from_mark(aut, config, rounds, j);
+    forward(aut, config, rounds.n, k, j);
+    Rounds {
+        n: rounds.n,
+        step: rounds.step,
+        mark: k,
+    }
 }

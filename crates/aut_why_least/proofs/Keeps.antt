@@ -17,6 +17,7 @@ use Rattle.aut_sets.specs.Clauses.{NotesBehind}
 use Rattle.aut_query_steps.specs.Tables.{Tables, diagrams, ExtTables}
 use Rattle.aut_query_stage.specs.Layer.{Readable, QueryReady}
 use Rattle.aut_query_stage.specs.Lent.{Notable, Leaves}
+use Rattle.aut_query_stage.proofs.Lent.{query_with}
 use Rattle.aut_states.specs.declared.Limits.{Limits}
 use Rattle.aut_why_least.specs.Clauses.{Forgotten}
 
@@ -68,24 +69,8 @@ module _ {s s' : List ℕ} (f : Forgotten s s') where
 
 -- ---- scratch in order for a query
 
-query_with : {N : ℕ} {l : Limits} {σ : Tables} {s s' : List ℕ} → QueryReady N l σ s → length s' ≡ length s → Sound (Readable N σ) (cached s') → QueryReady N l σ s'
-query_with R len b = record {
-  ready = record {
-    few = R.ready.few;
-    good = R.ready.good;
-    room = omega (arith, R.ready.room);
-    sound = sound_map (λ op x y r v. v.relations) b;
-    list = R.ready.list;
-    products = R.ready.products;
-  };
-  ordered = R.ordered;
-  limit = R.limit;
-  sound = b;
-  resting = R.resting;
-}
-
 pub query_kept : {N : ℕ} {l : Limits} {σ : Tables} {ρ : Stores} {s s' : List ℕ} → QueryReady N l σ s → NotesBehind (LeastNoted ρ) s s' → length s' ≡ length s → QueryReady N l σ s'
-query_kept R p len = query_with R len (readable_kept p R.sound)
+query_kept R p len = query_with R R.ordered R.resting len (readable_kept p R.sound)
 
 pub query_forgotten : {N : ℕ} {l : Limits} {σ : Tables} {s s' : List ℕ} → QueryReady N l σ s → Forgotten s s' → length s' ≡ length s → QueryReady N l σ s'
-query_forgotten R f len = query_with R len (readable_zeroed f)
+query_forgotten R f len = query_with R R.ordered R.resting len (readable_zeroed f)

@@ -9,9 +9,10 @@ ghost use Rattle.aut_sets.specs.Lent.{sets_in, diagrams_in, OnlyScratch};
 ghost use Rattle.aut_why_least.specs.Clauses.{PreFirst, PreLed, PostLed, PreEnd, PostEnd, Forgotten};
 
 use aut_relations::Aut;
+use aut_scratch::LISTS;
 use aut_states::Config;
 use sp::SP;
-use spp::{SPP, SPPview};
+use spp::SPP;
 
 // the least packet of a set
 pub fn first_of(aut: &Aut, config: Config, s: SP) -> Option<u32>
@@ -28,16 +29,13 @@ pub fn led_to(aut: &mut Aut, config: Config, packet: u32, s: SP, r: SPP) -> Opti
     ensures gives { PostLed config.fields (diagrams_in aut.old) packet s.0 r.0 result
         aut.old.scratch.now aut.new.scratch.now }
 {
-    let at = aut_scratch::LISTS;
-    let fields = config.fields;
+    let sets = aut.sp.view();
+    let relations = aut_sets::relations_of(&aut.spp, config.fields);
     spp_least::least_led(
-        aut.sp.view(),
-        SPPview {
-            fields,
-            ..aut.spp.view()
-        },
-        &mut aut.scratch[at..],
-        fields,
+        sets,
+        relations,
+        &mut aut.scratch[LISTS..],
+        config.fields,
         packet,
         s,
         r,
@@ -60,8 +58,7 @@ pub fn forget(aut: &mut Aut)
     ensures keeps { OnlyScratch aut.old aut.new }
     ensures gives { Forgotten aut.old.scratch.now aut.new.scratch.now }
 {
-    let at = aut_scratch::LISTS;
-    if at < aut.scratch.len() {
-        aut.scratch[at..].fill(0);
+    if LISTS < aut.scratch.len() {
+        aut.scratch[LISTS..].fill(0);
     }
 }

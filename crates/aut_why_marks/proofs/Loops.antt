@@ -17,11 +17,11 @@ use Rattle.aut_st_steps.specs.Edges.{edges}
 use Rattle.aut_st_steps.proofs.Places.{edge_at, edges_on, edges_done}
 use Rattle.aut_st_source.specs.declared.Span.{Span}
 use Rattle.aut_st_source.specs.Stored.{PostFind}
-use Rattle.aut_live_words.specs.Work.{seconds}
+use Rattle.aut_live_words.specs.Work.{seconds, copy_words}
 use Rattle.aut_live_words.specs.Clauses.{PreKeep}
-use Rattle.aut_live_words.proofs.Words.{seconds_split, seconds_one, seconds_done, second_in, listed_edges}
-use Rattle.aut_why_words.specs.Words.{copy_words, moved_at}
-use Rattle.aut_why_words.proofs.Walks.{copy_length, copy_here}
+use Rattle.aut_live_words.proofs.Words.{seconds_split, seconds_one, seconds_done, second_in, listed_edges, copy_length}
+use Rattle.aut_why_words.specs.Words.{moved_at}
+use Rattle.aut_why_words.proofs.Walks.{copy_here}
 use Rattle.aut_why_marks.specs.Columns.{Writes, Fills}
 use Rattle.aut_why_marks.specs.Clauses.{changed_by, Renews, Restores, PreChanged, PostChanged}
 use Rattle.aut_why_marks.proofs.Columns.{writes_none, writes_then, writes_wide, writes_one}

@@ -12,7 +12,6 @@ use lib.ListN.{length, get_or, set}
 use lib.Seq.{get_or-set_same, get_or-set_other}
 use borrow.Author.Tests.{eqb-true, eqb-false}
 use Rattle.common.specs.Outcome.{Outcome, Step, after}
-use Rattle.common.specs.Runs.{Table}
 use Rattle.refusal.specs.declared.Refusal.{Refusal}
 use Rattle.sp_steps.specs.Wf as SpLaws
 use Rattle.sp_steps.proofs.Laws as SpLawsProofs
@@ -28,15 +27,13 @@ use Rattle.aut_states.specs.declared.Limits.{Limits}
 use Rattle.aut_stage.specs.Rule.{Stage}
 use Rattle.aut_stage.proofs.Rule.{begin, next, instead, stuck, done, all_of}
 use Rattle.aut_relations.specs.declared.Aut.{Aut as Lent}
-use Rattle.aut_sets.specs.Lent.{sets_in, OnlySets}
-use Rattle.aut_free.specs.Clear.{clear_tables}
+use Rattle.aut_sets.specs.Lent.{sets_in, OnlySets, OnlyMarks}
 use Rattle.aut_query_calls.specs.Working.{clear_in}
 use Rattle.aut_sets.proofs.Small.{set_small}
 use Rattle.aut_live_words.specs.Work.{seconds}
 use Rattle.aut_live_words.proofs.Words.{seconds_on, seconds_done, seconds_all, second_in}
 use Rattle.aut_why_words.specs.Walk.{Walk}
-use Rattle.aut_live_words.proofs.Held.{clear_set_in}
-use Rattle.aut_query_calls.specs.Working.{with_words}
+use Rattle.aut_query_calls.proofs.Works.{tables_put, clear_written}
 use Rattle.aut_why_words.proofs.Walks.{walk_there, walk_made, walk_written}
 use Rattle.aut_why_words.proofs.Lent.{sets_base}
 use Rattle.aut_why_rounds.specs.Clauses.{GivesSet, Visited, Turning, step_of, start_of, SetsOn, Rounding, RoundingIn, Stepped, round_of, Rounded}
@@ -150,7 +147,7 @@ module _ (k : Config) (x : Lent) {first : Bool} {n : ℕ} {before : Sets} (R : R
         pass_small = set_small N h.0 G.post.then.ready.ordered.sets G.post.then.holds
 
         -- the word is written
-        module _ (u : Lent) (E : tables_in u ≡ with_words (set w.states.words.now (12 * y + 9) (h.0 + 1)) (tables_in w)) (S : u.scratch.now ≡ w.scratch.now) where
+        module _ {u : Lent} (K : OnlyMarks w u) (q : u.states.words.now ≡ set w.states.words.now (12 * y + 9) (h.0 + 1)) where
           abbrev st1 : List ℕ
           st1 = z.states.words.now
 
@@ -158,13 +155,7 @@ module _ (k : Config) (x : Lent) {first : Bool} {n : ℕ} {before : Sets} (R : R
           st2 = set st1 (12 * y + 9) (h.0 + 1)
 
           words : u.states.words.now ≡ st2
-          words = ap (λ (τ : Tables). τ.base.aut.states.words) E ∙ rw A.states refl
-
-          sets : sets_in u ≡ sets_in w
-          sets = ap (λ (τ : Tables). τ.sets) E
-
-          cleared : clear_in u ≡ clear_in w
-          cleared = ap clear_tables E ∙ clear_set_in (tables_in w) y 9 (h.0 + 1) (omega arith) (omega arith)
+          words = q ∙ rw A.states refl
 
           abbrev new : Sets
           new = live_at y h.0 v.now
@@ -192,9 +183,9 @@ module _ (k : Config) (x : Lent) {first : Bool} {n : ℕ} {before : Sets} (R : R
           pub pass_again : Passed u (i + 1)
           pass_again = record {
             now = new;
-            stage = rw S (rw cleared stage_2);
-            walk = rw S (rw E (walk_written walk_2 y 9 (h.0 + 1) (omega arith) (omega arith) pass_in));
-            valid = λ j m. subst (λ (τ : Table). SpLaws.ValidAt τ N (new j)) (sym sets) (set_here j m);
+            stage = rw (clear_written K y 9 (h.0 + 1) (omega arith) (omega arith) q, K.scratch) stage_2;
+            walk = rw (tables_put K q, K.scratch) (walk_written walk_2 y 9 (h.0 + 1) (omega arith) (omega arith) pass_in);
+            valid = λ j m. rw K.sp (set_here j m);
             has = λ j m. ⊎_elim
                 (λ c. ⊎_elim (λ e. inr (rw words (written j (inl e)))) (λ c. inl c) (Memᴰ.cases_cons (subst (Memᴰ j) (seconds_on p n i lt) c)))
                 (λ e. inr (rw words (written j (inr e)))) (v.has j m);

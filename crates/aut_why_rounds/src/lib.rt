@@ -10,7 +10,7 @@ ghost use Rattle.aut_why_rounds.specs.Clauses.{GivesSet, Visited, join_one, Join
 
 use aut_relations::Aut;
 use aut_st_edges::Transition;
-use aut_states::{Config, STATE};
+use aut_states::Config;
 use aut_why_words::word;
 use refusal::Refusal;
 use sp::SP;
@@ -93,7 +93,7 @@ pub fn round(aut: &mut Aut, config: Config, first: bool, n: usize) -> Result<(),
     for i in 0..n {
         let s = aut_live_words::state_at(aut, i);
         let h = set_of(aut, config, first, s)?;
-        aut.states.words[STATE * (s as usize) + word::UNDER] = h.0 + 1;
+        aut_live_words::put_set(aut, s, word::UNDER, h);
     }
     Ok(())
 }

@@ -10,10 +10,10 @@ use Rattle.aut_query_steps.specs.Tables.{Tables}
 use Rattle.aut_states.specs.declared.Limits.{Limits}
 use Rattle.aut_free.specs.Clear.{clear, clear_tables}
 use Rattle.aut_free.proofs.Clearing.{clear_kept}
-use Rattle.aut_query_calls.specs.Working.{words_in}
+use Rattle.aut_live_words.specs.Working.{words_in}
 use Rattle.aut_st_edges.specs.declared.Transition.{Transition}
 use Rattle.aut_st_edges.specs.Clauses.{edge_of}
-use Rattle.aut_st_source.specs.Stored.{PreFind}
+use Rattle.aut_live_words.specs.Stored.{PreFind}
 use Rattle.aut_live_words.specs.Work.{seconds}
 use Rattle.aut_live_words.specs.Clauses.{Listed}
 use Rattle.aut_why_words.specs.Walk.{Walk}

@@ -2,7 +2,7 @@
 use mathlib.Core.Path.{◌≡◌, refl}
 use Rattle.aut_relations.specs.declared.Aut.{Aut as Lent}
 use Rattle.aut_sets.specs.Lent.{OnlySets}
-use Rattle.aut_delta_stage.specs.OnTables.{store_in}
+use Rattle.aut_live_words.specs.OnTables.{store_in}
 pub use Rattle.aut_live_words.proofs.Held.{tables_marked as marks_tables}
 
 pub sets_base : {x y : Lent} → OnlySets x y → store_in y ≡ store_in x

@@ -1,4 +1,4 @@
--- The loops over the n states: whether words 8 and 9 are equal, a word copied, words 8 to 11 zero again.
+-- The loops over the n states: whether words 8 and 9 are equal, words 8 to 11 zero again.
 use Rattle.std.specs.Prelude.{not, if◌then◌else◌}
 use Rattle.std.specs.Int.{from_bool}
 use mathlib.Core.Path.{◌≡◌, refl, sym, ◌∙◌, ap}
@@ -13,7 +13,7 @@ use borrow.Author.Tests.{eqb-true, eqb-false}
 use Rattle.spp_steps.proofs.Laws.{by_test}
 use Rattle.aut_live_words.specs.Work.{seconds}
 use Rattle.aut_live_words.proofs.Words.{seconds_same, seconds_on, seconds_done, seconds_all}
-use Rattle.aut_why_words.specs.Words.{same_words, moved_at, copy_words, zero_words, clear_all, PostClear}
+use Rattle.aut_why_words.specs.Words.{same_words, moved_at, zero_words, clear_all, PostClear}
 
 -- ---- same
 
@@ -53,26 +53,6 @@ module _ {st p : List ℕ} {n : ℕ} where
     pub same_end : n ≤ i → same_words (seconds p 0 n) st ≡ true
     unfolding same_words
     same_end l = v.is ∙ ap (λ (l : List ℕ). same_words l st) (seconds_done p i n i l)
-
--- ---- copy
-
-pub record Copying (n a b : ℕ) (st₀ p st : List ℕ) (i : ℕ) : Type 0 where
-  pub is : copy_words a b (seconds p i (n - i)) st ≡ copy_words a b (seconds p 0 n) st₀
-
-module _ {st₀ p : List ℕ} {n a b : ℕ} where
-  pub copy_begin : Copying n a b st₀ p st₀ 0
-  copy_begin = record { is = ap (λ (l : List ℕ). copy_words a b l st₀) (sym (seconds_all p n)) }
-
-  module _ {st : List ℕ} {i : ℕ} (v : Copying n a b st₀ p st i) where
-    pub copy_again : i < n → Copying n a b st₀ p (set st (12 * get_or p (2 * i + 1) 0 + b) (get_or st (12 * get_or p (2 * i + 1) 0 + a) 0)) (i + 1)
-    unfolding copy_words
-    copy_again l = record {
-      is = sym (ap (λ (l : List ℕ). copy_words a b l st) (seconds_on p n i l)) ∙ v.is;
-    }
-
-    pub copy_end : n ≤ i → st ≡ copy_words a b (seconds p 0 n) st₀
-    unfolding copy_words
-    copy_end l = sym (ap (λ (l : List ℕ). copy_words a b l st) (seconds_done p i n i l)) ∙ v.is
 
 -- ---- clear
 

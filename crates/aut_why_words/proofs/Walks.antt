@@ -19,19 +19,19 @@ use Rattle.aut_query_steps.specs.Tables.{Tables}
 use Rattle.aut_why_steps.specs.Why.{Sets, same_on}
 use Rattle.aut_steps.specs.Wf.{states}
 use Rattle.aut_delta_steps.specs.Delta.{Store}
-use Rattle.aut_query_stage.specs.Layer.{Zeroed}
+use Rattle.aut_live_words.specs.Layer.{Zeroed}
 use Rattle.aut_states.specs.declared.Limits.{Limits}
 use Rattle.aut_free.specs.Clear.{clear, clear_tables, in_store}
 use Rattle.aut_free.proofs.Clear.{AtRest}
 use Rattle.aut_free.proofs.Clearing.{clear_length, is_clear}
-use Rattle.aut_query_calls.specs.Working.{Working}
-use Rattle.aut_live_words.specs.Work.{seconds}
+use Rattle.aut_live_words.specs.Working.{Working}
+use Rattle.aut_live_words.specs.Work.{seconds, copy_words}
 use Rattle.aut_live_words.specs.Clauses.{PreKeep}
-use Rattle.aut_live_words.proofs.Words.{second_in}
+use Rattle.aut_live_words.proofs.Words.{second_in, copy_other}
 use Rattle.aut_live_words.proofs.Held.{mem_any, clear_set_in, working_set}
-use Rattle.aut_query_calls.specs.Working.{words_in, with_words}
+use Rattle.aut_live_words.specs.Working.{words_in, with_words}
 use Rattle.aut_why_words.specs.Walk.{Walk, HasSets}
-use Rattle.aut_why_words.specs.Words.{same_words, copy_words, zero_words, clear_all, PostClear}
+use Rattle.aut_why_words.specs.Words.{same_words, zero_words, clear_all, PostClear}
 use Rattle.aut_why_words.proofs.Loops.{zero_length}
 
 -- ---- the states reached
@@ -70,17 +70,7 @@ module _ {N : ℕ} {l : Limits} {σ : Tables} {s p : List ℕ} {n : ℕ} (K : Wa
 
 -- ---- a word is copied
 
-pub copy_length : (a b : ℕ) (xs st : List ℕ) → length (copy_words a b xs st) ≡ length st
-unfolding copy_words
-copy_length a b [] st = refl
-copy_length a b (y ∷ xs) st = copy_length a b xs (set st (12 * y + b) (get_or st (12 * y + a) 0)) ∙ length-set st (12 * y + b) (get_or st (12 * y + a) 0)
-
 module _ (a b : ℕ) (less : b < 12) where
-  pub copy_other : (xs st : List ℕ) (z w : ℕ) → w < 12 → w ≢ b → get_or (copy_words a b xs st) (12 * z + w) 0 ≡ get_or st (12 * z + w) 0
-  unfolding copy_words
-  copy_other [] st z w k q = refl
-  copy_other (y ∷ xs) st z w k q = copy_other xs (set st (12 * y + b) (get_or st (12 * y + a) 0)) z w k q ∙ get_or-set_other st (12 * y + b) (12 * z + w) (get_or st (12 * y + a) 0) 0 (λ e. q (omega arith))
-
   module _ (low : a < 12) (differ : a ≢ b) where
     -- word a is as it was; word b is the same word a if it was, or if it is written
     one_from : (st : List ℕ) (y z : ℕ) → get_or (set st (12 * y + b) (get_or st (12 * y + a) 0)) (12 * z + a) 0 ≡ get_or st (12 * z + a) 0
@@ -119,7 +109,7 @@ module _ (a b : ℕ) (less : b < 12) where
     clear_copied (y ∷ xs) st = clear_copied xs (set st (12 * y + b) (get_or st (12 * y + a) 0)) ∙ clear_set_in (with_words st σ) y b (get_or st (12 * y + a) 0) low less
 
   pub has_beside : {st p : List ℕ} {n w : ℕ} {v : Sets} → w < 12 → w ≢ b → HasSets w st p n v → HasSets w (copy_words a b (seconds p 0 n) st) p n v
-  has_beside {st} {p} {n} {w} k q h = record { is = λ x m. copy_other (seconds p 0 n) st x w k q ∙ h.is x m }
+  has_beside {st} {p} {n} {w} k q h = record { is = λ x m. copy_other a b less (seconds p 0 n) st x w k q ∙ h.is x m }
 
 module _ {N : ℕ} {l : Limits} (σ : Tables) {s p : List ℕ} {n : ℕ} (a b : ℕ) (low : 8 ≤ b) (less : b < 12) where
   copies : (xs st : List ℕ) → ((x : ℕ) → Memᴰ x xs → Memᴰ x (seconds p 0 n)) → Walk N l (with_words st σ) s p n → Walk N l (with_words (copy_words a b xs st) σ) s p n

@@ -7,7 +7,7 @@ use Rattle.aut_query_steps.specs.Explored.{Linked}
 use Rattle.aut_why_steps.specs.Why.{Sets, Again}
 use Rattle.aut_states.specs.declared.Limits.{Limits}
 use Rattle.aut_free.specs.Clear.{clear_tables}
-use Rattle.aut_query_calls.specs.Working.{Working}
+use Rattle.aut_live_words.specs.Working.{Working}
 use Rattle.aut_live_words.specs.Work.{seconds}
 
 -- n states are reached; each has its list and its epsilon; words 8 to 11 of other states are 0

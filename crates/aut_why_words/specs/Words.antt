@@ -1,7 +1,6 @@
 -- 02 (i), and 01, "Lent tables" (words 8 to 11): what the functions on single words ask and promise while `why` runs.
-use Rattle.std.specs.Prelude.{◌≡◌, Bool, true, ◌&&◌, List, [], ◌∷◌, ℕ, ◌+◌, ◌*◌, ◌<◌, eqb, get_or, set, if◌then◌else◌}
+use Rattle.std.specs.Prelude.{◌≡◌, Bool, true, ◌&&◌, List, [], ◌∷◌, ℕ, ◌+◌, ◌*◌, eqb, get_or, set, if◌then◌else◌}
 use Rattle.aut_live_words.specs.Work.{seconds, Cleared}
-use Rattle.aut_live_words.specs.Clauses.{PreKeep}
 
 -- words 8 and 9 of these states are equal
 unfoldable pub same_words : List ℕ → List ℕ → Bool
@@ -11,16 +10,6 @@ same_words (x ∷ xs) st = eqb (get_or st (12 * x + 8) 0) (get_or st (12 * x + 9
 -- whether the round under work, in word 9, differs from the one before
 abbrev pub moved_at : List ℕ → ℕ → ℕ
 moved_at st x = if eqb (get_or st (12 * x + 8) 0) (get_or st (12 * x + 9) 0) then 0 else 1
-
--- words b from words a
-unfoldable pub copy_words : (a b : ℕ) → List ℕ → List ℕ → List ℕ
-copy_words a b [] st = st
-copy_words a b (x ∷ xs) st = copy_words a b xs (set st (12 * x + b) (get_or st (12 * x + a) 0))
-
-pub record PreCopy (st p : List ℕ) (n a b : ℕ) : Type 0 where
-  pub states : PreKeep st p n
-  pub from : a < 12
-  pub to : b < 12
 
 -- words 8 to 11 zero
 abbrev pub zero_words : List ℕ → ℕ → List ℕ

@@ -10,8 +10,9 @@ ghost use Rattle.aut_delta_steps.specs.EpsilonDown.{Known};
 ghost use Rattle.aut_sets.specs.Lent.{OnlyMarks};
 ghost use Rattle.aut_live_words.specs.Work.{seconds};
 ghost use Rattle.aut_live_words.specs.Clauses.{PreKeep};
-ghost use Rattle.aut_why_words.specs.Words.{same_words, moved_at, copy_words, PreCopy, PostClear};
+ghost use Rattle.aut_why_words.specs.Words.{same_words, moved_at, PostClear};
 
+pub use aut_live_words::copy_sets;
 use aut_relations::Aut;
 use aut_states::STATE;
 use spp::SPP;
@@ -44,20 +45,6 @@ pub fn same_sets(aut: &Aut, n: usize) -> bool
         }
     }
     true
-}
-
-// word `to` of the n states gets their word `from`
-pub fn copy_sets(aut: &mut Aut, n: usize, from: usize, to: usize)
-    requires { PreCopy aut.old.states.words.now aut.old.pending.now n from to }
-    ensures keeps { OnlyMarks aut.old aut.new }
-    ensures pending { aut.new.pending ≡ aut.old.pending }
-    ensures gives { aut.new.states.words.now ≡
-        copy_words from to (seconds aut.old.pending.now 0 n) aut.old.states.words.now }
-{
-    for i in 0..n {
-        let at = STATE * (aut_live_words::state_at(aut, i) as usize);
-        aut.states.words[at + to] = aut.states.words[at + from];
-    }
 }
 
 // words BEFORE to MOVED of the n states and the n entries are zero again

@@ -33,8 +33,8 @@ use Rattle.aut_live_words.specs.Work.{seconds}
 use Rattle.aut_why_steps.specs.Why.{Sets, round_at}
 use Rattle.aut_why_words.specs.Walk.{Standing}
 use Rattle.aut_query_calls.specs.Working.{words_in}
-use Rattle.aut_why_rounds.specs.Clauses.{Visited}
-use Rattle.aut_why_rounds.proofs.Turns.{value_clear, ends_there, ends_known, value_at}
+use Rattle.aut_why_again.specs.Rounds.{Visited}
+use Rattle.aut_why_again.proofs.Turns.{value_clear, ends_there, ends_known, value_at}
 use Rattle.aut_why_again.specs.Clauses.{Earlier, SetsFor}
 use Rattle.spp_least.specs.Clauses.{number_of, LeastNoted}
 use Rattle.aut_sets.specs.Clauses.{NotesBehind}
@@ -96,6 +96,14 @@ standing_noted T k len = record {
 least_noted : {N : ℕ} {ρ : Stores} {s s' : List ℕ} → LeastReady N ρ s → NotesBehind (LeastNoted ρ) s s' → length s' ≡ length s → LeastReady N ρ s'
 least_noted R k len = record { few = R.few; wf = R.wf; room = omega (arith, R.room); sound = least_own k R.sound }
 
+-- ---- what is there
+
+pub there : {T : Type 0} {m : code.Option T} {a : T} → m ≡ code.Some a → code.IsSome m
+there e = ap code.is_some e
+
+pub same_there : {T : Type 0} {m : code.Option T} {a b : T} → m ≡ code.Some a → m ≡ code.Some b → a ≡ b
+same_there e f = cc
+
 -- ---- the start
 
 module _ {N : ℕ} {l : Limits} {σ : Tables} {s p : List ℕ} {n : ℕ} {ws : List Sets} {k x : ℕ} {w : Str N} (P : Picks N l σ s p n ws k x w) where
@@ -153,6 +161,10 @@ module _ {N : ℕ} {l : Limits} {σ : Tables} {s p : List ℕ} {n : ℕ} {ws : L
 
     pub next_never : {s'' : List ℕ} → PostHop N (diagrams τ) (words_in τ) τ.base.transitions.words x m code.None s' s'' → ⊥
     next_never H = hop_there S.standing.walk x G.among (round_at N ws j) S.round (λ y k. again_set S y) H q e nexts.2 refl
+
+    pub next_there : {s'' : List ℕ} (r : code.Option (ℕ × ℕ)) → PostHop N (diagrams τ) (words_in τ) τ.base.transitions.words x m r s' s'' → code.IsSome r
+    next_there (code.Some h) H = refl
+    next_there code.None H = absurd (next_never H)
 
     -- the packet a, the state b, and what follows
     pub record Hopped (a b : ℕ) (s'' : List ℕ) : Type 0 where

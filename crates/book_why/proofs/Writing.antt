@@ -24,7 +24,7 @@ use Rattle.aut_sets.specs.Lent.{OnlyScratch}
 use Rattle.aut_free.specs.Clear.{clear_tables}
 use Rattle.aut_query_calls.specs.Working.{clear_in}
 use Rattle.aut_why_steps.specs.Why.{Sets, fewest, pick_by}
-use Rattle.aut_why_rounds.specs.Clauses.{hops_of}
+use Rattle.aut_why_again.specs.Rounds.{hops_of}
 use Rattle.aut_why_least.specs.Clauses.{Forgotten}
 use Rattle.aut_why_least.proofs.Keeps.{least_zeroed, query_forgotten}
 use Rattle.book_steps.specs.Text.{bytes}
@@ -51,9 +51,10 @@ pub record Written (g : Config) (n : ℕ) (ws : List Sets) (k : ℕ) (w : Str g.
   pub packet : Packet g.fields
   pub way : Way g.fields
   pub number : value packet ≡ spot.packet
-  pub going : GoingIn g x n ws j spot.mark spot.state packet way
+  pub going : GoingIn g x n ws j spot.rounds.mark spot.state packet way
   pub whole : w ≡ str start (hops ++ way.hops) way.end
   pub count : length hops + j ≡ k
+  pub same : spot.rounds.n ≡ n
   pub put : Put (begun g.fields start hops) o o'
 
 module _ {g : Config} {n : ℕ} {ws : List Sets} {k : ℕ} {w : Str g.fields} {o : Output} where
@@ -67,6 +68,7 @@ module _ {g : Config} {n : ℕ} {ws : List Sets} {k : ℕ} {w : Str g.fields} {o
     going = P.going;
     whole = P.whole;
     count = omega arith;
+    same = P.same;
     put = put_begun g.fields P.packet P.number P.put;
   }
 
@@ -94,6 +96,7 @@ module _ {g : Config} {n : ℕ} {ws : List Sets} {k : ℕ} {w : Str g.fields} {o
       going = X.going;
       whole = I.whole ∙ ap (λ (v : Way g.fields). str I.start (I.hops ++ v.hops) v.end) X.whole ∙ ap (λ (hs : List (Packet g.fields)). str I.start hs X.way.end) (sym (append_assoc I.hops (X.packet ∷ []) X.way.hops));
       count = omega (arith, I.count, length-append I.hops (X.packet ∷ []));
+      same = X.same;
       put = put_hop g.fields I.start I.hops I.put X.packet X.number first
           (λ q. omega (arith, eqb-true (j + 1) k (b ∙ q), I.count))
           (λ q. let z : (j + 1 ≡ k → ⊥) = eqb-false (j + 1) k (b ∙ q) in omega (arith, z, I.count)) X.put;
@@ -119,13 +122,14 @@ module _ {g : Config} {n k : ℕ} {x₀ : Lent} {o₀ : Output} {spot₀ : Spot}
   pub hopping_begin : Hopping g n k x₀ o₀ spot₀ j₀ x₀ o₀ spot₀ j₀
   hopping_begin = record { writes = λ ws w before B. (B, refl) }
 
-  pub hopping_next : {x : Lent} {o : Output} {spot : Spot} {j : ℕ} → Hopping g n k x₀ o₀ spot₀ j₀ x o spot j → 0 < j → {first : Bool} → eqb (j - 1 + 1) k ≡ first → {r : Spot} {y : Lent} {o' : Output} → PostNext g n (j - 1) first spot x o r y o'
+  pub hopping_next : {x : Lent} {o : Output} {spot : Spot} {j : ℕ} → Hopping g n k x₀ o₀ spot₀ j₀ x o spot j → 0 < j → {first : Bool} → eqb (j - 1 + 1) k ≡ first → {r : Spot} {y : Lent} {o' : Output} → PostNext g spot.rounds.n (j - 1) first spot x o r y o'
       → Hopping g n k x₀ o₀ spot₀ j₀ y o' r (j - 1)
-  hopping_next I m b E = record {
+  hopping_next {x} {o} {spot} {j} I m {first} b {r} {y} {o'} E = record {
     writes = λ ws w before B.
         let (i, u) = I.writes ws w before B in
         let i' = written_down m i in
-        let X = E.gives ws i'.packet i'.way i'.number i'.going in
+        let X = subst (λ (n : ℕ). Nexted g n ws (j - 1) first i'.way x o r y o') i'.same
+        (E.gives ws i'.packet i'.way i'.number (subst (λ (n : ℕ). GoingIn g x n ws (suc (j - 1)) spot.rounds.mark spot.state i'.packet i'.way) (sym i'.same) i'.going)) in
         (written_next i' b X, X.unmade ∙ u);
   }
 
@@ -137,10 +141,10 @@ module _ {g : Config} {n k i : ℕ} {x₀ y₀ : Lent} {o₀ p₀ : Output} {spo
       let (i, u) = I.writes ws w o₀ (written_begin S) in
       (i, u ∙ S.unmade)
 
-  pub string_next : {step : ℕ} → 0 < j → 0 < step → PreString g x₀ o₀ n k i → PreNext g x o n (j - 1) step spot
-  string_next m z P =
+  pub string_next : 0 < j → PreString g x₀ o₀ n k i → PreNext g x o spot.rounds.n (j - 1) spot
+  string_next m P =
       let i = written_down m (going_on P.picks).0 in
-      record { rounds = P.rounds; packet = i.packet; way = i.way; number = i.number; going = i.going; some = z; room = next_room i P.room }
+      subst (λ (n : ℕ). PreNext g x o n (j - 1) spot) (sym i.same) (record { rounds = P.rounds; packet = i.packet; way = i.way; number = i.number; going = i.going; room = next_room i P.room })
 
   ended : j ≤ 0 → {ws : List Sets} {w : Str g.fields} → Written g n ws k w o₀ j spot x o → Written g n ws k w o₀ 0 spot x o
   ended m {ws} {w} i = subst (λ (j : ℕ). Written g n ws k w o₀ j spot x o) {x = j} {y = 0} (omega (arith, m)) i
@@ -158,8 +162,8 @@ module _ {g : Config} {n k i : ℕ} {x₀ y₀ : Lent} {o₀ p₀ : Output} {spo
         written_last i u K (L.gives n ws i.packet i.way i.number i.going);
   }
 
-pub string_first : {g : Config} {x : Lent} {o : Output} {n k i step : ℕ} → 0 < step → PreString g x o n k i → PreStart g x o n k i step
-string_first z P = record { rounds = P.rounds; string = P.string; picks = P.picks; most = P.most; some = z; room = omega (arith, P.room) }
+pub string_first : {g : Config} {x : Lent} {o : Output} {n k i : ℕ} → PreString g x o n k i → PreStart g x o n k i
+string_first P = record { rounds = P.rounds; string = P.string; picks = P.picks; most = P.most; room = omega (arith, P.room) }
 
 -- ---- the answer
 

@@ -23,7 +23,7 @@ use Rattle.aut_query_calls.specs.Working.{clear_in}
 use Rattle.aut_live_words.specs.Work.{seconds}
 use Rattle.aut_why_steps.specs.Why.{Sets, fewest, round_at, pick_at, pick_by}
 use Rattle.aut_why_words.specs.Walk.{HasSets, Standing}
-use Rattle.aut_why_rounds.specs.Clauses.{hops_of}
+use Rattle.aut_why_again.specs.Rounds.{hops_of}
 use Rattle.aut_why_again.specs.Clauses.{StandingIn}
 use Rattle.aut_why_hop.specs.Clauses.{LeastReady}
 use Rattle.book_steps.specs.Answers.{sentence, why_answer}
@@ -70,20 +70,20 @@ Unmade x y = clear_in y ≡ clear_in x
 
 -- ---- the start
 
-pub record PreStart (g : Config) (x : Lent) (o : Output) (n hops i step : ℕ) : Type 0 where
+pub record PreStart (g : Config) (x : Lent) (o : Output) (n hops i : ℕ) : Type 0 where
   pub rounds : List Sets
   pub string : Str g.fields
   pub picks : PicksIn g x n rounds hops i string
   pub most : hops ≤ 2 ^ 55
-  pub some : 0 < step
   pub room : Room (5 + word_length g.fields) o
 
 pub record Started (g : Config) (n : ℕ) (ws : List Sets) (hops : ℕ) (w : Str g.fields) (x : Lent) (o : Output) (r : Spot) (y : Lent) (o' : Output) : Type 0 where
   pub packet : Packet g.fields
   pub way : Way g.fields
   pub number : value packet ≡ r.packet
-  pub going : GoingIn g y n ws hops r.mark r.state packet way
+  pub going : GoingIn g y n ws hops r.rounds.mark r.state packet way
   pub whole : w ≡ from packet way
+  pub same : r.rounds.n ≡ n
   pub unmade : Unmade x y
   pub put : Put (start_part g.fields r.packet) o o'
 
@@ -92,26 +92,26 @@ pub record PostStart (g : Config) (n hops i : ℕ) (x : Lent) (o : Output) (r : 
 
 -- ---- a hop, j hops before the end
 
-pub record PreNext (g : Config) (x : Lent) (o : Output) (n j step : ℕ) (spot : Spot) : Type 0 where
+pub record PreNext (g : Config) (x : Lent) (o : Output) (n j : ℕ) (spot : Spot) : Type 0 where
   pub rounds : List Sets
   pub packet : Packet g.fields
   pub way : Way g.fields
   pub number : value packet ≡ spot.packet
-  pub going : GoingIn g x n rounds (suc j) spot.mark spot.state packet way
-  pub some : 0 < step
+  pub going : GoingIn g x n rounds (suc j) spot.rounds.mark spot.state packet way
   pub room : Room (4 + word_length g.fields) o
 
 pub record Nexted (g : Config) (n : ℕ) (ws : List Sets) (j : ℕ) (first : Bool) (v : Way g.fields) (x : Lent) (o : Output) (r : Spot) (y : Lent) (o' : Output) : Type 0 where
   pub packet : Packet g.fields
   pub way : Way g.fields
   pub number : value packet ≡ r.packet
-  pub going : GoingIn g y n ws j r.mark r.state packet way
+  pub going : GoingIn g y n ws j r.rounds.mark r.state packet way
   pub whole : v ≡ onward packet way
+  pub same : r.rounds.n ≡ n
   pub unmade : Unmade x y
   pub put : Put (hop_part g.fields first r.packet) o o'
 
 pub record PostNext (g : Config) (n j : ℕ) (first : Bool) (spot : Spot) (x : Lent) (o : Output) (r : Spot) (y : Lent) (o' : Output) : Type 0 where
-  pub gives : (ws : List Sets) (q : Packet g.fields) (v : Way g.fields) → value q ≡ spot.packet → GoingIn g x n ws (suc j) spot.mark spot.state q v → Nexted g n ws j first v x o r y o'
+  pub gives : (ws : List Sets) (q : Packet g.fields) (v : Way g.fields) → value q ≡ spot.packet → GoingIn g x n ws (suc j) spot.rounds.mark spot.state q v → Nexted g n ws j first v x o r y o'
 
 -- ---- the end
 
@@ -121,7 +121,7 @@ pub record PreLast (g : Config) (x : Lent) (o : Output) (spot : Spot) : Type 0 w
   pub packet : Packet g.fields
   pub way : Way g.fields
   pub number : value packet ≡ spot.packet
-  pub going : GoingIn g x count rounds 0 spot.mark spot.state packet way
+  pub going : GoingIn g x count rounds 0 spot.rounds.mark spot.state packet way
   pub room : Room (5 + word_length g.fields) o
 
 pub record Lasted (g : Config) (n : ℕ) (ws : List Sets) (v : Way g.fields) (o : Output) (y : Lent) (o' : Output) : Type 0 where
@@ -133,7 +133,7 @@ pub record Lasted (g : Config) (n : ℕ) (ws : List Sets) (v : Way g.fields) (o 
   pub put : Put (end_part g.fields number) o o'
 
 pub record PostLast (g : Config) (spot : Spot) (x : Lent) (o : Output) (y : Lent) (o' : Output) : Type 0 where
-  pub gives : (n : ℕ) (ws : List Sets) (q : Packet g.fields) (v : Way g.fields) → value q ≡ spot.packet → GoingIn g x n ws 0 spot.mark spot.state q v → Lasted g n ws v o y o'
+  pub gives : (n : ℕ) (ws : List Sets) (q : Packet g.fields) (v : Way g.fields) → value q ≡ spot.packet → GoingIn g x n ws 0 spot.rounds.mark spot.state q v → Lasted g n ws v o y o'
 
 -- ---- the whole sentence
 

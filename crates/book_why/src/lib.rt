@@ -8,14 +8,15 @@ ghost use Rattle.book_why.specs.Clauses.{PreStart, PostStart, PreNext, PostNext,
 
 use aut_relations::Aut;
 use aut_states::Config;
+use aut_why_again::Rounds;
 use aut_why_words::word;
 use book_writer::Output;
 use refusal::Refusal;
 
-// where the picking stands: the round in words KEPT, the state, and the packet's number
+// where the picking stands: the rounds, the state, and the packet's number
 #[derive(Clone, Copy)]
 pub struct Spot {
-    pub mark: usize,
+    pub rounds: Rounds,
     pub state: u32,
     pub packet: u32,
 }
@@ -28,27 +29,24 @@ fn step_for(k: usize) -> usize
 }
 
 // the least start of a string of x with so many hops; there is one
-fn put_first(
-    aut: &mut Aut,
-    config: Config,
-    out: &mut Output,
-    n: usize,
-    hops: usize,
-    x: u32,
-    step: usize,
-) -> Spot
-    requires { PreStart config aut.old out.old n hops x step }
+fn put_first(aut: &mut Aut, config: Config, out: &mut Output, n: usize, hops: usize, x: u32) -> Spot
+    requires { PreStart config aut.old out.old n hops x }
     ensures keeps { OnlySearch aut.old aut.new }
     ensures pending { aut.new.pending ≡ aut.old.pending }
     ensures bytes { SameSlice out.old.bytes out.new.bytes }
     ensures gives { PostStart config n hops x aut.old out.old result aut.new out.new }
 {
-    let mark = aut_why_again::sets_for(aut, config, n, hops, hops + 1, step);
+    let none = Rounds {
+        n,
+        step: step_for(hops + 1),
+        mark: hops + 1,
+    };
+    let rounds = aut_why_again::sets_for(aut, config, none, hops);
     let starts = aut_live_words::set_at(aut, x, word::BEFORE);
-    let packet = aut_why_least::first_of(aut, config, starts).unwrap_or(0);
+    let packet = aut_why_least::first_of(aut, config, starts).unwrap();
     out.put_start(config.fields, packet);
     Spot {
-        mark,
+        rounds,
         state: x,
         packet,
     }
@@ -59,26 +57,22 @@ fn put_next(
     aut: &mut Aut,
     config: Config,
     out: &mut Output,
-    n: usize,
     j: usize,
-    step: usize,
     first: bool,
     spot: Spot,
 ) -> Spot
-    requires { PreNext config aut.old out.old n j step spot }
+    requires { PreNext config aut.old out.old spot.rounds.n j spot }
     ensures keeps { OnlySearch aut.old aut.new }
     ensures pending { aut.new.pending ≡ aut.old.pending }
     ensures bytes { SameSlice out.old.bytes out.new.bytes }
-    ensures gives { PostNext config n j first spot aut.old out.old result aut.new out.new }
+    ensures gives { PostNext config spot.rounds.n j first spot aut.old out.old result aut.new out.new }
 {
-    let mark = aut_why_again::sets_for(aut, config, n, j, spot.mark, step);
-    let Some((packet, target)) = aut_why_hop::hop(aut, config, spot.state, spot.packet) else {
-        return spot;
-    };
+    let rounds = aut_why_again::sets_for(aut, config, spot.rounds, j);
+    let (packet, state) = aut_why_hop::hop(aut, config, spot.state, spot.packet).unwrap();
     out.put_hop(config.fields, first, packet);
     Spot {
-        mark,
-        state: target,
+        rounds,
+        state,
         packet,
     }
 }
@@ -91,7 +85,7 @@ fn put_last(aut: &mut Aut, config: Config, out: &mut Output, spot: Spot)
     ensures gives { PostLast config spot aut.old out.old aut.new out.new }
 {
     let epsilon = aut_why_words::epsilon_at(aut, spot.state);
-    let packet = aut_why_least::end_of(aut, config, spot.packet, epsilon).unwrap_or(0);
+    let packet = aut_why_least::end_of(aut, config, spot.packet, epsilon).unwrap();
     out.put_end(config.fields, packet);
 }
 
@@ -103,10 +97,9 @@ fn put_string(aut: &mut Aut, config: Config, out: &mut Output, n: usize, hops: u
     ensures bytes { SameSlice out.old.bytes out.new.bytes }
     ensures gives { PostString config n hops x aut.old out.old aut.new out.new }
 {
-    let step = step_for(hops + 1);
-    let mut spot = put_first(aut, config, out, n, hops, x, step);
+    let mut spot = put_first(aut, config, out, n, hops, x);
     for j in (0..hops).rev() {
-        spot = put_next(aut, config, out, n, j, step, j + 1 == hops, spot);
+        spot = put_next(aut, config, out, j, j + 1 == hops, spot);
     }
     put_last(aut, config, out, spot);
 }

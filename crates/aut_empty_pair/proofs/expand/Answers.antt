@@ -1,6 +1,4 @@
-use mathlib.Core.Path.{refl}
 use native.Mathlib.Omega.{arith}
-use lib.ListN.{length-set}
 use Rattle.refusal.proofs.Passed.{passed}
 use Rattle.aut_empty_pair.proofs.Expands as expands
 use Rattle.aut_empty_pair.proofs.expand.Goals as goal
@@ -54,17 +52,14 @@ returns-in_err-m-clause-gives c =
     let h = c.has_image.ensures in
     expands.expand_stuck c.requires c.seen_at-seen.ensures u.keeps u.gives e.keeps e.gives e.after h.keeps h.has c.if-has_image.false (passed c.from_residual-in_err-m.ensures) c.in_err-m.ensures.gives
 
-pub overflow_add-aut : goal.overflow_add-aut
-overflow_add-aut c =
-    let u = c.in_ok-both.ensures in
-    omega (arith, expands.both_small c.requires c.seen_at-seen.ensures u.keeps u.gives)
-
-pub bounds-aut-x : goal.bounds-aut-x
-bounds-aut-x c =
+pub put_set-requires : goal.put_set-requires
+put_set-requires c =
     let u = c.in_ok-both.ensures in
     let e = c.in_ok-ends.ensures in
-    let h = c.has_image.ensures in
-    omega (arith, expands.state_in4 c.requires c.seen_at-seen.ensures u.keeps u.gives e.keeps e.gives e.after h.keeps h.has c.if-has_image.false c.in_ok-m.ensures.gives)
+    let h = c.has_image.ensures in (
+      omega (arith, expands.state_in4 c.requires c.seen_at-seen.ensures u.keeps u.gives e.keeps e.gives e.after h.keeps h.has c.if-has_image.false c.in_ok-m.ensures.gives),
+      expands.both_small c.requires c.seen_at-seen.ensures u.keeps u.gives,
+    )
 
 pub returns-clause-gives : goal.returns-clause-gives
 returns-clause-gives c =
@@ -72,4 +67,5 @@ returns-clause-gives c =
     let e = c.in_ok-ends.ensures in
     let h = c.has_image.ensures in
     let s = c.in_ok-m.ensures in
-    expands.expand_goes c.requires c.seen_at-seen.ensures u.keeps u.gives e.keeps e.gives e.after h.keeps h.has c.if-has_image.false s.gives (record { sp = refl; spp = refl; states = record { lent = refl; length = length-set _ _ _ }; count = refl; members = refl; transitions = refl; pending = record { lent = refl; length = refl }; scratch = refl }) refl refl
+    let w = c.put_set.ensures in
+    expands.expand_goes c.requires c.seen_at-seen.ensures u.keeps u.gives e.keeps e.gives e.after h.keeps h.has c.if-has_image.false s.gives w.keeps w.pending w.gives

@@ -10,7 +10,9 @@ returns-then-eq-clause-gives c = Enlarges.same (eqb-true _ _ (sym c.if-eq.ensure
 
 pub returns-then-m-capacity-clause-gives : goal.returns-then-m-capacity-clause-gives
 unfolding work_of
-returns-then-m-capacity-clause-gives c = Enlarges.more (λ q. eqb-false _ _ (sym c.if-eq.ensures) (q ∙ sym c.set_at.ensures)) (omega (arith, c.capacity.ensures, c.if-m-capacity.true))
+returns-then-m-capacity-clause-gives c =
+    rw (c.put_set.ensures.gives, c.put_set.ensures.pending)
+    (Enlarges.more (λ q. eqb-false _ _ (sym c.if-eq.ensures) (q ∙ sym c.set_at.ensures)) (omega (arith, c.capacity.ensures, c.if-m-capacity.true)))
 
 pub returns-clause-gives : goal.returns-clause-gives
 unfolding work_of

@@ -12,9 +12,9 @@ asked : {N : ℕ} {σ : Stores} {s : List ℕ} {k a r : ℕ} → PreLed N σ s k
 asked {s = s} q = record { few = q.end.few; deep = omega arith; wf = q.end.wf; at_s = q.at_a; at_r = q.end.at_r; small = q.end.small; sound = lent_sound s q.end.sound }
 
 pub least_led-requires : goal.least_led-requires
-least_led-requires c = rw (c.view.ensures.nodes, c.view.ensures.count, c.view-2.ensures.nodes, c.view-2.ensures.count) (asked c.requires)
+least_led-requires c = rw (c.view-sets.ensures.nodes, c.view-sets.ensures.count, c.relations_of-relations.ensures.0, c.relations_of-relations.ensures.1, c.relations_of-relations.ensures.2) (asked c.requires)
 
 pub returns-clause-gives : goal.returns-clause-gives
 returns-clause-gives c =
-    let A = rw (c.view.ensures.nodes, c.view.ensures.count, c.view-2.ensures.nodes, c.view-2.ensures.count) at c.least_led.ensures in
+    let A = rw (c.view-sets.ensures.nodes, c.view-sets.ensures.count, c.relations_of-relations.ensures.0, c.relations_of-relations.ensures.1) at c.least_led.ensures in
     record { is = A.is; left = notes_back c.args.aut.now.scratch.now c.least_led.new.cache c.requires.end.room A.notes }

@@ -35,20 +35,16 @@ returns-in_err-h-clause-gives c = record {
       (passes.pass_stuck k x R v c.loop-i-test.true (passes.pass_given k x R v c.loop-i-test.true I.pending c.state_at-s.ensures c.in_err-h.ensures.gives));
 }
 
-pub overflow_add-aut : goal.overflow_add-aut
-overflow_add-aut c =
+pub put_set-requires : goal.put_set-requires
+put_set-requires c =
     let Q = c.requires in
     let I = c.loop-i.invariant in
     let v = I.passed Q.before Q.rounding in
     let k = c.args.config in
-    let x = c.args.aut.now in
-    omega (arith, passes.pass_small k x Q.rounding v c.loop-i-test.true c.set_of.ensures.keeps (passes.pass_given k x Q.rounding v c.loop-i-test.true I.pending c.state_at-s.ensures c.in_ok-h.ensures.gives))
-
-pub bounds-aut-s : goal.bounds-aut-s
-bounds-aut-s c =
-    let Q = c.requires in
-    let I = c.loop-i.invariant in
-    rw c.set_of.ensures.keeps.states (rw (c.state_at-s.ensures, I.pending) (omega (arith, passes.pass_there c.args.config c.args.aut.now Q.rounding (I.passed Q.before Q.rounding) c.loop-i-test.true)))
+    let x = c.args.aut.now in (
+      rw c.set_of.ensures.keeps.states (rw (c.state_at-s.ensures, I.pending) (omega (arith, passes.pass_there k x Q.rounding v c.loop-i-test.true))),
+      passes.pass_small k x Q.rounding v c.loop-i-test.true c.set_of.ensures.keeps (passes.pass_given k x Q.rounding v c.loop-i-test.true I.pending c.state_at-s.ensures c.in_ok-h.ensures.gives),
+    )
 
 pub loop-i-preserved : goal.loop-i-preserved
 loop-i-preserved c = record {
@@ -59,7 +55,8 @@ loop-i-preserved c = record {
       let v = I.passed before R in
       let k = c.args.config in
       let x = c.args.aut.now in
-      passes.pass_again k x R v c.loop-i-test.true c.set_of.ensures.keeps (passes.pass_given k x R v c.loop-i-test.true I.pending c.state_at-s.ensures c.in_ok-h.ensures.gives) _ (rw (c.state_at-s.ensures, I.pending) refl) refl;
+      let w = c.put_set.ensures in
+      passes.pass_again k x R v c.loop-i-test.true c.set_of.ensures.keeps (passes.pass_given k x R v c.loop-i-test.true I.pending c.state_at-s.ensures c.in_ok-h.ensures.gives) w.keeps (rw (c.state_at-s.ensures, I.pending) at w.gives);
 }
 
 pub returns-clause-gives : goal.returns-clause-gives

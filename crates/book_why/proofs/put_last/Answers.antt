@@ -1,4 +1,3 @@
-use mathlib.Core.Path.{sym}
 use Rattle.book_why.proofs.Picking as picking
 use Rattle.book_why.proofs.put_last.Goals as goal
 
@@ -8,6 +7,10 @@ epsilon_at-epsilon-requires c = picking.last_known c.requires.number c.requires.
 pub end_of-requires : goal.end_of-requires
 end_of-requires c = picking.last_asks c.requires.number c.requires.going c.epsilon_at-epsilon.ensures
 
+pub unwrap-packet-requires : goal.unwrap-packet-requires
+unwrap-packet-requires c =
+    picking.there (picking.arrived c.requires.number c.requires.going c.epsilon_at-epsilon.ensures c.end_of.ensures.gives c.end_of.ensures.keeps.scratch.length).is
+
 pub returns-clause-gives : goal.returns-clause-gives
 returns-clause-gives c =
     let K = c.end_of.ensures.keeps in
@@ -16,8 +19,8 @@ returns-clause-gives c =
           let A = picking.arrived e G c.epsilon_at-epsilon.ensures c.end_of.ensures.gives K.scratch.length in
           record {
             packet = A.packet;
-            number = c.unwrap_or-packet.result;
-            is = sym (rw A.is at c.unwrap_or-packet.ensures);
+            number = c.unwrap-packet.result;
+            is = picking.same_there A.is c.unwrap-packet.ensures;
             whole = A.whole;
             standing = rw (K.sp, K.spp, K.states, K.members, K.transitions, K.pending) A.standing;
             put = c.put_end.ensures.puts;

@@ -4,14 +4,14 @@ use Rattle.book_why.proofs.Writing as writing
 use Rattle.book_why.proofs.put_string.Goals as goal
 
 pub put_first-spot-requires : goal.put_first-spot-requires
-put_first-spot-requires c = writing.string_first c.step_for-step.ensures c.requires
+put_first-spot-requires c = writing.string_first c.requires
 
 pub loop-j-init : goal.loop-j-init
 loop-j-init c = record { keeps = search rules; pending = refl; bytes = search rules; hopping = writing.hopping_begin }
 
 pub put_next-spot-requires : goal.put_next-spot-requires
 put_next-spot-requires c =
-    writing.string_next c.put_first-spot.ensures.gives c.loop-j.invariant.hopping c.loop-j-test.true c.step_for-step.ensures c.requires
+    writing.string_next c.put_first-spot.ensures.gives c.loop-j.invariant.hopping c.loop-j-test.true c.requires
 
 pub loop-j-preserved : goal.loop-j-preserved
 loop-j-preserved c =

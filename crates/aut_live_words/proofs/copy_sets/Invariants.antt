@@ -1,7 +1,7 @@
 use mathlib.Core.Path.{◌≡◌}
 use Rattle.aut_sets.specs.Lent.{OnlyMarks}
-use Rattle.aut_why_words.proofs.Loops.{Copying}
-use Rattle.aut_why_words.proofs.copy_sets.Given as goal
+use Rattle.aut_live_words.proofs.Words.{Copying}
+use Rattle.aut_live_words.proofs.copy_sets.Given as goal
 
 abbrev pub invariant-loop-i : goal.invariant-loop-i
 invariant-loop-i l = record {
