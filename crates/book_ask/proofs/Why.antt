@@ -27,7 +27,7 @@ use Rattle.aut_live_words.specs.Clauses.{PreKeep}
 use Rattle.aut_live_words.proofs.Held.{tables_marked}
 use Rattle.aut_why_words.specs.Words.{PostClear}
 use Rattle.aut_why_words.proofs.Walks.{walk_keeps, walk_cleared, walk_zeroed}
-use Rattle.aut_why_rounds.specs.Clauses.{hops_of}
+use Rattle.aut_why.specs.Clauses.{hops_of}
 use Rattle.aut_why.specs.Clauses.{as_rounds, WhyAt}
 use Rattle.book_why.specs.Clauses.{AnsweringIn, PreAnswer, WhyAnswered, PostAnswer}
 use Rattle.book_steps.specs.Answers.{why_answer}

@@ -44,7 +44,7 @@ use Rattle.book_reader.specs.declared.Said.{Said}
 use Rattle.book_writer.specs.declared.Output.{Output}
 use Rattle.book_writer.specs.Clauses.{PutAt}
 use Rattle.book_writer.proofs.Contracts.{put_take}
-use Rattle.book_ask.specs.Clauses.{PostAsk}
+use Rattle.book_query.specs.Clauses.{PostAsk}
 use Rattle.book_memory.specs.declared.Lines.{Lines as Table}
 use Rattle.book_memory.specs.declared.Setting.{Setting}
 use Rattle.book_memory.specs.declared.Place.{Place}
@@ -158,7 +158,7 @@ module _ {S : Setting} {t : Told} {x : Place} (P : PrePerform S x t) where
 
 -- ---- a line that is read
 
-module _ {book : List ℕ} {S : Setting} {c : Cursor} {x : Place} (P : PreObey book S x c) {s : code.Option Said} (R : Says book (Reader.parse (rest book c)) s) where
+module _ {S : Setting} (c : Cursor) {x : Place} (P : PreObey S x) {s : code.Option Said} (R : Says (Reader.parse (rest c)) s) where
   module _ {y : Place} (O : OnlyWork x y) where
     tables_kept : tables_in y.aut ≡ tables_in x.aut
     tables_kept = rw O.aut.sp (rw O.aut.spp (rw O.aut.states (rw O.aut.members (rw O.aut.transitions refl))))
@@ -172,15 +172,15 @@ module _ {book : List ℕ} {S : Setting} {c : Cursor} {x : Place} (P : PreObey b
     setting_kept : setting_in S y ≡ setting_in S x
     setting_kept = rw O.aut.pending (rw O.output refl)
 
-    same_step : {t : Result Told Refusal} → PostTold book S.config s t x y → step (setting_in S x) (Reader.parse (rest book c)) (place_in x) ≡ execute (setting_in S x) (told_of y.aut.scratch.now t) (place_in x)
+    same_step : {t : Result Told Refusal} → PostTold S.config s t x y → step (setting_in S x) (Reader.parse (rest c)) (place_in x) ≡ execute (setting_in S x) (told_of y.aut.scratch.now t) (place_in x)
     same_step T = ap (λ (o : Option Reader.Instruction). step (setting_in S x) o (place_in x)) R.is
         ∙ T.is S.budget (length x.aut.pending.now / 2) (length x.output.bytes.now) (tables_in x.aut) (take x.output.at x.output.bytes.now)
 
     -- refused before a table is touched
-    pub obey_stops : {e : Refusal} → PostTold book S.config s (Err e) x y → Stops e x y (step (setting_in S x) (Reader.parse (rest book c)) (place_in x))
+    pub obey_stops : {e : Refusal} → PostTold S.config s (Err e) x y → Stops e x y (step (setting_in S x) (Reader.parse (rest c)) (place_in x))
     obey_stops T = record { is = same_step T; output = O.output }
 
-    module _ {t : Told} (T : PostTold book S.config s (Ok t) x y) where
+    module _ {t : Told} (T : PostTold S.config s (Ok t) x y) where
       standing_kept : Standing S y
       standing_kept = record {
         fields = rw O.aut.spp P.standing.fields;
@@ -198,10 +198,10 @@ module _ {book : List ℕ} {S : Setting} {c : Cursor} {x : Place} (P : PreObey b
       pub obey_perform : PrePerform S y t
       obey_perform = record { standing = standing_kept; ready = T.ready y.aut.states.count (rw O.aut.states P.standing.named); more = rw O.lines P.more }
 
-      the_step : step (setting_in S x) (Reader.parse (rest book c)) (place_in x) ≡ execute (setting_in S y) (told_of y.aut.scratch.now (Ok t)) (place_in y)
+      the_step : step (setting_in S x) (Reader.parse (rest c)) (place_in x) ≡ execute (setting_in S y) (told_of y.aut.scratch.now (Ok t)) (place_in y)
       the_step = same_step T ∙ ap₂ (λ (Q : Run.Setting) (p : Run.RunState). execute Q (told_of y.aut.scratch.now (Ok t)) p) (sym setting_kept) (sym place_kept)
 
-      pub obeyed : (z : Place) (r : Result Unit Refusal) → PostPerform S y t r z → PostObey book S x c r z
+      pub obeyed : (z : Place) (r : Result Unit Refusal) → PostPerform S y t r z → PostObey S x c r z
       obeyed z (Ok u) Q = record {
         value = Q.value;
         is = the_step ∙ Q.is;

@@ -1,5 +1,5 @@
 -- 01, "The book and its answers": a line behind the first, in code: what it does is its step (book_steps, `step`), or 01's number.
-use Rattle.std.specs.Prelude.{◌≡◌, List, ℕ, ◌+◌, ◌<◌, Result, Ok, Err}
+use Rattle.std.specs.Prelude.{◌≡◌, ℕ, ◌+◌, ◌<◌, Result, Ok, Err}
 use Rattle.common.specs.Outcome.{Outcome, refused, given}
 use Rattle.refusal.specs.declared.Refusal.{Refusal}
 use Rattle.refusal.specs.Numbers.{number_of}
@@ -7,7 +7,7 @@ use Rattle.book_steps.specs.Reader as Reader
 use Rattle.book_steps.specs.Reader.{asks}
 use Rattle.book_steps.specs.Run as Run
 use Rattle.book_steps.specs.Run.{execute, step}
-use Rattle.book_reader.specs.Clauses.{rest, Within, query_of}
+use Rattle.book_reader.specs.Clauses.{rest, query_of}
 use Rattle.book_reader.specs.declared.Cursor.{Cursor}
 use Rattle.book_reader.specs.declared.Query.{Query}
 use Rattle.book_memory.specs.declared.Setting.{Setting}
@@ -54,11 +54,10 @@ pub record PrePerform (S : Setting) (x : Place) (t : Told) : Type 0 where
 abbrev pub PostPerform : Setting → Place → Told → Result Unit Refusal → Place → Type 0
 PostPerform S x t r y = ObeyedBy S x r y (execute (setting_in S x) (told_of x.aut.scratch.now (Ok t)) (place_in x))
 
-pub record PreObey (book : List ℕ) (S : Setting) (x : Place) (c : Cursor) : Type 0 where
-  pub within : Within book c
+pub record PreObey (S : Setting) (x : Place) : Type 0 where
   pub standing : Standing S x
   pub more : x.lines.count < LINES
 
 -- the line whose words are still to be read at c
-abbrev pub PostObey : List ℕ → Setting → Place → Cursor → Result Unit Refusal → Place → Type 0
-PostObey book S x c r y = ObeyedBy S x r y (step (setting_in S x) (Reader.parse (rest book c)) (place_in x))
+abbrev pub PostObey : Setting → Place → Cursor → Result Unit Refusal → Place → Type 0
+PostObey S x c r y = ObeyedBy S x r y (step (setting_in S x) (Reader.parse (rest c)) (place_in x))

@@ -53,12 +53,12 @@ fn perform(place: &mut Place, setting: Setting, told: Told) -> Result<(), Refusa
 }
 
 // the line at c
-pub fn obey(book: &[u8], place: &mut Place, setting: Setting, c: Cursor) -> Result<(), Refusal>
-    requires { PreObey book.now setting place.old c }
+pub fn obey(place: &mut Place, setting: Setting, c: Cursor) -> Result<(), Refusal>
+    requires { PreObey setting place.old }
     ensures keeps { SamePlace place.old place.new }
-    ensures gives { PostObey book.now setting place.old c result place.new }
+    ensures gives { PostObey setting place.old c.entry result place.new }
 {
-    let said = book_reader::instruction(book, c);
-    let told = book_place::tell(book, place, setting.config, said)?;
+    let said = book_reader::instruction(c);
+    let told = book_place::tell(place, setting.config, said)?;
     perform(place, setting, told)
 }

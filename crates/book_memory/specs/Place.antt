@@ -12,6 +12,7 @@ use Rattle.aut_query_stage.specs.Lent.{tables_in}
 use Rattle.book_memory.specs.declared.Setting.{Setting}
 use Rattle.book_memory.specs.declared.Lines.{Lines}
 use Rattle.book_memory.specs.declared.Place.{Place}
+use Rattle.book_memory.specs.declared.Memory.{Memory}
 
 abbrev pub LINES : ℕ
 LINES = 2048
@@ -72,7 +73,34 @@ lengths_of p = record {
   output = length p.output.bytes.now;
 }
 
+-- ---- the slices that are lent
+
+-- .. of a place
+abbrev pub memory_of : Place → Memory
+memory_of p = record {
+  sp = p.aut.sp.nodes;
+  spp = p.aut.spp.nodes;
+  states = p.aut.states.words;
+  members = p.aut.members.words;
+  transitions = p.aut.transitions.words;
+  pending = p.aut.pending;
+  lines = p.lines.words;
+  scratch = p.aut.scratch;
+  output = p.output.bytes;
+}
+
 -- ---- what a call keeps: x before, y after. The same words and bytes are lent, as many
+
+pub record SameMemory (m n : Memory) : Type 0 where
+  pub sp : SameSlice m.sp n.sp
+  pub spp : SameSlice m.spp n.spp
+  pub states : SameSlice m.states n.states
+  pub members : SameSlice m.members n.members
+  pub transitions : SameSlice m.transitions n.transitions
+  pub pending : SameSlice m.pending n.pending
+  pub lines : SameSlice m.lines n.lines
+  pub scratch : SameSlice m.scratch n.scratch
+  pub output : SameSlice m.output n.output
 
 pub record SamePlace (x y : Place) : Type 0 where
   pub aut : SameLent x.aut y.aut
@@ -80,16 +108,8 @@ pub record SamePlace (x y : Place) : Type 0 where
   pub output : SameSlice x.output.bytes y.output.bytes
 
 -- .. no more than this: before the instructions the fields are set too
-pub record SameSlices (x y : Place) : Type 0 where
-  pub sp : SameSlice x.aut.sp.nodes y.aut.sp.nodes
-  pub spp : SameSlice x.aut.spp.nodes y.aut.spp.nodes
-  pub states : SameSlice x.aut.states.words y.aut.states.words
-  pub members : SameSlice x.aut.members.words y.aut.members.words
-  pub transitions : SameSlice x.aut.transitions.words y.aut.transitions.words
-  pub pending : SameSlice x.aut.pending y.aut.pending
-  pub lines : SameSlice x.lines.words y.lines.words
-  pub scratch : SameSlice x.aut.scratch y.aut.scratch
-  pub output : SameSlice x.output.bytes y.output.bytes
+abbrev pub SameSlices : Place → Place → Type 0
+SameSlices x y = SameMemory (memory_of x) (memory_of y)
 
 -- of the output, only bytes before the place were written, and none is taken back
 pub record Onto (x y : Place) : Type 0 where

@@ -4,7 +4,7 @@
 ghost use Rattle.std.specs.Prelude.{◌≡◌, [], ◌∷◌, ◌++◌, ◌+◌, ◌≤◌, ◌<◌, IfSome, length, get_or, set};
 ghost use Rattle.std.proofs.Math.Option.{none};
 ghost use Rattle.slices.specs.Same.{SameSlice};
-ghost use Rattle.book_memory.specs.Place.{stands_for, word_of, lines_at};
+ghost use Rattle.book_memory.specs.Place.{stands_for, word_of, lines_at, memory_of};
 
 use aut_relations::{Aut, Transitions};
 use aut_states::{Config, Members, States};
@@ -77,15 +77,7 @@ pub struct Memory<'a> {
 impl<'a> Memory<'a> {
     // the slices as a place with no records, lines or output; until they are put back there are none here
     pub fn place(&mut self) -> Place<'a>
-        ensures sp { result.aut.sp.nodes ≡ self.old.sp }
-        ensures spp { result.aut.spp.nodes ≡ self.old.spp }
-        ensures states { result.aut.states.words ≡ self.old.states }
-        ensures members { result.aut.members.words ≡ self.old.members }
-        ensures transitions { result.aut.transitions.words ≡ self.old.transitions }
-        ensures pending { result.aut.pending ≡ self.old.pending }
-        ensures lines { result.lines.words ≡ self.old.lines }
-        ensures scratch { result.aut.scratch ≡ self.old.scratch }
-        ensures output { result.output.bytes ≡ self.old.output }
+        ensures { self.old ≡ memory_of result }
     {
         Place {
             aut: Aut {
@@ -125,15 +117,7 @@ impl<'a> Memory<'a> {
     }
 
     pub fn put_back(&mut self, place: &mut Place<'a>)
-        ensures sp { self.new.sp ≡ place.old.aut.sp.nodes }
-        ensures spp { self.new.spp ≡ place.old.aut.spp.nodes }
-        ensures states { self.new.states ≡ place.old.aut.states.words }
-        ensures members { self.new.members ≡ place.old.aut.members.words }
-        ensures transitions { self.new.transitions ≡ place.old.aut.transitions.words }
-        ensures pending { self.new.pending ≡ place.old.aut.pending }
-        ensures lines { self.new.lines ≡ place.old.lines.words }
-        ensures scratch { self.new.scratch ≡ place.old.aut.scratch }
-        ensures output { self.new.output ≡ place.old.output.bytes }
+        ensures { self.new ≡ memory_of place.old }
     {
         self.sp = std::mem::take(&mut place.aut.sp.nodes);
         self.spp = std::mem::take(&mut place.aut.spp.nodes);

@@ -15,8 +15,7 @@ use Rattle.aut_steps.specs.Scratch.{Kept}
 use Rattle.aut_steps.proofs.Scratch.{kept_refl, kept_trans, kept_sets, words_append}
 use Rattle.book_steps.specs.Reader as Reader
 use Rattle.book_steps.specs.Reader.{given, giving, numbers, refuses}
-use Rattle.book_reader.specs.Clauses.{rest, behind, bad, taken, TakesNumber}
-use Rattle.std.specs.Prelude as code
+use Rattle.book_reader.specs.Clauses.{rest, behind, bad, taken}
 use Rattle.std.specs.Prelude.{Ok, Err}
 use Rattle.refusal.specs.declared.Refusal.TheVariants as refusals
 use Rattle.book_reader.specs.declared.Cursor.{Cursor}
@@ -79,22 +78,22 @@ none_left (a ∷ l) e = absurd (omega arith)
 -- ---- a list is read
 
 -- i operands are read, and c is behind them; they stand for `states`. x was before, y is there now
-pub record Reading (book : List ℕ) (most : ℕ) (from : Cursor) (n : ℕ) (x y : Place) (c : Cursor) (i : ℕ) : Type 0 where
+pub record Reading (most : ℕ) (from : Cursor) (n : ℕ) (x y : Place) (c : Cursor) (i : ℕ) : Type 0 where
   pub keeps : OnlyWork x y
-  pub pre : PreOperand book most c y
+  pub pre : PreOperand most y
   pub kept : Kept 0 64 x.aut.scratch.now y.aut.scratch.now
   pub states : List ℕ
   pub size : length states ≡ i
   pub all : List ℕ
-  pub all_is : numbers (rest book from) ≡ some all
+  pub all_is : numbers (rest from) ≡ some all
   pub left : List ℕ
-  pub left_is : numbers (rest book c) ≡ some left
+  pub left_is : numbers (rest c) ≡ some left
   pub left_size : i + length left ≡ n
   pub is : (N : ℕ) (K : Goal) → giving N (lines_in x) all K ≡ giving N (lines_in x) left (λ ys. K (states ++ ys))
   pub words : i ≤ most → words y.aut.scratch.now 0 i ≡ states
   pub below : (b : ℕ) → Below b (lines_in x) → All (λ z. z < b) states
 
-pub reading_begin : {book : List ℕ} {most : ℕ} {c : Cursor} {n : ℕ} {x : Place} → PreOperands book most c n x → OnlyWork x x → Reading book most c n x x c 0
+pub reading_begin : {most : ℕ} {c : Cursor} {n : ℕ} {x : Place} → PreOperands most c n x → OnlyWork x x → Reading most c n x x c 0
 unfolding words
 reading_begin {x = x} p o = let l = list_is p.counted in record {
   keeps = o;
@@ -112,22 +111,22 @@ reading_begin {x = x} p o = let l = list_is p.counted in record {
   below = λ b f. tt;
 }
 
-module _ {book : List ℕ} {most : ℕ} {from : Cursor} {n : ℕ} {x y : Place} {c : Cursor} {i : ℕ} (v : Reading book most from n x y c i) where
+module _ {most : ℕ} {from : Cursor} {n : ℕ} {x y : Place} {c : Cursor} {i : ℕ} (v : Reading most from n x y c i) where
   abbrev s : List ℕ
   s = y.aut.scratch.now
 
   lines_are : lines_in y ≡ lines_in x
   lines_are = ap (λ (t : Table). lines_of t.words.now t.count) v.keeps.lines
 
-  module _ {d : Cursor} {z : Place} (T : Took book (lines_in y) most c d i s z.aut.scratch.now) (o : OnlyWork y z) where
+  module _ {d : Cursor} {z : Place} (T : Took (lines_in y) most c d i s z.aut.scratch.now) (o : OnlyWork y z) where
     abbrev s' : List ℕ
     s' = z.aut.scratch.now
 
     named_is : get_or (lines_in x) T.number none ≡ some T.state
     named_is = ap (λ (ls : List (Option ℕ)). get_or ls T.number none) (sym lines_are) ∙ T.named
 
-    next_front : Front (rest book c) (rest book d) T.number v.left
-    next_front = front (rest book c) (rest book d) T.number v.left T.read v.left_is
+    next_front : Front (rest c) (rest d) T.number v.left
+    next_front = front (rest c) (rest d) T.number v.left T.read v.left_is
 
     kept_one : Kept 0 64 s s'
     kept_one = by_test (ltb i most)
@@ -156,10 +155,10 @@ module _ {book : List ℕ} {most : ℕ} {from : Cursor} {n : ℕ} {x y : Place} 
     same_table : length z.lines.words.now ≡ length y.lines.words.now
     same_table = ap (λ (t : Table). length t.words.now) o.lines
 
-    pub reading_again : OnlyWork x z → Reading book most from n x z d (i + 1)
+    pub reading_again : OnlyWork x z → Reading most from n x z d (i + 1)
     reading_again w = record {
       keeps = w;
-      pre = record { within = T.within; lines = omega (arith, v.pre.lines, same_count, same_table); room = omega (arith, v.pre.room, o.aut.scratch.length); few = v.pre.few };
+      pre = record { lines = omega (arith, v.pre.lines, same_count, same_table); room = omega (arith, v.pre.room, o.aut.scratch.length); few = v.pre.few };
       kept = kept_trans v.kept kept_one;
       states = v.states ++ T.state ∷ [];
       size = omega (arith, length-append v.states (T.state ∷ []), v.size);
@@ -173,22 +172,22 @@ module _ {book : List ℕ} {most : ℕ} {from : Cursor} {n : ℕ} {x y : Place} 
       below = λ b f. all_append (λ z. z < b) v.states (T.state ∷ []) (v.below b f) (f T.number T.state named_is, tt);
     }
 
-  by_all : (N : ℕ) (l : List ℕ) → numbers (rest book from) ≡ some l → (K : Goal) → giving N (lines_in x) l K ≡ giving N (lines_in x) v.left (λ ys. K (v.states ++ ys))
+  by_all : (N : ℕ) (l : List ℕ) → numbers (rest from) ≡ some l → (K : Goal) → giving N (lines_in x) l K ≡ giving N (lines_in x) v.left (λ ys. K (v.states ++ ys))
   by_all N l e K = ap (λ (m : List ℕ). giving N (lines_in x) m K) (some_same (sym e ∙ v.all_is)) ∙ v.is N K
 
-  missed_is : i < n → Missed book (lines_in y) c → (N : ℕ) (K : Goal) → giving N (lines_in x) v.left K ≡ refuses 4
-  missed_is l (no_number t) N K = absurd (omega (arith, v.left_size, ap length (no_front (rest book c) v.left t v.left_is)))
+  missed_is : i < n → Missed (lines_in y) c → (N : ℕ) (K : Goal) → giving N (lines_in x) v.left K ≡ refuses 4
+  missed_is l (no_number t) N K = absurd (omega (arith, v.left_size, ap length (no_front (rest c) v.left t v.left_is)))
   missed_is l (no_line {a} {vs} t q) N K =
-      let f = front (rest book c) vs a v.left t v.left_is in
+      let f = front (rest c) vs a v.left t v.left_is in
       ap (λ (m : List ℕ). giving N (lines_in x) m K) f.is ∙ giving_one N (lines_in x) a f.others K (ap (λ (ls : List (Option ℕ)). get_or ls a none) (sym lines_are) ∙ q)
 
-  pub reading_missed : {z : Place} → i < n → Missed book (lines_in y) c × (z ≡ y) → PostOperands book most from n (Err refusals.Name) x z
+  pub reading_missed : {z : Place} → i < n → Missed (lines_in y) c × (z ≡ y) → PostOperands most from n (Err refusals.Name) x z
   reading_missed {z} l (m, e) = record {
     kept = subst (λ (p : Place). Kept 0 64 x.aut.scratch.now p.aut.scratch.now) (sym e) v.kept;
     is = λ N l₁ q K. by_all N l₁ q K ∙ missed_is l m N (λ ys. K (v.states ++ ys));
   }
 
-  pub reading_end : n ≤ i → PostOperands book most from n (Ok tt) x y
+  pub reading_end : n ≤ i → PostOperands most from n (Ok tt) x y
   reading_end l = record {
     kept = v.kept;
     is = record {
@@ -205,12 +204,12 @@ module _ {book : List ℕ} {most : ℕ} {from : Cursor} {n : ℕ} {x y : Place} 
 
 -- ---- one operand
 
-pub operand_no_line : {book : List ℕ} {lines : List (Option ℕ)} {c : Cursor} {a : ℕ} {d : Cursor} → TakesNumber book c (code.Some (a, d)) → get_or lines a none ≡ none → Missed book lines c
-operand_no_line T L = no_line T.is L
+pub operand_no_line : {lines : List (Option ℕ)} (c d : Cursor) {a : ℕ} → taken (rest c) ≡ behind a (rest d) → get_or lines a none ≡ none → Missed lines c
+operand_no_line c d T L = no_line T L
 
-module _ {book : List ℕ} {lines : List (Option ℕ)} {most i : ℕ} {c : Cursor} {s : List ℕ} {a : ℕ} {d : Cursor} (T : TakesNumber book c (code.Some (a, d))) {x : ℕ} (L : get_or lines a none ≡ some x) where
-  pub operand_wrote : i < most → Took book lines most c d i s (set s i x)
-  operand_wrote l = record { number = a; state = x; read = T.is; within = T.within; named = L; wrote = λ h. refl; left = λ h. absurd (omega arith) }
+module _ {lines : List (Option ℕ)} {most i : ℕ} {c : Cursor} {s : List ℕ} {a : ℕ} {d : Cursor} (T : taken (rest c) ≡ behind a (rest d)) {x : ℕ} (L : get_or lines a none ≡ some x) where
+  pub operand_wrote : i < most → Took lines most c d i s (set s i x)
+  operand_wrote l = record { number = a; state = x; read = T; named = L; wrote = λ h. refl; left = λ h. absurd (omega arith) }
 
-  pub operand_left : most ≤ i → Took book lines most c d i s s
-  operand_left l = record { number = a; state = x; read = T.is; within = T.within; named = L; wrote = λ h. absurd (omega arith); left = λ h. refl }
+  pub operand_left : most ≤ i → Took lines most c d i s s
+  operand_left l = record { number = a; state = x; read = T; named = L; wrote = λ h. absurd (omega arith); left = λ h. refl }

@@ -1,6 +1,5 @@
 -- What a line is told to do, by what it says and by the lines before it.
 use Rattle.std.specs.Prelude.{if◌then◌else◌, Result, Ok, Err}
-use Rattle.std.specs.Result.{IsErr, IsErrAnd}
 use mathlib.Core.Path.{◌≡◌, refl, sym, ◌∙◌, ap, ap₂, subst}
 use mathlib.Core.Bool.{Bool, ◌&&◌}
 use mathlib.Core.List.{List}
@@ -41,18 +40,12 @@ use Rattle.std.specs.Prelude as code
 use Rattle.book_reader.proofs.Saying.{list_is}
 use Rattle.refusal.specs.declared.Refusal.{Refusal}
 use Rattle.refusal.specs.declared.Refusal.TheVariants as refusals
-use Rattle.refusal.proofs.Passed.{passed}
 use Rattle.book_memory.specs.declared.Lines.{Lines as Table}
 use Rattle.book_memory.specs.declared.Place.{Place}
 use Rattle.book_memory.specs.Place.{lines_at, lines_in, Below}
 use Rattle.book_place.specs.declared.Told.{Told}
 use Rattle.book_place.specs.declared.Told.TheVariants as told
 use Rattle.book_place.specs.Clauses.{Found, PreOperands, PostOperands, told_of, ToldReady, setting_by, Alike, TellsBit, TellsPair, TellsList, PreTold, PostTold}
-
--- ---- what `?` hands on, where the error that it met was one of another type
-
-pub passed_on : {A B : Type 0} {r : Result A Refusal} {e f : Refusal} → IsErr r × IsErrAnd r (λ x. x ≡ e) → ◌≡◌ {A = Result B Refusal} (Err e) (Err f) → r ≡ Err f
-passed_on {e = e} {f = f} p q = passed p ∙ ap Err (let z : e ≡ f = cc in z)
 
 -- ---- test, set
 
@@ -111,22 +104,22 @@ list_tell N ls w l = refl
 pub alike : (N : ℕ) (L : Limits) (lines : List (Option ℕ)) {t u : Reader.Resolved ℕ} → t ≡ u → Alike N L lines t u
 alike N L lines e b i r τ out = ap (λ (t : Reader.Resolved ℕ). execute (setting_by N b L i r) t (place τ lines out)) e
 
-module _ (book : List ℕ) (most : ℕ) (w : Listed) (c : Cursor) {n : ℕ} {x y : Place} where
-  pub list_bad : {e : Refusal} → PostOperands book most c n (Err e) x y → TellsList book most w c (Err e) x y
+module _ (most : ℕ) (w : Listed) (c : Cursor) {n : ℕ} {x y : Place} where
+  pub list_bad : {e : Refusal} → PostOperands most c n (Err e) x y → TellsList most w c (Err e) x y
   list_bad P = record {
     kept = P.kept;
     is = λ N L l m q. alike N L (lines_in x) (list_tell N (lines_in x) w l ∙ P.is N l q (λ xs. makes (Lines.listed (listed_of w) xs)));
     ready = λ N n B. tt;
   }
 
-  module _ {u : Unit} (P : PostOperands book most c n (Ok u) x y) where
-    list_found : Found book (lines_in x) most c n y.aut.scratch.now
+  module _ {u : Unit} (P : PostOperands most c n (Ok u) x y) where
+    list_found : Found (lines_in x) most c n y.aut.scratch.now
     list_found = P.is
 
-    list_is_told : (N : ℕ) (l : List ℕ) → numbers (rest book c) ≡ some l → resolve N (lines_in x) (Reader.listed (listed_of w) l) ≡ makes (Lines.listed (listed_of w) list_found.states)
+    list_is_told : (N : ℕ) (l : List ℕ) → numbers (rest c) ≡ some l → resolve N (lines_in x) (Reader.listed (listed_of w) l) ≡ makes (Lines.listed (listed_of w) list_found.states)
     list_is_told N l q = list_tell N (lines_in x) w l ∙ list_found.is N l q (λ xs. makes (Lines.listed (listed_of w) xs))
 
-    pub list_too_long : most < n → TellsList book most w c (Err refusals.List) x y
+    pub list_too_long : most < n → TellsList most w c (Err refusals.List) x y
     list_too_long h = record {
       kept = P.kept;
       is = λ N L l m q b i r τ out.
@@ -136,7 +129,7 @@ module _ (book : List ℕ) (most : ℕ) (w : Listed) (c : Cursor) {n : ℕ} {x y
       ready = λ N n B. tt;
     }
 
-    pub list_makes : n ≤ most → most ≤ 64 → TellsList book most w c (Ok (told.Makes (line.Listed w n))) x y
+    pub list_makes : n ≤ most → most ≤ 64 → TellsList most w c (Ok (told.Makes (line.Listed w n))) x y
     list_makes h few = record {
       kept = P.kept;
       is = λ N L l m q. alike N L (lines_in x) (list_is_told N l q ∙ ap (λ (xs : List ℕ). makes (Lines.listed (listed_of w) xs)) (sym (list_found.words h)));
@@ -145,7 +138,7 @@ module _ (book : List ℕ) (most : ℕ) (w : Listed) (c : Cursor) {n : ℕ} {x y
 
 -- ---- all of it
 
-module _ (book : List ℕ) (config : Config) (x : Place) where
+module _ (config : Config) (x : Place) where
   single_by : (w : Single) (a : ℕ) {o : Option ℕ} → get_or (lines_in x) a none ≡ o → resolve config.fields (lines_in x) (Reader.single (single_of w) a) ≡ given config.fields (lines_in x) o (λ x. makes (Lines.single (single_of w) x))
   unfolding resolve
   single_by w a f = ap (λ (o : Option ℕ). given config.fields (lines_in x) o (λ x. makes (Lines.single (single_of w) x))) f
@@ -156,8 +149,8 @@ module _ (book : List ℕ) (config : Config) (x : Place) where
 
   module _ {r : code.Option Said} where
     -- a line that writes no list
-    plain : {t : Result Told Refusal} (I : Reader.Instruction) → said_of book r ≡ some I → ((s' : List ℕ) → resolve config.fields (lines_in x) I ≡ told_of s' t) → ((n : ℕ) → Below n (lines_in x) → ToldReady config.fields n x.aut.scratch.now t)
-        → PostTold book config r t x x
+    plain : {t : Result Told Refusal} (I : Reader.Instruction) → said_of r ≡ some I → ((s' : List ℕ) → resolve config.fields (lines_in x) I ≡ told_of s' t) → ((n : ℕ) → Below n (lines_in x) → ToldReady config.fields n x.aut.scratch.now t)
+        → PostTold config r t x x
     plain {t} I e f g = record {
       kept = kept_refl 0 64 x.aut.scratch.now;
       is = λ b i m τ out. ap (λ (o : Option Reader.Instruction). step (setting_by config.fields b (limits_of config.limits) i m) o (place τ (lines_in x) out)) e
@@ -165,42 +158,41 @@ module _ (book : List ℕ) (config : Config) (x : Place) where
       ready = g;
     }
 
-    pub told_constant : {w : Constant} → r ≡ code.Some (said.Constant w) → PostTold book config r (Ok (told.Makes (line.Constant w))) x x
+    pub told_constant : {w : Constant} → r ≡ code.Some (said.Constant w) → PostTold config r (Ok (told.Makes (line.Constant w))) x x
     unfolding resolve
-    told_constant {w} e = plain (Reader.constant (constant_of w)) (ap (said_of book) e) (λ s'. refl) (λ n B. record { asked = record { states = tt; field = tt }; short = tt })
+    told_constant {w} e = plain (Reader.constant (constant_of w)) (ap said_of e) (λ s'. refl) (λ n B. record { asked = record { states = tt; field = tt }; short = tt })
 
-    pub told_bit : {w : Bit} {f v : ℕ} {t : Result Told Refusal} → r ≡ code.Some (said.Bit w f v) → TellsBit config.fields w f v t → PostTold book config r t x x
-    told_bit {w} {f} {v} e T = plain (Reader.bit (bit_of w) f v) (ap (said_of book) e) (T.is (lines_in x)) (λ n B. T.ready n x.aut.scratch.now)
+    pub told_bit : {w : Bit} {f v : ℕ} {t : Result Told Refusal} → r ≡ code.Some (said.Bit w f v) → TellsBit config.fields w f v t → PostTold config r t x x
+    told_bit {w} {f} {v} e T = plain (Reader.bit (bit_of w) f v) (ap said_of e) (T.is (lines_in x)) (λ n B. T.ready n x.aut.scratch.now)
 
-    pub told_pair : {w : Pair} {a b : ℕ} {t : Result Told Refusal} → r ≡ code.Some (said.Pair w a b) → TellsPair x.lines w a b t → PostTold book config r t x x
-    told_pair {w} {a} {b} e T = plain (Reader.pair (pair_of w) a b) (ap (said_of book) e) (T.is config.fields) (λ n B. T.ready config.fields n x.aut.scratch.now B)
+    pub told_pair : {w : Pair} {a b : ℕ} {t : Result Told Refusal} → r ≡ code.Some (said.Pair w a b) → TellsPair x.lines w a b t → PostTold config r t x x
+    told_pair {w} {a} {b} e T = plain (Reader.pair (pair_of w) a b) (ap said_of e) (T.is config.fields) (λ n B. T.ready config.fields n x.aut.scratch.now B)
 
     module _ {a z : ℕ} (M : get_or (lines_in x) a none ≡ some z) where
-      pub told_single : {w : Single} → r ≡ code.Some (said.Single w a) → PostTold book config r (Ok (told.Makes (line.Single w z))) x x
-      told_single {w} e = plain (Reader.single (single_of w) a) (ap (said_of book) e) (λ s'. single_by w a M)
+      pub told_single : {w : Single} → r ≡ code.Some (said.Single w a) → PostTold config r (Ok (told.Makes (line.Single w z))) x x
+      told_single {w} e = plain (Reader.single (single_of w) a) (ap said_of e) (λ s'. single_by w a M)
           (λ n B. record { asked = record { states = (B a z M, tt); field = tt }; short = tt })
 
-      pub told_query : {w : Query} → r ≡ code.Some (said.Query w a) → PostTold book config r (Ok (told.Asks w a z)) x x
-      told_query {w} e = plain (Reader.query (query_of w) a) (ap (said_of book) e) (λ s'. query_by w a M) (λ n B. B a z M)
+      pub told_query : {w : Query} → r ≡ code.Some (said.Query w a) → PostTold config r (Ok (told.Asks w a z)) x x
+      told_query {w} e = plain (Reader.query (query_of w) a) (ap said_of e) (λ s'. query_by w a M) (λ n B. B a z M)
 
     module _ {a : ℕ} (M : get_or (lines_in x) a none ≡ none) where
-      pub told_no_single : {w : Single} → r ≡ code.Some (said.Single w a) → PostTold book config r (Err refusals.Name) x x
-      told_no_single {w} e = plain (Reader.single (single_of w) a) (ap (said_of book) e) (λ s'. single_by w a M) (λ n B. tt)
+      pub told_no_single : {w : Single} → r ≡ code.Some (said.Single w a) → PostTold config r (Err refusals.Name) x x
+      told_no_single {w} e = plain (Reader.single (single_of w) a) (ap said_of e) (λ s'. single_by w a M) (λ n B. tt)
 
-      pub told_no_query : {w : Query} → r ≡ code.Some (said.Query w a) → PostTold book config r (Err refusals.Name) x x
-      told_no_query {w} e = plain (Reader.query (query_of w) a) (ap (said_of book) e) (λ s'. query_by w a M) (λ n B. tt)
+      pub told_no_query : {w : Query} → r ≡ code.Some (said.Query w a) → PostTold config r (Err refusals.Name) x x
+      told_no_query {w} e = plain (Reader.query (query_of w) a) (ap said_of e) (λ s'. query_by w a M) (λ n B. tt)
 
     -- a list
-    module _ {w : Listed} {c : Cursor} {n : ℕ} (e : r ≡ code.Some (said.Listed w c n)) (p : PreTold book config r x) where
-      pub list_ready : PreOperands book config.limits.list c n x
-      list_ready = let (a, b) = subst (SaidListed book) e p.listed in
-          record { first = record { within = a; lines = p.lines; room = p.room; few = p.few }; counted = b }
+    module _ {w : Listed} {c : Cursor} {n : ℕ} (e : r ≡ code.Some (said.Listed w c n)) (p : PreTold config r x) where
+      pub list_ready : PreOperands config.limits.list c n x
+      list_ready = record { first = record { lines = p.lines; room = p.room; few = p.few }; counted = subst SaidListed e p.listed }
 
-      pub told_listed : {t : Result Told Refusal} {y : Place} → TellsList book config.limits.list w c t x y → PostTold book config r t x y
+      pub told_listed : {t : Result Told Refusal} {y : Place} → TellsList config.limits.list w c t x y → PostTold config r t x y
       told_listed T = let m = list_is list_ready.counted in record {
         kept = T.kept;
         is = λ b i n τ out.
-            ap (λ (o : Option Reader.Instruction). step (setting_by config.fields b (limits_of config.limits) i n) o (place τ (lines_in x) out)) (ap (said_of book) e ∙ ap (Reader.map (λ l. Reader.listed (listed_of w) l)) m.is)
+            ap (λ (o : Option Reader.Instruction). step (setting_by config.fields b (limits_of config.limits) i n) o (place τ (lines_in x) out)) (ap said_of e ∙ ap (Reader.map (λ l. Reader.listed (listed_of w) l)) m.is)
             ∙ T.is config.fields (limits_of config.limits) m.list refl m.is b i n τ out;
         ready = T.ready config.fields;
       }

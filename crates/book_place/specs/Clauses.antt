@@ -4,6 +4,7 @@ use Rattle.std.specs.Prelude as code
 use Rattle.std.proofs.Math.Option.{Option, none, some}
 use Rattle.slices.specs.Same.{SameSlice}
 use Rattle.refusal.specs.declared.Refusal.{Refusal}
+use Rattle.refusal.specs.declared.Refusal.TheVariants.{Name}
 use Rattle.refusal.specs.Numbers.{number_of}
 use Rattle.aut_steps.specs.Tables.{Limits, words}
 use Rattle.aut_steps.specs.Ascending.{All}
@@ -26,7 +27,7 @@ use Rattle.book_words.specs.Clauses.{bit_of, pair_of, listed_of}
 use Rattle.book_words.specs.declared.Bit.{Bit}
 use Rattle.book_words.specs.declared.Pair.{Pair}
 use Rattle.book_words.specs.declared.Listed.{Listed}
-use Rattle.book_reader.specs.Clauses.{rest, Within, behind, bad, taken, counted, query_of, said_of, SaidListed}
+use Rattle.book_reader.specs.Clauses.{rest, behind, bad, taken, counted, query_of, said_of, SaidListed}
 use Rattle.book_reader.specs.declared.Cursor.{Cursor}
 use Rattle.book_reader.specs.declared.Said.{Said}
 use Rattle.book_memory.specs.declared.Lines.{Lines as Table}
@@ -51,51 +52,54 @@ pub record OnlyMade (x y : Place) : Type 0 where
 
 -- ---- names
 
--- an operand at c can be read, and a word written
-pub record PreOperand (book : List ℕ) (most : ℕ) (c : Cursor) (x : Place) : Type 0 where
-  pub within : Within book c
+-- the state that line a stands for; or it stands for nothing
+abbrev pub Named : List (Option ℕ) → ℕ → Result ℕ Refusal → Type 0
+Named lines a (Ok x) = get_or lines a none ≡ some x
+Named lines a (Err e) = (get_or lines a none ≡ none) × (e ≡ Name)
+
+-- an operand can be looked up, and a word written
+pub record PreOperand (most : ℕ) (x : Place) : Type 0 where
   pub lines : x.lines.count ≤ length x.lines.words.now
   pub room : 64 ≤ length x.aut.scratch.now
   pub few : most ≤ 64
 
 -- the number at c is one that stands for a state, which is written unless i is too far
-pub record Took (book : List ℕ) (lines : List (Option ℕ)) (most : ℕ) (c d : Cursor) (i : ℕ) (s s' : List ℕ) : Type 0 where
+pub record Took (lines : List (Option ℕ)) (most : ℕ) (c d : Cursor) (i : ℕ) (s s' : List ℕ) : Type 0 where
   pub number : ℕ
   pub state : ℕ
-  pub read : taken (rest book c) ≡ behind number (rest book d)
-  pub within : Within book d
+  pub read : taken (rest c) ≡ behind number (rest d)
   pub named : get_or lines number none ≡ some state
   pub wrote : i < most → s' ≡ set s i state
   pub left : most ≤ i → s' ≡ s
 
 -- there is no number at c, or its line stands for nothing
-pub data Missed (book : List ℕ) (lines : List (Option ℕ)) (c : Cursor) : Type 0 where
-  no_number : taken (rest book c) ≡ bad → Missed book lines c
-  no_line : {a : ℕ} {vs : List (List ℕ)} → taken (rest book c) ≡ behind a vs → get_or lines a none ≡ none → Missed book lines c
+pub data Missed (lines : List (Option ℕ)) (c : Cursor) : Type 0 where
+  no_number : taken (rest c) ≡ bad → Missed lines c
+  no_line : {a : ℕ} {vs : List (List ℕ)} → taken (rest c) ≡ behind a vs → get_or lines a none ≡ none → Missed lines c
 
-abbrev pub PostOperand : List ℕ → ℕ → Cursor → ℕ → code.Option Cursor → Place → Place → Type 0
-PostOperand book most c i (code.Some d) x y = Took book (lines_in x) most c d i x.aut.scratch.now y.aut.scratch.now
-PostOperand book most c i code.None x y = Missed book (lines_in x) c × (y ≡ x)
+abbrev pub PostOperand : ℕ → Cursor → ℕ → code.Option Cursor → Place → Place → Type 0
+PostOperand most c i (code.Some d) x y = Took (lines_in x) most c d i x.aut.scratch.now y.aut.scratch.now
+PostOperand most c i code.None x y = Missed (lines_in x) c × (y ≡ x)
 
-pub record PreOperands (book : List ℕ) (most : ℕ) (c : Cursor) (n : ℕ) (x : Place) : Type 0 where
-  pub first : PreOperand book most c x
-  pub counted : counted (rest book c) ≡ some n
+pub record PreOperands (most : ℕ) (c : Cursor) (n : ℕ) (x : Place) : Type 0 where
+  pub first : PreOperand most x
+  pub counted : counted (rest c) ≡ some n
 
 -- the n operands stand for `states`, whose first words are written
-pub record Found (book : List ℕ) (lines : List (Option ℕ)) (most : ℕ) (c : Cursor) (n : ℕ) (s : List ℕ) : Type 0 where
+pub record Found (lines : List (Option ℕ)) (most : ℕ) (c : Cursor) (n : ℕ) (s : List ℕ) : Type 0 where
   pub states : List ℕ
-  pub is : (N : ℕ) (l : List ℕ) → numbers (rest book c) ≡ some l → (K : List ℕ → Reader.Resolved ℕ) → giving N lines l K ≡ K states
+  pub is : (N : ℕ) (l : List ℕ) → numbers (rest c) ≡ some l → (K : List ℕ → Reader.Resolved ℕ) → giving N lines l K ≡ K states
   pub size : length states ≡ n
   pub words : n ≤ most → words s 0 n ≡ states
   pub below : (b : ℕ) → Below b lines → All (λ x. x < b) states
 
-abbrev pub FoundBy : Result Unit Refusal → List ℕ → List (Option ℕ) → ℕ → Cursor → ℕ → List ℕ → Type 0
-FoundBy (Ok u) book lines most c n s = Found book lines most c n s
-FoundBy (Err e) book lines most c n s = (N : ℕ) (l : List ℕ) → numbers (rest book c) ≡ some l → (K : List ℕ → Reader.Resolved ℕ) → giving N lines l K ≡ refuses (number_of e)
+abbrev pub FoundBy : Result Unit Refusal → List (Option ℕ) → ℕ → Cursor → ℕ → List ℕ → Type 0
+FoundBy (Ok u) lines most c n s = Found lines most c n s
+FoundBy (Err e) lines most c n s = (N : ℕ) (l : List ℕ) → numbers (rest c) ≡ some l → (K : List ℕ → Reader.Resolved ℕ) → giving N lines l K ≡ refuses (number_of e)
 
-pub record PostOperands (book : List ℕ) (most : ℕ) (c : Cursor) (n : ℕ) (r : Result Unit Refusal) (x y : Place) : Type 0 where
+pub record PostOperands (most : ℕ) (c : Cursor) (n : ℕ) (r : Result Unit Refusal) (x y : Place) : Type 0 where
   pub kept : Kept 0 64 x.aut.scratch.now y.aut.scratch.now
-  pub is : FoundBy r book (lines_in x) most c n y.aut.scratch.now
+  pub is : FoundBy r (lines_in x) most c n y.aut.scratch.now
 
 -- ---- what a line is told to do
 
@@ -126,20 +130,20 @@ pub record TellsPair (t : Table) (w : Pair) (a b : ℕ) (r : Result Told Refusal
   pub is : (N : ℕ) (s : List ℕ) → resolve N (lines_at t) (Reader.pair (pair_of w) a b) ≡ told_of s r
   pub ready : (N n : ℕ) (s : List ℕ) → Below n (lines_at t) → ToldReady N n s r
 
-pub record TellsList (book : List ℕ) (most : ℕ) (w : Listed) (c : Cursor) (r : Result Told Refusal) (x y : Place) : Type 0 where
+pub record TellsList (most : ℕ) (w : Listed) (c : Cursor) (r : Result Told Refusal) (x y : Place) : Type 0 where
   pub kept : Kept 0 64 x.aut.scratch.now y.aut.scratch.now
-  pub is : (N : ℕ) (L : Limits) (l : List ℕ) → L.list ≡ most → numbers (rest book c) ≡ some l → Alike N L (lines_in x) (resolve N (lines_in x) (Reader.listed (listed_of w) l)) (told_of y.aut.scratch.now r)
+  pub is : (N : ℕ) (L : Limits) (l : List ℕ) → L.list ≡ most → numbers (rest c) ≡ some l → Alike N L (lines_in x) (resolve N (lines_in x) (Reader.listed (listed_of w) l)) (told_of y.aut.scratch.now r)
   pub ready : (N n : ℕ) → Below n (lines_in x) → ToldReady N n y.aut.scratch.now r
 
-pub record PreTold (book : List ℕ) (config : Config) (said : code.Option Said) (x : Place) : Type 0 where
+pub record PreTold (config : Config) (said : code.Option Said) (x : Place) : Type 0 where
   pub lines : x.lines.count ≤ length x.lines.words.now
   pub room : 64 ≤ length x.aut.scratch.now
   pub few : config.limits.list ≤ 64
-  pub listed : SaidListed book said
+  pub listed : SaidListed said
 
-pub record PostTold (book : List ℕ) (config : Config) (said : code.Option Said) (r : Result Told Refusal) (x y : Place) : Type 0 where
+pub record PostTold (config : Config) (said : code.Option Said) (r : Result Told Refusal) (x y : Place) : Type 0 where
   pub kept : Kept 0 64 x.aut.scratch.now y.aut.scratch.now
-  pub is : (b e m : ℕ) (τ : Tables) (out : List ℕ) → step (setting_by config.fields b (limits_of config.limits) e m) (said_of book said) (place τ (lines_in x) out)
+  pub is : (b e m : ℕ) (τ : Tables) (out : List ℕ) → step (setting_by config.fields b (limits_of config.limits) e m) (said_of said) (place τ (lines_in x) out)
       ≡ execute (setting_by config.fields b (limits_of config.limits) e m) (told_of y.aut.scratch.now r) (place τ (lines_in x) out)
   pub ready : (n : ℕ) → Below n (lines_in x) → ToldReady config.fields n y.aut.scratch.now r
 

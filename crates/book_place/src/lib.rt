@@ -2,6 +2,7 @@
 #![tactic(auto)]
 
 ghost use Rattle.std.specs.Prelude.{◌≤◌, length};
+ghost use Rattle.book_memory.specs.Place.{lines_at};
 ghost use Rattle.book_place.specs.Clauses as Its;
 ghost use Rattle.book_place.specs.Clauses.{OnlyWork, PreOperand, PostOperand, PreOperands, PostOperands, PostTold, OnlyMade, PreMake, PostMake};
 
@@ -21,13 +22,21 @@ pub enum Told {
 
 // ---- names
 
-// behind operand i of a list: its state is word i of scratch, as far as a list may be long; none if it is no earlier constructor line
-fn read_operand(book: &[u8], place: &mut Place, most: usize, c: Cursor, i: usize) -> Option<Cursor>
-    requires { PreOperand book.now most c place.old }
-    ensures keeps { OnlyWork place.old place.new }
-    ensures gives { PostOperand book.now most c i result place.old place.new }
+// the state that the line of this number stands for
+fn named(lines: &Lines, a: u64) -> Result<u32, Refusal>
+    requires { lines.now.count ≤ length lines.now.words.now }
+    ensures { Its.Named (lines_at lines.now) a result }
 {
-    let (a, next) = c.number(book)?;
+    lines.get(a as usize).ok_or(Refusal::Name)
+}
+
+// behind operand i of a list: its state is word i of scratch, as far as a list may be long; none if it is no earlier constructor line
+fn read_operand<'a>(place: &mut Place, most: usize, c: Cursor<'a>, i: usize) -> Option<Cursor<'a>>
+    requires { PreOperand most place.old }
+    ensures keeps { OnlyWork place.old place.new }
+    ensures gives { PostOperand most c.entry i result place.old place.new }
+{
+    let (a, next) = c.number()?;
     let x = place.lines.get(a as usize)?;
     if i < most {
         place.aut.scratch[i] = x;
@@ -36,20 +45,14 @@ fn read_operand(book: &[u8], place: &mut Place, most: usize, c: Cursor, i: usize
 }
 
 // all of a list's n operands are earlier constructor lines
-fn operands(
-    book: &[u8],
-    place: &mut Place,
-    most: usize,
-    from: Cursor,
-    n: usize,
-) -> Result<(), Refusal>
-    requires { PreOperands book.now most from n place.old }
+fn operands(place: &mut Place, most: usize, from: Cursor, n: usize) -> Result<(), Refusal>
+    requires { PreOperands most from n place.old }
     ensures keeps { OnlyWork place.old place.new }
-    ensures gives { PostOperands book.now most from n result place.old place.new }
+    ensures gives { PostOperands most from.entry n result place.old place.new }
 {
     let mut c = from;
     for i in 0..n {
-        c = read_operand(book, place, most, c, i).ok_or(Refusal::Name)?;
+        c = read_operand(place, most, c, i).ok_or(Refusal::Name)?;
     }
     Ok(())
 }
@@ -69,53 +72,47 @@ fn told_pair(lines: &Lines, w: Pair, a: u64, b: u64) -> Result<Told, Refusal>
     requires { lines.now.count ≤ length lines.now.words.now }
     ensures { Its.TellsPair lines.now w a b result }
 {
-    let x = lines.get(a as usize).ok_or(Refusal::Name)?;
-    let y = lines.get(b as usize).ok_or(Refusal::Name)?;
+    let x = named(lines, a)?;
+    let y = named(lines, b)?;
     Ok(Told::Makes(Line::Pair(w, x, y)))
 }
 
 // every name of a list is looked at before its length
 fn told_list(
-    book: &[u8],
     place: &mut Place,
     most: usize,
     w: Listed,
     c: Cursor,
     n: usize,
 ) -> Result<Told, Refusal>
-    requires { PreOperands book.now most c n place.old }
+    requires { PreOperands most c n place.old }
     ensures keeps { OnlyWork place.old place.new }
-    ensures tells { Its.TellsList book.now most w c result place.old place.new }
+    ensures tells { Its.TellsList most w c.entry result place.old place.new }
 {
-    operands(book, place, most, c, n)?;
+    operands(place, most, c, n)?;
     if n > most {
         return Err(Refusal::List);
     }
     Ok(Told::Makes(Line::Listed(w, n)))
 }
 
-pub fn tell(
-    book: &[u8],
-    place: &mut Place,
-    config: Config,
-    said: Option<Said>,
-) -> Result<Told, Refusal>
-    requires { Its.PreTold book.now config said place.old }
+pub fn tell(place: &mut Place, config: Config, said: Option<Said>) -> Result<Told, Refusal>
+    requires { Its.PreTold config said place.old }
     ensures keeps { OnlyWork place.old place.new }
-    ensures tells { PostTold book.now config said result place.old place.new }
+    ensures tells { PostTold config said.entry result place.old place.new }
 {
     let said = said.ok_or(Refusal::Form)?;
     match said {
         Said::Constant(w) => Ok(Told::Makes(Line::Constant(w))),
         Said::Bit(w, f, v) => told_bit(config.fields, w, f, v),
         Said::Single(w, a) => {
-            let x = place.lines.get(a as usize).ok_or(Refusal::Name)?;
+            let x = named(&place.lines, a)?;
             Ok(Told::Makes(Line::Single(w, x)))
         }
         Said::Pair(w, a, b) => told_pair(&place.lines, w, a, b),
-        Said::Listed(w, c, n) => told_list(book, place, config.limits.list, w, c, n),
+        Said::Listed(w, c, n) => told_list(place, config.limits.list, w, c, n),
         Said::Query(q, a) => {
-            let x = place.lines.get(a as usize).ok_or(Refusal::Name)?;
+            let x = named(&place.lines, a)?;
             Ok(Told::Asks(q, a as usize, x))
         }
     }

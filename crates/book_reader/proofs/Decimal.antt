@@ -1,5 +1,5 @@
 -- A word's digits read from the left: each behind the number that those before it are, which stays below 2^64 or is past it for good.
-use Rattle.std.specs.Prelude.{if◌then◌else◌}
+use Rattle.std.specs.Prelude.{◌≢◌, if◌then◌else◌}
 use mathlib.Core.Path.{◌≡◌, refl, sym, ◌∙◌, ap}
 use mathlib.Core.Bool.{Bool, true, false, ◌&&◌}
 use mathlib.Core.List.{List, [], ◌∷◌}
@@ -7,11 +7,10 @@ use mathlib.Core.Option.{none, some}
 use Prim.Native.Nat.{ℕ, ◌+◌, ◌*◌, ◌-◌, ◌^◌, ◌≤◌, ◌<◌}
 use native.Mathlib.Omega.{arith}
 use native.Mathlib.Nat.{le_trans}
-use Rattle.std.proofs.lemmas.Bool.{eqb-true, false≢true}
 use Rattle.std.proofs.lemmas.List.{drop_more, drop_all}
-use lib.Dec.{eqb, ltb}
+use lib.Dec.{ltb, leb}
 use lib.ListN.{length, drop, get_or}
-use borrow.Author.Tests.{lt-ltb, le-ltb}
+use borrow.Author.Tests.{lt-ltb, le-ltb, lt-leb, ltb-false}
 use Rattle.book_steps.specs.Text.{digit, digits, reading, plain, number}
 use Rattle.book_reader.specs.Clauses.{value}
 
@@ -82,27 +81,42 @@ module _ {w : List ℕ} where
 
 -- ---- no leading zero, but for 0 itself
 
-pub no_bytes : (w : List ℕ) → true ≡ eqb (length w) 0 → number w ≡ none
+pub no_bytes : (w : List ℕ) → length w < 1 → number w ≡ none
 unfolding number
-no_bytes [] e = refl
-no_bytes (b ∷ w) e = absurd (let z : length (b ∷ w) ≡ 0 = eqb-true (length (b ∷ w)) 0 (sym e) in omega arith)
+no_bytes [] l = refl
+no_bytes (b ∷ w) l = absurd (omega arith)
 
-pub leading : (w : List ℕ) → 1 < length w → get_or w 0 0 ≤ 48 → number w ≡ none
+pub leading : (w : List ℕ) → 2 ≤ length w → get_or w 0 0 ≡ 48 → number w ≡ none
 unfolding number
-leading [] h l = absurd (omega arith)
-leading (b ∷ []) h l = absurd (omega arith)
-leading (b ∷ c ∷ w) h l = ap (λ (t : Bool). if t && digits (b ∷ c ∷ w) && ltb (reading 0 (b ∷ c ∷ w)) (2 ^ 64) then some (reading 0 (b ∷ c ∷ w)) else none) (le-ltb 48 b l)
+leading [] h e = absurd (omega arith)
+leading (b ∷ []) h e = absurd (omega arith)
+leading (b ∷ c ∷ w) h e = ap (λ (t : Bool). if t && digits (b ∷ c ∷ w) && ltb (reading 0 (b ∷ c ∷ w)) (2 ^ 64) then some (reading 0 (b ∷ c ∷ w)) else none) (le-ltb 48 b (omega (arith, e)))
 
 plain_value : (w : List ℕ) → plain w ≡ true → number w ≡ value w
 unfolding number value
 plain_value w p = simp p
 
-pub one_digit : (w : List ℕ) → false ≡ eqb (length w) 0 → length w ≤ 1 → number w ≡ value w
-one_digit [] n h = absurd (false≢true n)
+-- .. a first byte below `0` is no digit
+low_value : (b : ℕ) (w : List ℕ) → b < 48 → number (b ∷ w) ≡ value (b ∷ w)
+unfolding number value digits
+low_value b w l = ap (λ (t : Bool). if plain (b ∷ w) && (t && leb b 57 && digits w) && ltb (reading 0 (b ∷ w)) (2 ^ 64) then some (reading 0 (b ∷ w)) else none) (lt-leb 48 b l)
+    ∙ at (plain (b ∷ w)) (leb b 57) (digits w) (ltb (reading 0 (b ∷ w)) (2 ^ 64))
+    ∙ sym (value_not (b ∷ w) (ap (λ (t : Bool). t && leb b 57 && digits w) (lt-leb 48 b l)))
+  where
+    at : (p q d l : Bool) → (if p && (false && q && d) && l then some (reading 0 (b ∷ w)) else none) ≡ none
+    at true q d l = refl
+    at false q d l = refl
+
+pub one_digit : (w : List ℕ) → 1 ≤ length w → length w < 2 → number w ≡ value w
+one_digit [] n h = absurd (omega arith)
 one_digit (b ∷ []) n h = plain_value (b ∷ []) refl
 one_digit (b ∷ c ∷ w) n h = absurd (omega arith)
 
-pub no_zero : (w : List ℕ) → false ≡ eqb (length w) 0 → 48 < get_or w 0 0 → number w ≡ value w
-no_zero [] n l = absurd (false≢true n)
-no_zero (b ∷ []) n l = plain_value (b ∷ []) refl
-no_zero (b ∷ c ∷ w) n l = plain_value (b ∷ c ∷ w) (lt-ltb 48 b l)
+pub no_zero : (w : List ℕ) → 2 ≤ length w → get_or w 0 0 ≢ 48 → number w ≡ value w
+no_zero [] n l = absurd (omega arith)
+no_zero (b ∷ []) n l = absurd (omega arith)
+no_zero (b ∷ c ∷ w) n l = at (ltb 48 b) refl
+  where
+    at : (t : Bool) → ltb 48 b ≡ t → number (b ∷ c ∷ w) ≡ value (b ∷ c ∷ w)
+    at true e = plain_value (b ∷ c ∷ w) e
+    at false e = low_value b (c ∷ w) (omega (arith, ltb-false 48 b e, l))

@@ -1,19 +1,18 @@
 -- The first place of a byte, a word that is a name, and what a table names: as the library says it, and as the specs do.
-use Rattle.std.specs.Prelude.{Option, Some, None, if◌then◌else◌}
+use Rattle.std.specs.Prelude.{Option, Some, None, MatchOption, IsSomeAnd, option_map, if◌then◌else◌}
 use mathlib.Core.Path.{◌≡◌, refl, sym, ◌∙◌, ap, subst}
 use mathlib.Core.Bool.{Bool, true, false, cond, ◌&&◌, not}
 use mathlib.Core.List.{List, [], ◌∷◌}
 use mathlib.Core.List.{map as list_map}
 use mathlib.Core.Option.{some}
-use Prim.Native.Nat.{ℕ, suc, ◌+◌, ◌≤◌, ◌<◌}
+use Prim.Native.Nat.{ℕ, suc, ◌≤◌}
 use native.Mathlib.Omega.{arith}
 use lib.Dec.{eqb, ltb}
 use borrow.Author.Tests.{ltb-true, ltb-false}
-use lib.ListN.{length, get_or, drop}
-use Rattle.std.specs.List.{position_or_len}
+use lib.ListN.{length}
+use Rattle.std.specs.List.{position_or_len, find as list_find}
 use Rattle.std.specs.Str.{bytes_eq}
 use Rattle.std.proofs.Common.{Bor}
-use Rattle.std.proofs.lemmas.List.{drop_more, drop_all}
 use Rattle.book_steps.specs.Text.{bytes, same}
 use Rattle.book_steps.specs.Reader.{Named, map, find}
 use Rattle.book_reader.specs.Bytes.{index_of, index_after}
@@ -53,25 +52,31 @@ same_is [] (b ∷ w) = refl
 same_is (a ∷ v) [] = refl
 same_is (a ∷ v) (b ∷ w) = ap (λ (t : Bool). eqb a b && t) (same_is v w)
 
-module _ {A : Type 0} (table : List (Bor (List ℕ) × A)) (w : List ℕ) where
-  -- what the rows from i on name
-  abbrev pub looked_from : ℕ → Option A
-  looked_from i = look_up (list_map (λ n. (n.0.now, n.1)) (drop i table)) w
+-- what `map` makes of an option, by what its closure gives of each value
+pub mapped_is : {A B : Type 0} (f : A → B) {P : A → B → Type 0} (o : Option A) (r : Option B) → MatchOption o (r ≡ None) (λ x. IsSomeAnd r (P x)) → ((x : A) (y : B) → P x y → y ≡ f x) → r ≡ option_map f o
+mapped_is f None r m k = m
+mapped_is f (Some x) None m k = absurd m
+mapped_is f (Some x) (Some y) m k = ap Some (k x y m)
 
-  module _ (i : ℕ) (h : i < length table) (n : Bor (List ℕ) × A) (e : n ≡ get_or table i n) where
-    look_first : {b : Bool} → b ≡ bytes_eq w n.0.now → looked_from i ≡ (if b then Some n.1 else looked_from (i + 1))
-    look_first q =
-        ap (λ (l : List (Bor (List ℕ) × A)). look_up (list_map (λ n. (n.0.now, n.1)) l) w) (drop_more table i n h ∙ ap (λ (m : Bor (List ℕ) × A). m ∷ drop (i + 1) table) (sym e))
-        ∙ ap (λ (b : Bool). if b then Some n.1 else looked_from (i + 1)) (same_is w n.0.now ∙ sym q)
+module _ {A : Type 0} (w : List ℕ) where
+  abbrev pub has_name : Bor (List ℕ) × A → Bool
+  has_name n = bytes_eq w n.0.now
 
-    pub look_here : true ≡ bytes_eq w n.0.now → looked_from i ≡ Some n.1
-    look_here q = look_first q
+  found_is : (ns : List (Bor (List ℕ) × A)) → option_map (λ n. n.1) (list_find has_name ns) ≡ look_up (list_map (λ n. (n.0.now, n.1)) ns) w
+  found_is [] = refl
+  found_is (n ∷ ns) = at (bytes_eq w n.0.now) (found_is ns) ∙ ap (λ (b : Bool). if b then Some n.1 else look_up (list_map (λ n. (n.0.now, n.1)) ns) w) (sym (same_is w n.0.now))
+    where
+      at : (b : Bool) → option_map (λ n. n.1) (list_find has_name ns) ≡ look_up (list_map (λ n. (n.0.now, n.1)) ns) w
+          → option_map (λ n. n.1) (cond b (Some n) (list_find has_name ns)) ≡ (if b then Some n.1 else look_up (list_map (λ n. (n.0.now, n.1)) ns) w)
+      at true e = refl
+      at false e = e
 
-    pub look_on : false ≡ bytes_eq w n.0.now → looked_from i ≡ looked_from (i + 1)
-    look_on q = look_first q
-
-  pub look_end : (i : ℕ) → length table ≤ i → looked_from i ≡ None
-  look_end i h = ap (λ (l : List (Bor (List ℕ) × A)). look_up (list_map (λ n. (n.0.now, n.1)) l) w) (drop_all i table h)
+  pub named_is : (ns : List (Bor (List ℕ) × A)) (o : Option (Bor (Bor (List ℕ) × A))) → option_map (λ x. x.now) o ≡ list_find has_name ns → option_map (λ x. x.now.1) o ≡ look_up (list_map (λ n. (n.0.now, n.1)) ns) w
+  named_is ns o e = at o ∙ ap (option_map (λ n. n.1)) e ∙ found_is ns
+    where
+      at : (o : Option (Bor (Bor (List ℕ) × A))) → option_map (λ x. x.now.1) o ≡ option_map (λ n. n.1) (option_map (λ x. x.now) o)
+      at None = refl
+      at (Some x) = refl
 
 -- row by row, the two tables name the same
 abbrev pub Alike : {A B : Type 0} → (A → B) → List (List ℕ × A) → List (Named B) → Type 0

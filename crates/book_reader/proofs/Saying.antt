@@ -1,17 +1,18 @@
 -- What the words of a line say, word by word: those before a cursor have been read, those behind it have not.
-use Rattle.std.specs.Prelude.{Some, None, if◌then◌else◌}
+use Rattle.std.specs.Prelude.{Some, None, is_some, if◌then◌else◌}
+use Rattle.std.specs.Bool.{then_some}
 use Rattle.std.specs.Prelude as code
 use mathlib.Core.Path.{◌≡◌, refl, sym, ◌∙◌, ap, subst}
-use mathlib.Core.Bool.{Bool, true, false, ◌&&◌}
+use mathlib.Core.Bool.{Bool, true, false, not, ◌&&◌}
 use mathlib.Core.List.{List, [], ◌∷◌}
 use mathlib.Core.Option.{Option, none, some}
-use Prim.Native.Nat.{ℕ, suc, ◌+◌, ◌≤◌, ◌<◌}
+use Prim.Native.Nat.{ℕ, suc, ◌+◌, ◌≤◌}
 use native.Mathlib.Omega.{arith}
 use native.Mathlib.Nat.{add-zero}
 use lib.ListN.{length}
+use Rattle.std.proofs.lemmas.Bool.{false≢true}
 use denote.Ref.{Bor}
-use Rattle.book_reader.specs.Bytes.{slice}
-use Rattle.book_steps.specs.Text.{bytes, words, same, number}
+use Rattle.book_steps.specs.Text.{bytes, same, number}
 use Rattle.book_steps.specs.Reader.{Header, header_of, header, map, or_else, in_front, find, constants, singles, queries, bits, pairs, lists, numbers, exact, saying}
 use Rattle.book_steps.specs.Reader as Reader
 use Rattle.book_construct_steps.specs.Lines as Lines
@@ -25,54 +26,53 @@ use Rattle.book_words.specs.declared.Single.{Single}
 use Rattle.book_words.specs.declared.Pair.{Pair}
 use Rattle.book_words.specs.declared.Listed.{Listed}
 use Rattle.book_words.specs.Clauses.{constant_of, bit_of, single_of, pair_of, listed_of}
-use Rattle.book_reader.specs.Clauses.{rest, Within, TakesWord, passed, Passes, behind, bad, taken, taken_by, TakesNumber, counted, query_of, Says, listing}
+use Rattle.book_reader.specs.Clauses.{words_left, rest, passed, passed_of, heading_of, behind, bad, taken, taken_by, counted, query_of, Says, listing}
 use Rattle.std.specs.Str.{bytes_eq}
 use Rattle.book_reader.proofs.Finding.{same_is}
-use Rattle.book_reader.proofs.Parts.{slice_length, words_few, words_some}
+use Rattle.book_reader.proofs.Parts.{words_some}
 
 -- ---- the next word
 
-module _ (book : List ℕ) (c : Cursor) where
-  pub no_more : c.more ≡ false → rest book c ≡ []
-  unfolding rest
-  no_more m = ap (λ (b : Bool). if b then words (slice c.at c.end book) else []) m
+module _ (c : Cursor) where
+  pub no_more : is_some c.rest ≡ false → rest c ≡ []
+  no_more m = at c.rest m
+    where
+      at : (o : code.Option (Bor (List ℕ))) → is_some o ≡ false → words_left o ≡ []
+      at (Some l) m = absurd (false≢true (sym m))
+      at None m = refl
 
-  pub all_words : c.more ≡ true → rest book c ≡ words (slice c.at c.end book)
-  unfolding rest
-  all_words m = ap (λ (b : Bool). if b then words (slice c.at c.end book) else []) m
+  pub some_more : is_some c.rest ≡ true → 1 ≤ length (rest c)
+  some_more m = at c.rest m
+    where
+      at : (o : code.Option (Bor (List ℕ))) → is_some o ≡ true → 1 ≤ length (words_left o)
+      at (Some l) m = words_some l.now
+      at None m = absurd (false≢true m)
 
-  pub some_more : c.more ≡ true → 1 ≤ length (rest book c)
-  some_more m = subst (λ (ws : List (List ℕ)). 1 ≤ length ws) (sym (all_words m)) (words_some (slice c.at c.end book))
-
-  pub no_number : c.more ≡ false → TakesNumber book c None
+-- what the first word is, of all words
+module _ {ws vs : List (List ℕ)} {w : List ℕ} (T : ws ≡ w ∷ vs) where
+  pub word_taken : {o : Option ℕ} → number w ≡ o → taken ws ≡ taken_by o vs
   unfolding taken
-  no_number m = record { is = ap taken (no_more m); within = tt }
+  word_taken e = ap taken T ∙ ap (λ (o : Option ℕ). taken_by o vs) e
 
-  pub no_pass : (name : List ℕ) → c.more ≡ false → Passes book name c None
+  word_passed : (name : List ℕ) {b : Bool} → bytes_eq w name ≡ b → passed name ws ≡ (if b then some vs else none)
   unfolding passed
-  no_pass name m = record { is = ap (passed name) (no_more m); within = tt }
+  word_passed name e = ap (passed name) T ∙ ap (λ (b : Bool). if b then some vs else none) (same_is w name ∙ e)
 
-  module _ {r : Bor (List ℕ) × Cursor} (T : TakesWord book c r) where
-    word_taken : taken (rest book c) ≡ taken_by (number r.0.now) (rest book r.1)
-    unfolding taken
-    word_taken = ap taken T.is
+pub passes : {ws : List (List ℕ)} {w : List ℕ} (c : Cursor) → ws ≡ w ∷ rest c → (name : List ℕ) {b : Bool} → b ≡ bytes_eq w name → {r : code.Option Cursor} → r ≡ then_some b c → passed name ws ≡ passed_of r
+passes c T name {b = b} e f = word_passed T name (sym e) ∙ at b ∙ ap passed_of (sym f)
+  where
+    at : (b : Bool) → (if b then some (rest c) else none) ≡ passed_of (then_some b c)
+    at true = refl
+    at false = refl
 
-    pub a_number : {n : ℕ} → number r.0.now ≡ some n → TakesNumber book c (Some (n, r.1))
-    a_number e = record { is = word_taken ∙ ap (λ (o : Option ℕ). taken_by o (rest book r.1)) e; within = T.within }
+-- no word is none, and no number
+pub no_taken : {ws : List (List ℕ)} → ws ≡ [] → taken ws ≡ bad
+unfolding taken
+no_taken e = ap taken e
 
-    pub bad_number : number r.0.now ≡ none → TakesNumber book c None
-    bad_number e = record { is = word_taken ∙ ap (λ (o : Option ℕ). taken_by o (rest book r.1)) e; within = tt }
-
-    module _ (name : List ℕ) where
-      word_passed : {b : Bool} → bytes_eq r.0.now name ≡ b → passed name (rest book c) ≡ (if b then some (rest book r.1) else none)
-      unfolding passed
-      word_passed e = ap (passed name) T.is ∙ ap (λ (b : Bool). if b then some (rest book r.1) else none) (same_is r.0.now name ∙ e)
-
-      pub a_name : bytes_eq r.0.now name ≡ true → Passes book name c (Some r.1)
-      a_name e = record { is = word_passed e; within = T.within }
-
-      pub other_name : bytes_eq r.0.now name ≡ false → Passes book name c None
-      other_name e = record { is = word_passed e; within = tt }
+pub no_passed : (name : List ℕ) {ws : List (List ℕ)} → ws ≡ [] → passed name ws ≡ none
+unfolding passed
+no_passed name e = ap (passed name) e
 
 -- what a step took
 pub record TakenIs (ws : List (List ℕ)) (n : ℕ) (vs : List (List ℕ)) : Type 0 where
@@ -110,56 +110,39 @@ unfolding numbers
 numbers_bad [] h e = absurd (omega arith)
 numbers_bad (w ∷ ws) h e = ap (λ (o : Option ℕ). in_front o (numbers ws)) (taken_bad w ws e)
 
-fewer : (ws : List (List ℕ)) {n : ℕ} {vs : List (List ℕ)} → taken ws ≡ behind n vs → length ws ≡ suc (length vs)
+pub fewer : (ws : List (List ℕ)) {n : ℕ} {vs : List (List ℕ)} → taken ws ≡ behind n vs → length ws ≡ suc (length vs)
 fewer ws e = ap length (taken_is ws e).words
 
--- k numbers have been read, and c is behind them
-pub record Counting (book : List ℕ) (c₀ c : Cursor) (k : ℕ) : Type 0 where
-  pub within : Within book c
-  pub room : k + length (rest book c) ≤ length book
-  pub is : counted (rest book c₀) ≡ map (λ m. k + m) (counted (rest book c))
+-- k numbers of the words us have been read, and ws are left
+pub record Counting (us ws : List (List ℕ)) (k : ℕ) : Type 0 where
+  pub room : k + length ws ≤ length us
+  pub is : counted us ≡ map (λ m. k + m) (counted ws)
 
-module _ (book : List ℕ) where
-  no_longer : (c : Cursor) → Within book c → length (rest book c) ≤ length book
-  unfolding rest
-  no_longer c W = at c.more
-    where
-      at : (b : Bool) → length (if b then words (slice c.at c.end book) else []) ≤ length book
-      at true = omega (arith, words_few (slice c.at c.end book), slice_length c.at c.end book (omega (arith, W.inside)), W.inside)
-      at false = omega arith
+pub begin_count : (ws : List (List ℕ)) → Counting ws ws 0
+begin_count ws = record { room = omega arith; is = at (counted ws) }
+  where
+    at : (o : Option ℕ) → o ≡ map (λ m. 0 + m) o
+    at none = refl
+    at (some m) = ap some (omega arith)
 
-  pub begin_count : (c : Cursor) → Within book c → Counting book c c 0
-  begin_count c W = record { within = W; room = omega (arith, no_longer c W); is = at (counted (rest book c)) }
-    where
-      at : (o : Option ℕ) → o ≡ map (λ m. 0 + m) o
-      at none = refl
-      at (some m) = ap some (omega arith)
+module _ {us ws : List (List ℕ)} {k : ℕ} (C : Counting us ws k) where
+  pub not_all : 1 ≤ length ws → taken ws ≡ bad → counted us ≡ none
+  not_all m t = C.is ∙ ap (λ (o : Option (List ℕ)). map (λ m. k + m) (map length o)) (numbers_bad ws m t)
 
-  module _ {c₀ c : Cursor} {k : ℕ} (C : Counting book c₀ c k) where
-    pub fits_count : c.more ≡ true → k < length book
-    fits_count m = omega (arith, some_more book c m, C.room)
+  module _ {n : ℕ} {vs : List (List ℕ)} (t : taken ws ≡ behind n vs) where
+    pub one_more : Counting us vs (k + 1)
+    one_more = record {
+      room = omega (arith, fewer ws t, C.room);
+      is = C.is ∙ ap (λ (o : Option (List ℕ)). map (λ m. k + m) (map length o)) (numbers_behind ws t) ∙ at (numbers vs);
+    }
+      where
+        at : (o : Option (List ℕ)) → map (λ m. k + m) (map length (map (λ l. n ∷ l) o)) ≡ map (λ m. k + 1 + m) (map length o)
+        at none = refl
+        at (some l) = ap some (omega arith)
 
-    pub not_all : c.more ≡ true → TakesNumber book c None → counted (rest book c₀) ≡ none
-    not_all m T = C.is ∙ ap (λ (o : Option (List ℕ)). map (λ m. k + m) (map length o)) (numbers_bad (rest book c) (some_more book c m) T.is)
-
-    module _ {n : ℕ} {d : Cursor} (T : TakesNumber book c (Some (n, d))) where
-      pub falls : length (rest book d) < length (rest book c)
-      falls = omega (arith, fewer (rest book c) T.is)
-
-      pub one_more : Counting book c₀ d (k + 1)
-      one_more = record {
-        within = T.within;
-        room = omega (arith, fewer (rest book c) T.is, C.room);
-        is = C.is ∙ ap (λ (o : Option (List ℕ)). map (λ m. k + m) (map length o)) (numbers_behind (rest book c) T.is) ∙ at (numbers (rest book d));
-      }
-        where
-          at : (o : Option (List ℕ)) → map (λ m. k + m) (map length (map (λ l. n ∷ l) o)) ≡ map (λ m. k + 1 + m) (map length o)
-          at none = refl
-          at (some l) = ap some (omega arith)
-
-    pub all_counted : c.more ≡ false → counted (rest book c₀) ≡ some k
-    unfolding numbers
-    all_counted m = C.is ∙ ap (λ (ws : List (List ℕ)). map (λ m. k + m) (counted ws)) (no_more book c m) ∙ ap some (add-zero k)
+  pub all_counted : ws ≡ [] → counted us ≡ some k
+  unfolding numbers
+  all_counted m = C.is ∙ ap (λ (ws : List (List ℕ)). map (λ m. k + m) (counted ws)) m ∙ ap some (add-zero k)
 
 -- ---- the first line
 
@@ -274,7 +257,7 @@ module _ (ws : List (List ℕ)) where
           words_m : ws ≡ f ∷ w ∷ b ∷ v ∷ ys
           words_m = words_b ∙ ap (λ (xs : List (List ℕ)). f ∷ w ∷ b ∷ xs) (taken_is xs r).words
 
-          pub too_many : 1 ≤ length ys → header ws ≡ none
+          too_many : 1 ≤ length ys → header ws ≡ none
           unfolding header
           too_many h = ap header words_m ∙ at ys h
             where
@@ -282,14 +265,22 @@ module _ (ws : List (List ℕ)) where
               at [] h = absurd (omega arith)
               at (l ∷ ls) h = refl
 
-          pub is_header : ys ≡ [] → header ws ≡ some (record { fields = n; budget = m })
+          is_header : ys ≡ [] → header ws ≡ some (record { fields = n; budget = m })
           unfolding header
           is_header e = ap header (words_m ∙ ap (λ (ys : List (List ℕ)). f ∷ w ∷ b ∷ v ∷ ys) e) ∙ simp (is_f, is_b, (taken_is us q).is, (taken_is xs r).is)
+
+          -- they are all words, or not
+          pub ends_header : (d : Cursor) → ys ≡ rest d → (b : Bool) → is_some d.rest ≡ not b → {h : code.Option (ℕ × ℕ)} → h ≡ then_some b (n, m) → header ws ≡ heading_of h
+          ends_header d e b g {h} q = at b g ∙ ap heading_of (sym q)
+            where
+              at : (b : Bool) → is_some d.rest ≡ not b → header ws ≡ heading_of (then_some b (n, m))
+              at true g = is_header (e ∙ no_more d g)
+              at false g = too_many (subst (λ (ls : List (List ℕ)). 1 ≤ length ls) (sym e) (some_more d g))
 
 -- ---- instructions
 
 -- what is said in other words
-pub says_so : {book : List ℕ} {o p : Option Reader.Instruction} {r : code.Option Said} → p ≡ o → Says book o r → Says book p r
+pub says_so : {o p : Option Reader.Instruction} {r : code.Option Said} → p ≡ o → Says o r → Says p r
 says_so e S = record { is = e ∙ S.is; listed = S.listed }
 
 module _ (w : List ℕ) (o : Option (List ℕ)) where
@@ -307,12 +298,12 @@ module _ (w : List ℕ) (o : Option (List ℕ)) where
       at none = refl
       at (some l) = ap (map (λ k. Reader.listed k l)) e
 
-module _ {book : List ℕ} (w : List ℕ) {c : Cursor} {k : ℕ} (W : Within book c) (C : counted (rest book c) ≡ some k) where
-  pub says_listed : {v : Listed} → find lists w ≡ some (listed_of v) → Says book (listing w (numbers (rest book c))) (Some (said.Listed v c k))
-  says_listed e = record { is = listing_some w (numbers (rest book c)) e; listed = (W, C) }
+module _ (w : List ℕ) (c : Cursor) {k : ℕ} (C : counted (rest c) ≡ some k) where
+  pub says_listed : {v : Listed} → find lists w ≡ some (listed_of v) → Says (listing w (numbers (rest c))) (Some (said.Listed v c k))
+  says_listed e = record { is = listing_some w (numbers (rest c)) e; listed = C }
 
-  pub says_nothing : find lists w ≡ none → Says book (listing w (numbers (rest book c))) None
-  says_nothing e = record { is = listing_none w (numbers (rest book c)) e; listed = tt }
+  pub says_nothing : find lists w ≡ none → Says (listing w (numbers (rest c))) None
+  says_nothing e = record { is = listing_none w (numbers (rest c)) e; listed = tt }
 
 -- a word without numbers, with one, and with two
 module _ (w : List ℕ) {o : Option (List ℕ)} where
@@ -321,7 +312,7 @@ module _ (w : List ℕ) {o : Option (List ℕ)} where
     unfolding exact
     by_constant e = ap (saying w) N ∙ ap (λ (f : Option Lines.Constant). or_else (map Reader.constant f) (listing w (some []))) e
 
-    pub says_constant : {book : List ℕ} {v : Constant} → find constants w ≡ some (constant_of v) → Says book (saying w o) (Some (said.Constant v))
+    pub says_constant : {v : Constant} → find constants w ≡ some (constant_of v) → Says (saying w o) (Some (said.Constant v))
     says_constant e = record { is = by_constant e; listed = tt }
 
     pub no_constant : find constants w ≡ none → saying w o ≡ listing w o
@@ -332,14 +323,14 @@ module _ (w : List ℕ) {o : Option (List ℕ)} where
     unfolding exact
     by_single e = ap (saying w) N ∙ ap (λ (f : Option Lines.Single). or_else (or_else (map (λ k. Reader.single k a) f) (map (λ k. Reader.query k a) (find queries w))) (listing w (some (a ∷ [])))) e
 
-    pub says_single : {book : List ℕ} {v : Single} → find singles w ≡ some (single_of v) → Says book (saying w o) (Some (said.Single v a))
+    pub says_single : {v : Single} → find singles w ≡ some (single_of v) → Says (saying w o) (Some (said.Single v a))
     says_single e = record { is = by_single e; listed = tt }
 
     module _ (e : find singles w ≡ none) where
       by_query : {g : Option Reader.Query} → find queries w ≡ g → saying w o ≡ or_else (map (λ k. Reader.query k a) g) (listing w (some (a ∷ [])))
       by_query f = by_single e ∙ ap (λ (g : Option Reader.Query). or_else (map (λ k. Reader.query k a) g) (listing w (some (a ∷ [])))) f
 
-      pub says_query : {book : List ℕ} {v : Query} → find queries w ≡ some (query_of v) → Says book (saying w o) (Some (said.Query v a))
+      pub says_query : {v : Query} → find queries w ≡ some (query_of v) → Says (saying w o) (Some (said.Query v a))
       says_query f = record { is = by_query f; listed = tt }
 
       pub no_query : find queries w ≡ none → saying w o ≡ listing w o
@@ -350,14 +341,14 @@ module _ (w : List ℕ) {o : Option (List ℕ)} where
     unfolding exact
     by_bit e = ap (saying w) N ∙ ap (λ (f : Option Lines.Bit). or_else (or_else (map (λ k. Reader.bit k a b) f) (map (λ k. Reader.pair k a b) (find pairs w))) (listing w (some (a ∷ b ∷ [])))) e
 
-    pub says_bit : {book : List ℕ} {v : Bit} → find bits w ≡ some (bit_of v) → Says book (saying w o) (Some (said.Bit v a b))
+    pub says_bit : {v : Bit} → find bits w ≡ some (bit_of v) → Says (saying w o) (Some (said.Bit v a b))
     says_bit e = record { is = by_bit e; listed = tt }
 
     module _ (e : find bits w ≡ none) where
       by_pair : {g : Option Lines.Pair} → find pairs w ≡ g → saying w o ≡ or_else (map (λ k. Reader.pair k a b) g) (listing w (some (a ∷ b ∷ [])))
       by_pair f = by_bit e ∙ ap (λ (g : Option Lines.Pair). or_else (map (λ k. Reader.pair k a b) g) (listing w (some (a ∷ b ∷ [])))) f
 
-      pub says_pair : {book : List ℕ} {v : Pair} → find pairs w ≡ some (pair_of v) → Says book (saying w o) (Some (said.Pair v a b))
+      pub says_pair : {v : Pair} → find pairs w ≡ some (pair_of v) → Says (saying w o) (Some (said.Pair v a b))
       says_pair f = record { is = by_pair f; listed = tt }
 
       pub no_pair : find pairs w ≡ none → saying w o ≡ listing w o
@@ -374,56 +365,56 @@ three w a b (x ∷ xs) h = at (number x) (numbers xs)
     at (some n) none = refl
     at (some n) (some l) = refl
 
-module _ (book : List ℕ) (c : Cursor) where
-  pub says_no_word : c.more ≡ false → Says book (Reader.parse (rest book c)) None
+pub says_no_word : {ws : List (List ℕ)} → ws ≡ [] → Says (Reader.parse ws) None
+unfolding Reader.parse
+says_no_word m = record { is = ap Reader.parse m; listed = tt }
+
+no_numbers : {ws : List (List ℕ)} → ws ≡ [] → numbers ws ≡ some []
+unfolding numbers
+no_numbers m = ap numbers m
+
+-- a word and the words behind it
+module _ {us ws : List (List ℕ)} {w : List ℕ} (T : us ≡ w ∷ ws) where
+  said_is : Reader.parse us ≡ saying w (numbers ws)
   unfolding Reader.parse
-  says_no_word m = record { is = ap Reader.parse (no_more book c m); listed = tt }
+  said_is = ap Reader.parse T
 
-  no_numbers : c.more ≡ false → numbers (rest book c) ≡ some []
-  unfolding numbers
-  no_numbers m = ap numbers (no_more book c m)
-
-module _ {book : List ℕ} {c : Cursor} {w : Bor (List ℕ) × Cursor} (T : TakesWord book c w) where
-  said_is : Reader.parse (rest book c) ≡ saying w.0.now (numbers (rest book w.1))
-  unfolding Reader.parse
-  said_is = ap Reader.parse T.is
-
-  pub says_words : {r : code.Option Said} → Says book (saying w.0.now (numbers (rest book w.1))) r → Says book (Reader.parse (rest book c)) r
+  pub says_words : {r : code.Option Said} → Says (saying w (numbers ws)) r → Says (Reader.parse us) r
   says_words S = says_so said_is S
 
-  bad_numbers : numbers (rest book w.1) ≡ none → Says book (Reader.parse (rest book c)) None
-  bad_numbers e = record { is = said_is ∙ ap (saying w.0.now) e; listed = tt }
+  bad_numbers : numbers ws ≡ none → Says (Reader.parse us) None
+  bad_numbers e = record { is = said_is ∙ ap (saying w) e; listed = tt }
 
-  pub numbers_0 : w.1.more ≡ false → numbers (rest book w.1) ≡ some []
-  numbers_0 m = no_numbers book w.1 m
+  pub numbers_0 : ws ≡ [] → numbers ws ≡ some []
+  numbers_0 m = no_numbers m
 
-  module _ (m : w.1.more ≡ true) where
-    pub bad_first : TakesNumber book w.1 None → Says book (Reader.parse (rest book c)) None
-    bad_first A = bad_numbers (numbers_bad (rest book w.1) (some_more book w.1 m) A.is)
+  module _ (m : 1 ≤ length ws) where
+    pub bad_first : taken ws ≡ bad → Says (Reader.parse us) None
+    bad_first A = bad_numbers (numbers_bad ws m A)
 
-    module _ {a : ℕ} {d : Cursor} (A : TakesNumber book w.1 (Some (a, d))) where
-      behind_1 : numbers (rest book w.1) ≡ map (λ l. a ∷ l) (numbers (rest book d))
-      behind_1 = numbers_behind (rest book w.1) A.is
+    module _ {a : ℕ} {vs : List (List ℕ)} (A : taken ws ≡ behind a vs) where
+      behind_1 : numbers ws ≡ map (λ l. a ∷ l) (numbers vs)
+      behind_1 = numbers_behind ws A
 
-      pub numbers_1 : d.more ≡ false → numbers (rest book w.1) ≡ some (a ∷ [])
-      numbers_1 n = behind_1 ∙ ap (map (λ l. a ∷ l)) (no_numbers book d n)
+      pub numbers_1 : vs ≡ [] → numbers ws ≡ some (a ∷ [])
+      numbers_1 n = behind_1 ∙ ap (map (λ l. a ∷ l)) (no_numbers n)
 
-      module _ (n : d.more ≡ true) where
-        pub bad_second : TakesNumber book d None → Says book (Reader.parse (rest book c)) None
-        bad_second B = bad_numbers (behind_1 ∙ ap (map (λ l. a ∷ l)) (numbers_bad (rest book d) (some_more book d n) B.is))
+      module _ (n : 1 ≤ length vs) where
+        pub bad_second : taken vs ≡ bad → Says (Reader.parse us) None
+        bad_second B = bad_numbers (behind_1 ∙ ap (map (λ l. a ∷ l)) (numbers_bad vs n B))
 
-        module _ {b : ℕ} {g : Cursor} (B : TakesNumber book d (Some (b, g))) where
-          behind_2 : numbers (rest book w.1) ≡ map (λ l. a ∷ l) (map (λ l. b ∷ l) (numbers (rest book g)))
-          behind_2 = behind_1 ∙ ap (map (λ l. a ∷ l)) (numbers_behind (rest book d) B.is)
+        module _ {b : ℕ} {xs : List (List ℕ)} (B : taken vs ≡ behind b xs) where
+          behind_2 : numbers ws ≡ map (λ l. a ∷ l) (map (λ l. b ∷ l) (numbers xs))
+          behind_2 = behind_1 ∙ ap (map (λ l. a ∷ l)) (numbers_behind vs B)
 
-          pub numbers_2 : g.more ≡ false → numbers (rest book w.1) ≡ some (a ∷ b ∷ [])
-          numbers_2 p = behind_2 ∙ ap (λ (o : Option (List ℕ)). map (λ l. a ∷ l) (map (λ l. b ∷ l) o)) (no_numbers book g p)
+          pub numbers_2 : xs ≡ [] → numbers ws ≡ some (a ∷ b ∷ [])
+          numbers_2 p = behind_2 ∙ ap (λ (o : Option (List ℕ)). map (λ l. a ∷ l) (map (λ l. b ∷ l) o)) (no_numbers p)
 
-          pub says_list : g.more ≡ true → {r : code.Option Said} → Says book (listing w.0.now (numbers (rest book w.1))) r → Says book (Reader.parse (rest book c)) r
-          says_list p S = says_so (said_is ∙ ap (saying w.0.now) behind_2 ∙ three w.0.now a b (rest book g) (some_more book g p) ∙ sym (ap (listing w.0.now) behind_2)) S
+          pub says_list : 1 ≤ length xs → {r : code.Option Said} → Says (listing w (numbers ws)) r → Says (Reader.parse us) r
+          says_list p S = says_so (said_is ∙ ap (saying w) behind_2 ∙ three w a b xs p ∙ sym (ap (listing w) behind_2)) S
 
-  pub bad_count : counted (rest book w.1) ≡ none → Says book (Reader.parse (rest book c)) None
-  bad_count e = bad_numbers (at (numbers (rest book w.1)) e)
+  pub bad_count : counted ws ≡ none → Says (Reader.parse us) None
+  bad_count e = bad_numbers (at (numbers ws) e)
     where
       at : (o : Option (List ℕ)) → map length o ≡ none → o ≡ none
       at none e = refl
@@ -431,34 +422,14 @@ module _ {book : List ℕ} {c : Cursor} {w : Bor (List ℕ) × Cursor} (T : Take
 
 -- ---- a list's numbers, read again
 
-pub record ListIs (book : List ℕ) (c : Cursor) (k : ℕ) : Type 0 where
+pub record ListIs (ws : List (List ℕ)) (k : ℕ) : Type 0 where
   pub list : List ℕ
-  pub is : numbers (rest book c) ≡ some list
+  pub is : numbers ws ≡ some list
   pub size : length list ≡ k
 
-pub list_is : {book : List ℕ} {c : Cursor} {k : ℕ} → counted (rest book c) ≡ some k → ListIs book c k
-list_is {book} {c} {k} e = at (numbers (rest book c)) refl e
+pub list_is : {ws : List (List ℕ)} {k : ℕ} → counted ws ≡ some k → ListIs ws k
+list_is {ws} {k} e = at (numbers ws) refl e
   where
-    at : (o : Option (List ℕ)) → numbers (rest book c) ≡ o → map length o ≡ some k → ListIs book c k
+    at : (o : Option (List ℕ)) → numbers ws ≡ o → map length o ≡ some k → ListIs ws k
     at none f e = absurd (let z : ◌≡◌ {A = ℕ} 0 1 = cc in omega arith)
     at (some l) f e = record { list = l; is = f; size = cc }
-
-pub record Again (book : List ℕ) (a : ℕ) (l : List ℕ) (n : ℕ) (d : Cursor) : Type 0 where
-  pub first : n ≡ a
-  pub others : numbers (rest book d) ≡ some l
-
-module _ {book : List ℕ} {c : Cursor} {a : ℕ} {l : List ℕ} (N : numbers (rest book c) ≡ some (a ∷ l)) where
-  pub never_bad : TakesNumber book c None → ⊥
-  unfolding numbers
-  never_bad T = at (rest book c) N T.is
-    where
-      at : (ws : List (List ℕ)) → numbers ws ≡ some (a ∷ l) → taken ws ≡ bad → ⊥
-      at [] N e = let z : ◌≡◌ {A = ℕ} 0 1 = cc in omega arith
-      at (w ∷ ws) N e = let n : none ≡ some (a ∷ l) = sym (numbers_bad (w ∷ ws) (omega arith) e) ∙ N in let z : ◌≡◌ {A = ℕ} 0 1 = cc in omega arith
-
-  pub read_again : {n : ℕ} {d : Cursor} → TakesNumber book c (Some (n, d)) → Again book a l n d
-  read_again {n} {d} T = at (numbers (rest book d)) refl (sym (numbers_behind (rest book c) T.is) ∙ N)
-    where
-      at : (o : Option (List ℕ)) → numbers (rest book d) ≡ o → map (λ l. n ∷ l) o ≡ some (a ∷ l) → Again book a l n d
-      at none f e = absurd (let z : ◌≡◌ {A = ℕ} 0 1 = cc in omega arith)
-      at (some m) f e = record { first = cc; others = cc }

@@ -1,9 +1,5 @@
--- A part of a text, and the first place of a byte in it.
-use Rattle.std.specs.Prelude.{Bool, true, false, List, [], ◌∷◌, ℕ, zero, suc, eqb, take, drop}
-
--- the bytes from `from` on, up to `to`
-unfoldable pub slice : ℕ → ℕ → List ℕ → List ℕ
-slice from to l = drop from (take to l)
+-- 01, "The book and its answers": lines end with byte 10, and single spaces part their words. The first place of a byte in a text.
+use Rattle.std.specs.Prelude.{Bool, true, false, List, [], ◌∷◌, ℕ, zero, suc, eqb}
 
 unfoldable pub index_after : Bool → ℕ → ℕ
 index_after true n = zero

@@ -2,20 +2,18 @@
 // reading step takes and hands back.
 #![tactic(auto)]
 
-ghost use Rattle.std.specs.Prelude.{◌≡◌, [], ◌∷◌, ◌≤◌, length, List, ℕ, map};
+ghost use Rattle.std.specs.Prelude.{◌≡◌, [], ◌∷◌, length, map};
 ghost use Rattle.std.proofs.Math.Option.{some};
 ghost use Rattle.book_steps.specs.Text as Text;
 ghost use Rattle.book_steps.specs.Reader as Reader;
-ghost use Rattle.book_reader.specs.Clauses.{rest, Within, Finds, Cuts, WordBy, Passes, value, value_of, TakesNumber, counted, heading_of, look_up, Says, listing};
+ghost use Rattle.book_reader.specs.Clauses.{rest, Finds, Cuts, word_of, passed, passed_of, value, value_of, taken, taken_of, counted, heading_of, look_up, Says, listing};
 
 use book_words::{Bit, Constant, Listed, Pair, Single};
 
-// the words of a line that are still to be read: those from `at` up to `end`, where its `\n` stands; none unless `more`
+// what is still to be read of a line, from a word on; none behind its last word
 #[derive(Clone, Copy)]
-pub struct Cursor {
-    pub at: usize,
-    pub end: usize,
-    pub more: bool,
+pub struct Cursor<'a> {
+    pub rest: Option<&'a [u8]>,
 }
 
 #[derive(Clone, Copy)]
@@ -28,12 +26,12 @@ pub enum Query {
 
 // what a line says, as it is written; the cursor of a list stands before its numbers, of which there are so many
 #[derive(Clone, Copy)]
-pub enum Said {
+pub enum Said<'a> {
     Constant(Constant),
     Bit(Bit, u64, u64),
     Single(Single, u64),
     Pair(Pair, u64, u64),
-    Listed(Listed, Cursor, usize),
+    Listed(Listed, Cursor<'a>, usize),
     Query(Query, u64),
 }
 
@@ -78,17 +76,15 @@ fn find(text: &[u8], byte: u8) -> Option<usize>
     text.iter().position(|b| *b == byte)
 }
 
-// the line that begins at a place
-pub fn line_at(book: &[u8], at: usize) -> Option<Cursor>
-    requires { at ≤ length book.now }
-    ensures { Cuts book.now at result }
+// the first line, and the text behind it
+pub fn line_at(text: &[u8]) -> Option<(Cursor<'_>, &[u8])>
+    ensures { Cuts text.now result }
 {
-    let k = find(&book[at..], b'\n')?;
-    Some(Cursor {
-        at,
-        end: at + k,
-        more: true,
-    })
+    let k = find(text, b'\n')?;
+    let c = Cursor {
+        rest: Some(&text[..k]),
+    };
+    Some((c, &text[k + 1..]))
 }
 
 // the digits' value, if it is at most 2^64 - 1
@@ -109,117 +105,86 @@ fn digits(word: &[u8]) -> Option<u64>
 fn number_of(word: &[u8]) -> Option<u64>
     ensures { Text.number word.now ≡ value_of result }
 {
-    if word.is_empty() || (word.len() > 1 && word[0] <= b'0') {
-        return None;
+    match word {
+        [] | [b'0', _, ..] => None,
+        _ => digits(word),
     }
-    digits(word)
 }
 
 // what the table names so
 fn named<T: Copy>(table: &[(&[u8], T)], word: &[u8]) -> Option<T>
     ensures { result ≡ look_up (map (λ n. (n.0.now, n.1)) table.now) word.now }
 {
-    for (name, value) in table {
-        if word == *name {
-            return Some(*value);
-        }
-    }
-    None
+    table.iter().find(|n| word == n.0).map(|n| n.1)
 }
 
-impl Cursor {
+impl<'a> Cursor<'a> {
     // the next word, if there are more, and the cursor behind it
-    pub fn word(self, book: &[u8]) -> Option<(&[u8], Cursor)>
-        requires { Within book.now self }
-        ensures { WordBy book.now self result }
+    pub fn word(self) -> Option<(&'a [u8], Cursor<'a>)>
+        ensures { rest self.entry ≡ word_of result }
     {
-        if !self.more {
-            return None;
-        }
-        let line = &book[self.at..self.end];
-        match find(line, b' ') {
-            Some(k) => Some((
-                &line[..k],
-                Cursor {
-                    at: self.at + k + 1,
-                    ..self
-                },
-            )),
-            None => Some((
-                line,
-                Cursor {
-                    at: self.end,
-                    more: false,
-                    ..self
-                },
-            )),
-        }
+        let line = self.rest?;
+        let (word, rest) = match find(line, b' ') {
+            Some(k) => (&line[..k], Some(&line[k + 1..])),
+            None => (line, None),
+        };
+        Some((word, Cursor { rest }))
     }
 
-    pub fn number(self, book: &[u8]) -> Option<(u64, Cursor)>
-        requires { Within book.now self }
-        ensures { TakesNumber book.now self result }
+    pub fn number(self) -> Option<(u64, Cursor<'a>)>
+        ensures { taken (rest self.entry) ≡ taken_of result }
     {
-        let (word, next) = self.word(book)?;
+        let (word, next) = self.word()?;
         let n = number_of(word)?;
         Some((n, next))
     }
 
     // the next word is the name
-    fn pass(self, book: &[u8], name: &[u8]) -> Option<Cursor>
-        requires { Within book.now self }
-        ensures { Passes book.now name.now self result }
+    fn pass(self, name: &[u8]) -> Option<Cursor<'a>>
+        ensures { passed name.now (rest self.entry) ≡ passed_of result }
     {
-        let (word, next) = self.word(book)?;
-        if word != name {
-            return None;
-        }
-        Some(next)
+        let (word, next) = self.word()?;
+        (word == name).then_some(next)
     }
+}
 
-    // all words are numbers
-    fn numbers(self, book: &[u8]) -> Option<usize>
-        requires { Within book.now self }
-        ensures { counted (rest book.now self) ≡ value_of result }
-    {
-        let mut c = self;
-        let mut k = 0;
-        while c.more {
-            (_, c) = c.number(book)?;
-            k += 1;
-        }
-        Some(k)
+// how many words the line has, if all are numbers
+fn numbers(line: &[u8]) -> Option<usize>
+    ensures { counted (Text.words line.now) ≡ value_of result }
+{
+    let mut c = Cursor { rest: Some(line) };
+    let mut k = 0;
+    while c.rest.is_some() {
+        (_, c) = c.number()?;
+        k += 1;
     }
+    Some(k)
 }
 
 // the first line: fields and budget
-pub fn header(book: &[u8], c: Cursor) -> Option<(u64, u64)>
-    requires { Within book.now c }
-    ensures { Reader.header (rest book.now c) ≡ heading_of result }
+pub fn header(c: Cursor<'_>) -> Option<(u64, u64)>
+    ensures { Reader.header (rest c.entry) ≡ heading_of result }
 {
-    let c1 = c.pass(book, b"fields")?;
-    let (n, c2) = c1.number(book)?;
-    let c3 = c2.pass(book, b"budget")?;
-    let (m, c4) = c3.number(book)?;
-    if c4.more {
-        return None;
-    }
-    Some((n, m))
+    let c1 = c.pass(b"fields")?;
+    let (n, c2) = c1.number()?;
+    let c3 = c2.pass(b"budget")?;
+    let (m, c4) = c3.number()?;
+    c4.rest.is_none().then_some((n, m))
 }
 
 // a word that takes any number of numbers: the k at c
-fn with_list(word: &[u8], c: Cursor, k: usize) -> Option<Said>
-    ensures { (book : List ℕ) → Within book c → counted (rest book c) ≡ some k →
-        Says book (listing word.now (Reader.numbers (rest book c))) result }
+fn with_list<'a>(word: &[u8], c: Cursor<'a>, k: usize) -> Option<Said<'a>>
+    ensures { counted (rest c.entry) ≡ some k →
+        Says (listing word.now (Reader.numbers (rest c.entry))) result }
 {
     let w = named(&LISTS, word)?;
     Some(Said::Listed(w, c, k))
 }
 
 // a word and no number
-fn alone(word: &[u8], c: Cursor) -> Option<Said>
-    ensures { (book : List ℕ) → Within book c → Reader.numbers (rest book c) ≡ some [] →
-        Says book (Reader.saying word.now (Reader.numbers (rest book c))) result }
+fn alone<'a>(word: &[u8], c: Cursor<'a>) -> Option<Said<'a>>
+    ensures { Reader.numbers (rest c.entry) ≡ some [] →
+        Says (Reader.saying word.now (Reader.numbers (rest c.entry))) result }
 {
     if let Some(w) = named(&CONSTANTS, word) {
         return Some(Said::Constant(w));
@@ -228,9 +193,9 @@ fn alone(word: &[u8], c: Cursor) -> Option<Said>
 }
 
 // a word and the number at c
-fn with_one(word: &[u8], c: Cursor, a: u64) -> Option<Said>
-    ensures { (book : List ℕ) → Within book c → Reader.numbers (rest book c) ≡ some (a ∷ []) →
-        Says book (Reader.saying word.now (Reader.numbers (rest book c))) result }
+fn with_one<'a>(word: &[u8], c: Cursor<'a>, a: u64) -> Option<Said<'a>>
+    ensures { Reader.numbers (rest c.entry) ≡ some (a ∷ []) →
+        Says (Reader.saying word.now (Reader.numbers (rest c.entry))) result }
 {
     if let Some(w) = named(&SINGLES, word) {
         return Some(Said::Single(w, a));
@@ -242,9 +207,9 @@ fn with_one(word: &[u8], c: Cursor, a: u64) -> Option<Said>
 }
 
 // a word and the two numbers at c
-fn with_two(word: &[u8], c: Cursor, a: u64, b: u64) -> Option<Said>
-    ensures { (book : List ℕ) → Within book c → Reader.numbers (rest book c) ≡ some (a ∷ b ∷ []) →
-        Says book (Reader.saying word.now (Reader.numbers (rest book c))) result }
+fn with_two<'a>(word: &[u8], c: Cursor<'a>, a: u64, b: u64) -> Option<Said<'a>>
+    ensures { Reader.numbers (rest c.entry) ≡ some (a ∷ b ∷ []) →
+        Says (Reader.saying word.now (Reader.numbers (rest c.entry))) result }
 {
     if let Some(w) = named(&BITS, word) {
         return Some(Said::Bit(w, a, b));
@@ -256,22 +221,21 @@ fn with_two(word: &[u8], c: Cursor, a: u64, b: u64) -> Option<Said>
 }
 
 // a line behind the first
-pub fn instruction(book: &[u8], c: Cursor) -> Option<Said>
-    requires { Within book.now c }
-    ensures { Says book.now (Reader.parse (rest book.now c)) result }
+pub fn instruction(c: Cursor<'_>) -> Option<Said<'_>>
+    ensures { Says (Reader.parse (rest c.entry)) result }
 {
-    let (word, first) = c.word(book)?;
-    if !first.more {
+    let (word, first) = c.word()?;
+    let Some(line) = first.rest else {
         return alone(word, first);
-    }
-    let (a, second) = first.number(book)?;
-    if !second.more {
+    };
+    let (a, second) = first.number()?;
+    if second.rest.is_none() {
         return with_one(word, first, a);
     }
-    let (b, third) = second.number(book)?;
-    if !third.more {
+    let (b, third) = second.number()?;
+    if third.rest.is_none() {
         return with_two(word, first, a, b);
     }
-    let k = first.numbers(book)?;
+    let k = numbers(line)?;
     with_list(word, first, k)
 }

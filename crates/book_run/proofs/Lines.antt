@@ -6,7 +6,7 @@ use mathlib.Core.Path.{◌≡◌, refl, sym, ◌∙◌, ap, ap₂}
 use mathlib.Core.List.{List, [], ◌∷◌}
 use Prim.Native.Nat.{ℕ, zero, suc, ◌+◌, ◌-◌, ◌/◌, ◌≤◌, ◌<◌}
 use native.Mathlib.Omega.{arith}
-use lib.ListN.{length, get_or, take, drop, length-drop}
+use lib.ListN.{length, get_or, take}
 use Rattle.refusal.specs.declared.Refusal.{Refusal}
 use Rattle.refusal.specs.declared.Refusal.TheVariants as refusal
 use Rattle.refusal.specs.Numbers.{number_of}
@@ -19,7 +19,7 @@ use Rattle.book_writer.specs.declared.Output.{Output}
 use Rattle.book_memory.specs.Place.{LINES, place_in, setting_of, setting_in, SamePlace, Standing}
 use Rattle.book_finish.specs.declared.Stop.{Stop}
 use Rattle.book_finish.specs.Clauses.{Wrote}
-use Rattle.book_run.specs.Clauses.{PreTurn, PostTurn, PreGo, PostGo}
+use Rattle.book_run.specs.Clauses.{PreTurn, TurnsTo, TurnsDown, PreGo, PostGo}
 
 -- ---- the lines
 
@@ -43,15 +43,14 @@ module _ (S : Run.Setting) where
   run_many zero [] k p e b = absurd (omega arith)
   run_many (suc left) text k p e b = absurd (omega arith)
 
--- what the lines left come to, from a place on
-abbrev lines_from : List ℕ → Setting → Place → (at line left : ℕ) → Came
-lines_from book S x at line left = came_of (setting_in S x) (Run.run (setting_in S x) left (drop at book) line (place_in x))
+-- what the lines of a text come to
+abbrev lines_from : List ℕ → Setting → Place → (line left : ℕ) → Came
+lines_from text S x line left = came_of (setting_in S x) (Run.run (setting_in S x) left text line (place_in x))
 
--- the run from x has come to the place y, the text from `at` on, in text line `line`, with so many instructions left
-pub record Going (book : List ℕ) (S : Setting) (x : Place) (from first all : ℕ) (y : Place) (at line left : ℕ) : Type 0 where
-  pub is : lines_from book S x from first all ≡ lines_from book S y at line left
+-- the run from x has come to the place y, the text `rest`, in text line `line`, with so many instructions left
+pub record Going (text : List ℕ) (S : Setting) (x : Place) (first all : ℕ) (y : Place) (rest : List ℕ) (line left : ℕ) : Type 0 where
+  pub is : lines_from text S x first all ≡ lines_from rest S y line left
   pub standing : Standing S y
-  pub inside : at ≤ length book
   pub more : y.lines.count + left ≤ LINES
   pub small : line + left < 4294967296
   pub same : SamePlace x y
@@ -68,35 +67,32 @@ same_trans a b = record { aut = keeps_trans a.aut b.aut; lines = slice_trans a.l
 pub setting_same : (S : Setting) (x y : Place) → length y.aut.pending.now ≡ length x.aut.pending.now → length y.output.bytes.now ≡ length x.output.bytes.now → setting_in S y ≡ setting_in S x
 setting_same S x y a b = ap₂ (λ (p o : ℕ). setting_of S (p / 2) o) a b
 
-module _ {book : List ℕ} {S : Setting} {x : Place} {from first all : ℕ} where
-  pub going_begin : PreGo book S x from first all → Going book S x from first all x from first all
-  going_begin P = record { is = refl; standing = P.standing; inside = P.inside; more = P.more; small = P.small; same = same_refl x; on = omega arith; beyond = λ i l. refl }
+module _ {text : List ℕ} {S : Setting} {x : Place} {first all : ℕ} where
+  pub going_begin : PreGo S x first all → Going text S x first all x text first all
+  going_begin P = record { is = refl; standing = P.standing; more = P.more; small = P.small; same = same_refl x; on = omega arith; beyond = λ i l. refl }
 
-  module _ {y : Place} {at line left : ℕ} (v : Going book S x from first all y at line left) where
+  module _ {y : Place} {rest : List ℕ} {line left : ℕ} (v : Going text S x first all y rest line left) where
     abbrev T : Run.Setting
     T = setting_in S y
 
     wrote : Wrote y.output.at x.output.bytes.now y.output.bytes.now
     wrote = record { fits = omega (arith, v.standing.written, v.same.output.length); beyond = v.beyond }
 
-    pub going_end : {u : Unit {0}} → length book ≤ at → PostGo book S x from first all (code.Ok u) y
+    pub going_end : {u : Unit {0}} → length rest ≡ 0 → PostGo text S x first all (code.Ok u) y
     going_end l = record {
       comes = record {
-        is = v.is ∙ ap (came_of T) (run_end T left (drop at book) line (place_in y) (omega (arith, length-drop at book)));
+        is = v.is ∙ ap (came_of T) (run_end T left rest line (place_in y) l);
         ends = v.standing;
         wrote = wrote;
       };
       on = v.on;
     }
 
-    module _ (l : at < length book) where
-      text_left : 0 < length (drop at book)
-      text_left = omega (arith, length-drop at book)
-
-      pub going_many : left ≡ 0 → PostGo book S x from first all (code.Err (record { refusal = refusal.Form; line = line; length = y.output.at })) y
+    module _ (l : 0 < length rest) where
+      pub going_many : left ≡ 0 → PostGo text S x first all (code.Err (record { refusal = refusal.Form; line = line; length = y.output.at })) y
       going_many e = record {
         comes = record {
-          is = v.is ∙ ap (came_of T) (run_many T left (drop at book) line (place_in y) e text_left);
+          is = v.is ∙ ap (came_of T) (run_many T left rest line (place_in y) e l);
           ends = tt;
           wrote = wrote;
         };
@@ -104,13 +100,13 @@ module _ {book : List ℕ} {S : Setting} {x : Place} {from first all : ℕ} wher
       }
 
       module _ (n : 0 < left) where
-        pub going_turn : PreTurn book S y at
-        going_turn = record { standing = v.standing; more = omega (arith, v.more); inside = l }
+        pub going_turn : PreTurn S y
+        going_turn = record { standing = v.standing; more = omega (arith, v.more) }
 
-        on_step : {o : Run.Ran T} → with_line T (Run.run T (left - 1)) line (place_in y) (cut (drop at book)) ≡ o → lines_from book S x from first all ≡ came_of T o
-        on_step e = v.is ∙ ap (came_of T) (run_step T left (drop at book) line (place_in y) n text_left ∙ e)
+        on_step : {o : Run.Ran T} → with_line T (Run.run T (left - 1)) line (place_in y) (cut rest) ≡ o → lines_from text S x first all ≡ came_of T o
+        on_step e = v.is ∙ ap (came_of T) (run_step T left rest line (place_in y) n l ∙ e)
 
-        pub going_stopped : {f : Refusal} {s : Stop} {z : Place} → s ≡ record { refusal = f; line = line; length = y.output.at } → PostTurn book S y at (code.Err f) z → PostGo book S x from first all (code.Err s) z
+        pub going_stopped : {f : Refusal} {s : Stop} {z : Place} → s ≡ record { refusal = f; line = line; length = y.output.at } → TurnsDown rest S y z f → PostGo text S x first all (code.Err s) z
         going_stopped {f} {s} {z} e d = rw e (record {
           comes = record {
             is = on_step (d.is line (Run.run T (left - 1)) ∙ ap (λ (o : List ℕ). stopped (number_of f) line (take y.output.at o)) (sym (ap (λ (o : Output). o.bytes.now) d.output)));
@@ -120,13 +116,12 @@ module _ {book : List ℕ} {S : Setting} {x : Place} {from first all : ℕ} wher
           on = v.on;
         })
 
-        pub going_again : {z : Place} {next : ℕ} → PostTurn book S y at (code.Ok next) z → SamePlace y z → Going book S x from first all z next (line + 1) (left - 1)
+        pub going_again : {z : Place} {next : List ℕ} → TurnsTo rest S y z next → SamePlace y z → Going text S x first all z next (line + 1) (left - 1)
         going_again {z} {next} d s = record {
           is = on_step (d.is line (Run.run T (left - 1)))
-              ∙ ap (λ (R : Run.Setting). came_of R (Run.run R (left - 1) (drop next book) (suc line) (place_in z))) (sym (setting_same S y z s.aut.pending.length s.output.length))
+              ∙ ap (λ (R : Run.Setting). came_of R (Run.run R (left - 1) next (suc line) (place_in z))) (sym (setting_same S y z s.aut.pending.length s.output.length))
               ∙ ap (lines_by z next) {x = suc line} {y = line + 1} (omega arith);
           standing = d.standing;
-          inside = d.inside;
           more = omega (arith, v.more, d.lines);
           small = omega (arith, v.small);
           same = same_trans v.same s;
@@ -134,5 +129,5 @@ module _ {book : List ℕ} {S : Setting} {x : Place} {from first all : ℕ} wher
           beyond = λ i k. d.onto.beyond i k ∙ v.beyond i (omega (arith, d.onto.from));
         }
           where
-            lines_by : Place → ℕ → ℕ → Came
-            lines_by z next k = lines_from book S z next k (left - 1)
+            lines_by : Place → List ℕ → ℕ → Came
+            lines_by z next k = lines_from next S z k (left - 1)

@@ -8,7 +8,7 @@ use mathlib.Core.List.{List, [], ◌++◌}
 use Prim.Native.Nat.{ℕ, ◌+◌, ◌≤◌, ◌<◌}
 use native.Mathlib.Omega.{arith}
 use lib.Dec.{ltb}
-use lib.ListN.{length, get_or, take, drop, length-append}
+use lib.ListN.{length, get_or, take, length-append}
 use lib.Seq.{length-take-le, get_or-take}
 use borrow.Author.Tests.{lt-ltb, le-ltb}
 use Rattle.std.proofs.lemmas.List.{replicate-append-replicate}
@@ -26,16 +26,16 @@ use Rattle.book_steps.specs.Run.{Lent, zeroed, Result, outcome, Came, failed, ca
 use Rattle.book_steps.specs.Claim.{Slices, Lends, WritesOnly, Refines, EntrySpec}
 use Rattle.book_steps.proofs.Claim as Claim
 use Rattle.book_steps.proofs.Finished.{book_finished}
-use Rattle.book_reader.specs.Clauses.{BeginsBy, Cuts, cut_of, rest, heading_of}
+use Rattle.book_reader.specs.Clauses.{Begins, rest, heading_of}
 use Rattle.book_reader.specs.declared.Cursor.{Cursor}
 use Rattle.book_memory.specs.declared.Setting.{Setting}
 use Rattle.book_memory.specs.declared.Place.{Place}
 use Rattle.book_memory.specs.declared.Memory.{Memory}
-use Rattle.book_memory.specs.Place.{lengths_of, Empty}
+use Rattle.book_memory.specs.Place.{lengths_of, memory_of, Empty}
 use Rattle.book_writer.specs.declared.Output.{Output}
 use Rattle.book_finish.specs.declared.Stop.{Stop}
 use Rattle.book_finish.specs.Clauses.{Wrote, came_by, written_by, PostFinish, number_of, text_line_of, length_of}
-use Rattle.book_run.specs.Clauses.{ComesTo, went_of, PostGo, PostEnough, Starts, StartsNot, PreOpen, PostOpen, lent_of, slices, slices_in, Table, RunsIn}
+use Rattle.book_run.specs.Clauses.{ComesTo, went_of, PostGo, PostEnough, Starts, StartsNot, PreOpen, PostOpen, lent_of, slices_in, Table, RunsIn}
 
 -- ---- the header
 
@@ -43,12 +43,11 @@ wide : (lent : Lent) (h : Reader.Header) → 31 < h.fields → Run.begin lent h 
 unfolding Run.begin
 wide lent h l = ap (λ (b : Bool). if b then refused 2 else Run.begun lent h (Sp.constants h.fields (table (zeroed lent.sp) 0)) (Spp.constants h.fields (table (zeroed lent.spp) 0))) (lt-ltb 31 h.fields l)
 
-pub started_wide : (book : List ℕ) (x : Place) {r : code.Option Cursor} {c : Cursor} {g : code.Option (ℕ × ℕ)} {n b : ℕ} → Cuts book 0 r → r ≡ code.Some c → Reader.header (rest book c) ≡ heading_of g → g ≡ code.Some (n, b) → 31 < n
-    → StartsNot book x refusals.Fields x
-started_wide book x {c = c} {n = n} {b = b} C e H f l = record {
-  is = ap (opened_book (lengths_of x)) (C.is ∙ ap (cut_of book) e)
-      ∙ ap (λ o. headed_book (lengths_of x) o (drop (c.end + 1) book)) (ap Reader.header (sym (subst (BeginsBy book 0) e C.begins).all) ∙ H ∙ ap heading_of f)
-      ∙ ap (started_book (lengths_of x) (record { fields = n; budget = b }) (drop (c.end + 1) book)) (wide (lengths_of x) (record { fields = n; budget = b }) l);
+pub started_wide : (book : List ℕ) (x : Place) {c : Cursor} {after : List ℕ} {g : code.Option (ℕ × ℕ)} {n b : ℕ} → Begins book c after → Reader.header (rest c) ≡ heading_of g → g ≡ code.Some (n, b) → 31 < n → StartsNot book x refusals.Fields x
+started_wide book x {after = after} {n = n} {b = b} B H f l = record {
+  is = ap (opened_book (lengths_of x)) B.is
+      ∙ ap (λ o. headed_book (lengths_of x) o after) (ap Reader.header (sym B.words) ∙ H ∙ ap heading_of f)
+      ∙ ap (started_book (lengths_of x) (record { fields = n; budget = b }) after) (wide (lengths_of x) (record { fields = n; budget = b }) l);
   output = refl;
 }
 
@@ -72,8 +71,8 @@ module _ (book : List ℕ) (x : Place) where
     pub open_not : {e : Refusal} {s : Stop} {y : Place} → s ≡ record { refusal = e; line = 1; length = 0 } → StartsNot book x e y → PostOpen book x (code.Err s) y
     open_not q s = rw q (record { is = open_by ∙ s.is; ends = tt; wrote = unwritten (ap (λ (o : Output). o.bytes.now) s.output) })
 
-    module _ {S : Setting} {from : ℕ} {y : Place} (s : Starts book x S from y) where
-      pub open_went : {w : code.Result Setting Stop} {r : code.Result Unit Stop} {z : Place} → PostGo book S y from 2 Run.instructions r z → w ≡ went_of S r → PostOpen book x w z
+    module _ {S : Setting} {after : List ℕ} {y : Place} (s : Starts book x S after y) where
+      pub open_went : {w : code.Result Setting Stop} {r : code.Result Unit Stop} {z : Place} → PostGo after S y 2 Run.instructions r z → w ≡ went_of S r → PostOpen book x w z
       open_went {w} {r} {z} g e = rw e (record {
         is = open_by ∙ s.is ∙ g.comes.is;
         ends = g.comes.ends;
@@ -83,29 +82,14 @@ module _ (book : List ℕ) (x : Place) where
         };
       })
 
-      pub open_stopped : {e : Stop} {q : code.Result Setting Stop} {z : Place} → PostGo book S y from 2 Run.instructions (code.Err e) z → IsErr q × IsErrAnd q (λ a. a ≡ e) → PostOpen book x q z
+      pub open_stopped : {e : Stop} {q : code.Result Setting Stop} {z : Place} → PostGo after S y 2 Run.instructions (code.Err e) z → IsErr q × IsErrAnd q (λ a. a ≡ e) → PostOpen book x q z
       open_stopped g by = open_went g (passed by)
 
 -- ---- what is left
 
 -- the slices of a place
 abbrev pub slices_at : Place → Slices
-slices_at p = slices p.aut.sp.nodes.now p.aut.spp.nodes.now p.aut.states.words.now p.aut.members.words.now p.aut.transitions.words.now p.aut.pending.now (p.lines.words.now ++ p.aut.scratch.now) p.output.bytes.now
-
--- the slices of m are those of the place
-pub record Parts (m : Memory) (p : Place) : Type 0 where
-  pub sp : m.sp ≡ p.aut.sp.nodes
-  pub spp : m.spp ≡ p.aut.spp.nodes
-  pub states : m.states ≡ p.aut.states.words
-  pub members : m.members ≡ p.aut.members.words
-  pub transitions : m.transitions ≡ p.aut.transitions.words
-  pub pending : m.pending ≡ p.aut.pending
-  pub lines : m.lines ≡ p.lines.words
-  pub scratch : m.scratch ≡ p.aut.scratch
-  pub output : m.output ≡ p.output.bytes
-
-pub slices_same : {m : Memory} {p : Place} → Parts m p → slices_in m ≡ slices_at p
-slices_same q = rw (q.sp, q.spp, q.states, q.members, q.transitions, q.pending, q.lines, q.scratch, q.output)
+slices_at p = slices_in (memory_of p)
 
 pub lends_own : (x : Place) → Lends (lengths_of x) (slices_at x)
 lends_own x = record { sp = refl; spp = refl; states = refl; members = refl; transitions = refl; pending = refl; scratch = length-append x.lines.words.now x.aut.scratch.now; output = refl }
@@ -126,10 +110,10 @@ lent_own x = ap (with_scratch x) (length-append x.lines.words.now x.aut.scratch.
     }
 
 -- what is zeroed of the slices is as a book asks it
-pub open_ready : (m : Memory) (x : Place) {x₁ : Place} → Table m → Parts m x → lengths_of x₁ ≡ lengths_of x → length x₁.lines.words.now ≡ length x.lines.words.now → Empty x₁ → PreOpen x₁
+pub open_ready : (m : Memory) (x : Place) {x₁ : Place} → Table m → m ≡ memory_of x → lengths_of x₁ ≡ lengths_of x → length x₁.lines.words.now ≡ length x.lines.words.now → Empty x₁ → PreOpen x₁
 open_ready m x {x₁} t p s l e =
-    let a : length m.lines.now ≡ length x.lines.words.now = ap (λ b. length b.now) p.lines in
-    let b : length m.scratch.now ≡ length x.aut.scratch.now = ap (λ b. length b.now) p.scratch in
+    let a : length m.lines.now ≡ length x.lines.words.now = ap (λ m. length m.lines.now) p in
+    let b : length m.scratch.now ≡ length x.aut.scratch.now = ap (λ m. length m.scratch.now) p in
     let c : length x₁.lines.words.now + length x₁.aut.scratch.now ≡ length x.lines.words.now + length x.aut.scratch.now = ap (λ (k : Lent). k.scratch) s in
     record { empty = e; table = omega (arith, t) }
 
@@ -206,14 +190,11 @@ module _ (x x₁ y z : Place) (s : lengths_of x₁ ≡ lengths_of x) (o : x₁.o
         (sym (q ∙ ap (finished (lengths_of x)) came_is)) (left_is x y z L w wrote_is F)
 
 -- what holds of the slices of places, of their own lengths, holds of those of what was lent
-pub of_slices : (E : Lent → Slices → Slices → Type 0) {m n : Memory} {x z : Place} → Parts m x → Parts n z → E (lengths_of x) (slices_at x) (slices_at z) → E (lent_of (slices_in m)) (slices_in m) (slices_in n)
-of_slices E {m} {n} {x} {z} p q e =
-    let u : slices_in m ≡ slices_at x = slices_same p in
-    subst (λ (k : Lent). E k (slices_in m) (slices_in n)) (sym (ap lent_of u ∙ lent_own x))
-    (subst (λ (a : Slices). E (lengths_of x) a (slices_in n)) (sym u) (subst (λ (b : Slices). E (lengths_of x) (slices_at x) b) (sym (slices_same q)) e))
+pub of_slices : (E : Lent → Slices → Slices → Type 0) (x z : Place) {m n : Memory} → m ≡ memory_of x → n ≡ memory_of z → E (lengths_of x) (slices_at x) (slices_at z) → E (lent_of (slices_in m)) (slices_in m) (slices_in n)
+of_slices E x z p q e = rw (p, q, lent_own x) e
 
-pub runs : (book : List ℕ) (x x₁ y z : Place) {m n : Memory} {w : code.Result Setting Stop} {r : code.Result ℕ Stop} → lengths_of x₁ ≡ lengths_of x → x₁.output.bytes ≡ x.output.bytes → PostOpen book x₁ w y → PostFinish w y r z → Parts m x → Parts n z → RunsIn book m r n
+pub runs : (book : List ℕ) (x x₁ y z : Place) {m n : Memory} {w : code.Result Setting Stop} {r : code.Result ℕ Stop} → lengths_of x₁ ≡ lengths_of x → x₁.output.bytes ≡ x.output.bytes → PostOpen book x₁ w y → PostFinish w y r z → m ≡ memory_of x → n ≡ memory_of z → RunsIn book m r n
 runs book x x₁ y z {m} {n} {w} {r} s o O F p q = record {
-  is = of_slices (λ (k : Lent) (a b : Slices). Lends k b → EntrySpec k book a (number_of r) (text_line_of r) (length_of r) b) p q
+  is = of_slices (λ (k : Lent) (a b : Slices). Lends k b → EntrySpec k book a (number_of r) (text_line_of r) (length_of r) b) x z p q
       (λ (L : Lends (lengths_of x) (slices_at z)). Claim.entry (lends_own x) (comes_to x x₁ y z s o (λ (l : Lent). ran_book l book) O F (sym (book_finished (lengths_of x) book)) L));
 }

@@ -1,6 +1,6 @@
 -- 01, promise 1, in code: a book and what is lent come to the defined outcome (book_steps, `outcome`). What each part of a run asks and promises: a line, the lines from any place in order, and a whole book that is not yet finished (its beginning: book_begin, its end: book_finish).
-use Rattle.std.specs.Prelude.{◌≡◌, List, [], ◌++◌, ℕ, suc, ◌+◌, ◌≤◌, ◌<◌, min, length, drop, Result, Ok, Err}
-use Rattle.slices.specs.Same.{SameSlice}
+use Rattle.std.specs.Prelude.{◌≡◌, List, [], ◌++◌, ℕ, suc, ◌+◌, ◌≤◌, ◌<◌, min, length, Result, Ok, Err}
+use denote.Ref.{Bor}
 use Rattle.refusal.specs.declared.Refusal.{Refusal}
 use Rattle.refusal.specs.declared.Refusal.TheVariants.{Scratch}
 use Rattle.refusal.specs.Numbers as refusal
@@ -18,26 +18,24 @@ use Rattle.book_finish.specs.Clauses.{came_by, written_by, EndsBy, Wrote, number
 
 -- ---- a line
 
-pub record PreTurn (book : List ℕ) (S : Setting) (x : Place) (at : ℕ) : Type 0 where
+pub record PreTurn (S : Setting) (x : Place) : Type 0 where
   pub standing : Standing S x
   pub more : x.lines.count < LINES
-  pub inside : at < length book
 
-pub record TurnsTo (book : List ℕ) (S : Setting) (x y : Place) (at next : ℕ) : Type 0 where
-  pub is : (k : ℕ) (go : List ℕ → ℕ → Run.RunState → Run.Ran (setting_in S x)) → with_line (setting_in S x) go k (place_in x) (cut (drop at book)) ≡ go (drop next book) (suc k) (place_in y)
+-- the text `after` is left
+pub record TurnsTo (text : List ℕ) (S : Setting) (x y : Place) (after : List ℕ) : Type 0 where
+  pub is : (k : ℕ) (go : List ℕ → ℕ → Run.RunState → Run.Ran (setting_in S x)) → with_line (setting_in S x) go k (place_in x) (cut text) ≡ go after (suc k) (place_in y)
   pub standing : Standing S y
   pub lines : y.lines.count ≡ x.lines.count + 1
-  pub further : at < next
-  pub inside : next ≤ length book
   pub onto : Onto x y
 
-pub record TurnsDown (book : List ℕ) (S : Setting) (x y : Place) (at : ℕ) (e : Refusal) : Type 0 where
-  pub is : (k : ℕ) (go : List ℕ → ℕ → Run.RunState → Run.Ran (setting_in S x)) → with_line (setting_in S x) go k (place_in x) (cut (drop at book)) ≡ stopped (refusal.number_of e) k (written_in x)
+pub record TurnsDown (text : List ℕ) (S : Setting) (x y : Place) (e : Refusal) : Type 0 where
+  pub is : (k : ℕ) (go : List ℕ → ℕ → Run.RunState → Run.Ran (setting_in S x)) → with_line (setting_in S x) go k (place_in x) (cut text) ≡ stopped (refusal.number_of e) k (written_in x)
   pub output : y.output ≡ x.output
 
-abbrev pub PostTurn : List ℕ → Setting → Place → ℕ → Result ℕ Refusal → Place → Type 0
-PostTurn book S x at (Ok next) y = TurnsTo book S x y at next
-PostTurn book S x at (Err e) y = TurnsDown book S x y at e
+abbrev pub PostTurn : List ℕ → Setting → Place → Result (Bor (List ℕ)) Refusal → Place → Type 0
+PostTurn text S x (Ok after) y = TurnsTo text S x y after.now
+PostTurn text S x (Err e) y = TurnsDown text S x y e
 
 -- ---- a run that is not yet finished
 
@@ -47,12 +45,11 @@ pub record ComesTo (c : Came) (x : Place) (w : Result Setting Stop) (y : Place) 
   pub ends : EndsBy w y
   pub wrote : Wrote (written_by w y) x.output.bytes.now y.output.bytes.now
 
--- ---- the lines from a place on
+-- ---- the lines of a text
 
 -- the lines left fit into the table of lines
-pub record PreGo (book : List ℕ) (S : Setting) (x : Place) (from first left : ℕ) : Type 0 where
+pub record PreGo (S : Setting) (x : Place) (first left : ℕ) : Type 0 where
   pub standing : Standing S x
-  pub inside : from ≤ length book
   pub more : x.lines.count + left ≤ LINES
   pub small : first + left < 4294967296
 
@@ -61,8 +58,8 @@ abbrev pub went_of : Setting → Result Unit Stop → Result Setting Stop
 went_of S (Ok u) = Ok S
 went_of S (Err s) = Err s
 
-pub record PostGo (book : List ℕ) (S : Setting) (x : Place) (from first left : ℕ) (r : Result Unit Stop) (y : Place) : Type 0 where
-  pub comes : ComesTo (came_of (setting_in S x) (Run.run (setting_in S x) left (drop from book) first (place_in x))) x (went_of S r) y
+pub record PostGo (text : List ℕ) (S : Setting) (x : Place) (first left : ℕ) (r : Result Unit Stop) (y : Place) : Type 0 where
+  pub comes : ComesTo (came_of (setting_in S x) (Run.run (setting_in S x) left text first (place_in x))) x (went_of S r) y
   pub on : x.output.at ≤ written_by (went_of S r) y
 
 -- ---- a whole book
@@ -78,11 +75,10 @@ pub record PreStarted (x : Place) : Type 0 where
   pub table : length x.lines.words.now ≡ LINES
   pub room : LISTS ≤ length x.aut.scratch.now
 
--- it is left to obey the instructions from a byte of the text on
-pub record Starts (book : List ℕ) (x : Place) (S : Setting) (from : ℕ) (y : Place) : Type 0 where
-  pub is : opened_book (lengths_of x) (cut book) ≡ came_of (setting_in S y) (Run.run (setting_in S y) Run.instructions (drop from book) 2 (place_in y))
+-- it is left to obey the instructions of the text behind the header
+pub record Starts (book : List ℕ) (x : Place) (S : Setting) (after : List ℕ) (y : Place) : Type 0 where
+  pub is : opened_book (lengths_of x) (cut book) ≡ came_of (setting_in S y) (Run.run (setting_in S y) Run.instructions after 2 (place_in y))
   pub standing : Standing S y
-  pub inside : from ≤ length book
   pub lines : y.lines.count ≡ 0
   pub onto : Onto x y
   pub bytes : length y.output.bytes.now ≡ length x.output.bytes.now
@@ -91,8 +87,8 @@ pub record StartsNot (book : List ℕ) (x : Place) (e : Refusal) (y : Place) : T
   pub is : opened_book (lengths_of x) (cut book) ≡ failed (refusal.number_of e) 1 []
   pub output : y.output ≡ x.output
 
-abbrev pub PostStarted : List ℕ → Place → Result (Setting × ℕ) Refusal → Place → Type 0
-PostStarted book x (Ok (S, from)) y = Starts book x S from y
+abbrev pub PostStarted : List ℕ → Place → Result (Setting × Bor (List ℕ)) Refusal → Place → Type 0
+PostStarted book x (Ok (S, after)) y = Starts book x S after.now y
 PostStarted book x (Err e) y = StartsNot book x e y
 
 -- scratch is lent in two: the table of lines is all of it, if it is shorter than that
@@ -128,18 +124,6 @@ slices_in m = slices m.sp.now m.spp.now m.states.now m.members.now m.transitions
 -- the table of lines is as long as a book needs, or all of scratch
 abbrev pub Table : Memory → Type 0
 Table m = length m.lines.now ≡ min LINES (length m.lines.now + length m.scratch.now)
-
--- the same words and bytes are lent, as many
-pub record SameMemory (m n : Memory) : Type 0 where
-  pub sp : SameSlice m.sp n.sp
-  pub spp : SameSlice m.spp n.spp
-  pub states : SameSlice m.states n.states
-  pub members : SameSlice m.members n.members
-  pub transitions : SameSlice m.transitions n.transitions
-  pub pending : SameSlice m.pending n.pending
-  pub lines : SameSlice m.lines n.lines
-  pub scratch : SameSlice m.scratch n.scratch
-  pub output : SameSlice m.output n.output
 
 -- where the slices keep their lengths, the entry's promise
 pub record RunsIn (book : List ℕ) (m : Memory) (r : Result ℕ Stop) (n : Memory) : Type 0 where

@@ -1,7 +1,7 @@
 // A book: its header, the constants, then line by line; and the public entry over what is lent.
 #![tactic(auto)]
 
-ghost use Rattle.book_memory.specs.Place.{SamePlace, SameSlices};
+ghost use Rattle.book_memory.specs.Place.{SameMemory, SamePlace, SameSlices};
 ghost use Rattle.book_steps.specs.Claim.{EntrySpec};
 ghost use Rattle.book_run.specs.Clauses as Its;
 ghost use Rattle.book_finish.specs.Clauses.{number_of, text_line_of, length_of};
@@ -15,52 +15,48 @@ use refusal::Refusal;
 // the words of scratch that a book needs
 pub const SCRATCH: usize = 6144;
 
-// the most instructions of a book
-pub const INSTRUCTIONS: usize = 2048;
+// the most instructions of a book: each has its word in the table of lines
+pub const INSTRUCTIONS: usize = LINES;
 
 // ---- the instructions
 
-// the line that begins at a place of the text: the text behind it
-fn turn(book: &[u8], place: &mut Place, setting: Setting, at: usize) -> Result<usize, Refusal>
-    requires { Its.PreTurn book.now setting place.old at }
+// the first line of the text: the text behind it
+fn turn<'a>(text: &'a [u8], place: &mut Place, setting: Setting) -> Result<&'a [u8], Refusal>
+    requires { Its.PreTurn setting place.old }
     ensures keeps { SamePlace place.old place.new }
-    ensures gives { Its.PostTurn book.now setting place.old at result place.new }
+    ensures gives { Its.PostTurn text.now setting place.old result place.new }
 {
-    let c = book_reader::line_at(book, at).ok_or(Refusal::Form)?;
-    book_line::obey(book, place, setting, c)?;
-    Ok(c.end + 1)
+    let (c, rest) = book_reader::line_at(text).ok_or(Refusal::Form)?;
+    book_line::obey(place, setting, c)?;
+    Ok(rest)
 }
 
-// From any place in order: the text from a byte on, its text line, and the instructions left. Tables, lines and output are left as the lines made them.
+// From any place in order: the text that is left, its text line, and the instructions left. Tables, lines and output are left as the lines made them.
 pub fn go_on(
-    book: &[u8],
+    text: &[u8],
     place: &mut Place,
     setting: Setting,
-    from: usize,
     first: usize,
     instructions: usize,
 ) -> Result<(), Stop>
-    requires { Its.PreGo book.now setting place.old from first instructions }
+    requires { Its.PreGo setting place.old first instructions }
     ensures keeps { SamePlace place.old place.new }
-    ensures gives { Its.PostGo book.now setting place.old from first instructions result place.new }
+    ensures gives { Its.PostGo text.now setting place.old first instructions result place.new }
 {
-    let mut at = from;
+    let mut rest = text;
     let mut line = first;
     let mut left = instructions;
-    while at < book.len() {
+    while !rest.is_empty() {
         let length = place.output.at;
-        if left == 0 {
-            return Err(Stop {
-                refusal: Refusal::Form,
-                line,
-                length,
-            });
-        }
-        at = turn(book, place, setting, at).map_err(|refusal| Stop {
+        let stop = |refusal| Stop {
             refusal,
             line,
             length,
-        })?;
+        };
+        if left == 0 {
+            return Err(stop(Refusal::Form));
+        }
+        rest = turn(rest, place, setting).map_err(stop)?;
         line += 1;
         left -= 1;
     }
@@ -83,14 +79,14 @@ pub fn enough(place: &Place) -> Result<(), Stop>
     Ok(())
 }
 
-// the header is read, and the tables are begun: the setting, and where in the text the instructions begin
-fn started(book: &[u8], place: &mut Place) -> Result<(Setting, usize), Refusal>
+// the header is read, and the tables are begun: the setting, and the text of the instructions
+fn started<'a>(book: &'a [u8], place: &mut Place) -> Result<(Setting, &'a [u8]), Refusal>
     requires { Its.PreStarted place.old }
     ensures keeps { SameSlices place.old place.new }
     ensures gives { Its.PostStarted book.now place.old result place.new }
 {
-    let c = book_reader::line_at(book, 0).ok_or(Refusal::Header)?;
-    let (n, budget) = book_reader::header(book, c).ok_or(Refusal::Header)?;
+    let (c, rest) = book_reader::line_at(book).ok_or(Refusal::Header)?;
+    let (n, budget) = book_reader::header(c).ok_or(Refusal::Header)?;
     if n > 31 {
         return Err(Refusal::Fields);
     }
@@ -99,7 +95,7 @@ fn started(book: &[u8], place: &mut Place) -> Result<(Setting, usize), Refusal>
         budget,
     };
     book_begin::begin(place, h)?;
-    Ok((Setting::from(h), c.end + 1))
+    Ok((Setting::from(h), rest))
 }
 
 // From zeroed tables to the last line. Tables, lines and output are left as the lines made them.
@@ -109,19 +105,19 @@ pub fn open(book: &[u8], place: &mut Place) -> Result<Setting, Stop>
     ensures gives { Its.PostOpen book.now place.old result place.new }
 {
     enough(place)?;
-    let (setting, from) = started(book, place).map_err(|refusal| Stop {
+    let (setting, rest) = started(book, place).map_err(|refusal| Stop {
         refusal,
         line: 1,
         length: 0,
     })?;
-    go_on(book, place, setting, from, 2, INSTRUCTIONS)?;
+    go_on(rest, place, setting, 2, INSTRUCTIONS)?;
     Ok(setting)
 }
 
 // a whole book over what is lent, scratch in two
 fn run_in(memory: &mut Memory, book: &[u8]) -> Result<usize, Stop>
     requires { Its.Table memory.old }
-    ensures keeps { Its.SameMemory memory.old memory.new }
+    ensures keeps { SameMemory memory.old memory.new }
     ensures gives { Its.RunsIn book.now memory.old result memory.new }
 {
     let mut place = memory.place();

@@ -1,4 +1,4 @@
--- Demands 2 and 3 at one place of a book: what an answer says of the rule that the line asked for means, and what the
+-- 01, demands 2 and 3, at one place of a book: what an answer says of the rule that the line asked for means, and what the
 -- tables hold. Definitions and statements only. Claim says them of every line of a book; proofs/Claim proves them.
 use Rattle.std.specs.Prelude.{◌≡◌, ◌↔◌, ℕ, ◌+◌, ◌*◌, ◌^◌, ◌≤◌, ◌<◌, length, get_or}
 use mathlib.Core.List.{List, map, Memᴰ}

@@ -1,4 +1,4 @@
--- What a book means, by its text alone: each constructor line a rule, by the rules of the lines that it names. And when
+-- 01, "The book and its answers": what a book means, by its text alone: each constructor line a rule, by the rules of the lines that it names. And when
 -- the states of its lines hold the strings of these rules.
 use Rattle.std.specs.Prelude.{List, [], ◌∷◌, ℕ, ◌<◌}
 use Rattle.std.proofs.Math.Option.{Option, none, some}

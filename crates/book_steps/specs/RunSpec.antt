@@ -1,4 +1,4 @@
--- What is claimed of a run of lines, from any point in order with its rules, text line and instructions left.
+-- 01, "What every promise says": what is claimed of a run of lines, from any point in order with its rules, text line and instructions left.
 -- Definitions and statements only; proofs/Runs proves them. The text's own bytes are walked, with Text and Reader, the
 -- answers' bytes (Answers), the steps (`make`, `is_empty`, `live_packets`, `delta_pruned`) and what is demanded of them
 -- (Demands). `run` stands in RunClaim alone, which says that it comes to just this.

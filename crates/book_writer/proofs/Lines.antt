@@ -1,11 +1,16 @@
 -- A line: how long it is, and what stands in the output when its parts are written; and the share.
-use Rattle.std.specs.Prelude.{if◌then◌else◌, Option, Some, None, SomeIff}
-use mathlib.Core.Path.{◌≡◌, refl, sym, ◌∙◌, ap}
+use Rattle.std.specs.Prelude.{if◌then◌else◌, Option, Some, None, SomeIff, MatchOption}
+use mathlib.Core.Path.{◌≡◌, refl, sym, ◌∙◌, ap, ap₂, subst}
 use mathlib.Core.Bool.{Bool, true, false}
 use mathlib.Core.List.{List, [], ◌∷◌, ◌++◌, map, append_assoc, append-nil}
 use Prim.Native.Nat.{ℕ, ◌+◌, ◌*◌, ◌/◌, ◌%◌, ◌^◌, ◌≤◌, ◌<◌}
 use native.Mathlib.Omega.{arith}
 use lib.ListN.{length, get_or, drop, length-append}
+use denote.Ref.{Bor}
+use Rattle.std.proofs.Common.{Iter}
+use Rattle.std.specs.List.{FoldsTo}
+use Rattle.std.specs.Iterator.{Yields}
+use Rattle.std.proofs.lemmas.Fn.{fronts}
 use Rattle.std.proofs.lemmas.List.{drop_more, drop_all}
 use lib.Pow.{pow_mono, pow_pos}
 use native.Mathlib.Nat.{mod-eq_of_lt}
@@ -63,16 +68,27 @@ module _ (ps : List Part) (i : ℕ) where
   unfolding with_spaces
   no_part h = ap with_spaces (drop_all i ps h)
 
--- total is the length of the first i
-pub record Measured (ps : List Part) (total i : ℕ) : Type 0 where
-  pub is : total + length (with_spaces (drop i ps)) ≡ length (with_spaces ps)
+-- the parts counted by a fold, each with a byte before it
+module _ {F : Type 0} (turn : F × ℕ → Bor Part → F × ℕ → Type 0) (step : (p : F × ℕ) (x : Bor Part) (q : F × ℕ) → turn p x q → q.1 ≡ p.1 + (length (part_bytes x.now) + 1)) where
+  pub summed : (xs : List (Bor Part)) (s t : Iter Part) (p q : F × ℕ) → Yields fronts s xs t → FoldsTo turn p xs q → p.1 + length (with_spaces s.rest.now) ≡ q.1 + length (with_spaces t.rest.now)
+  unfolding with_spaces
+  summed [] s t p q y e = ap₂ (λ (s : Iter Part) (p : F × ℕ). p.1 + length (with_spaces s.rest.now)) y e
+  summed (x ∷ xs) s t p q y e =
+      omega (arith, step p x e.0 e.1, summed xs y.0 t e.0 q y.2 e.2, ap (λ (l : List Part). length (with_spaces l)) y.1, length-append (part_bytes x.now) (with_spaces y.0.rest.now))
 
-module _ {ps : List Part} {total i : ℕ} (M : Measured ps total i) where
-  pub longer : i < length ps → total + length (part_at ps i) + 1 + length (with_spaces (drop (i + 1) ps)) ≡ length (with_spaces ps)
-  longer h = omega (arith, M.is, ap length (next_part ps i h), length-append (part_at ps i) (with_spaces (drop (i + 1) ps)))
-
-  pub measured_all : length ps ≤ i → total ≡ length (with_spaces ps)
-  measured_all h = omega (arith, M.is, ap length (no_part ps i h))
+-- it went over all of them, or broke off at x
+module _ (ps ys : List Part) (n : ℕ) (e : 0 + length (with_spaces ps) ≡ n + length (with_spaces ys)) {r : Option ℕ} where
+  pub measured : (A : Type 0) (B : Bor Part → Type 0) (zs : List Part) (o : Option (Bor Part)) → MatchOption o ((length ys ≡ 0) × A) (λ x. ys ≡ x.now ∷ zs) → MatchOption o (r ≡ Some n) B
+      → ((x : Bor Part) → B x → (2 ^ 64 ≤ n + (length (part_bytes x.now) + 1)) × (r ≡ None)) → Measures (with_spaces ps) r
+  unfolding with_spaces
+  measured A B zs None l w f = subst (Measures (with_spaces ps)) (sym w) (omega (arith, e, go ys l.0))
+    where
+      go : (ys : List Part) → length ys ≡ 0 → length (with_spaces ys) ≡ 0
+      go [] l = refl
+      go (y ∷ ys) l = absurd (omega arith)
+  measured A B zs (Some x) l b f =
+      let w = f x b in
+      subst (Measures (with_spaces ps)) (sym w.1) (omega (arith, w.0, e, ap (λ (l : List Part). length (with_spaces l)) l, length-append (part_bytes x.now) (with_spaces zs)))
 
 -- the word and i parts are written, and there is room for all
 pub record Written (s₀ : List ℕ) (at : ℕ) (w : List ℕ) (ps : List Part) (s : List ℕ) (end i : ℕ) : Type 0 where

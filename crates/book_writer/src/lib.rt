@@ -42,7 +42,8 @@ pub fn digits(n: u64) -> usize
 }
 
 fn part_length(part: Part) -> usize
-    ensures { result ≡ length (part_bytes part.entry) }
+    ensures is { result ≡ length (part_bytes part.entry) }
+    ensures most { result < 2 ^ 63 }
 {
     match part {
         Part::Word(word) => word.len(),
@@ -54,11 +55,9 @@ fn part_length(part: Part) -> usize
 fn parts_length(parts: &[Part]) -> Option<usize>
     ensures { Measures (with_spaces parts.now) result }
 {
-    let mut total: usize = 0;
-    for part in parts {
-        total = total.checked_add(1)?.checked_add(part_length(*part))?;
-    }
-    Some(total)
+    parts
+        .iter()
+        .try_fold(0, |n: usize, part| n.checked_add(part_length(*part) + 1))
 }
 
 // a line of a word and other parts
@@ -149,9 +148,7 @@ impl Output<'_> {
         ensures keeps { SameSlice self.old.bytes self.new.bytes }
         ensures puts { Put (byte ∷ []) self.old self.new }
     {
-        let at = self.at;
-        self.bytes[at] = byte;
-        self.at = at + 1;
+        self.put(&[byte]);
     }
 
     // the last k digits of a number, from the right

@@ -5,8 +5,8 @@ use Rattle.book_reader.proofs.Tables as tables
 use Rattle.book_reader.proofs.alone.Goals as goal
 
 pub returns-in-Some : goal.returns-in-Some
-returns-in-Some c book W N = saying.says_constant c.args.word.now N (tables.constant c.args.word.now c.in-Some.ensures)
+returns-in-Some c N = saying.says_constant c.args.word.now N (tables.constant c.args.word.now c.in-Some.ensures)
 
 pub returns : goal.returns
-returns c book W N =
-    saying.says_so (saying.no_constant c.args.word.now N (tables.constant c.args.word.now c.in_default.ensures)) (c.with_list.ensures book W (ap (map length) N))
+returns c N =
+    saying.says_so (saying.no_constant c.args.word.now N (tables.constant c.args.word.now c.in_default.ensures)) (c.with_list.ensures (ap (map length) N))

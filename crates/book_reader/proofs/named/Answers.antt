@@ -1,14 +1,12 @@
-use Rattle.std.proofs.Common.{sym, ◌∙◌}
-use Rattle.book_reader.proofs.Finding.{look_here, look_on, look_end}
+use Rattle.std.proofs.Common.{◌∙◌, rules, tests}
+use Rattle.std.proofs.lemmas.Iterator.{YieldsList-from_slice}
+use Rattle.std.proofs.lemmas.Iterator.Search.{find_from_yields_List}
+use Rattle.book_reader.proofs.Finding.{mapped_is, has_name, named_is}
 use Rattle.book_reader.proofs.named.Goals as goal
 
-pub returns-then-eq : goal.returns-then-eq
-returns-then-eq g c =
-    sym (c.loop-name.invariant ∙ look_here c.args.table.now c.args.word.now c.loop-name.name-index c.loop-name-test.true c.loop-name-item.result c.loop-name-item.is (c.if-eq.ensures))
-
-pub loop-name-preserved : goal.loop-name-preserved
-loop-name-preserved g c =
-    c.loop-name.invariant ∙ look_on c.args.table.now c.args.word.now c.loop-name.name-index c.loop-name-test.true c.loop-name-item.result c.loop-name-item.is (c.if-eq.ensures)
-
 pub returns : goal.returns
-returns g c = sym (c.loop-name.invariant ∙ look_end c.args.table.now c.args.word.now c.loop-name.name-index c.loop-name-test.false)
+returns g c =
+    let word = c.args.word.now in
+    let table = c.args.table.now in
+    let at = find_from_yields_List (has_name word) _ _ c.find.result c.find.ensures.ran (YieldsList-from_slice table c.iter.ensures.rest) (λ x b q k. (search (rules, tests), search (rules, tests))) in
+    mapped_is (λ x. x.now.1) c.find.result c.map.result c.map.ensures.cases (λ x y p. search rules) ∙ named_is word table c.find.result at

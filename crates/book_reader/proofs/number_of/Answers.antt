@@ -1,21 +1,16 @@
-use Rattle.std.proofs.Common.{sym, ◌∙◌, arith}
-use borrow.Author.Tests.{ltb-true, leb-true, leb-false}
+use Rattle.std.proofs.Common.{◌∙◌, rules, tests}
 use Rattle.book_reader.proofs.Decimal as decimal
 use Rattle.book_reader.proofs.number_of.Goals as goal
-use Rattle.book_reader.proofs.number_of.Goals.{then-word-gt1, else-word-gt1, then-is_empty-via-then-is_empty, then-is_empty-via-else-is_empty+then-word-le48}
+use Rattle.book_reader.proofs.number_of.Goals.{in_default-via-then-word-lt2, in_default-via-else-word-lt2+in_default-1}
 
-pub returns-then-is_empty : goal.returns-then-is_empty
-returns-then-is_empty c = elim c.then-is_empty.branch [
-  | then-is_empty-via-then-is_empty w ↦ decimal.no_bytes c.args.word.now w.if-is_empty.ensures
-  | then-is_empty-via-else-is_empty+then-word-le48 w ↦ elim w.if-word-gt1.branch [
-    | then-word-gt1 v ↦ decimal.leading c.args.word.now v.if-word-gt1.true (leb-true _ _ (sym v.value-is ∙ w.if-word-le48.true))
-    | else-word-gt1 v ↦ absurd (omega (arith, ltb-true _ _ (sym v.value-is ∙ w.if-word-le48.true)))
-  ]
-]
+pub returns-in-empty : goal.returns-in-empty
+returns-in-empty c = decimal.no_bytes c.args.word.now c.in-empty.len_below
 
-pub returns : goal.returns
-returns c =
-    elim c.if-word-gt1.branch [
-      | then-word-gt1 w ↦ decimal.no_zero c.args.word.now c.if-is_empty.ensures (leb-false _ _ (sym w.value-is ∙ c.if-word-le48.false))
-      | else-word-gt1 w ↦ decimal.one_digit c.args.word.now c.if-is_empty.ensures w.if-word-gt1.false
-    ] ∙ c.digits.ensures
+pub returns-in-empty-2 : goal.returns-in-empty-2
+returns-in-empty-2 c = decimal.leading c.args.word.now c.in-empty.len_at_least (search (rules, tests))
+
+pub returns-in_default : goal.returns-in_default
+returns-in_default c = elim c.in_default.branch [
+  | in_default-via-then-word-lt2 w ↦ decimal.one_digit c.args.word.now (search (rules, tests)) (search (rules, tests))
+  | in_default-via-else-word-lt2+in_default-1 w ↦ decimal.no_zero c.args.word.now (search (rules, tests)) (search (rules, tests))
+] ∙ c.digits.ensures

@@ -6,8 +6,8 @@ use Rattle.book_reader.proofs.Tables as tables
 use Rattle.book_reader.proofs.with_list.Goals as goal
 
 pub returns-in_err-w : goal.returns-in_err-w
-returns-in_err-w c book W C =
-    subst (Says book (listing c.args.word.now (numbers (rest book c.args.c)))) (sym c.from_residual.ensures) (saying.says_nothing c.args.word.now W C (tables.listed c.args.word.now c.in_err-w.ensures))
+returns-in_err-w c C =
+    subst (Says (listing c.args.word.now (numbers (rest c.args.c)))) (sym c.from_residual.ensures) (saying.says_nothing c.args.word.now c.args.c C (tables.listed c.args.word.now c.in_err-w.ensures))
 
 pub returns : goal.returns
-returns c book W C = saying.says_listed c.args.word.now W C (tables.listed c.args.word.now c.in_ok-w.ensures)
+returns c C = saying.says_listed c.args.word.now c.args.c C (tables.listed c.args.word.now c.in_ok-w.ensures)

@@ -1,8 +1,8 @@
 use Rattle.book_run.proofs.Lines as lines
 use Rattle.book_run.proofs.go_on.Given as goal
 
-abbrev pub invariant-loop-at : goal.invariant-loop-at
-invariant-loop-at l = lines.Going l.book l.setting l.initial.place l.from l.first l.instructions l.place l.at l.line l.left
+abbrev pub invariant-loop-rest : goal.invariant-loop-rest
+invariant-loop-rest l = lines.Going l.text l.setting l.initial.place l.first l.instructions l.place l.rest l.line l.left
 
-abbrev pub decreases-loop-at : goal.decreases-loop-at
-decreases-loop-at l = l.left
+abbrev pub decreases-loop-rest : goal.decreases-loop-rest
+decreases-loop-rest l = l.left

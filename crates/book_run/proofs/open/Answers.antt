@@ -1,4 +1,4 @@
-use Rattle.std.proofs.Common.{refl, of_calls}
+use Rattle.std.proofs.Common.{refl, arith, of_calls}
 use Rattle.refusal.proofs.Passed.{passed}
 use Rattle.book_run.proofs.Mapped.{mapped, through}
 use Rattle.book_run.proofs.Whole as whole
@@ -12,6 +12,11 @@ returns-in_err-setting-clause-gives c =
     let m = mapped c.started.result _ _ c.in_err-setting.ensures.cases in
     let q = m.is in
     rw (passed c.from_residual-in_err-setting.ensures) (whole.open_not c.args.book.now c.args.place.now c.in_ok-enough.ensures (search of_calls) (rw m.was at c.started.ensures.gives))
+
+pub go_on-requires : goal.go_on-requires
+go_on-requires c =
+    let s = rw (through _ c.started.result c.in_ok-setting.ensures.cases) at c.started.ensures.gives in
+    record { standing = s.standing; more = omega (arith, s.lines); small = omega arith }
 
 pub returns-in_err-go_on-clause-gives : goal.returns-in_err-go_on-clause-gives
 returns-in_err-go_on-clause-gives c =

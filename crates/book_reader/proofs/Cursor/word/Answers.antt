@@ -1,29 +1,14 @@
-use borrow.Author.Tests.{not-true, not-false}
-use Rattle.book_reader.specs.Clauses.{rest}
+use Rattle.std.proofs.Common.{◌≡◌, ◌∷◌, ◌∙◌, ap, sym, subst}
+use Rattle.book_steps.specs.Text.{words}
+use Rattle.book_reader.specs.Clauses.{words_left}
 use Rattle.book_reader.proofs.Parts as parts
 use Rattle.book_reader.proofs.Cursor.word.Goals as goal
+use Rattle.book_reader.proofs.Cursor.word.Goals.{in-Some, in-None}
 
-pub returns-then-not-self : goal.returns-then-not-self
-returns-then-not-self c = not-true _ c.if-not-self.true
-
-pub returns-in-Some : goal.returns-in-Some
-returns-in-Some c =
-    let e = c.in-Some.ensures in
-    let m = not-false _ c.if-not-self.false in (
-      m,
-      record {
-        is = parts.next_word c.args.book.now c.args.self c.requires m e.0 e.1;
-        within = parts.next_within c.args.book.now c.args.self c.requires m e.1;
-      },
-    )
-
-pub returns-in-None : goal.returns-in-None
-unfolding rest
-returns-in-None c =
-    let m = not-false _ c.if-not-self.false in (
-      m,
-      record {
-        is = parts.last_word c.args.book.now c.args.self c.requires m (c.in-None.ensures);
-        within = parts.last_within c.args.book.now c.args.self c.requires m;
-      },
-    )
+pub returns : goal.returns
+returns c =
+    let line = c.in_ok-line.line.now in
+    ap words_left c.in_ok-line.was ∙ elim c.match-find.branch [
+      | in-Some w ↦ let e = w.in-Some.ensures in subst (λ t. words line ≡ t.0.now ∷ words_left t.1) (sym w.t-13-is) (parts.next_word line e.0 e.1)
+      | in-None w ↦ subst (λ t. words line ≡ t.0.now ∷ words_left t.1) (sym w.t-13-is) (parts.words_last line w.in-None.ensures)
+    ]
