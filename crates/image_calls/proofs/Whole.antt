@@ -22,13 +22,13 @@ use Rattle.book_steps.proofs.Claim.{claim as claim-of}
 use Rattle.book_memory.specs.declared.Setting.{Setting}
 use Rattle.book_memory.specs.declared.Place.{Place}
 use Rattle.book_memory.specs.declared.Memory.{Memory}
-use Rattle.book_memory.specs.Place.{setting_of, setting_in, place_in, lengths_of}
+use Rattle.book_memory.specs.Place.{setting_of, setting_in, place_in, lengths_of, memory_of}
 use Rattle.book_memory.proofs.Table.{lines_length}
 use Rattle.book_finish.specs.declared.Stop.{Stop}
 use Rattle.book_finish.specs.Clauses as Book
 use Rattle.book_finish.specs.Clauses.{Wrote, written_by, came_by, ran_of, PostFinish}
 use Rattle.book_run.specs.Clauses.{ComesTo, went_of, PostGo}
-use Rattle.book_run.proofs.Whole.{slices_at, Parts, lends_own, left_is, came_is, wrote_is, comes_to, of_slices}
+use Rattle.book_run.proofs.Whole.{slices_at, lends_own, left_is, came_is, wrote_is, comes_to, of_slices}
 use Rattle.image_form.specs.Damage.{Bytes}
 use Rattle.image_steps.specs.Read.{read}
 use Rattle.image_steps.specs.Calls as Calls
@@ -81,7 +81,7 @@ module _ (image book : List ℕ) (x : Place) where
     setting_is = ap₂ (λ (p o : List ℕ). setting_of (Image.setting_at image) (length p / 2) (length o)) (ap (λ b. b.now) B.pending) bytes_same
 
     module _ {u : Unit {0}} (R : PostRead image x (Ok u) y) {S : Setting} (s : S ≡ Image.setting_at image) where
-      pub on_went : {w : Result Setting Stop} {r : Result Unit Stop} {z : Place} → PostGo book S y 0 1 (2048 - y.lines.count) r z → w ≡ went_of S r → PostOn image book x w z
+      pub on_went : {w : Result Setting Stop} {r : Result Unit Stop} {z : Place} → PostGo book S y 1 (2048 - y.lines.count) r z → w ≡ went_of S r → PostOn image book x w z
       on_went {w} {r} {z} G e = rw e (record {
         is = on_is R
             ∙ ap₂ (λ (T : Run.Setting) (k : ℕ). came_of T (Run.run T (2048 - k) book 1 (place_in y))) (sym (ap (λ (q : Setting). setting_in q y) s ∙ setting_is)) (lines_length y.lines.words.now y.lines.count)
@@ -90,7 +90,7 @@ module _ (image book : List ℕ) (x : Place) where
         wrote = subst (λ (o : List ℕ). Wrote (written_by (went_of S r) z) o z.output.bytes.now) bytes_same G.comes.wrote;
       })
 
-      pub on_stopped : {e : Stop} {q : Result Setting Stop} {z : Place} → PostGo book S y 0 1 (2048 - y.lines.count) (Err e) z → IsErr q × IsErrAnd q (λ a. a ≡ e) → PostOn image book x q z
+      pub on_stopped : {e : Stop} {q : Result Setting Stop} {z : Place} → PostGo book S y 1 (2048 - y.lines.count) (Err e) z → IsErr q × IsErrAnd q (λ a. a ≡ e) → PostOn image book x q z
       on_stopped g by = on_went g (passed by)
 
 -- ---- what is left
@@ -134,19 +134,19 @@ module _ (x x₁ y z : Place) (s : lengths_of x₁ ≡ lengths_of x) (o : x₁.o
         image_is = K.is;
       })
 
-module _ (x x₁ y z : Place) (s : lengths_of x₁ ≡ lengths_of x) (o : x₁.output.bytes ≡ x.output.bytes) {w : Result Setting Stop} {m n : Memory} (p : Parts m x) (q : Parts n z) where
+module _ (x x₁ y z : Place) (s : lengths_of x₁ ≡ lengths_of x) (o : x₁.output.bytes ≡ x.output.bytes) {w : Result Setting Stop} {m n : Memory} (p : m ≡ memory_of x) (q : n ≡ memory_of z) where
   pub saves : (from : code.Option (List ℕ)) (book : List ℕ) → PostFrom from book x₁ w y → {r : Result (ℕ × ℕ) Stop} {before after : List ℕ} → PostSeal w y r z before after → SavesIn from book m before r n after
   saves from book C {r} {before} {after} P = record {
     is = of_slices
         (λ (lent : Lent) (a b : Slices). Lends lent b
-        → SavedAs lent (saving lent (length before) (came_from from book lent)) a before (number_of r) (text_line_of r) (length_of r) (image_length_of r) b after) p q
+        → SavedAs lent (saving lent (length before) (came_from from book lent)) a before (number_of r) (text_line_of r) (length_of r) (image_length_of r) b after) x z p q
         (seals x x₁ y z s o (came_from from book) C P);
   }
 
   pub resumes : (image book : List ℕ) → PostOn image book x₁ w y → {r : Result ℕ Stop} → PostFinish w y r z → ResumesIn image book m r n
   unfolding Calls.resume
   resumes image book C {r} F = record {
-    is = of_slices (λ (lent : Lent) (a b : Slices). Lends lent b → RefinesBy lent image book a r b) p q (comes_to x x₁ y z s o (λ (lent : Lent). ran_on lent image book) C F refl);
+    is = of_slices (λ (lent : Lent) (a b : Slices). Lends lent b → RefinesBy lent image book a r b) x z p q (comes_to x x₁ y z s o (λ (lent : Lent). ran_on lent image book) C F refl);
   }
 
 -- ---- the calls, with what is claimed of each

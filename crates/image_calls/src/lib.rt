@@ -2,7 +2,7 @@
 #![tactic(auto)]
 
 ghost use Rattle.std.specs.Prelude.{option_copied};
-ghost use Rattle.book_memory.specs.Place.{SameSlices};
+ghost use Rattle.book_memory.specs.Place.{SameMemory, SameSlices};
 ghost use Rattle.book_finish.specs.Clauses as End;
 ghost use Rattle.book_run.specs.Clauses as Run;
 ghost use Rattle.book_run.specs.Clauses.{slices, lent_of};
@@ -29,7 +29,7 @@ fn go_on_from(image: &[u8], book: &[u8], place: &mut Place) -> Result<Setting, S
     })?;
     let setting = image_read::setting_at(image);
     let left = book_run::INSTRUCTIONS - place.lines.count;
-    book_run::go_on(book, place, setting, 0, 1, left)?;
+    book_run::go_on(book, place, setting, 1, left)?;
     Ok(setting)
 }
 
@@ -55,7 +55,7 @@ fn save_in(
     image: &mut [u8],
 ) -> Result<(usize, usize), Stop>
     requires { Run.Table memory.old }
-    ensures keeps { Run.SameMemory memory.old memory.new }
+    ensures keeps { SameMemory memory.old memory.new }
     ensures gives { Its.SavesIn (option_copied from.entry) book.now memory.old image.old result
         memory.new image.new }
 {
@@ -69,7 +69,7 @@ fn save_in(
 
 fn resume_in(memory: &mut Memory, image: &[u8], book: &[u8]) -> Result<usize, Stop>
     requires { Run.Table memory.old }
-    ensures keeps { Run.SameMemory memory.old memory.new }
+    ensures keeps { SameMemory memory.old memory.new }
     ensures gives { Its.ResumesIn image.now book.now memory.old result memory.new }
 {
     let mut place = memory.place();

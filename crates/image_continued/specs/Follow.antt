@@ -1,5 +1,5 @@
--- Two runs side by side: the uninterrupted one, and that of a continued book. Where the first is refused, nothing is said of the second. Where it gives something, the second gives what Q relates to it, or it is refused
--- with a number that E allows.
+-- 02 (ii): "A book continued after a read gets every answer that the uninterrupted run gave": the two runs side by side. Where the first is refused, nothing is said of the second. Where it gives something, the second gives
+-- what Q relates to it, or it is refused with a number that E allows.
 use Rattle.std.specs.Prelude.{ℕ}
 use Rattle.common.specs.Outcome.{Outcome, refused, given}
 

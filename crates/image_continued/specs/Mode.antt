@@ -1,5 +1,5 @@
--- How the packet nodes of the two runs stand to each other. `apart`: nothing is said. `beside`: they are the same, and a live set that the second has stored the first has under the same handle. `whole`: and each that the first has
--- stored the second has. 02 (ii): "unless working out live sets again makes it meet 20 or 24": as long as they are beside each other it meets neither.
+-- 02 (ii): "unless working out live sets again makes it meet 20 or 24": how the packet nodes of the two runs stand to each other. `apart`: nothing is said. `beside`: they are the same, and a live set that the second has stored the
+-- first has under the same handle. `whole`: and each that the first has stored the second has. As long as they are beside each other it meets neither number.
 use Rattle.std.specs.Prelude.{ℕ}
 
 pub data Mode : Type 0 where

@@ -16,7 +16,7 @@ use Rattle.book_steps.proofs.Finished.{finished_run, book_finished}
 use Rattle.book_steps.proofs.LineNumbers.{run_line, outcome_line}
 use Rattle.book_finish.specs.Clauses as Run
 use Rattle.book_finish.specs.declared.Stop.{Stop}
-use Rattle.book_run.specs.Clauses.{lent_of}
+use Rattle.netcheck_entry.specs.Outcome.{lent_of}
 use Rattle.netcheck_entry.specs.Outcome.{outcome_of}
 use Rattle.netcheck_entry.specs.declared.Outcome as Struct
 use Rattle.netcheck_entry.proofs.Lines.{of_fields}

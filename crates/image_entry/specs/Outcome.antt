@@ -2,7 +2,7 @@
 use Rattle.std.specs.Prelude.{List, ℕ, Result, Ok, Err}
 use Rattle.refusal.specs.Numbers.{number_of}
 use Rattle.book_steps.specs.Claim.{Slices}
-use Rattle.book_run.specs.Clauses.{lent_of}
+pub use Rattle.netcheck_entry.specs.Outcome.{lent_of, slices}
 use Rattle.netcheck_entry.specs.declared.Outcome.{Outcome}
 use Rattle.image_calls.specs.Entries.{SaveEntry, ResumeEntry, ResumeSaveEntry}
 use Rattle.book_finish.specs.declared.Stop.{Stop}

@@ -2,12 +2,11 @@
 #![tactic(auto)]
 
 ghost use Rattle.std.specs.Prelude.{◌≡◌, ◌≤◌};
-ghost use Rattle.book_run.specs.Clauses.{slices};
 ghost use Rattle.image_keep.specs.Clauses.{text_line_of};
-ghost use Rattle.image_entry.specs.Outcome.{saved_outcome_of, SavedBy, Resumed, ResumeSavedBy};
+ghost use Rattle.image_entry.specs.Outcome.{slices, saved_outcome_of, SavedBy, Resumed, ResumeSavedBy};
 
 use book_finish::Stop;
-use netcheck_entry::Outcome;
+pub use netcheck_entry::Outcome;
 
 // as Outcome, and how many bytes of the image are written
 #[repr(C)]

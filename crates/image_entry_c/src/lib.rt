@@ -2,11 +2,9 @@
 // bytes as its length, and no two of the slices overlap. include/netcheck.h is its header.
 #![tactic(auto)]
 
-ghost use Rattle.book_run.specs.Clauses.{slices};
-ghost use Rattle.image_entry.specs.Outcome.{SavedBy, Resumed, ResumeSavedBy};
+ghost use Rattle.image_entry.specs.Outcome.{slices, SavedBy, Resumed, ResumeSavedBy};
 
-use image_entry::SavedOutcome;
-use netcheck_entry::Outcome;
+use image_entry::{Outcome, SavedOutcome};
 
 // ---- a book is run, and the image of its last place written
 

@@ -19,7 +19,6 @@ use Rattle.book_memory.specs.declared.Place.{Place}
 use Rattle.book_memory.specs.Place.{place_in, setting_in}
 use Rattle.book_finish.specs.declared.Stop.{Stop}
 use Rattle.book_finish.specs.Clauses.{EndsBy}
-use Rattle.image_save.specs.Clauses.{PostWrite}
 use Rattle.image_save.proofs.Whole.{standing_present}
 use Rattle.image_steps.specs.Image.{head_of, blocks_of, saved}
 use Rattle.image_steps.specs.Calls.{has_next, Saved, saving}
@@ -107,7 +106,7 @@ module _ (x : Place) (image : List ℕ) where
         pub keep_long : length image < 512 * n → PostKeep (Ok S) x (Err no_room) image image
         keep_long l = refused (λ lent. saving_long lent (length image) (setting_in S x) (place_in x) (kinds ∙ known) (omega (arith, count_is)) (omega (arith, count_is)))
 
-        pub keep_written : {image' : List ℕ} → 512 * n ≤ length image → PostWrite S x image image' → PostKeep (Ok S) x (Ok (512 * n)) image image'
+        pub keep_written : {image' : List ℕ} → 512 * n ≤ length image → image' ≡ sets image 0 (saved (setting_in S x) (place_in x)) → PostKeep (Ok S) x (Ok (512 * n)) image image'
         keep_written {image'} room W =
             let k : length (saved (setting_in S x) (place_in x)) ≡ 512 * n = saved_length (setting_in S x) (place_in x) ∙ ap (λ (b : ℕ). 512 * b) (sym count_is) in
             record {

@@ -49,7 +49,7 @@ fn keep(image: &mut [u8], place: &Place, went: Result<Setting, Stop>) -> Result<
     if n > BLOCKS || BLOCK * n > image.len() {
         return Err(stop(Refusal::Output));
     }
-    image_save::write(image, place, setting);
+    image_save::write(image, place, h);
     Ok(BLOCK * n)
 }
 

@@ -8,11 +8,11 @@ use lib.Dec.{eqb, ltb, leb}
 use lib.ListN.{length}
 use borrow.Author.Tests.{lt-leb, ltb-true}
 use Rattle.common.specs.Runs.{Table, table}
-use Rattle.aut_steps.specs.Tables.{SPP, UNION, INTERSECT, XOR, DIFFERENCE, COMPLEMENT, SEQUENCE, STAR, DUP, UNTIL, TOP, Limits, Aut, aut}
+use Rattle.aut_steps.specs.Tables.{UNION, INTERSECT, XOR, DIFFERENCE, COMPLEMENT, SEQUENCE, STAR, DUP, UNTIL, TOP, Limits, Aut, aut}
 use Rattle.aut_steps.specs.Constructors.{relations}
 use Rattle.aut_steps.specs.Intern.{nest_l}
 use Rattle.aut_steps.proofs.Facts.{and_true}
-use Rattle.image_steps.specs.Records.{state_fits, leaf_fits, constant_fits, one_fits, two_fits, many_fits, unites, meets, all_below, sequence_fits, star_fits, complement_fits}
+use Rattle.image_steps.specs.Records.{state_fits, constant_fits, one_fits, two_fits, many_fits, unites, meets, all_below, sequence_fits, star_fits, complement_fits}
 
 -- ---- what it is for each kind
 
@@ -22,10 +22,6 @@ module _ (N : ℕ) (L : Limits) (σ : Aut) (xs : List ℕ) (k x y e : ℕ) where
 
   abbrev st : List ℕ
   st = σ.states.words
-
-  pub of_leaf : k ≡ SPP → fits ≡ leaf_fits N L σ x y e
-  unfolding state_fits
-  of_leaf q = ap (λ (k : ℕ). state_fits N L σ xs k x y e) q
 
   pub of_constant : (k ≡ DUP) ⊎ (k ≡ TOP) → fits ≡ constant_fits N L x y e
   unfolding state_fits

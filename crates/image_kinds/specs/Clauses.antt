@@ -16,12 +16,14 @@ pub record NoKind (k : ℕ) : Type 0 where
   pub never : (N : ℕ) (L : Limits) (σ : Aut) (xs : List ℕ) (x y e : ℕ) → Records.state_fits N L σ xs k x y e ≡ false
 
 abbrev pub ShapeOf : ℕ → Shape → Type 0
-ShapeOf k shape.Leaf = k ≡ SPP
-ShapeOf k shape.Constant = (k ≡ DUP) ⊎ (k ≡ TOP)
+ShapeOf k shape.Atom = (k ≡ SPP) ⊎ ((k ≡ DUP) ⊎ (k ≡ TOP))
 ShapeOf k shape.Single = (k ≡ COMPLEMENT) ⊎ (k ≡ STAR)
 ShapeOf k shape.Pair = ((k ≡ XOR) ⊎ (k ≡ DIFFERENCE)) ⊎ ((k ≡ SEQUENCE) ⊎ (k ≡ UNTIL))
 ShapeOf k shape.List = (k ≡ UNION) ⊎ (k ≡ INTERSECT)
-ShapeOf k shape.Unknown = NoKind k
+
+abbrev pub Shaped : ℕ → Option Shape → Type 0
+Shaped k None = NoKind k
+Shaped k (Some s) = ShapeOf k s
 
 -- ---- what is promised
 
@@ -36,6 +38,9 @@ met_of (Some b) go = b
 met_of None go = go
 
 -- the whole test, for the kinds of each shape; tables that are not read are any, and so is a list that is not there
+pub record AtomFits (N : ℕ) (relations : Table) (w : Words) (r : Bool) : Type 0 where
+  pub is : (L : Limits) (s m : Table) (xs : List ℕ) → Records.state_fits N L (aut relations s m) xs w.kind w.first w.second w.nesting ≡ r
+
 pub record SingleFits (l : Bounds) (st : List ℕ) (n : ℕ) (w : Words) (r : Bool) : Type 0 where
   pub is : (N : ℕ) (t m : Table) (xs : List ℕ) → Records.state_fits N (limits_of l) (aut t (table st n) m) xs w.kind w.first w.second w.nesting ≡ r
 

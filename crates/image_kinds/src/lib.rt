@@ -12,7 +12,7 @@ ghost use Rattle.aut_steps.specs.Ascending.{All};
 ghost use Rattle.aut_steps.specs.Constructors.{is_relation};
 ghost use Rattle.aut_states.specs.Clauses.{limits_of, states_of, Fits};
 ghost use Rattle.image_steps.specs.Records as Records;
-ghost use Rattle.image_kinds.specs.Clauses.{ShapeOf, turn_of, met_of, SingleFits, PairFits, ListFits};
+ghost use Rattle.image_kinds.specs.Clauses.{ShapeOf, Shaped, turn_of, met_of, AtomFits, SingleFits, PairFits, ListFits};
 ghost use Rattle.image_kinds.specs.declared.Shape.TheVariants as shape;
 
 use aut_states::{Config, Limits, States, kind};
@@ -27,35 +27,33 @@ pub struct Words {
     pub nesting: u32,
 }
 
-// what a state's words 1 and 2 are: a relation, nothing, a state, two states, a list of states; of a kind that images do not know, nothing is said
+// which states a state's words 1 and 2 are: none, one, two, a list
 #[derive(Clone, Copy)]
 pub enum Shape {
-    Leaf,
-    Constant,
+    Atom,
     Single,
     Pair,
     List,
-    Unknown,
 }
 
+// none for a kind that images do not know
 #[tactic(auto, unfolding(image_steps::specs::Records::state_fits))]
-pub fn shape_of(kind: u32) -> Shape
-    ensures { ShapeOf kind result }
+pub fn shape_of(kind: u32) -> Option<Shape>
+    ensures { Shaped kind result }
 {
     match kind {
-        kind::SPP => Shape::Leaf,
-        kind::DUP | kind::TOP => Shape::Constant,
-        kind::COMPLEMENT | kind::STAR => Shape::Single,
-        kind::XOR | kind::DIFFERENCE | kind::SEQUENCE | kind::UNTIL => Shape::Pair,
-        kind::UNION | kind::INTERSECT => Shape::List,
-        _ => Shape::Unknown,
+        kind::SPP | kind::DUP | kind::TOP => Some(Shape::Atom),
+        kind::COMPLEMENT | kind::STAR => Some(Shape::Single),
+        kind::XOR | kind::DIFFERENCE | kind::SEQUENCE | kind::UNTIL => Some(Shape::Pair),
+        kind::UNION | kind::INTERSECT => Some(Shape::List),
+        _ => None,
     }
 }
 
 // ---- relations and constants
 
 #[tactic(auto, unfolding(image_steps::specs::Records::leaf_fits))]
-pub fn leaf_fits(relations: &SPPstore, fields: u32, w: Words) -> bool
+fn leaf_fits(relations: &SPPstore, fields: u32, w: Words) -> bool
     requires { Nodes (store_of relations.now) }
     ensures { (L : Bounds) (s m : Table) → Records.leaf_fits fields L (aut (store_of relations.now) s m)
         w.first w.second w.nesting ≡ result }
@@ -66,19 +64,31 @@ pub fn leaf_fits(relations: &SPPstore, fields: u32, w: Words) -> bool
         && w.nesting == 0
 }
 
-pub fn constant_fits(w: Words) -> bool
+fn constant_fits(w: Words) -> bool
     ensures { (N : ℕ) (L : Bounds) → Records.constant_fits N L w.first w.second w.nesting ≡ result }
 {
     w.first == 0 && w.second == 0 && w.nesting == 0
 }
 
+// a relation, a Dup or a Top
+#[tactic(auto, unfolding(image_steps::specs::Records::state_fits))]
+pub fn atom_fits(relations: &SPPstore, fields: u32, w: Words) -> bool
+    requires { Nodes (store_of relations.now) × ShapeOf w.kind shape.Atom }
+    ensures { AtomFits fields (store_of relations.now) w result }
+{
+    match w.kind {
+        kind::DUP | kind::TOP => constant_fits(w),
+        _ => leaf_fits(relations, fields, w),
+    }
+}
+
 // ---- one or two operands
 
-// e is one above n, and within the limit
-fn nested(n: u32, most: u32, e: u32) -> bool
-    ensures { (eqb e (n + 1) && leb e most) ≡ result }
+// e is the nesting of a state above one of nesting n
+fn nests(limits: Limits, n: u32, e: u32) -> bool
+    ensures { (eqb e (n + 1) && leb e limits.nesting) ≡ result }
 {
-    e as usize == n as usize + 1 && e <= most
+    limits.nested(n).is_ok_and(|above| e == above)
 }
 
 #[tactic(auto, unfolding(image_steps::specs::Records::one_fits))]
@@ -90,7 +100,7 @@ fn one_fits(states: &States, limits: Limits, w: Words) -> bool
 {
     (w.first as usize) < states.count
         && w.second == 0
-        && nested(states.nest_of(w.first), limits.nesting, w.nesting)
+        && nests(limits, states.nest_of(w.first), w.nesting)
 }
 
 #[tactic(auto, unfolding(image_steps::specs::Records::two_fits))]
@@ -102,9 +112,9 @@ fn two_fits(states: &States, limits: Limits, w: Words) -> bool
 {
     (w.first as usize) < states.count
         && (w.second as usize) < states.count
-        && nested(
+        && nests(
+            limits,
             states.nest_of(w.first).max(states.nest_of(w.second)),
-            limits.nesting,
             w.nesting,
         )
 }
@@ -141,25 +151,24 @@ pub fn single_fits(states: &States, limits: Limits, w: Words) -> bool
 }
 
 // x is the identity or the empty relation
-fn is_constant(states: &States, fields: u32, x: u32) -> bool
-    requires { (12 * x + 11 < length states.now.words.now) × (fields ≤ 31) }
-    ensures { (is_relation states.now.words.now x (Rel.one_at fields) ||
-        is_relation states.now.words.now x (Rel.zero_at fields)) ≡ result }
+fn is_constant(states: &States, config: Config, x: u32) -> bool
+    requires { (12 * x + 11 < length states.now.words.now) × (config.fields ≤ 31) }
+    ensures { (is_relation states.now.words.now x (Rel.one_at config.fields) ||
+        is_relation states.now.words.now x (Rel.zero_at config.fields)) ≡ result }
 {
-    let h = SPP(states.first(x));
-    states.kind(x) == kind::SPP
-        && (h == spp::one_at_depth(fields, fields) || h == spp::zero_at_depth(fields))
+    states.is_relation(x, config.one()) || states.is_relation(x, config.zero())
 }
 
 #[tactic(auto, unfolding(image_steps::specs::Records::sequence_fits))]
-fn sequence_fits(states: &States, fields: u32, x: u32, y: u32) -> bool
+fn sequence_fits(states: &States, config: Config, x: u32, y: u32) -> bool
     requires { (12 * x + 11 < length states.now.words.now) ×
-        (12 * y + 11 < length states.now.words.now) × (fields ≤ 31) }
-    ensures { (L : Bounds) → Records.sequence_fits fields L states.now.words.now x y ≡ result }
+        (12 * y + 11 < length states.now.words.now) × (config.fields ≤ 31) }
+    ensures { (L : Bounds) → Records.sequence_fits config.fields L states.now.words.now x y ≡
+        result }
 {
     if states.both_relations(x, y)
-        || is_constant(states, fields, x)
-        || is_constant(states, fields, y)
+        || is_constant(states, config, x)
+        || is_constant(states, config, y)
     {
         return false;
     }
@@ -183,7 +192,7 @@ pub fn pair_fits(states: &States, config: Config, w: Words) -> bool
     let (x, y) = (w.first, w.second);
     match w.kind {
         kind::UNTIL => true,
-        kind::SEQUENCE => sequence_fits(states, config.fields, x, y),
+        kind::SEQUENCE => sequence_fits(states, config, x, y),
         kind::XOR => x < y && !states.both_relations(x, y),
         _ => x != y && !states.both_relations(x, y),
     }
@@ -209,7 +218,7 @@ fn many_fits(states: &States, list: &[u32], members: usize, limits: Limits, w: W
     w.first as usize == members
         && w.second as usize <= limits.list
         && all_below(list, states.count)
-        && nested(states.nest_list(list), limits.nesting, w.nesting)
+        && nests(limits, states.nest_list(list), w.nesting)
 }
 
 // x as the next member of a Union, whose members before it end below lo: whether an SPP has been seen by then; none if it may not come next
@@ -224,7 +233,7 @@ fn joins(states: &States, zero: SPP, seen: bool, lo: usize, x: u32) -> Option<bo
     }
     match states.kind(x) {
         kind::UNION | kind::TOP => None,
-        kind::SPP if seen || SPP(states.first(x)) == zero => None,
+        kind::SPP if seen || states.relation(x) == zero => None,
         kind::SPP => Some(true),
         _ => Some(seen),
     }
@@ -256,7 +265,7 @@ fn meets_at(states: &States, zero: SPP, j: usize, k: usize, lo: usize, x: u32) -
         states.now.words.now (ltb 0 j) lo (x ∷ xs) ≡ met_of result (Records.meets N states.now.words.now true (x + 1) xs) }
 {
     match states.kind(x) {
-        kind::SPP => Some(0 < j && SPP(states.first(x)) != zero && j + 1 == k),
+        kind::SPP => Some(0 < j && states.relation(x) != zero && j + 1 == k),
         kind::INTERSECT | kind::TOP => Some(false),
         _ if (x as usize) < lo => Some(false),
         _ => None,
@@ -290,7 +299,7 @@ pub fn list_fits(states: &States, list: &[u32], members: usize, config: Config, 
     if !many_fits(states, list, members, config.limits, w) {
         return false;
     }
-    let zero = spp::zero_at_depth(config.fields);
+    let zero = config.zero();
     match w.kind {
         kind::INTERSECT => meets(states, list, zero),
         _ => 2 <= w.second && unites(states, list, zero),

@@ -23,7 +23,7 @@ use Rattle.aut_relations.specs.Lent.{aut_in, Unless}
 use Rattle.aut_query_stage.specs.Lent.{tables_in}
 use Rattle.book_steps.specs.Run.{RunState}
 use Rattle.book_memory.specs.declared.Place.{Place}
-use Rattle.book_memory.specs.Place.{place_in, lengths_of}
+use Rattle.book_memory.specs.Place.{place_in, lengths_of, Empty}
 use Rattle.image_steps.specs.Image as Image
 use Rattle.image_steps.specs.Image.{layout, start_of}
 use Rattle.image_steps.specs.Read as Read
@@ -34,11 +34,11 @@ use Rattle.image_nodes.specs.Clauses as nodes
 use Rattle.image_nodes.specs.Clauses.{packets, PreNode, Grown, PostNodes}
 use Rattle.book_begin.specs.Clauses.{OnlyNodes, Ordered, PreConstants, PostConstants}
 use Rattle.book_begin.proofs.Made.{nodes_at}
-use Rattle.image_read.specs.Clauses.{node_steps, PreDiagrams, PostDiagrams}
+use Rattle.image_read.specs.Clauses.{Fitting, node_steps, PostDiagrams}
 use Rattle.image_read.proofs.Constants.{fresh_is}
 use Rattle.image_read.proofs.Ending.{fits, reaching}
 
-module _ (image : List ℕ) (h : Head) (x : Place) (P : PreDiagrams image h x) where
+module _ (image : List ℕ) (h : Head) (x : Place) (fit : Fitting image h) (P : Empty x) where
   abbrev N : ℕ
   N = h.fields
 
@@ -53,18 +53,18 @@ module _ (image : List ℕ) (h : Head) (x : Place) (P : PreDiagrams image h x) w
   later o = after o (λ _. Read.records image g limits01 (Read.relation image g limits01) 4 0 (start_of 1 (layout g)) h.spp)
 
   pub constants_ready : PreConstants h.fields x
-  constants_ready = record { few = (fits image h P.fitting).fields; empty = P.empty }
+  constants_ready = record { few = (fits image h fit).fields; empty = P }
 
   pub no_constants : {e : Refusal} (y z : Place) → PostConstants h.fields x (Err e) y → OnlyNodes x y → PostDiagrams image h x (Err e) z
-  no_constants {e} y z B K = record { is = ap (λ (o : Outcome RunState ℕ). after o (λ _. node_steps image g limits01)) (fresh_is N x P.empty (Err e) B K); then = tt }
+  no_constants {e} y z B K = record { is = ap (λ (o : Outcome RunState ℕ). after o (λ _. node_steps image g limits01)) (fresh_is N x P (Err e) B K); then = tt }
 
   module _ (x₁ : Place) (B : PostConstants h.fields x (Ok tt) x₁) (K : OnlyNodes x x₁) where
     pub nodes_ready : PreNode packets h.fields (sets.store_of x₁.aut.sp) 0 × Reaches image (2 * h.sp)
-    nodes_ready = (record { wf = B.then.tables.sets; near = omega arith }, reaching image h P.fitting (2 * h.sp) (omega (arith, start_5 (head_of h))))
+    nodes_ready = (record { wf = B.then.tables.sets; near = omega arith }, reaching image h fit (2 * h.sp) (omega (arith, start_5 (head_of h))))
 
     module _ (s : SPstore) {m : Result Unit Refusal} (F : PostNodes packets image h.fields 0 h.sp (sets.store_of x₁.aut.sp) m (sets.store_of s)) where
       by_nodes : all ≡ later (outcome (λ u. 0) m (packets.put (sets.store_of s) (place_in x₁)))
-      by_nodes = ap (λ (o : Outcome RunState ℕ). after o (λ _. node_steps image g limits01)) (fresh_is N x P.empty (Ok tt) B K) ∙ ap later (F.is g limits01 (place_in x₁) refl refl)
+      by_nodes = ap (λ (o : Outcome RunState ℕ). after o (λ _. node_steps image g limits01)) (fresh_is N x P (Ok tt) B K) ∙ ap later (F.is g limits01 (place_in x₁) refl refl)
 
     pub no_nodes : (s : SPstore) {e : Refusal} → PostNodes packets image h.fields 0 h.sp (sets.store_of x₁.aut.sp) (Err e) (sets.store_of s) → (z : Place) → PostDiagrams image h x (Err e) z
     no_nodes s F z = record { is = by_nodes s F; then = tt }
@@ -73,7 +73,7 @@ module _ (image : List ℕ) (h : Head) (x : Place) (P : PreDiagrams image h x) w
       pub relations_ready : PreNode nodes.relations x₁.aut.spp.fields (relations.store_of x₁.aut.spp) 0 × Reaches image (2 * h.sp + 4 * h.spp)
       relations_ready = (
         rw B.then.fields (record { wf = B.then.tables.worked.good.nodes; near = omega arith }),
-        reaching image h P.fitting (2 * h.sp + 4 * h.spp) (omega (arith, start_5 (head_of h))),
+        reaching image h fit (2 * h.sp + 4 * h.spp) (omega (arith, start_5 (head_of h))),
       )
 
       module _ (t : SPPstore) (u : t.fields ≡ x₁.aut.spp.fields) where

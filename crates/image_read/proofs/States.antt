@@ -34,7 +34,7 @@ use Rattle.image_states.specs.declared.Lists.{Lists}
 use Rattle.image_states.specs.Clauses.{Holds, HeadIs, OnlyExprs, put_in, ReadsStates, StatesAsk}
 use Rattle.book_memory.specs.Place.{lines_at}
 use Rattle.book_begin.proofs.Zero.{no_lines}
-use Rattle.image_read.specs.Clauses.{PostMembers, PreLines, PostLines, ended_by, PreAutomaton, state_steps, PostAutomaton, PreRecords, rest_steps, PostRecords}
+use Rattle.image_read.specs.Clauses.{Fitting, PostMembers, PreLines, PostLines, ended_by, PreAutomaton, state_steps, PostAutomaton, PreRecords, rest_steps, PostRecords}
 use Rattle.image_read.proofs.Ending.{fits, reaching}
 use Rattle.image_read.proofs.Lines.{after_both}
 
@@ -42,7 +42,7 @@ use Rattle.image_read.proofs.Lines.{after_both}
 abbrev lists_in : Head → Lists
 lists_in h = record { first = 2 * h.sp + 4 * h.spp; count = h.members }
 
-module _ (image : List ℕ) (h : Head) (x : Lent) (P : PreAutomaton image h x) where
+module _ (image : List ℕ) (h : Head) (x : Lent) (fit : Fitting image h) (P : PreAutomaton h x) where
   abbrev g : Image.Head
   g = head_of h
 
@@ -53,10 +53,10 @@ module _ (image : List ℕ) (h : Head) (x : Lent) (P : PreAutomaton image h x) w
   is_head = record { fields = refl; members = refl; first = start_2 g }
 
   holds : (n : ℕ) → n ≤ total g → Holds image n
-  holds n l = record { block = λ i m. omega (arith, reaching image h P.fitting n l) }
+  holds n l = record { block = λ i m. omega (arith, reaching image h fit n l) }
 
   pub members_ready : Reaches image (2 * h.sp + 4 * h.spp + h.members)
-  members_ready = reaching image h P.fitting (2 * h.sp + 4 * h.spp + h.members) (omega (arith, start_5 g))
+  members_ready = reaching image h fit (2 * h.sp + 4 * h.spp + h.members) (omega (arith, start_5 g))
 
   by_members : (r : Result Unit Refusal) → PostMembers image (2 * h.sp + 4 * h.spp) h.members r → (p : RunState)
       → state_steps image g limits01 p ≡ after (entered_by r p) (λ _. Read.records image g limits01 (Read.state image g limits01) 4 0 (start_of 3 (layout g)) h.states)
@@ -68,7 +68,7 @@ module _ (image : List ℕ) (h : Head) (x : Lent) (P : PreAutomaton image h x) w
     pub states_ready : StatesAsk image S.config (lists_in h) (2 * h.sp + 4 * h.spp + h.members) h.states x
     states_ready = subst (λ (S : Setting). StatesAsk image S.config (lists_in h) (from + h.members) h.states x) (sym u) (record {
       asks = record {
-        ordered = record { few = (fits image h P.fitting).fields; good = P.good };
+        ordered = record { few = (fits image h fit).fields; good = P.good };
         list = omega arith;
         room = P.room;
         members = holds (from + h.members) (omega (arith, start_5 g));
@@ -96,7 +96,7 @@ module _ (image : List ℕ) (h : Head) (x : Lent) (P : PreAutomaton image h x) w
 abbrev pub records_at : Place → Lent → Lines → Place
 records_at x y m = record { aut = y; lines = m; output = x.output }
 
-module _ (image : List ℕ) (h : Head) (x : Place) (P : PreRecords image h x) where
+module _ (image : List ℕ) (h : Head) (x : Place) (fit : Fitting image h) (P : PreRecords h x) where
   abbrev g₁ : Image.Head
   g₁ = head_of h
 
@@ -126,9 +126,9 @@ module _ (image : List ℕ) (h : Head) (x : Place) (P : PreRecords image h x) wh
 
     pub lines_ready : PreLines image x.lines start h.lines
     lines_ready = record {
-      reaches = reaching image h P.automaton.fitting (start + h.lines) (omega (arith, start_5 g₁, e));
+      reaches = reaching image h fit (start + h.lines) (omega (arith, start_5 g₁, e));
       none = P.no_lines;
-      room = omega (arith, (fits image h P.automaton.fitting).lines, P.table);
+      room = omega (arith, (fits image h fit).lines, P.table);
     }
 
     module _ (y : Lent) (A : PostAutomaton image h x.aut (Ok tt) y) where

@@ -28,7 +28,7 @@ use Rattle.image_steps.specs.Read.{head_at, then_records, records_of, read}
 use Rattle.image_steps.proofs.Reading.{IsRead, is_read}
 use Rattle.image_words.specs.declared.Head.{Head}
 use Rattle.image_words.specs.Clauses.{head_of}
-use Rattle.image_read.specs.Clauses.{setting_at, PostOpen, OnlyRecords, PreDiagrams, PostDiagrams, node_steps, rest_steps, PreRecords, PostRecords, PreRead, Reads, PostRead}
+use Rattle.image_read.specs.Clauses.{setting_at, PostOpen, OnlyRecords, PostDiagrams, node_steps, rest_steps, PreRecords, PostRecords, PreRead, Reads, PostRead}
 use Rattle.image_read.proofs.Lines.{after_both}
 
 -- ---- the steps in two parts
@@ -49,9 +49,6 @@ module _ (image : List ℕ) (x : Place) (P : PreRead x) where
   not_opened O z = record { is = O.is (lengths_of x) limits01; then = tt }
 
   module _ (h : Head) (O : PostOpen image (Ok h)) where
-    pub diagrams_ready : PreDiagrams image h x
-    diagrams_ready = record { fitting = O.then.fitting; empty = P.empty }
-
     by_nodes : {r : Result Unit Refusal} {y : Place} → PostDiagrams image h x r y → read (lengths_of x) limits01 image ≡ after (outcome {A = ℕ} (λ u. 0) r (place_in y)) (λ _. rest_steps image (head_of h) limits01)
     by_nodes D =
         O.is (lengths_of x) limits01
@@ -62,9 +59,9 @@ module _ (image : List ℕ) (x : Place) (P : PreRead x) where
     no_diagrams D z = record { is = by_nodes D; then = tt }
 
     module _ (y : Place) (D : PostDiagrams image h x (Ok tt) y) (K : OnlyNodes x y) where
-      pub records_ready : PreRecords image h y
+      pub records_ready : PreRecords h y
       records_ready = record {
-        automaton = record { fitting = O.then.fitting; good = D.then.tables.worked.good; room = let m : LISTS ≤ length y.aut.scratch.now = rw K.scratch P.room in omega (arith, m) };
+        automaton = record { good = D.then.tables.worked.good; room = let m : LISTS ≤ length y.aut.scratch.now = rw K.scratch P.room in omega (arith, m) };
         no_lines = rw K.lines P.empty.no_lines;
         table = rw K.lines P.table;
       }

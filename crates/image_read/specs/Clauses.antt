@@ -92,10 +92,6 @@ node_steps image h L =
     Read.records image h L (Read.node image h L) 2 0 0 h.sp
     >>= λ _. Read.records image h L (Read.relation image h L) 4 0 (start_of 1 (layout h)) h.spp
 
-pub record PreDiagrams (image : List ℕ) (h : Head) (x : Place) : Type 0 where
-  pub fitting : Fitting image h
-  pub empty : Empty x
-
 pub record PostDiagrams (image : List ℕ) (h : Head) (x : Place) (r : Result Unit Refusal) (y : Place) : Type 0 where
   pub is : after (Read.fresh (lengths_of x) h.fields) (λ _. node_steps image (head_of h) limits01) ≡ outcome (λ u. 0) r (place_in y)
   pub then : Unless r (Ordered h.fields y)
@@ -146,8 +142,7 @@ ended_by image h members =
 -- ---- states, and all records behind the nodes
 
 -- tables in order, in which the records behind the nodes are read
-pub record PreAutomaton (image : List ℕ) (h : Head) (x : Lent) : Type 0 where
-  pub fitting : Fitting image h
+pub record PreAutomaton (h : Head) (x : Lent) : Type 0 where
   pub good : WfAut h.fields limits01 (aut_in x)
   pub room : 64 ≤ length x.scratch.now
 
@@ -162,8 +157,8 @@ pub record PostAutomaton (image : List ℕ) (h : Head) (x : Lent) (r : Result Un
   pub kept : Kept 0 64 x.scratch.now y.scratch.now
 
 -- .. and room for lines, none so far
-pub record PreRecords (image : List ℕ) (h : Head) (x : Place) : Type 0 where
-  pub automaton : PreAutomaton image h x.aut
+pub record PreRecords (h : Head) (x : Place) : Type 0 where
+  pub automaton : PreAutomaton h x.aut
   pub no_lines : x.lines.count ≡ 0
   pub table : length x.lines.words.now ≡ LINES
 

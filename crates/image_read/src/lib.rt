@@ -5,7 +5,7 @@ ghost use Rattle.std.specs.Prelude.{◌≡◌, ◌+◌, ◌≤◌, length};
 ghost use Rattle.slices.specs.Same.{SameSlice};
 ghost use Rattle.image_words.specs.Clauses.{Reaches, head_of};
 ghost use Rattle.image_states.specs.Clauses.{OnlyExprs};
-ghost use Rattle.book_memory.specs.Place.{SameSlices};
+ghost use Rattle.book_memory.specs.Place.{SameSlices, Empty};
 ghost use Rattle.book_begin.specs.Clauses.{OnlyNodes};
 ghost use Rattle.image_read.specs.Clauses as Its;
 
@@ -37,6 +37,14 @@ pub fn setting_at(image: &[u8]) -> Setting
     setting_of(image_words::head_at(image))
 }
 
+// an image, and its block 0, which fits it
+#[derive(Clone, Copy)]
+struct Opened<'a> {
+    image: &'a [u8],
+    head: Head,
+    ghost fitting: { Its.Fitting image.now head },
+}
+
 // block 0 of an image that goes on: the length, the block's number and check, and its words
 fn open(image: &[u8]) -> Result<Head, Refusal>
     ensures { Its.PostOpen image.now result }
@@ -56,11 +64,12 @@ fn open(image: &[u8]) -> Result<Head, Refusal>
 // ---- nodes
 
 // the constants, then the records of both kinds of nodes
-fn read_diagrams(image: &[u8], place: &mut Place, h: Head) -> Result<(), Refusal>
-    requires { Its.PreDiagrams image.now h place.old }
+fn read_diagrams(opened: Opened, place: &mut Place) -> Result<(), Refusal>
+    requires { Empty place.old }
     ensures keeps { OnlyNodes place.old place.new }
-    ensures gives { Its.PostDiagrams image.now h place.old result place.new }
+    ensures gives { Its.PostDiagrams opened.entry.image.now opened.entry.head place.old result place.new }
 {
+    let (image, h) = (opened.image, opened.head);
     book_begin::constants(place, h.fields)?;
     image_nodes::read_nodes(image, &mut place.aut.sp, h.fields, h.sp)?;
     image_nodes::read_relations(image, &mut place.aut.spp, 2 * h.sp, h.spp)
@@ -112,10 +121,10 @@ fn read_lines(
 }
 
 // in the last block: no spare member, and no unused word that is not 0
-fn ended(image: &[u8], h: Head, members: usize) -> bool
-    requires { Its.Fitting image.now h }
-    ensures { Its.ended_by image.now (head_of h) members ≡ result }
+fn ended(opened: Opened, members: usize) -> bool
+    ensures { Its.ended_by opened.entry.image.now (head_of opened.entry.head) members ≡ result }
 {
+    let (image, h) = (opened.image, opened.head);
     if members != h.members {
         return false;
     }
@@ -130,11 +139,12 @@ fn ended(image: &[u8], h: Head, members: usize) -> bool
 // ---- all records
 
 // members, then states
-fn read_automaton(image: &[u8], aut: &mut Aut, h: Head) -> Result<(), Refusal>
-    requires { Its.PreAutomaton image.now h aut.old }
+fn read_automaton(opened: Opened, aut: &mut Aut) -> Result<(), Refusal>
+    requires { Its.PreAutomaton opened.head aut.old }
     ensures keeps { OnlyExprs aut.old aut.new }
-    ensures gives { Its.PostAutomaton image.now h aut.old result aut.new }
+    ensures gives { Its.PostAutomaton opened.entry.image.now opened.entry.head aut.old result aut.new }
 {
+    let (image, h) = (opened.image, opened.head);
     let first = 2 * h.sp + 4 * h.spp;
     read_members(image, first, h.members)?;
     let setting = setting_of(h);
@@ -146,16 +156,17 @@ fn read_automaton(image: &[u8], aut: &mut Aut, h: Head) -> Result<(), Refusal>
 }
 
 // .. then lines, and the end
-fn read_records(image: &[u8], place: &mut Place, h: Head) -> Result<(), Refusal>
-    requires { Its.PreRecords image.now h place.old }
+fn read_records(opened: Opened, place: &mut Place) -> Result<(), Refusal>
+    requires { Its.PreRecords opened.head place.old }
     ensures keeps { Its.OnlyRecords place.old place.new }
-    ensures gives { Its.PostRecords image.now h place.old result place.new }
+    ensures gives { Its.PostRecords opened.entry.image.now opened.entry.head place.old result place.new }
 {
-    read_automaton(image, &mut place.aut, h)?;
+    let (image, h) = (opened.image, opened.head);
+    read_automaton(opened, &mut place.aut)?;
     let start = image_words::total(h) - h.lines;
     let states = place.aut.states.count;
     read_lines(image, &mut place.lines, start, h.lines, states)?;
-    if !ended(image, h, place.aut.members.count) {
+    if !ended(opened, place.aut.members.count) {
         return Err(Refusal::Record);
     }
     Ok(())
@@ -171,6 +182,7 @@ pub fn read(image: &[u8], place: &mut Place) -> Result<(), Refusal>
     ensures gives { Its.PostRead image.now place.old result place.new }
 {
     let h = open(image)?;
-    read_diagrams(image, place, h)?;
-    read_records(image, place, h)
+    let opened = Opened { image, head: h };
+    read_diagrams(opened, place)?;
+    read_records(opened, place)
 }

@@ -2,7 +2,7 @@
 use Rattle.std.specs.Prelude.{◌≡◌, List, ℕ, ◌+◌, ◌*◌, ◌≤◌, ◌<◌, length, get_or}
 use Rattle.std.proofs.lemmas.List.Edits.{sets}
 use Rattle.image_steps.specs.Image as Image
-use Rattle.image_steps.specs.Image.{head_words, head_of, body_of, word_of, blocks_of, saved}
+use Rattle.image_steps.specs.Image.{head_words, head_of, body_of, word_of, blocks_of, image_of}
 use Rattle.book_memory.specs.declared.Setting.{Setting}
 use Rattle.book_memory.specs.declared.Place.{Place}
 use Rattle.book_memory.specs.Place.{LINES, place_in, setting_in}
@@ -41,10 +41,11 @@ abbrev pub head_in : Setting → Place → Image.Head
 head_in S x = head_of (setting_in S x) (place_in x)
 
 -- the whole image has room
-pub record PreWrite (S : Setting) (x : Place) (image : List ℕ) : Type 0 where
+pub record PreWrite (h : Head) (x : Place) (image : List ℕ) : Type 0 where
   pub present : Present x
-  pub few : blocks_of (head_in S x) ≤ 65536
-  pub room : 512 * blocks_of (head_in S x) ≤ length image
+  pub small : Small h
+  pub few : blocks_of (read_of h) ≤ 65536
+  pub room : 512 * blocks_of (read_of h) ≤ length image
 
 -- ---- what is promised
 
@@ -65,6 +66,6 @@ head_at h j = get_or (head_words (read_of h)) j 0
 abbrev pub word_in : Head → Place → (b j : ℕ) → ℕ
 word_in h x = word_of (read_of h) (body_of (place_in x))
 
--- the image stands in the lent bytes
-abbrev pub PostWrite : Setting → Place → (image image' : List ℕ) → Type 0
-PostWrite S x image image' = image' ≡ sets image 0 (saved (setting_in S x) (place_in x))
+-- the image stands in the lent bytes; where h is what block 0 says, it is `saved`
+abbrev pub PostWrite : Head → Place → (image image' : List ℕ) → Type 0
+PostWrite h x image image' = image' ≡ sets image 0 (image_of (read_of h) (body_of (place_in x)))

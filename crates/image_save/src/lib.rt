@@ -114,11 +114,10 @@ fn write_block(image: &mut [u8], place: &Place, h: Head, b: usize)
 }
 
 // the whole image, from the first lent byte on
-pub fn write(image: &mut [u8], place: &Place, setting: Setting)
-    requires { Its.PreWrite setting place.now image.old }
-    ensures { Its.PostWrite setting place.now image.old image.new }
+pub fn write(image: &mut [u8], place: &Place, h: Head)
+    requires { Its.PreWrite h place.now image.old }
+    ensures { Its.PostWrite h place.now image.old image.new }
 {
-    let h = head_of(setting, place);
     let n = image_words::blocks_of(h);
     for b in 0..n {
         write_block(image, place, h, b);

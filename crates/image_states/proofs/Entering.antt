@@ -24,8 +24,6 @@ use Rattle.aut_relations.specs.Lent.{states_in, aut_in}
 use Rattle.aut_relations.proofs.Order.{ready_complement, ready_star, ready_xor, ready_difference, ready_sequence, ready_until}
 use Rattle.aut_union.proofs.Calls.{union_asked, intersect_asked}
 use Rattle.image_steps.specs.Records.{state_fits, interned}
-use Rattle.image_kinds.specs.Clauses.{ShapeOf}
-use Rattle.image_kinds.specs.declared.Shape.{Shape}
 use Rattle.image_kinds.proofs.Whole as Whole
 use Rattle.image_kinds.proofs.Lists.{all_below_lem}
 use Rattle.image_kinds.specs.declared.Words.{Words}
@@ -49,14 +47,11 @@ module _ (N : ℕ) (L : Bounds) (xs : List ℕ) (k x y e : ℕ) (σ : Aut) where
   made_yes q o w = ap (λ (b : Bool). if b then interned N L xs k x y σ else refused 32) q ∙ w
 
   -- the last step of its constructor
-  pub enters_leaf : k ≡ SPP → interned N L xs k x y σ ≡ on_states (intern0 k x) σ
+  pub enters_atom : (k ≡ SPP) ⊎ ((k ≡ DUP) ⊎ (k ≡ TOP)) → interned N L xs k x y σ ≡ on_states (intern0 k x) σ
   unfolding interned
-  enters_leaf q = ap (λ (k : ℕ). interned N L xs k x y σ) q ∙ ap (λ (k : ℕ). on_states (intern0 k x) σ) (sym q)
-
-  pub enters_constant : (k ≡ DUP) ⊎ (k ≡ TOP) → interned N L xs k x y σ ≡ on_states (intern0 k x) σ
-  unfolding interned
-  enters_constant (inl q) = ap (λ (k : ℕ). interned N L xs k x y σ) q ∙ ap (λ (k : ℕ). on_states (intern0 k x) σ) (sym q)
-  enters_constant (inr q) = ap (λ (k : ℕ). interned N L xs k x y σ) q ∙ ap (λ (k : ℕ). on_states (intern0 k x) σ) (sym q)
+  enters_atom (inl q) = ap (λ (k : ℕ). interned N L xs k x y σ) q ∙ ap (λ (k : ℕ). on_states (intern0 k x) σ) (sym q)
+  enters_atom (inr (inl q)) = ap (λ (k : ℕ). interned N L xs k x y σ) q ∙ ap (λ (k : ℕ). on_states (intern0 k x) σ) (sym q)
+  enters_atom (inr (inr q)) = ap (λ (k : ℕ). interned N L xs k x y σ) q ∙ ap (λ (k : ℕ). on_states (intern0 k x) σ) (sym q)
 
   pub enters_single : (k ≡ COMPLEMENT) ⊎ (k ≡ STAR) → interned N L xs k x y σ ≡ on_states (intern1 L k x) σ
   unfolding interned
@@ -120,27 +115,6 @@ module _ {k : ℕ} where
   pub list_kind : (k ≡ UNION) ⊎ (k ≡ INTERSECT) → listed k ≡ true
   list_kind (inl q) = ap listed q
   list_kind (inr q) = ap listed q
-
-  pub leaf_kind : k ≡ SPP → listed k ≡ false
-  leaf_kind q = ap listed q
-
-  pub constant_kind : (k ≡ DUP) ⊎ (k ≡ TOP) → listed k ≡ false
-  constant_kind (inl q) = ap listed q
-  constant_kind (inr q) = ap listed q
-
-  pub single_kind : (k ≡ COMPLEMENT) ⊎ (k ≡ STAR) → listed k ≡ false
-  single_kind (inl q) = ap listed q
-  single_kind (inr q) = ap listed q
-
-  pub pair_kind : ((k ≡ XOR) ⊎ (k ≡ DIFFERENCE)) ⊎ ((k ≡ SEQUENCE) ⊎ (k ≡ UNTIL)) → listed k ≡ false
-  pair_kind (inl (inl q)) = ap listed q
-  pair_kind (inl (inr q)) = ap listed q
-  pair_kind (inr (inl q)) = ap listed q
-  pair_kind (inr (inr q)) = ap listed q
-
--- shape_of's answer is this one
-pub as_shape : (k : ℕ) (s s' : Shape) → ShapeOf k s → s ≡ s' → ShapeOf k s'
-as_shape k s s' p q = subst (ShapeOf k) q p
 
 -- ---- a record with a list
 

@@ -46,23 +46,12 @@ fn copy_members(image: &[u8], list: &mut [u32], at: usize)
 
 // ---- a record without a list
 
-fn enter_leaf(aut: &mut Aut, config: Config, w: Words) -> Result<u32, Refusal>
-    requires { Its.Ordered config aut.old × ShapeOf w.kind shape.Leaf }
+fn enter_atom(aut: &mut Aut, config: Config, w: Words) -> Result<u32, Refusal>
+    requires { Its.Ordered config aut.old × ShapeOf w.kind shape.Atom }
     ensures keeps { Its.OnlyStates aut.old aut.new }
     ensures gives { Its.Enters config w [] aut.old result aut.new }
 {
-    if !image_kinds::leaf_fits(&aut.spp, config.fields, w) {
-        return Err(Refusal::Record);
-    }
-    aut.states.intern0(w.kind, w.first)
-}
-
-fn enter_constant(aut: &mut Aut, config: Config, w: Words) -> Result<u32, Refusal>
-    requires { Its.Ordered config aut.old × ShapeOf w.kind shape.Constant }
-    ensures keeps { Its.OnlyStates aut.old aut.new }
-    ensures gives { Its.Enters config w [] aut.old result aut.new }
-{
-    if !image_kinds::constant_fits(w) {
+    if !image_kinds::atom_fits(&aut.spp, config.fields, w) {
         return Err(Refusal::Record);
     }
     aut.states.intern0(w.kind, w.first)
@@ -142,12 +131,11 @@ fn enter(image: &[u8], aut: &mut Aut, config: Config, at: Lists, w: Words) -> Re
     ensures gives { Its.Reads image.now config at w aut.old result aut.new }
 {
     match image_kinds::shape_of(w.kind) {
-        Shape::Leaf => enter_leaf(aut, config, w),
-        Shape::Constant => enter_constant(aut, config, w),
-        Shape::Single => enter_single(aut, config, w),
-        Shape::Pair => enter_pair(aut, config, w),
-        Shape::List => read_list(image, aut, config, at, w),
-        Shape::Unknown => Err(Refusal::Record),
+        Some(Shape::Atom) => enter_atom(aut, config, w),
+        Some(Shape::Single) => enter_single(aut, config, w),
+        Some(Shape::Pair) => enter_pair(aut, config, w),
+        Some(Shape::List) => read_list(image, aut, config, at, w),
+        None => Err(Refusal::Record),
     }
 }
 

@@ -16,12 +16,6 @@ pub const WORDS: usize = 127;
 // words of a state's record
 pub const STATE: usize = 4;
 
-// the most records of a table of nodes
-pub const MOST: usize = 16777216;
-
-// the most lines, as in book_memory, which stands above the constructors
-pub const LINES: usize = 2048;
-
 // block 0
 #[derive(Clone, Copy)]
 pub struct Head {
@@ -112,11 +106,11 @@ fn counts_fit(h: Head) -> bool
     ensures { Its.counts_fit (Its.head_of h) ≡ result }
 {
     h.fields <= 31
-        && h.sp <= MOST
-        && h.spp <= MOST
+        && h.sp <= sp::MOST
+        && h.spp <= spp::MOST
         && h.members <= aut_states::MOST_MEMBERS
         && h.states <= aut_states::MOST_STATES
-        && h.lines <= LINES
+        && h.lines <= book_memory::LINES
         && h.fields as usize <= h.sp
         && 3 * (h.fields as usize) <= h.spp
 }

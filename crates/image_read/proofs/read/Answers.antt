@@ -2,9 +2,6 @@ use Rattle.refusal.proofs.Passed.{passed}
 use Rattle.image_read.proofs.Whole as whole
 use Rattle.image_read.proofs.read.Goals as goal
 
-pub read_diagrams-requires : goal.read_diagrams-requires
-read_diagrams-requires c = whole.diagrams_ready c.args.image.now c.args.place.now c.requires c.in_ok-h.h c.in_ok-h.ensures
-
 pub read_records-requires : goal.read_records-requires
 read_records-requires c =
     whole.records_ready c.args.image.now c.args.place.now c.requires c.in_ok-h.h c.in_ok-h.ensures c.read_diagrams.new.place c.in_ok-read_diagrams.ensures.gives c.in_ok-read_diagrams.ensures.keeps
