@@ -2,12 +2,15 @@
 // bytes it writes only `too long`.
 #![tactic(auto)]
 
-ghost use Rattle.std.specs.Prelude.{◌≡◌, ◌≤◌, length};
+ghost use Rattle.std.specs.Prelude.{◌≡◌, ◌≤◌, length, option_copied};
 ghost use Rattle.slices.specs.Same.{SameSlice};
 ghost use Rattle.book_steps.specs.Claim.{Lends, netcheck_lent};
+ghost use Rattle.book_finish.specs.Clauses.{number_of, text_line_of, length_of};
 ghost use Rattle.book_writer.specs.Clauses.{Room, Put};
+ghost use Rattle.refusal.specs.Numbers as refusal;
 ghost use Rattle.netcheck.specs.Output.{slices_of, refused_line, closing as Output·closing, too_long, Stands, Prepared};
 
+use book_finish::Stop;
 use book_writer::{Output, Part};
 use netcheck_entry::Tables;
 use std::io;
@@ -22,25 +25,32 @@ pub struct Written {
 
 // ---- the closing line
 
-fn refused_line(line: &mut Output, number: u32, text_line: u32)
+fn refused_line(line: &mut Output, stop: Stop)
     requires { Room 64 line.old }
     ensures keeps { SameSlice line.old.bytes line.new.bytes }
-    ensures puts { Put (refused_line number text_line) line.old line.new }
+    ensures puts { Put (refused_line (refusal.number_of stop.refusal) stop.line) line.old line.new }
 {
-    let parts = [Part::Number(number as u64), Part::Number(text_line as u64)];
+    let number = Part::Number(stop.refusal.number() as u64);
+    let parts = [number, Part::Number(stop.line as u64)];
     // 64 bytes hold it
-    let _ = line.line(b"refused", &parts);
+    line.line(b"refused", &parts).unwrap();
 }
 
-fn closing_line(line: &mut Output, number: u32, text_line: u32)
+// what it came to: a line of a refusal, and the output's length
+fn closing_line(line: &mut Output, ran: Result<usize, Stop>) -> usize
     requires { Room 64 line.old × (line.old.at ≡ 0) }
     ensures keeps { SameSlice line.old.bytes line.new.bytes }
-    ensures stands { Stands (Output·closing number text_line) line.new.at line.new.bytes.now }
+    ensures stands { Stands (Output·closing (number_of ran) (text_line_of ran)) line.new.at
+        line.new.bytes.now }
+    ensures length { result ≡ length_of ran }
 {
-    if number == 0 {
-        return;
+    match ran {
+        Ok(length) => length,
+        Err(stop) => {
+            refused_line(line, stop);
+            stop.length
+        }
     }
-    refused_line(line, number, text_line);
 }
 
 fn too_long(line: &mut Output)
@@ -53,23 +63,23 @@ fn too_long(line: &mut Output)
 
 // ---- a book
 
-// what is to be written, in the output and the closing line
-fn answer(over: bool, book: &[u8], tables: &mut Tables, closing: &mut [u8]) -> Written
+// what is to be written, in the output and the closing line; there is no book where it is too long
+fn answer(book: Option<&[u8]>, tables: &mut Tables, closing: &mut [u8]) -> Written
     requires { Lends netcheck_lent (slices_of tables.old) × (64 ≤ length closing.old) }
-    ensures { Prepared over book.now result tables.new.output.now closing.new }
+    ensures { Prepared (option_copied book.entry) result tables.new.output.now closing.new }
 {
     let mut line = Output {
         bytes: closing,
         at: 0,
     };
-    if over {
+    let Some(book) = book else {
         too_long(&mut line);
         return Written {
             output: 0,
             closing: line.at,
         };
-    }
-    let r = netcheck_entry::netcheck_run(
+    };
+    let ran = book_run::run(
         book,
         tables.sp,
         tables.spp,
@@ -80,9 +90,9 @@ fn answer(over: bool, book: &[u8], tables: &mut Tables, closing: &mut [u8]) -> W
         tables.scratch,
         tables.output,
     );
-    closing_line(&mut line, r.number, r.line);
+    let length = closing_line(&mut line, ran);
     Written {
-        output: r.length,
+        output: length,
         closing: line.at,
     }
 }
@@ -110,7 +120,7 @@ fn main(rt: HostRuntime) -> io::Result<()> {
     let mut output = [0u8; 4096];
     let mut closing = [0u8; 64];
     let got = reading::read_full(&mut input, &mut book)?;
-    let over = is_over(&mut input, got)?;
+    let book = (!is_over(&mut input, got)?).then_some(&book[..got]);
     let mut tables = Tables {
         sp: &mut sp,
         spp: &mut spp,
@@ -121,7 +131,7 @@ fn main(rt: HostRuntime) -> io::Result<()> {
         scratch: &mut scratch,
         output: &mut output,
     };
-    let w = answer(over, &book[..got], &mut tables, &mut closing);
+    let w = answer(book, &mut tables, &mut closing);
     rt.write_all(&tables.output[..w.output])?;
     rt.write_all(&closing[..w.closing])
 }

@@ -2,7 +2,7 @@
 use Rattle.std.specs.Prelude.{List, ℕ, Result, Ok, Err}
 use Rattle.refusal.specs.Numbers.{number_of}
 use Rattle.book_steps.specs.Claim.{Slices, EntrySpec}
-use Rattle.book_run.specs.Clauses.{lent_of}
+pub use Rattle.book_run.specs.Clauses.{lent_of, slices}
 use Rattle.book_finish.specs.declared.Stop.{Stop}
 use Rattle.netcheck_entry.specs.declared.Outcome.{Outcome}
 

@@ -1,4 +1,4 @@
-// A book is run in lent tables, and what it came to is told as C gets it. netcheck_entry_c exports it.
+// What a program lends for a book (`Tables`), and a book run in such tables: what it came to is told as C gets it. netcheck_entry_c exports it.
 #![tactic(auto)]
 
 ghost use Rattle.std.specs.Prelude.{◌≡◌, ◌≤◌};

@@ -2,8 +2,7 @@
 // length, and no two of the slices overlap. include/netcheck.h is its header.
 #![tactic(auto)]
 
-ghost use Rattle.book_run.specs.Clauses.{slices};
-ghost use Rattle.netcheck_entry.specs.Outcome.{Entered};
+ghost use Rattle.netcheck_entry.specs.Outcome.{Entered, slices};
 
 use netcheck_entry::Outcome;
 

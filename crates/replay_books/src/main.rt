@@ -4,7 +4,7 @@
 // The tables are those that the case before left.
 #![tactic(auto)]
 
-ghost use Rattle.std.specs.Prelude.{◌≤◌, length};
+ghost use Rattle.std.specs.Prelude.{◌-◌, ◌≤◌, IfOk, length};
 
 use netcheck_entry::{Outcome, Tables};
 use std::io;
@@ -23,10 +23,11 @@ struct Lent {
 }
 
 // the number at the text's start, and the text behind the byte that ends it
-fn number(text: &[u8]) -> (usize, &[u8]) {
+fn number(text: &[u8]) -> (usize, &[u8])
+    ensures { length result.1.now ≤ length text.now - 1 }
+{
     let mut value: usize = 0;
-    for i in 0..text.len() {
-        let b = text[i];
+    for (i, b) in text.iter().enumerate() {
         if !b.is_ascii_digit() {
             return (value, &text[i + 1..]);
         }
@@ -37,7 +38,9 @@ fn number(text: &[u8]) -> (usize, &[u8]) {
     (value, &text[text.len()..])
 }
 
-fn lengths(text: &[u8]) -> (Lent, &[u8]) {
+fn lengths(text: &[u8]) -> (Lent, &[u8])
+    ensures { length result.1.now ≤ length text.now - 1 }
+{
     let (sp, text) = number(text);
     let (spp, text) = number(text);
     let (states, text) = number(text);
@@ -92,7 +95,9 @@ fn print_told(rt: &impl Print, told: Outcome, output: &[u8]) -> io::Result<()> {
 }
 
 // the case at the text's start; what is given is the text behind it
-fn replay_case<'a>(rt: &impl Print, text: &'a [u8], tables: &mut Tables) -> io::Result<&'a [u8]> {
+fn replay_case<'a>(rt: &impl Print, text: &'a [u8], tables: &mut Tables) -> io::Result<&'a [u8]>
+    ensures { IfOk result (λ rest. length rest.now ≤ length text.now - 1) }
+{
     let (l, text) = lengths(text);
     let end = l.bytes.min(text.len());
     let sp = l.sp.min(tables.sp.len());
@@ -127,10 +132,7 @@ fn replay_case<'a>(rt: &impl Print, text: &'a [u8], tables: &mut Tables) -> io::
 
 fn replay_all(rt: &impl Print, text: &[u8], tables: &mut Tables) -> io::Result<()> {
     let mut rest = text;
-    for _ in 0..100000 {
-        if rest.is_empty() {
-            break;
-        }
+    while !rest.is_empty() {
         rest = replay_case(rt, rest, tables)?;
     }
     Ok(())

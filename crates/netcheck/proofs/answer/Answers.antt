@@ -1,8 +1,10 @@
 use Rattle.std.proofs.Common.{rules}
+use Rattle.book_finish.specs.Clauses.{number_of, text_line_of, length_of}
 use Rattle.book_run.specs.Clauses.{slices}
 use Rattle.netcheck.proofs.Whole.{writes_told}
 use Rattle.netcheck.proofs.answer.Goals as goal
 
 pub returns : goal.returns
 returns c =
-    writes_told {m' = slices c.netcheck_run-r.new.sp c.netcheck_run-r.new.spp c.netcheck_run-r.new.states c.netcheck_run-r.new.members c.netcheck_run-r.new.transitions c.netcheck_run-r.new.pending c.netcheck_run-r.new.scratch c.netcheck_run-r.new.output} c.netcheck_run-r.result c.closing_line.new.line.bytes.now c.if-over.false c.requires.0 c.netcheck_run-r.ensures c.closing_line.ensures.stands (search rules)
+    let ran = c.run-ran.result in
+    rw (c.closing_line-length.ensures.length, c.in-Some.is) (writes_told {m' = slices c.run-ran.new.sp c.run-ran.new.spp c.run-ran.new.states c.run-ran.new.members c.run-ran.new.transitions c.run-ran.new.pending c.run-ran.new.scratch c.run-ran.new.output} (number_of ran) (text_line_of ran) (length_of ran) c.closing_line-length.new.line.bytes.now c.requires.0 c.run-ran.ensures c.closing_line-length.ensures.stands (search rules))

@@ -1,5 +1,8 @@
-use Rattle.netcheck.proofs.Whole.{line_whole}
+use Rattle.netcheck.proofs.Whole.{line_told}
 use Rattle.netcheck.proofs.refused_line.Goals as goal
 
+pub unwrap-requires : goal.unwrap-requires
+unwrap-requires c = (line_told c.args.stop.line c.number.ensures _ _ c.line.result c.line.ensures.answers c.requires).0
+
 pub returns-clause-puts : goal.returns-clause-puts
-returns-clause-puts c = line_whole c.args.number c.args.text_line _ _ c.line.result c.line.ensures.answers c.requires
+returns-clause-puts c = (line_told c.args.stop.line c.number.ensures _ _ c.line.result c.line.ensures.answers c.requires).1
