@@ -1,1 +1,2 @@
 pub mod Turns
+mod Emptied

@@ -22,8 +22,7 @@ fn take(aut: &mut Aut, k: usize) -> Entry
         state: aut.pending[2 * k],
         packets: SP(aut.pending[2 * k + 1]),
     };
-    aut.pending[2 * k] = 0;
-    aut.pending[2 * k + 1] = 0;
+    aut.pending[2 * k..2 * k + 2].fill(0);
     e
 }
 

@@ -43,24 +43,25 @@ fn meet_one(aut: &mut Aut, config: Config, p: Met, x: u32, to: usize) -> Result<
         (met_at config.fields aut.old.scratch.now to p)) aut.old result aut.new }
     ensures few { Most (λ q. q.others) result (p.others + 1) }
 {
-    let kind = aut.states.kind(x);
-    if kind == aut_states::kind::TOP {
-        return Ok(p);
+    match aut.states.kind(x) {
+        aut_states::kind::TOP => Ok(p),
+        aut_states::kind::SPP => {
+            let g = aut.states.relation(x);
+            let h = relation_of(config, p.relation);
+            let u = aut.apply(config, Op::Intersect, h, g)?;
+            Ok(Met {
+                relation: Some(u),
+                ..p
+            })
+        }
+        _ => {
+            aut.scratch[to + p.others] = x;
+            Ok(Met {
+                others: p.others + 1,
+                ..p
+            })
+        }
     }
-    if kind == aut_states::kind::SPP {
-        let g = aut.states.relation(x);
-        let h = relation_of(config, p.relation);
-        let u = aut.apply(config, Op::Intersect, h, g)?;
-        return Ok(Met {
-            relation: Some(u),
-            ..p
-        });
-    }
-    aut.scratch[to + p.others] = x;
-    Ok(Met {
-        others: p.others + 1,
-        ..p
-    })
 }
 
 // the relations of the k states at `from`, intersected; the others go to `to`

@@ -37,10 +37,7 @@ fn hops_after(aut: &Aut, config: Config, x: u32, k: usize, f: Option<usize>) -> 
         k f }
 {
     let set = aut_live_words::set_at(aut, x, word::BEFORE);
-    if f.is_some() || sp::is_zero(config.fields, set) {
-        return f;
-    }
-    Some(k)
+    f.or((!sp::is_zero(config.fields, set)).then_some(k))
 }
 
 // until no set changes: the fewest hops of a string of x

@@ -1,6 +1,6 @@
 -- One state: a step that stands gives its set again, and nothing is made; or no target's set changed, and the set stays.
 use mathlib.Core.Path.{◌≡◌, refl, sym, ◌∙◌, ap, ap₂, subst}
-use mathlib.Core.Bool.{Bool, true, false, not}
+use mathlib.Core.Bool.{Bool, false}
 use mathlib.Core.List.{List, Memᴰ}
 use Prim.Native.Nat.{ℕ, suc, ◌+◌, ◌*◌, ◌-◌, ◌<◌}
 use native.Mathlib.Omega.{arith}
@@ -39,10 +39,6 @@ use Rattle.aut_why_again.proofs.Carry.{leaves_none}
 
 pub store_same : {S B : Type 0} {σ τ : S} {a b : B} → ◌≡◌ {A = Outcome S B} (given σ a) (given τ b) → σ ≡ τ
 store_same e = cc
-
-not_true : (b : Bool) → not b ≡ true → b ≡ false
-not_true true q = sym q
-not_true false q = refl
 
 -- nothing but words of states, scratch and entries was written, and no node is made
 pub search_tables : {x y : Lent} → OnlySearch x y → sets_in y ≡ sets_in x → tables_in y ≡ with_words y.states.words.now (tables_in x)
@@ -102,15 +98,28 @@ module _ {N : ℕ} {l : Limits} {σ : Tables} {s p : List ℕ} {n : ℕ} {ws : L
   pub turn_listed : PreChanged st tr i
   turn_listed = record { listed = walk_listed K m; targets = λ e j. walk_there K e.target (walk_leads K m e j) }
 
+  here_sets : round_at N ws k i + 1 ≡ get_or st (12 * i + 8) 0
+  here_sets = sym (T.on.here.sets.is i m)
+
+  pub turn_some : 0 < get_or st (12 * i + 8) 0
+  turn_some = omega (arith, here_sets)
+
+  pub turn_small : {h : ℕ} → h ≡ get_or st (12 * i + 8) 0 - 1 → h + 1 < 4294967296
+  turn_small e = omega (arith, e, here_sets, set_small N (round_at N ws k i) K.working.ready.ordered.sets (T.on.standing.again.at k i))
+
   -- no target's set changed
-  pub turn_stays : (r : Bool) → not r ≡ true → PostChanged st tr i r → Worked N 9 i (round_at N ws (k + 1) i) σ (with_words (set st (12 * i + 9) (get_or st (12 * i + 8) 0)) σ) s s
-  turn_stays r z q = record {
-    tables = ap (λ (v : ℕ). with_words (set st (12 * i + 9) v) σ) (T.on.here.sets.is i m ∙ ap (λ (h : ℕ). h + 1) stays);
+  pub turn_stays : (r : Bool) → r ≡ false → PostChanged st tr i r → {h : ℕ} → h ≡ get_or st (12 * i + 8) 0 - 1
+      → Worked N 9 i (round_at N ws (k + 1) i) σ (with_words (set st (12 * i + 9) (h + 1)) σ) s s
+  turn_stays r z q {h} e = record {
+    tables = ap (λ (v : ℕ). with_words (set st (12 * i + 9) (v + 1)) σ) (was ∙ stays);
     frame = leaves_none N (clear_tables σ) s;
     len = refl;
   }
     where
+      was : h ≡ round_at N ws k i
+      was = omega (arith, e, here_sets)
+
       stays : round_at N ws k i ≡ round_at N ws (k + 1) i
       stays = round_stays T.on.standing.again k i m T.more (λ e j.
           let f = subst (λ (es : List Edge). Memᴰ e es) (walk_list K m) j in
-          T.on.here.marks e.target (walk_leads K m e f) (unchanged st (edges tr (start_of st i) (count_of st i - 1)) (sym q ∙ not_true r z) e f))
+          T.on.here.marks e.target (walk_leads K m e f) (unchanged st (edges tr (start_of st i) (count_of st i - 1)) (sym q ∙ z) e f))

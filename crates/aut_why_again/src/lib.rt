@@ -6,7 +6,7 @@ ghost use Rattle.aut_sets.specs.Lent.{OnlySearch};
 ghost use Rattle.aut_why_again.specs.Clauses.{PreTurnAgain, PostTurnAgain, PreStart, PostStart, PreTurns, PostTurns, PreForward, PostForward, PreRemake, PostRemake, PreSetsFor, PostFromMark, PostSetsFor};
 
 use aut_relations::Aut;
-use aut_states::{Config, STATE};
+use aut_states::Config;
 use aut_why_words::word;
 
 // the rounds over n states: words KEPT have round `mark`, to go on from; an earlier one is made again up to a number that `step` divides
@@ -36,12 +36,11 @@ fn turn_again(aut: &mut Aut, config: Config, s: u32)
     ensures pending { aut.new.pending ≡ aut.old.pending }
     ensures gives { PostTurnAgain config s aut.old aut.new }
 {
-    if !aut_why_marks::changed(aut, s) {
-        let at = STATE * (s as usize);
-        aut.states.words[at + word::UNDER] = aut.states.words[at + word::BEFORE];
-        return;
-    }
-    let h = aut_why_rounds::turn(aut, config, s).unwrap();
+    let h = if aut_why_marks::changed(aut, s) {
+        aut_why_rounds::turn(aut, config, s).unwrap()
+    } else {
+        aut_live_words::set_at(aut, s, word::BEFORE)
+    };
     aut_live_words::put_set(aut, s, word::UNDER, h);
 }
 

@@ -73,7 +73,7 @@ pub fn changed(aut: &Aut, x: u32) -> bool
     let list = aut_st_source::stored_list(aut, x);
     for i in 0..list.count {
         let t = list.get(aut, i);
-        if aut.states.words[STATE * (t.target as usize) + word::MOVED] > 0 {
+        if aut.states.word(t.target, word::MOVED) > 0 {
             return true;
         }
     }

@@ -30,8 +30,7 @@ pub fn moved(aut: &Aut, x: u32) -> bool
     requires { 12 * x + 11 < length aut.now.states.words.now }
     ensures { from_bool result ≡ moved_at aut.now.states.words.now x }
 {
-    let at = STATE * (x as usize);
-    aut.states.words[at + word::BEFORE] != aut.states.words[at + word::UNDER]
+    aut.states.word(x, word::BEFORE) != aut.states.word(x, word::UNDER)
 }
 
 // whether the sets in words BEFORE and UNDER of the n states are equal

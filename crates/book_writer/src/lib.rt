@@ -278,10 +278,10 @@ impl Output<'_> {
         ensures puts { Put (word_bytes fields packet) self.old self.new }
     {
         if fields == 0 {
-            self.put(b"-");
-            return;
+            self.put(b"-")
+        } else {
+            self.put_digits(2, fields as usize, packet as u64)
         }
-        self.put_digits(2, fields as usize, packet as u64)
     }
 
     // some bytes and a packet's word
@@ -309,11 +309,8 @@ impl Output<'_> {
         ensures keeps { SameSlice self.old.bytes self.new.bytes }
         ensures puts { Put (hop_part fields first packet) self.old self.new }
     {
-        if first {
-            self.put_behind(b" by ", fields, packet);
-            return;
-        }
-        self.put_behind(b" ", fields, packet)
+        let text: &[u8] = if first { b" by " } else { b" " };
+        self.put_behind(text, fields, packet)
     }
 
     pub fn put_end(&mut self, fields: u32, packet: u32)

@@ -7,7 +7,7 @@ ghost use Rattle.book_memory.specs.Place.{SameSlices};
 ghost use Rattle.image_steps.specs.Calls.{has_next};
 ghost use Rattle.image_keep.specs.Clauses as Its;
 
-use aut_states::{States, kind};
+use aut_states::{STATE, States, kind, word};
 use book_finish::Stop;
 use book_memory::{Place, Setting};
 use image_block::BLOCK;
@@ -21,12 +21,9 @@ fn has_next(states: &States) -> bool
     requires { Fits states.now.words.now states.now.count }
     ensures { has_next states.now.words.now states.now.count ≡ result }
 {
-    for i in 0..states.count {
-        if states.kind(i as u32) == kind::NEXT {
-            return true;
-        }
-    }
-    false
+    states.words[..STATE * states.count]
+        .chunks_exact(STATE)
+        .any(|s| s[word::KIND] == kind::NEXT)
 }
 
 // The image of a run's last place, if it has not stopped: the image's length. `Refusal::Next` where an image does not know a state's kind, `Refusal::Output` where it has no room.

@@ -1,5 +1,5 @@
 -- 02 (ii): words behind the records, the words of all records, what block 0 asks for, and the block that a record reaches.
-use Rattle.std.specs.Prelude.{if◌then◌else◌, Result, Ok, Err}
+use Rattle.std.specs.Prelude.{if◌then◌else◌, Result, Ok, Err, ◌↔◌, IsTrue, EachIndex, slice_index}
 use mathlib.Core.Path.{◌≡◌, refl, sym, ◌∙◌, ap, ap₂}
 use mathlib.Core.Bool.{Bool, true, false, ◌&&◌}
 use mathlib.Core.List.{List}
@@ -7,14 +7,19 @@ use mathlib.Core.Option.{Option}
 use Prim.Native.Nat.{ℕ, zero, suc, ◌+◌, ◌*◌, ◌-◌, ◌/◌, ◌≤◌, ◌<◌}
 use native.Mathlib.Omega.{arith}
 use lib.Dec.{eqb, leb}
-use lib.ListN.{length}
-use borrow.Author.Tests.{eq-eqb, ne_eqb, lt-ltb, le-ltb}
+use lib.ListN.{length, get_or, take, drop}
+use borrow.Author.Tests.{eq-eqb, eqb-true, lt-ltb, le-ltb}
+use mathlib.Core.Logic.{⊎_elim}
+use Rattle.std.proofs.lemmas.Bool.{cases_lt}
+use Rattle.std.proofs.lemmas.List.{get_or-take, get_or-drop, length-take-le, length-drop}
+use Rattle.aut_steps.proofs.Facts.{and_true}
+use Rattle.sp_steps.proofs.Make.{false_true}
 use Rattle.common.specs.Outcome.{given}
 use Rattle.sp_steps.specs.Model as Sp
 use Rattle.spp_steps.specs.Model as Spp
 use Rattle.aut_steps.specs.Tables.{Limits}
 use Rattle.book_steps.specs.Run.{RunState, instructions}
-use Rattle.image_form.specs.Form.{word_at, verify}
+use Rattle.image_form.specs.Form.{word_at, wide_at, half_at, verify}
 use Rattle.image_block.specs.Clauses.{looked_of}
 use Rattle.refusal.specs.declared.Refusal.{Refusal}
 use Rattle.image_steps.specs.Image as Image
@@ -25,27 +30,58 @@ use Rattle.image_words.specs.Clauses.{counts_fit, PostHead, Reaches, Entered, en
 
 -- ---- unused words
 
-module _ (image : List ℕ) (b j k : ℕ) where
-  pub unused_begin : unused image b j k ≡ unused image b (j + 0) (k - 0)
-  unused_begin = ap (λ (x : ℕ). unused image b x k) {y = j + 0} (omega arith) ∙ ap (unused image b (j + 0)) (omega arith)
+-- a word is 0 if its four bytes are, and the other way round
+word_0 : (image : List ℕ) (b j : ℕ) → ((i : ℕ) → 512 * b + (2 + 4 * j) ≤ i → i < 512 * b + (2 + 4 * j) + 4 → get_or image i 0 ≡ 0) → word_at image b j ≡ 0
+unfolding wide_at half_at
+word_0 image b j f =
+    let a = 512 * b + (2 + 4 * j) in
+    omega (arith, f a (omega arith) (omega arith), f (a + 1) (omega arith) (omega arith), f (a + 2) (omega arith) (omega arith), f (a + 2 + 1) (omega arith) (omega arith))
 
-  one : (i : ℕ) → i < k → unused image b (j + i) (k - i) ≡ (eqb (word_at image b (j + i)) 0 && unused image b (j + i + 1) (k - (i + 1)))
-  unfolding unused
-  one i l = ap (unused image b (j + i)) {x = k - i} {y = suc (k - (i + 1))} (omega arith)
+bytes_0 : (image : List ℕ) (b j : ℕ) → word_at image b j ≡ 0 → (i : ℕ) → 512 * b + (2 + 4 * j) ≤ i → i < 512 * b + (2 + 4 * j) + 4 → get_or image i 0 ≡ 0
+unfolding wide_at half_at
+bytes_0 image b j e i l m =
+    let a = 512 * b + (2 + 4 * j) in
+    let z0 : get_or image a 0 ≡ 0 = omega (arith, e) in
+    let z1 : get_or image (a + 1) 0 ≡ 0 = omega (arith, e) in
+    let z2 : get_or image (a + 2) 0 ≡ 0 = omega (arith, e) in
+    let z3 : get_or image (a + 2 + 1) 0 ≡ 0 = omega (arith, e) in
+    let at = λ (x : ℕ). get_or image x 0 in
+    ⊎_elim (λ p. ap at {x = i} {y = a} (omega (arith, l, p)) ∙ z0)
+    (λ p. ⊎_elim (λ q. ap at {x = i} {y = a + 1} (omega (arith, p, q)) ∙ z1)
+    (λ q. ⊎_elim (λ r. ap at {x = i} {y = a + 2} (omega (arith, q, r)) ∙ z2) (λ r. ap at {x = i} {y = a + 2 + 1} (omega (arith, r, m)) ∙ z3) (cases_lt i (a + 3))) (cases_lt i (a + 2)))
+    (cases_lt i (a + 1))
 
-  pub unused_again : (i : ℕ) {w : ℕ} → i < k → w ≡ word_at image b (j + i) → w ≡ 0 → unused image b (j + i) (k - i) ≡ unused image b (j + (i + 1)) (k - (i + 1))
-  unused_again i l e z =
-      one i l
-      ∙ ap (λ (c : Bool). c && unused image b (j + i + 1) (k - (i + 1))) (eq-eqb (word_at image b (j + i)) 0 (sym e ∙ z))
-      ∙ ap (λ (x : ℕ). unused image b x (k - (i + 1))) {y = j + (i + 1)} (omega arith)
+unused_yes : (image : List ℕ) (b j k : ℕ) → ((i : ℕ) → 512 * b + (2 + 4 * j) ≤ i → i < 512 * b + (2 + 4 * j) + 4 * k → get_or image i 0 ≡ 0) → unused image b j k ≡ true
+unfolding unused
+unused_yes image b j zero f = refl
+unused_yes image b j (suc k) f =
+    ap₂ ◌&&◌ (eq-eqb (word_at image b j) 0 (word_0 image b j (λ i l m. f i l (omega (arith, m))))) (unused_yes image b (j + 1) k (λ i l m. f i (omega (arith, l)) (omega (arith, m))))
 
-  pub unused_stop : (i : ℕ) {w : ℕ} → i < k → w ≡ word_at image b (j + i) → (w ≡ 0 → ⊥) → unused image b (j + i) (k - i) ≡ false
-  unused_stop i l e z =
-      one i l ∙ ap (λ (c : Bool). c && unused image b (j + i + 1) (k - (i + 1))) (ne_eqb (word_at image b (j + i)) 0 (λ q. z (e ∙ q)))
+unused_at : (image : List ℕ) (b j k : ℕ) → unused image b j k ≡ true → (i : ℕ) → 512 * b + (2 + 4 * j) ≤ i → i < 512 * b + (2 + 4 * j) + 4 * k → get_or image i 0 ≡ 0
+unfolding unused
+unused_at image b j zero e i l m = absurd (omega (arith, l, m))
+unused_at image b j (suc k) e i l m =
+    ⊎_elim (λ p. bytes_0 image b j (eqb-true (word_at image b j) 0 (and_true _ _ e).0) i l p)
+    (λ p. unused_at image b (j + 1) k (and_true _ _ e).1 i (omega (arith, p)) (omega (arith, m)))
+    (cases_lt i (512 * b + (2 + 4 * j) + 4))
 
-  pub unused_end : (i : ℕ) → k ≤ i → unused image b (j + i) (k - i) ≡ true
-  unfolding unused
-  unused_end i l = ap (unused image b (j + i)) {x = k - i} {y = zero} (omega arith)
+not_true : (x : Bool) → (x ≡ true → ⊥) → x ≡ false
+not_true true f = absurd (f refl)
+not_true false f = refl
+
+-- a test of each byte is that of the words
+module _ (image part : List ℕ) (b j k a : ℕ) (at : a ≡ 512 * b + (2 + 4 * j)) (in_it : a + 4 * k ≤ length image) (is : part ≡ take (a + 4 * k - a) (drop a image)) where
+  long : length part ≡ 4 * k
+  long = omega (arith, ap length is, length-take-le (a + 4 * k - a) (drop a image) (omega (arith, length-drop a image)))
+
+  byte : (i : ℕ) → i < 4 * k → get_or part i 0 ≡ get_or image (a + i) 0
+  byte i l = ap (λ (xs : List ℕ). get_or xs i 0) is ∙ get_or-take (a + 4 * k - a) (drop a image) i 0 (omega (arith, l)) ∙ get_or-drop a image i 0
+
+  pub unused_by : (r : Bool) → (IsTrue r ↔ EachIndex part (λ i. slice_index part i ≡ 0)) → unused image b j k ≡ r
+  unused_by true (f, g) = unused_yes image b j k (λ i l m.
+      ap (λ (x : ℕ). get_or image x 0) {x = i} {y = a + (i - a)} (omega (arith, at, l)) ∙ sym (byte (i - a) (omega (arith, at, l, m))) ∙ f refl (i - a) (omega (arith, at, l, m, long)))
+  unused_by false (f, g) = not_true (unused image b j k) (λ e. false_true (g (λ i l.
+      byte i (omega (arith, l, long)) ∙ unused_at image b j k e (a + i) (omega (arith, at)) (omega (arith, at, l, long)))))
 
 -- ---- the words of the records
 

@@ -58,12 +58,8 @@ pub fn unused(image: &[u8], b: usize, j: usize, k: usize) -> bool
     requires { (j + k ≤ 127) × (512 * b + 512 ≤ length image.now) }
     ensures { Read.unused image.now b j k ≡ result }
 {
-    for i in 0..k {
-        if block_word(image, b, j + i) != 0 {
-            return false;
-        }
-    }
-    true
+    let at = BLOCK * b + (2 + 4 * j);
+    image[at..at + 4 * k].iter().all(|x| *x == 0)
 }
 
 // ---- block 0

@@ -1,6 +1,6 @@
 -- One turn of `least`: the empty set, depth 0, or one or two calls.
 use Rattle.std.specs.Prelude.{Some, None, Option, is_some, IfSome}
-use mathlib.Core.Path.{◌≡◌, sym, ◌∙◌, ap, subst}
+use mathlib.Core.Path.{◌≡◌, refl, sym, ◌∙◌, ap, subst}
 use mathlib.Core.Bool.{Bool, true, false}
 use Prim.Native.Nat.{ℕ, zero, suc, ◌-◌, ◌^◌, ◌≤◌, ◌<◌}
 use native.Mathlib.Omega.{arith}
@@ -15,6 +15,11 @@ use Rattle.sp_steps.proofs.Laws.{zero_mem, wf_down}
 use Rattle.sp.specs.Clauses.{Kids}
 use Rattle.spp_least.specs.Clauses.{number_of, raised, LeastAsked}
 use Rattle.spp_least.proofs.Numbers.{below, least_empty, low_least, high_least}
+
+-- where it is not None there is one
+pub is_one : (o : Option ℕ) → (o ≡ None → ⊥) → true ≡ is_some o
+is_one None f = absurd (f refl)
+is_one (Some x) f = refl
 
 -- at depth 0 a set is empty or full
 pub low_full : (s : ℕ) → s < 2 → false ≡ is_zero 0 s → s ≡ 1

@@ -58,11 +58,10 @@ pub fn least(sets: SPview, depth: u32, s: SP) -> Option<u32>
         return Some(0);
     }
     let p = sets.get(s);
-    let low = least(sets, depth - 1, p.x0);
-    if low.is_some() {
-        return low;
+    match least(sets, depth - 1, p.x0) {
+        None => raise(depth, least(sets, depth - 1, p.x1)),
+        low => low,
     }
-    raise(depth, least(sets, depth - 1, p.x1))
 }
 
 // where a node leads a packet, by the packet's first bit; and the number of its other bits
@@ -118,11 +117,13 @@ pub fn least_led(
     }
     let p = sets.get(s);
     let q = row(spp, depth, packet, r);
-    let mut led = least_led(sets, spp, cache, depth - 1, q.rest, p.x0, q.x0);
-    if led.is_none() {
-        let high = least_led(sets, spp, cache, depth - 1, q.rest, p.x1, q.x1);
-        led = raise(depth, high);
-    }
+    let led = match least_led(sets, spp, cache, depth - 1, q.rest, p.x0, q.x0) {
+        None => {
+            let high = least_led(sets, spp, cache, depth - 1, q.rest, p.x1, q.x1);
+            raise(depth, high)
+        }
+        low => low,
+    };
     cache::note(cache, LEAST + packet, s.0, r.0, to_word(led));
     led
 }

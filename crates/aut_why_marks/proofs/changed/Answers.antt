@@ -13,14 +13,14 @@ loop-i-init c = loops.look_post_begin c.requires c.stored_list-list.ensures
 pub get-t-requires : goal.get-t-requires
 get-t-requires c = omega (arith, listed_inside c.requires.listed c.stored_list-list.ensures, c.loop-i-test.true)
 
-pub bounds-aut-t : goal.bounds-aut-t
-bounds-aut-t c = omega (arith, got_target c.get-t.ensures, loops.look_target c.loop-i.invariant c.loop-i-test.true)
+pub word-requires : goal.word-requires
+word-requires c = omega (arith, got_target c.get-t.ensures, loops.look_target c.loop-i.invariant c.loop-i-test.true)
 
-pub returns-then-aut-t-gt0 : goal.returns-then-aut-t-gt0
-returns-then-aut-t-gt0 c = loops.look_post c.requires c.stored_list-list.ensures (loops.look_found c.loop-i.invariant c.loop-i-test.true (rw (got_target c.get-t.ensures) at c.if-aut-t-gt0.true))
+pub returns-then-word-gt0 : goal.returns-then-word-gt0
+returns-then-word-gt0 c = loops.look_post c.requires c.stored_list-list.ensures (loops.look_found c.loop-i.invariant c.loop-i-test.true (rw (c.word.ensures, got_target c.get-t.ensures) at c.if-word-gt0.true))
 
 pub loop-i-preserved : goal.loop-i-preserved
-loop-i-preserved c = loops.look_again c.loop-i.invariant c.loop-i-test.true (rw (got_target c.get-t.ensures) at c.if-aut-t-gt0.false)
+loop-i-preserved c = loops.look_again c.loop-i.invariant c.loop-i-test.true (rw (c.word.ensures, got_target c.get-t.ensures) at c.if-word-gt0.false)
 
 pub returns : goal.returns
 returns c = loops.look_post c.requires c.stored_list-list.ensures (loops.look_end c.loop-i.invariant c.loop-i-test.false)

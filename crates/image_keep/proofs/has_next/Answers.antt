@@ -1,17 +1,11 @@
-use mathlib.Core.Path.{sym, ◌∙◌}
-use native.Mathlib.Omega.{arith}
-use Rattle.image_steps.proofs.Calls.{next_found}
+use Rattle.std.proofs.Common.{rules, tests}
+use mathlib.Core.Path.{◌∙◌, ap}
+use Rattle.std.specs.Slice.Iter.{chunks_exact_size, chunks_exact_rest}
 use Rattle.image_keep.proofs.Next as its
 use Rattle.image_keep.proofs.has_next.Goals as goal
 
-pub loop-i-init : goal.loop-i-init
-loop-i-init c = its.next_begin c.args.states.now.words.now
-
-pub returns-then-kind-eq-NEXT : goal.returns-then-kind-eq-NEXT
-returns-then-kind-eq-NEXT c = next_found _ _ _ c.loop-i-test.true (sym c.kind.ensures ∙ c.if-kind-eq-NEXT.true)
-
-pub loop-i-preserved : goal.loop-i-preserved
-loop-i-preserved c = its.next_no _ _ c.loop-i.invariant (λ e. c.if-kind-eq-NEXT.false (c.kind.ensures ∙ e))
-
 pub returns : goal.returns
-returns c = its.next_end _ _ _ c.loop-i.auto.i-end (omega (arith, c.loop-i-test.false)) c.loop-i.invariant
+returns c =
+    let u = c.any.ensures.runs in
+    its.found _ _ (λ x b q k. (search (rules, tests), search (rules, tests))) u.0 c.chunks_exact.result.rest (ap chunks_exact_size u.1 ∙ c.chunks_exact.ensures.size) (ap chunks_exact_rest u.1)
+    (c.chunks_exact.ensures.runs u.0 u.0.seen (search rules)) c.args.states.now.words.now c.args.states.now.count c.requires.fits c.chunks_exact.ensures.rest c.any.result u.2

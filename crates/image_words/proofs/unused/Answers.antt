@@ -1,18 +1,8 @@
-use mathlib.Core.Path.{◌∙◌}
+use Rattle.std.proofs.Common.{rules, refl, ◌+◌, ◌*◌}
+use native.Mathlib.Omega.{arith}
 use Rattle.image_words.proofs.Words as its
 use Rattle.image_words.proofs.unused.Goals as goal
 
-pub loop-i-init : goal.loop-i-init
-loop-i-init c = its.unused_begin c.args.image.now c.args.b c.args.j c.args.k
-
-pub returns-then-block_word-ne0 : goal.returns-then-block_word-ne0
-returns-then-block_word-ne0 c =
-    c.loop-i.invariant ∙ its.unused_stop c.args.image.now c.args.b c.args.j c.args.k c.loop-i.i c.loop-i-test.true c.block_word.ensures c.if-block_word-ne0.true
-
-pub loop-i-preserved : goal.loop-i-preserved
-loop-i-preserved c =
-    c.loop-i.invariant ∙ its.unused_again c.args.image.now c.args.b c.args.j c.args.k c.loop-i.i c.loop-i-test.true c.block_word.ensures c.if-block_word-ne0.false
-
 pub returns : goal.returns
 returns c =
-    c.loop-i.invariant ∙ its.unused_end c.args.image.now c.args.b c.args.j c.args.k c.loop-i.i c.loop-i-test.false
+    its.unused_by c.args.image.now c.iter.result.rest.now c.args.b c.args.j c.args.k (512 * c.args.b + (2 + 4 * c.args.j)) refl (omega (arith, c.requires.0, c.requires.1)) c.iter.ensures.rest c.all.result (search rules)

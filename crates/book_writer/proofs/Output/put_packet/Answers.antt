@@ -13,6 +13,6 @@ pub put_digits-requires : goal.put_digits-requires
 put_digits-requires c =
     (omega (arith, c.requires, sentence.word_some c.args.fields (omega (arith, c.if-fields-eq0.false))), omega arith, omega arith)
 
-pub returns-clause-puts : goal.returns-clause-puts
-returns-clause-puts c =
+pub returns-else-fields-eq0-clause-puts : goal.returns-else-fields-eq0-clause-puts
+returns-else-fields-eq0-clause-puts c =
     put_of (sentence.word_bits c.args.fields c.args.packet (omega (arith, c.if-fields-eq0.false))) c.put_digits.ensures.puts
