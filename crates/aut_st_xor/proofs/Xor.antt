@@ -29,12 +29,7 @@ use Rattle.aut_st_xor.proofs.Joins as join
 use Rattle.aut_st_xor.proofs.Joins.{Joins}
 
 -- u and v are the lists that are walked
-pub record Xors (q : Config) (x : Lent) (a k b j : ℕ) (u v : Source) : Type 0 where
-  pub asked : StoredAsked q x a k b j
-  pub first : u ≡ stored a k
-  pub second : v ≡ stored b j
-
-module _ {q : Config} {x : Lent} {a k b j : ℕ} {u v : Source} (R : Xors q x a k b j u v) where
+module _ {q : Config} {x : Lent} {a k b j : ℕ} {u v : Source} (R : StoredAsked q x a k b j) (u-is : u ≡ stored a k) (v-is : v ≡ stored b j) where
   abbrev minus : List Edge → List Edge → Step Aut (List Edge)
   minus = St.st_difference (ops q.fields (limits_of q.limits))
 
@@ -53,13 +48,13 @@ module _ {q : Config} {x : Lent} {a k b j : ℕ} {u v : Source} (R : Xors q x a 
 
   joins : Joins q x (St.st_xor (ops q.fields (limits_of q.limits)) ts us) (minus ts us) (minus us ts)
   unfolding St.st_xor
-  joins = record { asked = R.asked.first.asked; limit = R.asked.first.limit; is = refl }
+  joins = record { asked = R.first.asked; limit = R.first.limit; is = refl }
 
   first_0 : Waits q x u ts
-  first_0 = waits_as (waits R.asked.first.walked) R.first
+  first_0 = waits_as (waits R.first.walked) u-is
 
   second_0 : Waits q x v us
-  second_0 = waits_as (waits R.asked.second) R.second
+  second_0 = waits_as (waits R.second) v-is
 
   abbrev One : Result ℕ Refusal → Lent → Type 0
   One r y = Lists x (minus (source_in u x) (source_in v x)) r y
@@ -76,13 +71,13 @@ module _ {q : Config} {x : Lent} {a k b j : ℕ} {u v : Source} (R : Xors q x a 
 
     module _ {w : List ℕ} (C1 : Wrote FIRST n (edges y.scratch.now RESULT n) y.scratch.now w) (len1 : length w ≡ length y.scratch.now) where
       first_2 : Waits q (written y w) u ts
-      first_2 = waits_as (join.stored_waits joins K1 (one G1) C1 len1 (waits R.asked.first.walked)) R.first
+      first_2 = waits_as (join.stored_waits joins K1 (one G1) C1 len1 (waits R.first.walked)) u-is
 
       second_2 : Waits q (written y w) v us
-      second_2 = waits_as (join.stored_waits joins K1 (one G1) C1 len1 (waits R.asked.second)) R.second
+      second_2 = waits_as (join.stored_waits joins K1 (one G1) C1 len1 (waits R.second)) v-is
 
       pub other_asked : TwoAsked q (written y w) v u
-      other_asked = record { first = record { asked = (join.run_2 joins K1 (one G1) C1 len1).asked; limit = R.asked.first.limit; walked = second_2.walked }; second = first_2.walked }
+      other_asked = record { first = record { asked = (join.run_2 joins K1 (one G1) C1 len1).asked; limit = R.first.limit; walked = second_2.walked }; second = first_2.walked }
 
       abbrev Other : Result ℕ Refusal → Lent → Type 0
       Other r z = Lists (written y w) (minus (source_in v (written y w)) (source_in u (written y w))) r z

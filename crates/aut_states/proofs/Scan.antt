@@ -1,7 +1,7 @@
--- Searches and loops over a list: where they begin, what one turn does, where they end.
+-- Searches and lists: where a search begins and what it finds, the highest of a list, what a closure may be asked.
 use mathlib.Core.Path.{◌≡◌, refl, sym, ◌∙◌, ap, ap₂, subst}
-use mathlib.Core.Bool.{Bool, true, false, ◌&&◌}
-use mathlib.Core.List.{List, [], ◌∷◌, ◌++◌}
+use mathlib.Core.Bool.{Bool, true, false, true≢false, ◌&&◌}
+use mathlib.Core.List.{List, [], ◌∷◌}
 use mathlib.Core.Logic.{⊎_elim}
 use Prim.Native.Nat.{ℕ, ◌+◌, ◌*◌, ◌<◌, ◌≤◌, max}
 use native.Mathlib.Omega.{arith}
@@ -9,28 +9,32 @@ use lib.Dec.{eqb}
 use lib.ListN.{length, get_or}
 use lib.Pointwise.{pointwise}
 use borrow.Author.Tests.{eq-eqb, ne_eqb}
-use Rattle.std.specs.Prelude.{Option, Some, None, MatchOption}
+use Rattle.std.specs.Prelude.{Option, Some, None, MatchOption, is_some}
 use Rattle.std.proofs.Common.{Bor, Iter}
-use Rattle.std.specs.Iterator.{Yields}
-use Rattle.std.proofs.lemmas.Fn.{fronts}
+use Rattle.std.specs.Iterator.{Yields, CallableAtEachTurn}
+use Rattle.std.specs.List.{fold, reduce}
+use Rattle.std.specs.Option.{option_map, unwrap_or}
+use Rattle.std.proofs.lemmas.Fn.{fronts, serves_by}
 use Rattle.std.proofs.lemmas.Bool.{cases_lt}
 use Rattle.slices.proofs.Records.{Test, Placed, Whole}
 use Rattle.aut_steps.specs.Tables.{kind_of, op1, op2, nest, list_of, Exprs}
-use Rattle.aut_steps.specs.Intern.{seek, same2, same_l, nest_l}
+use Rattle.aut_steps.specs.Intern.{same2, same_l, nest_l}
 use Rattle.aut_steps.specs.Ascending.{All}
 use Rattle.aut_steps.proofs.Facts.{same2_is, same_l_is}
 use Rattle.aut_steps.proofs.Scratch.{seek_here, seek_end, seek_skip}
 use Rattle.aut_states.proofs.Slices.{same_words}
-use Rattle.aut_states.specs.Clauses.{Fits, From, Ready1, Ready2, ListAsked, above_l}
+use Rattle.aut_states.specs.Clauses.{Found, Fits, From, Ready1, Ready2, ListAsked, above_l}
 
--- ---- a search that has come to i of n
+-- ---- a search that begins at from
 
-module _ {f : ℕ → Bool} {i n : ℕ} (p : From f i n) where
-  pub scan_hit : i < n → f i ≡ true → (i < n) × (seek f 0 n ≡ i)
-  scan_hit l e = (l, seek_skip f n i p.within p.none ∙ seek_here f n i l e)
+module _ {f : ℕ → Bool} {from n : ℕ} (p : From f from n) where
+  none_before : (i : ℕ) → ((k : ℕ) → from ≤ k → k < i → f k ≡ false) → (k : ℕ) → k < i → f k ≡ false
+  none_before i h k l = ⊎_elim (λ b. p.none k b) (λ b. h k b l) (cases_lt k from)
 
-  pub scan_end : n ≤ i → seek f 0 n ≡ n
-  scan_end l = seek_skip f n i p.within p.none ∙ seek_end f n i l ∙ omega (arith, p.within)
+  -- what it finds is the first of all
+  pub first : (o : Option ℕ) → MatchOption o ((k : ℕ) → from ≤ k → k < n → f k ≡ false) (λ i. (from ≤ i) × (i < n) × (f i ≡ true) × ((k : ℕ) → from ≤ k → k < i → f k ≡ false)) → Found f n o
+  first None h = seek_skip f n n (omega arith) (none_before n h) ∙ seek_end f n n (omega arith)
+  first (Some i) h = (h.1, seek_skip f n i (omega (arith, h.1)) (none_before i h.3) ∙ seek_here f n i h.1 h.2)
 
 -- ---- find
 
@@ -51,12 +55,9 @@ pub whole : {from count len : ℕ} → len + 12 * from ≡ 12 * count → Whole 
 whole e = record { as_many = omega arith; inside = λ i l. omega arith; ends = λ j l. omega arith; place = λ j. omega arith }
 
 module _ (st : List ℕ) (k x y : ℕ) {from n : ℕ} (p : From (same2 st k x y) from n) where
-  further : (i : ℕ) → from ≤ i → i ≤ n → ((j : ℕ) → from ≤ j → j < i → here k x y st (12 * j) ≡ false) → From (same2 st k x y) i n
-  further i l m h = record { within = m; none = λ j a. ⊎_elim (λ b. p.none j b) (λ b. here_same k x y st j ∙ h j b a) (cases_lt j from) }
-
-  pub found : (o : Option ℕ) → Placed (here k x y) 12 st from n o → MatchOption o (seek (same2 st k x y) 0 n ≡ n) (λ i. (from + i < n) × (seek (same2 st k x y) 0 n ≡ from + i))
-  found None h = scan_end (further n p.within (omega arith) h) (omega arith)
-  found (Some i) h = scan_hit (further (from + i) (omega arith) (omega (arith, h.0)) h.2) h.0 (here_same k x y st (from + i) ∙ h.1)
+  pub found : (o : Option ℕ) → Placed (here k x y) 12 st from n o → Found (same2 st k x y) n (option_map (λ i. from + i) o)
+  found None h = first p None (λ j l m. here_same k x y st j ∙ h j l m)
+  found (Some i) h = first p (Some (from + i)) (omega arith, h.0, here_same k x y st (from + i) ∙ h.1, λ j l m. here_same k x y st j ∙ h.2 j l m)
 
 -- ---- is_at_list
 
@@ -71,31 +72,23 @@ module _ (st m xs : List ℕ) (k i : ℕ) where
 
 -- ---- above_list, nest_list
 
-above_snoc : (h x : ℕ) (xs : List ℕ) → above_l h (xs ++ x ∷ []) ≡ max (above_l h xs) (x + 1)
+above_fold : (h x : ℕ) (xs : List ℕ) → h ≡ x + 1 → fold max x xs + 1 ≡ above_l h xs
 unfolding above_l
-above_snoc h x [] = refl
-above_snoc h x (y ∷ ys) = above_snoc (max h (y + 1)) x ys
+above_fold h x [] e = sym e
+above_fold h x (y ∷ ys) e = above_fold (max h (y + 1)) (max x y) ys (omega (arith, e))
 
--- one more of the list is looked at
-pub above_more : {a b : ℕ} (x : ℕ) (xs : List ℕ) → a ≡ above_l 0 xs → b ≡ max a (x + 1) → b ≡ above_l 0 (xs ++ x ∷ [])
-above_more {a} {b} x xs p q = q ∙ ap (λ (a : ℕ). max a (x + 1)) p ∙ sym (above_snoc 0 x xs)
-
-pub above_none : 0 ≡ above_l 0 []
+-- it is one above the greatest
+pub above_greatest : (xs : List ℕ) (o : Option (Bor ℕ)) (r : ℕ) → option_map (λ y. y.now) o ≡ reduce max xs → MatchOption o (r ≡ 0) (λ y. r ≡ y.now + 1) → r ≡ above_l 0 xs
 unfolding above_l
-above_none = refl
+above_greatest [] None r e m = m
+above_greatest [] (Some y) r e m = absurd (true≢false (ap is_some e))
+above_greatest (x ∷ xs) None r e m = absurd (true≢false (sym (ap is_some e)))
+above_greatest (x ∷ xs) (Some y) r e m = m ∙ ap (λ (o : Option ℕ). unwrap_or o 0 + 1) e ∙ above_fold (max 0 (x + 1)) x xs (omega arith)
 
-module _ (st : List ℕ) where
-  nest_snoc : (h x : ℕ) (xs : List ℕ) → nest_l st h (xs ++ x ∷ []) ≡ max (nest_l st h xs) (nest st x)
-  unfolding nest_l
-  nest_snoc h x [] = refl
-  nest_snoc h x (y ∷ ys) = nest_snoc (max h (nest st y)) x ys
-
-  pub nest_more : {a b : ℕ} (e x : ℕ) (xs : List ℕ) → a ≡ nest_l st 0 xs → e ≡ nest st x → b ≡ max a e → b ≡ nest_l st 0 (xs ++ x ∷ [])
-  nest_more {a} {b} e x xs p q r = r ∙ ap (λ (e : ℕ). max a e) q ∙ ap (λ (a : ℕ). max a (nest st x)) p ∙ sym (nest_snoc 0 x xs)
-
-  pub nest_none : 0 ≡ nest_l st 0 []
-  unfolding nest_l
-  nest_none = refl
+pub nest_fold : (st : List ℕ) (h : ℕ) (xs : List ℕ) → fold (λ a x. max a (nest st x)) h xs ≡ nest_l st h xs
+unfolding nest_l
+nest_fold st h [] = refl
+nest_fold st h (x ∷ xs) = nest_fold st (max h (nest st x)) xs
 
 -- an item that an iterator of a slice gives is of the slice
 turned : (P : ℕ → Type 0) (xs : List (Bor ℕ)) (s t : Iter ℕ) → All P s.rest.now → Yields fronts s xs t → All P t.rest.now
@@ -104,6 +97,12 @@ turned P (x ∷ xs) s t a y = turned P xs y.0 t (subst (All P) y.1 a).1 y.2
 
 pub given_one : (P : ℕ → Type 0) (xs : List (Bor ℕ)) (s t u : Iter ℕ) (x : Bor ℕ) → All P s.rest.now → Yields fronts s xs t → fronts t (Some x) u → P x.now
 given_one P xs s t u x a y e = (subst (All P) e (turned P xs s t a y)).0
+
+-- what a closure may be asked at the items of a slice, from what holds of all of it
+pub served : {F : Type 0} {R : F → Bor ℕ → F → Type 0} {Q : F → Bor ℕ → Type 0} {s : Iter ℕ} {p f : F} {ys : List ℕ} (P : ℕ → Type 0) → s.rest.now ≡ ys → p ≡ f → All P ys → ((x : Bor ℕ) (q : F) → R f x q → q ≡ f) → ((x : Bor ℕ) → P x.now → Q f x) → CallableAtEachTurn fronts R Q s p
+served {F} {R} {Q} {s} {p} {f} P rest is all stays asks =
+    serves_by R (λ xs q. q ≡ f) (λ xs q x w j r. stays x w (subst (λ (h : F). R h x w) j r)) fronts Q s p is
+    (λ xs t q x u y e j. subst (λ (h : F). Q h x) (sym j) (asks x (given_one P xs s t u x (subst (All P) (sym rest) all) y e)))
 
 -- ---- where a search begins
 

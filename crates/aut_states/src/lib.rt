@@ -96,7 +96,7 @@ pub struct Members<'a> {
 fn above_list(list: &[u32]) -> usize
     ensures { result ≡ above_l 0 list.now }
 {
-    list.iter().fold(0, |at, x| at.max(*x as usize + 1))
+    list.iter().max().map_or(0, |x| *x as usize + 1)
 }
 
 impl States<'_> {
@@ -350,12 +350,7 @@ impl States<'_> {
         ensures { Found (M.same_l self.now.words.now members.now.words.now kind list.now)
             self.now.count result }
     {
-        for i in from..self.count {
-            if self.is_at_list(members, i as u32, kind, list) {
-                return Some(i as u32);
-            }
-        }
-        None
+        (from as u32..self.count as u32).find(|i| self.is_at_list(members, *i, kind, list))
     }
 
     // the highest nesting of the list
@@ -363,7 +358,7 @@ impl States<'_> {
         requires { All (λ x. 12 * x + 11 < length self.now.words.now) list.now }
         ensures { result ≡ M.nest_l self.now.words.now 0 list.now }
     {
-        list.iter().fold(0, |h, x| h.max(self.nest_of(*x)))
+        list.iter().map(|x| self.nest_of(*x)).max().unwrap_or(0)
     }
 
     // a list's state at the end of the table, its members at the end of theirs

@@ -39,10 +39,7 @@ within_relations t {x = x} r l m = omega (arith, r (x - 2) (omega arith) false f
 pub record DepthAt (depth : ℕ → ℕ → ℕ) (n h d x : ℕ) : Type 0 where
   pub is : depth n h ≡ d + depth (n - d) x
 
-module _ {depth : ℕ → ℕ → ℕ} {first : ℕ → ℕ} (b : ByFirst depth first) (n h : ℕ) where
-  pub depth_begin : DepthAt depth n h 0 h
-  depth_begin = record { is = ap (λ (k : ℕ). depth k h) {x = n} {y = n - 0} (omega arith) ∙ omega arith }
-
+module _ {depth : ℕ → ℕ → ℕ} {first : ℕ → ℕ} (b : ByFirst depth first) {n h : ℕ} where
   module _ {d x : ℕ} (w : DepthAt depth n h d x) where
     left : d < n → n - d ≡ suc (n - (d + 1))
     left l = omega arith

@@ -63,16 +63,14 @@ module _ (image : List ℕ) (h : Image.Head) (L : Limits) (make : ℕ → ℕ �
 -- what both kinds have: a table that is put in a place stands there, and later tables are ordered
 pub record Lawful (k : Kind) : Type 0 where
   pub at_put : (τ : Table) (p : RunState) → k.at (k.put τ p) ≡ τ
-  pub put_at : (p : RunState) → k.put (k.at p) p ≡ p
   pub put_put : (σ τ : Table) (p : RunState) → k.put τ (k.put σ p) ≡ k.put τ p
-  pub ext_refl : (σ : Table) → k.Ext σ σ
   pub ext_trans : {σ τ υ : Table} → k.Ext σ τ → k.Ext τ υ → k.Ext σ υ
 
 pub packets_lawful : Lawful packets
-packets_lawful = record { at_put = λ τ p. refl; put_at = λ p. refl; put_put = λ σ τ p. refl; ext_refl = SpLaws.ext_refl; ext_trans = SpLaws.ext_trans }
+packets_lawful = record { at_put = λ τ p. refl; put_put = λ σ τ p. refl; ext_trans = SpLaws.ext_trans }
 
 pub relations_lawful : Lawful relations
-relations_lawful = record { at_put = λ τ p. refl; put_at = λ p. refl; put_put = λ σ τ p. refl; ext_refl = SppLaws.ext_refl; ext_trans = SppLaws.ext_trans }
+relations_lawful = record { at_put = λ τ p. refl; put_put = λ σ τ p. refl; ext_trans = SppLaws.ext_trans }
 
 -- the step for record i at word s comes to r and τ, on a place too
 abbrev pub Makes : (k : Kind) (image : List ℕ) (N i s : ℕ) (σ : Table) (r : Result Unit Refusal) (τ : Table) → Type 0
@@ -95,16 +93,7 @@ pub record NodesAt (k : Kind) (image : List ℕ) (N start n : ℕ) (σ₀ : Tabl
       → records image h L (k.make image h L) k.size 0 start n p ≡ records image h L (k.make image h L) k.size i s (n - i) (k.put σ p)
   pub grown : Grown k N σ₀ (max σ₀.count i) σ
 
-module _ {k : Kind} (w : Lawful k) (image : List ℕ) (N start n : ℕ) (σ₀ : Table) where
-  pub nodes_begin : {s : ℕ} → start ≡ s → PreNode k N σ₀ 0 → NodesAt k image N start n σ₀ 0 s σ₀
-  nodes_begin {s} e v = record {
-    is = λ h L p f y.
-        ap (λ (s : ℕ). records image h L (k.make image h L) k.size 0 s n p) e
-        ∙ ap (λ (m : ℕ). records image h L (k.make image h L) k.size 0 s m p) {x = n} {y = n - 0} (omega arith)
-        ∙ ap (records image h L (k.make image h L) k.size 0 s (n - 0)) (sym (w.put_at p) ∙ ap (λ (σ : Table). k.put σ p) y);
-    grown = record { wf = v.wf; ext = w.ext_refl σ₀; count = omega arith };
-  }
-
+module _ {k : Kind} (w : Lawful k) {image : List ℕ} {N start n : ℕ} {σ₀ : Table} where
   module _ {i s : ℕ} {σ : Table} (v : NodesAt k image N start n σ₀ i s σ) where
     module _ (l : i < n) where
       pub nodes_again : {s' : ℕ} {τ : Table} → s + k.size ≡ s' → PostNode k image N i s σ (Ok tt) τ → NodesAt k image N start n σ₀ (i + 1) s' τ

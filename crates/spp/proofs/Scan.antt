@@ -82,31 +82,37 @@ module _ (X : Quad) {a b h : ℕ} (p : a ≡ max (X false false) (X false true))
   pub first_is : {r : ℕ} → r ≡ h - 1 → First X r
   first_is e = record { after = λ i j. omega (arith, all i j); before = λ k m. (high.0, high.1, omega (arith, high.2)) }
 
--- ---- the search: none of the n nodes before i has the children X
-
-abbrev pub NotBefore : List ℕ → Quad → ℕ → ℕ → Type 0
-NotBefore t X n i = (k : ℕ) → k < i → k < n → same t X k ≡ false
+-- ---- the search
 
 skipped : (t : List ℕ) (X : Quad) (n i : ℕ) → i ≤ n → ((k : ℕ) → k < i → same t X k ≡ false) → seek t X 0 n ≡ seek t X i (n - i)
 skipped t X n zero l f = ap (seek t X 0) (omega arith)
 skipped t X n (suc i) l f =
     skipped t X n i (omega arith) (λ k m. f k (omega arith)) ∙ scan_skip t X n i l (f i (omega arith)) ∙ ap (λ (k : ℕ). seek t X k (n - k)) (omega arith)
 
-module _ (t : List ℕ) (X : Quad) (n : ℕ) where
-  pub begins : {r : ℕ} → Rising t n → First X r → NotBefore t X n r
-  begins up f k l m =
-      by_test (same t X k)
-      (λ e. let (i, j, c) = f.before k l in absurd (omega (arith, up k m i j, same_kids t X k e i j)))
-      (λ e. e)
+-- of the n nodes, those before i have others than the children X
+pub record Before (t : List ℕ) (X : Quad) (n i : ℕ) : Type 0 where
+  pub others : (k : ℕ) → k < i → k < n → same t X k ≡ false
+
+-- what a search of the n nodes has found, counted from the node from
+abbrev pub Sought : List ℕ → Quad → ℕ → ℕ → Option ℕ → Type 0
+Sought t X n from o = MatchOption o (seek t X 0 n ≡ n) (λ i. (from + i < n) × (seek t X 0 n ≡ from + i))
+
+module _ {t : List ℕ} {X : Quad} {n : ℕ} where
+  pub begins : {r : ℕ} → Rising t n → First X r → Before t X n r
+  begins up f = record {
+    others = λ k l m. by_test (same t X k)
+        (λ e. let (i, j, c) = f.before k l in absurd (omega (arith, up k m i j, same_kids t X k e i j)))
+        (λ e. e);
+  }
 
   -- r may lie behind the nodes
-  pub behind : {r : ℕ} → NotBefore t X n r → n ≤ r → seek t X 0 n ≡ n
-  behind f l = skipped t X n n (omega arith) (λ k b. f k (omega arith) b) ∙ scan_end t X n
+  pub behind : {r : ℕ} → Before t X n r → n ≤ r → seek t X 0 n ≡ n
+  behind f l = skipped t X n n (omega arith) (λ k b. f.others k (omega arith) b) ∙ scan_end t X n
 
-  further : {r : ℕ} (i : ℕ) → NotBefore t X n r → ((k : ℕ) → r ≤ k → k < i → here X t (4 * k) ≡ false) → NotBefore t X n i
-  further {r} i f h k l m = ⊎_elim (λ b. f k b m) (λ b. here_same X t k ∙ h k b l) (cases_lt k r)
+  further : {r : ℕ} (i : ℕ) → Before t X n r → ((k : ℕ) → r ≤ k → k < i → here X t (4 * k) ≡ false) → Before t X n i
+  further {r} i f h = record { others = λ k l m. ⊎_elim (λ b. f.others k b m) (λ b. here_same X t k ∙ h k b l) (cases_lt k r) }
 
-  pub found : {r : ℕ} → NotBefore t X n r → (o : Option ℕ) → Placed (here X) 4 t r n o → MatchOption o (seek t X 0 n ≡ n) (λ i. (r + i < n) × (seek t X 0 n ≡ r + i))
+  pub found : {r : ℕ} → Before t X n r → (o : Option ℕ) → Placed (here X) 4 t r n o → Sought t X n r o
   found f None p = behind (further n f p) (omega arith)
   found {r} f (Some i) p =
-      (p.0, skipped t X n (r + i) (omega (arith, p.0)) (λ k b. further (r + i) f p.2 k b (omega (arith, p.0))) ∙ scan_hit t X n (r + i) p.0 (here_same X t (r + i) ∙ p.1))
+      (p.0, skipped t X n (r + i) (omega (arith, p.0)) (λ k b. (further (r + i) f p.2).others k b (omega (arith, p.0))) ∙ scan_hit t X n (r + i) p.0 (here_same X t (r + i) ∙ p.1))

@@ -16,16 +16,16 @@ add_last-requires c = chain.add_ready c.requires.0 c.requires.1 c.requires.2 c.i
 
 pub returns-in_err-l-clause-gives : goal.returns-in_err-l-clause-gives
 returns-in_err-l-clause-gives c =
-    chain.not_added c.requires.0 c.requires.1 c.requires.2 c.in_ok-p.ensures.keeps c.in_ok-p.ensures.gives c.in_ok-p.ensures.few _ c.from_residual-in_err-l.ensures (gather.as_state c.args.config.fields c.in_ok-p.p.relation (c.is_zero.ensures c.args.config.fields) c.then_some-relation.ensures (c.in_err-l.ensures.gives c.args.config.fields _))
+    chain.not_added c.requires.0 c.requires.1 c.requires.2 c.in_ok-p.ensures.keeps c.in_ok-p.ensures.gives c.in_ok-p.ensures.few _ c.from_residual-in_err-l.ensures (gather.as_state _ _ (c.is_zero.ensures _) c.then_some-relation.ensures (c.in_err-l.ensures.gives _ _))
 
 pub sorted-r-requires : goal.sorted-r-requires
 sorted-r-requires c =
-    chain.sort_ready c.requires.0 c.requires.1 c.requires.2 c.in_ok-p.ensures.keeps c.in_ok-p.ensures.gives c.in_ok-p.ensures.few (gather.as_state c.args.config.fields c.in_ok-p.p.relation (c.is_zero.ensures c.args.config.fields) c.then_some-relation.ensures (c.in_ok-l.ensures.gives c.args.config.fields _)) c.add_last.auto.scratch
+    chain.sort_ready c.requires.0 c.requires.1 c.requires.2 c.in_ok-p.ensures.keeps c.in_ok-p.ensures.gives c.in_ok-p.ensures.few (gather.as_state _ _ (c.is_zero.ensures _) c.then_some-relation.ensures (c.in_ok-l.ensures.gives _ _)) c.add_last.auto.scratch
 
 pub finish-requires : goal.finish-requires
 finish-requires c =
-    chain.finish_ready c.requires.0 c.requires.1 c.requires.2 c.in_ok-p.ensures.keeps c.in_ok-p.ensures.gives c.in_ok-p.ensures.few (gather.as_state c.args.config.fields c.in_ok-p.p.relation (c.is_zero.ensures c.args.config.fields) c.then_some-relation.ensures (c.in_ok-l.ensures.gives c.args.config.fields _)) c.add_last.auto.scratch c.sorted-r.ensures c.sorted-r.auto.scratch
+    chain.finish_ready c.requires.0 c.requires.1 c.requires.2 c.in_ok-p.ensures.keeps c.in_ok-p.ensures.gives c.in_ok-p.ensures.few (gather.as_state _ _ (c.is_zero.ensures _) c.then_some-relation.ensures (c.in_ok-l.ensures.gives _ _)) c.add_last.auto.scratch c.sorted-r.ensures c.sorted-r.auto.scratch
 
 pub returns-clause-gives : goal.returns-clause-gives
 returns-clause-gives c =
-    chain.done c.requires.0 c.requires.1 c.requires.2 c.in_ok-p.ensures.keeps c.in_ok-p.ensures.gives c.in_ok-p.ensures.few (gather.as_state c.args.config.fields c.in_ok-p.p.relation (c.is_zero.ensures c.args.config.fields) c.then_some-relation.ensures (c.in_ok-l.ensures.gives c.args.config.fields _)) c.add_last.auto.scratch c.sorted-r.ensures c.sorted-r.auto.scratch refl (put_same 448 _ c.sorted-r.new.scratch) c.finish.ensures.gives
+    chain.done c.requires.0 c.requires.1 c.requires.2 c.in_ok-p.ensures.keeps c.in_ok-p.ensures.gives c.in_ok-p.ensures.few (gather.as_state _ _ (c.is_zero.ensures _) c.then_some-relation.ensures (c.in_ok-l.ensures.gives _ _)) c.add_last.auto.scratch c.sorted-r.ensures c.sorted-r.auto.scratch refl (put_same 448 _ c.sorted-r.new.scratch) c.finish.ensures.gives

@@ -7,27 +7,25 @@ use Rattle.slices.proofs.Records.{searched}
 use Rattle.spp.specs.Clauses.{quad_of}
 use Rattle.spp.proofs.Scan as scan
 use Rattle.spp.proofs.SPPstore.find.Goals as goal
+use Rattle.spp.proofs.SPPstore.find.Goals.{After-position}
 
 pub returns-in_err-nodes : goal.returns-in_err-nodes
 returns-in_err-nodes c =
     rw c.from_residual.ensures
-    (scan.behind c.args.self.now.nodes.now (quad_of c.args.x) c.args.self.now.count (scan.begins c.args.self.now.nodes.now (quad_of c.args.x) c.args.self.now.count c.requires.rising c.first-from.ensures) (⊎_elim (λ l. omega (arith, l)) (λ l. omega (arith, l, c.requires.fits)) c.in_err-nodes.ensures.lookup.0))
+    (scan.behind (scan.begins c.requires.rising c.first-from.ensures) (⊎_elim (λ l. omega (arith, l)) (λ l. omega (arith, l, c.requires.fits)) c.in_err-nodes.ensures.lookup.0))
+
+-- what is found is the first of all, counted from the first that it may be
+first : (c : After-position) → scan.Sought c.args.self.now.nodes.now (quad_of c.args.x) c.args.self.now.count c.first-from.result c.position.result
+first c =
+    let u = c.position.ensures.runs in
+    let part = c.in_ok-nodes.ensures.lookup.0 in
+    scan.found (scan.begins c.requires.rising c.first-from.ensures) c.position.result
+    (searched _ _ 4 (scan.here (quad_of c.args.x)) (scan.here_moved (quad_of c.args.x)) (λ x b q k. (search (rules, tests), search (rules, tests))) u.0 c.in_ok-nodes.nodes
+    (ap chunks_exact_size u.1 ∙ c.chunks_exact.ensures.size) (ap chunks_exact_rest u.1 ∙ c.chunks_exact.ensures.rest) (c.chunks_exact.ensures.runs u.0 u.0.seen (search rules))
+    c.position.result u.2 c.args.self.now.nodes.now _ c.args.self.now.count part.2 part.3 (scan.whole part.3))
 
 pub returns-in_err-i : goal.returns-in_err-i
-returns-in_err-i c =
-    let u = c.position.ensures.runs in
-    let part = c.in_ok-nodes.ensures.lookup.0 in
-    let p = searched _ _ 4 (scan.here (quad_of c.args.x)) (scan.here_moved (quad_of c.args.x)) (λ x b q k. (search (rules, tests), search (rules, tests))) u.0 c.in_ok-nodes.nodes
-    (ap chunks_exact_size u.1 ∙ c.chunks_exact.ensures.size) (ap chunks_exact_rest u.1 ∙ c.chunks_exact.ensures.rest) (c.chunks_exact.ensures.runs u.0 u.0.seen (search rules))
-    c.position.result u.2 c.args.self.now.nodes.now _ c.args.self.now.count part.2 part.3 (scan.whole part.3) in
-    let h = rw c.in_err-i.was at (scan.found c.args.self.now.nodes.now (quad_of c.args.x) c.args.self.now.count (scan.begins c.args.self.now.nodes.now (quad_of c.args.x) c.args.self.now.count c.requires.rising c.first-from.ensures) c.position.result p) in
-    rw c.from_residual-in_err-i.ensures h
+returns-in_err-i c = rw c.from_residual-in_err-i.ensures (rw c.in_err-i.was at (first (goal.at.returns-in_err-i c).After-position))
 
 pub returns : goal.returns
-returns c =
-    let u = c.position.ensures.runs in
-    let part = c.in_ok-nodes.ensures.lookup.0 in
-    let p = searched _ _ 4 (scan.here (quad_of c.args.x)) (scan.here_moved (quad_of c.args.x)) (λ x b q k. (search (rules, tests), search (rules, tests))) u.0 c.in_ok-nodes.nodes
-    (ap chunks_exact_size u.1 ∙ c.chunks_exact.ensures.size) (ap chunks_exact_rest u.1 ∙ c.chunks_exact.ensures.rest) (c.chunks_exact.ensures.runs u.0 u.0.seen (search rules))
-    c.position.result u.2 c.args.self.now.nodes.now _ c.args.self.now.count part.2 part.3 (scan.whole part.3) in
-    rw c.in_ok-i.was at (scan.found c.args.self.now.nodes.now (quad_of c.args.x) c.args.self.now.count (scan.begins c.args.self.now.nodes.now (quad_of c.args.x) c.args.self.now.count c.requires.rising c.first-from.ensures) c.position.result p)
+returns c = rw c.in_ok-i.was at (first (goal.at.returns c).After-position)
