@@ -1,22 +1,26 @@
--- Loops that write a column, state by state, and the loop over a stored list.
+-- Loops that write a column, state by state, and the search of a stored list.
 use Rattle.std.specs.Prelude.{if◌then◌else◌}
+use Rattle.std.specs.List.{list_any, range_with_len}
 use mathlib.Core.Path.{◌≡◌, refl, sym, ◌∙◌, ap, ap₂, subst}
 use mathlib.Core.Logic.{inl, inr, ⊎_elim}
-use mathlib.Core.Bool.{Bool, true, false, ◌||◌}
+use mathlib.Core.Bool.{Bool, ◌||◌}
 use mathlib.Core.List.Memᴰ
 use mathlib.Core.List.{List, [], ◌∷◌, Memᴰ}
-use Prim.Native.Nat.{ℕ, zero, suc, ◌+◌, ◌*◌, ◌-◌, ◌≤◌, ◌<◌}
+use Prim.Native.Nat.{ℕ, zero, suc, ◌+◌, ◌*◌, ◌≤◌, ◌<◌}
 use native.Mathlib.Omega.{arith}
 use lib.Dec.{eqb, ltb}
 use lib.ListN.{length, get_or, set}
 use lib.Seq.{get_or-set_same, get_or-set_other}
-use borrow.Author.Tests.{eqb-true, eqb-false, lt-ltb, le-ltb}
+use borrow.Author.Tests.{eqb-true, eqb-false}
 use Rattle.spp_steps.proofs.Laws.{by_test}
 use Rattle.netkat_steps.specs.ListSteps.{Edge}
 use Rattle.aut_st_steps.specs.Edges.{edges}
-use Rattle.aut_st_steps.proofs.Places.{edge_at, edges_on, edges_done}
+use Rattle.aut_st_steps.proofs.Places.{edge_at}
+use Rattle.aut_st_edges.specs.declared.Transition.{Transition}
+use Rattle.aut_st_edges.specs.Clauses.{edge_of}
 use Rattle.aut_st_source.specs.declared.Span.{Span}
 use Rattle.aut_st_source.specs.Stored.{PostFind}
+use Rattle.aut_query_calls.proofs.Listed.{edge_in}
 use Rattle.aut_live_words.specs.Work.{seconds, copy_words}
 use Rattle.aut_live_words.specs.Clauses.{PreKeep}
 use Rattle.aut_live_words.proofs.Words.{seconds_split, seconds_one, seconds_done, second_in, listed_edges, copy_length}
@@ -114,44 +118,25 @@ module _ {ss st st1 st2 : List ℕ} where
 
 -- ---- a stored list
 
--- no target among the first i has a word 11
-pub record Looking (st tr : List ℕ) (start k i : ℕ) : Type 0 where
-  pub is : changed_by st (edges tr start k) ≡ changed_by st (edges tr (start + i) (k - i))
-  pub targets : (e : Edge) → Memᴰ e (edges tr (start + i) (k - i)) → 12 * e.target + 11 < length st
+-- whether the target of record start + i has a word 11
+abbrev pub led_at : List ℕ → List ℕ → ℕ → ℕ → Bool
+led_at st tr start i = ltb 0 (get_or st (12 * get_or tr (2 * (start + i)) 0 + 11) 0)
 
-module _ {st tr : List ℕ} {start k : ℕ} where
-  look_begin : ((e : Edge) → Memᴰ e (edges tr start k) → 12 * e.target + 11 < length st) → Looking st tr start k 0
-  look_begin f = record { is = ap (changed_by st) all; targets = λ e m. f e (subst (λ (es : List Edge). Memᴰ e es) (sym all) m) }
-    where
-      all : edges tr start k ≡ edges tr (start + 0) (k - 0)
-      all = ap₂ (edges tr) {x = start} {y = start + 0} {u = k} {v = k - 0} (omega arith) (omega arith)
+pub led_told : (st tr : List ℕ) (start i : ℕ) {t : Transition} (w : ℕ) (b : Bool) → edge_of t ≡ edge_at tr (start + i) → w ≡ get_or st (12 * t.target + 11) 0 → b ≡ ltb 0 w → b ≡ led_at st tr start i
+led_told st tr start i w b e q p = p ∙ ap (ltb 0) q ∙ ap (λ (e : Edge). ltb 0 (get_or st (12 * e.target + 11) 0)) e
 
-  module _ {i : ℕ} (v : Looking st tr start k i) where
-    abbrev t : ℕ
-    t = get_or tr (2 * (start + i)) 0
-
-    on : (b : Bool) → ltb 0 (get_or st (12 * t + 11) 0) ≡ b → i < k → changed_by st (edges tr start k) ≡ (b || changed_by st (edges tr (start + (i + 1)) (k - (i + 1))))
-    on b q l = v.is ∙ ap (changed_by st) (edges_on tr start k i l) ∙ ap (λ (c : Bool). c || changed_by st (edges tr (start + (i + 1)) (k - (i + 1)))) q
-
-    pub look_target : i < k → 12 * t + 11 < length st
-    look_target l = v.targets (edge_at tr (start + i)) (subst (λ (es : List Edge). Memᴰ (edge_at tr (start + i)) es) (sym (edges_on tr start k i l)) (Memᴰ.head refl))
-
-    pub look_found : i < k → 0 < get_or st (12 * t + 11) 0 → changed_by st (edges tr start k) ≡ true
-    look_found l h = on true (lt-ltb 0 (get_or st (12 * t + 11) 0) h) l
-
-    pub look_again : i < k → get_or st (12 * t + 11) 0 ≤ 0 → Looking st tr start k (i + 1)
-    look_again l h = record {
-      is = on false (le-ltb 0 (get_or st (12 * t + 11) 0) h) l;
-      targets = λ e m. v.targets e (subst (λ (es : List Edge). Memᴰ e es) (sym (edges_on tr start k i l)) (Memᴰ.tail m));
-    }
-
-    pub look_end : k ≤ i → changed_by st (edges tr start k) ≡ false
-    look_end l = v.is ∙ ap (changed_by st) (edges_done tr (start + i) k i l)
+-- to test k records from start + a on is to test their numbers
+pub look_each : (st tr : List ℕ) (start a k : ℕ) → changed_by st (edges tr (start + a) k) ≡ list_any (led_at st tr start) (range_with_len a k)
+unfolding edges
+look_each st tr start a zero = refl
+look_each st tr start a (suc k) =
+    ap (λ (b : Bool). led_at st tr start a || b) (ap (λ (j : ℕ). changed_by st (edges tr j k)) {x = start + a + 1} {y = start + (a + 1)} (omega arith) ∙ look_each st tr start (a + 1) k)
 
 -- of a state's stored list
 module _ {st tr : List ℕ} {x : ℕ} (P : PreChanged st tr x) {list : Span} (F : PostFind st x list) where
-  pub look_post_begin : Looking st tr list.start list.count 0
-  look_post_begin = look_begin (λ e m. P.targets e (subst (λ (es : List Edge). Memᴰ e es) (sym (listed_edges P.listed F)) m))
+  pub look_target : (i : ℕ) → i < list.count → 12 * get_or tr (2 * (list.start + i)) 0 + 11 < length st
+  look_target i l = P.targets (edge_at tr (list.start + i)) (subst (λ (es : List Edge). Memᴰ (edge_at tr (list.start + i)) es) (sym (listed_edges P.listed F)) (edge_in tr list.start list.count i l))
 
-  pub look_post : {b : Bool} → changed_by st (edges tr list.start list.count) ≡ b → PostChanged st tr x b
-  look_post q = sym (ap (changed_by st) (listed_edges P.listed F) ∙ q)
+  pub look_post : {b : Bool} → b ≡ list_any (led_at st tr list.start) (range_with_len 0 list.count) → PostChanged st tr x b
+  look_post q = q ∙ sym (look_each st tr list.start 0 list.count)
+      ∙ ap (λ (j : ℕ). changed_by st (edges tr j list.count)) {x = list.start + 0} {y = list.start} (omega arith) ∙ sym (ap (changed_by st) (listed_edges P.listed F))

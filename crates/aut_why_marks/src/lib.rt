@@ -71,11 +71,5 @@ pub fn changed(aut: &Aut, x: u32) -> bool
     ensures { PostChanged aut.now.states.words.now aut.now.transitions.words.now x result }
 {
     let list = aut_st_source::stored_list(aut, x);
-    for i in 0..list.count {
-        let t = list.get(aut, i);
-        if aut.states.word(t.target, word::MOVED) > 0 {
-            return true;
-        }
-    }
-    false
+    (0..list.count).any(|i| aut.states.word(list.get(aut, i).target, word::MOVED) > 0)
 }

@@ -1,10 +1,11 @@
--- The loops over the n states: whether words 8 and 9 are equal, words 8 to 11 zero again.
+-- Over the n states: whether words 8 and 9 are equal, and the loop that makes words 8 to 11 zero again.
 use Rattle.std.specs.Prelude.{not, if◌then◌else◌}
+use Rattle.std.specs.List.{list_all, range_with_len}
 use Rattle.std.specs.Int.{from_bool}
 use mathlib.Core.Path.{◌≡◌, refl, sym, ◌∙◌, ap}
 use mathlib.Core.Bool.{Bool, true, false, ◌&&◌}
 use mathlib.Core.List.{List}
-use Prim.Native.Nat.{ℕ, ◌+◌, ◌*◌, ◌-◌, ◌≤◌, ◌<◌}
+use Prim.Native.Nat.{ℕ, zero, suc, ◌+◌, ◌*◌, ◌-◌, ◌≤◌, ◌<◌}
 use native.Mathlib.Omega.{arith}
 use lib.Dec.{eqb}
 use lib.ListN.{length, get_or, set, length-set}
@@ -17,42 +18,25 @@ use Rattle.aut_why_words.specs.Words.{same_words, moved_at, zero_words, clear_al
 
 -- ---- same
 
--- i states have equal sets
-pub record Comparing (n : ℕ) (st p : List ℕ) (i : ℕ) : Type 0 where
-  pub is : same_words (seconds p 0 n) st ≡ same_words (seconds p i (n - i)) st
+-- whether the state of entry i has equal sets
+abbrev pub equal_at : List ℕ → List ℕ → ℕ → Bool
+equal_at st p i = eqb (get_or st (12 * get_or p (2 * i + 1) 0 + 8) 0) (get_or st (12 * get_or p (2 * i + 1) 0 + 9) 0)
 
 -- sets that have not moved are equal
-equal_is : (b c : Bool) → from_bool b ≡ (if c then 0 else 1) → c ≡ not b
+equal_is : (b c : Bool) → from_bool b ≡ (if c then 0 else 1) → not b ≡ c
 equal_is true true q = absurd (omega (arith, q))
 equal_is true false q = refl
 equal_is false true q = refl
 equal_is false false q = absurd (omega (arith, q))
 
-module _ {st p : List ℕ} {n : ℕ} where
-  pub same_begin : Comparing n st p 0
-  same_begin = record { is = ap (λ (l : List ℕ). same_words l st) (seconds_all p n) }
+pub equal_told : (st p : List ℕ) (i x : ℕ) (m b : Bool) → x ≡ get_or p (2 * i + 1) 0 → from_bool m ≡ moved_at st x → b ≡ not m → b ≡ equal_at st p i
+equal_told st p i x m b e q r = r ∙ equal_is m (equal_at st p i) (rw e at q)
 
-  module _ {i : ℕ} (v : Comparing n st p i) where
-    module _ (l : i < n) where
-      abbrev x : ℕ
-      x = get_or p (2 * i + 1) 0
-
-      here : same_words (seconds p i (n - i)) st ≡ eqb (get_or st (12 * x + 8) 0) (get_or st (12 * x + 9) 0) && same_words (seconds p (i + 1) (n - (i + 1))) st
-      unfolding same_words
-      here = ap (λ (l : List ℕ). same_words l st) (seconds_on p n i l)
-
-      told : (b : Bool) → from_bool b ≡ moved_at st x → same_words (seconds p 0 n) st ≡ not b && same_words (seconds p (i + 1) (n - (i + 1))) st
-      told b q = v.is ∙ here ∙ ap (λ (c : Bool). c && same_words (seconds p (i + 1) (n - (i + 1))) st) (equal_is b (eqb (get_or st (12 * x + 8) 0) (get_or st (12 * x + 9) 0)) q)
-
-      pub same_not : {b : Bool} → from_bool b ≡ moved_at st x → b ≡ true → same_words (seconds p 0 n) st ≡ false
-      same_not {b} q t = told b q ∙ ap (λ (b : Bool). not b && same_words (seconds p (i + 1) (n - (i + 1))) st) t
-
-      pub same_again : {b : Bool} → from_bool b ≡ moved_at st x → b ≡ false → Comparing n st p (i + 1)
-      same_again {b} q t = record { is = told b q ∙ ap (λ (b : Bool). not b && same_words (seconds p (i + 1) (n - (i + 1))) st) t }
-
-    pub same_end : n ≤ i → same_words (seconds p 0 n) st ≡ true
-    unfolding same_words
-    same_end l = v.is ∙ ap (λ (l : List ℕ). same_words l st) (seconds_done p i n i l)
+-- to test k entries from a on is to test their states
+pub same_each : (st p : List ℕ) (a k : ℕ) → same_words (seconds p a k) st ≡ list_all (equal_at st p) (range_with_len a k)
+unfolding same_words seconds
+same_each st p a zero = refl
+same_each st p a (suc k) = ap (λ (b : Bool). equal_at st p a && b) (same_each st p (a + 1) k)
 
 -- ---- clear
 

@@ -38,12 +38,7 @@ pub fn same_sets(aut: &Aut, n: usize) -> bool
     requires { PreKeep aut.now.states.words.now aut.now.pending.now n }
     ensures { same_words (seconds aut.now.pending.now 0 n) aut.now.states.words.now ≡ result }
 {
-    for i in 0..n {
-        if moved(aut, aut_live_words::state_at(aut, i)) {
-            return false;
-        }
-    }
-    true
+    (0..n).all(|i| !moved(aut, aut_live_words::state_at(aut, i)))
 }
 
 // words BEFORE to MOVED of the n states and the n entries are zero again

@@ -1,4 +1,7 @@
+use Rattle.std.proofs.Common.{rules, refl}
 use native.Mathlib.Omega.{arith}
+use Rattle.std.proofs.lemmas.Iterator.{YieldsList-from_range, serves_from_Range}
+use Rattle.std.proofs.lemmas.Iterator.Search.{any_from_yields_List}
 use Rattle.aut_live_words.proofs.Words.{listed_inside}
 use Rattle.aut_why_words.proofs.Found.{find_listed, got_target}
 use Rattle.aut_why_marks.proofs.Loops as loops
@@ -7,20 +10,16 @@ use Rattle.aut_why_marks.proofs.changed.Goals as goal
 pub stored_list-list-requires : goal.stored_list-list-requires
 stored_list-list-requires c = find_listed c.requires.listed
 
-pub loop-i-init : goal.loop-i-init
-loop-i-init c = loops.look_post_begin c.requires c.stored_list-list.ensures
-
-pub get-t-requires : goal.get-t-requires
-get-t-requires c = omega (arith, listed_inside c.requires.listed c.stored_list-list.ensures, c.loop-i-test.true)
-
-pub word-requires : goal.word-requires
-word-requires c = omega (arith, got_target c.get-t.ensures, loops.look_target c.loop-i.invariant c.loop-i-test.true)
-
-pub returns-then-word-gt0 : goal.returns-then-word-gt0
-returns-then-word-gt0 c = loops.look_post c.requires c.stored_list-list.ensures (loops.look_found c.loop-i.invariant c.loop-i-test.true (rw (c.word.ensures, got_target c.get-t.ensures) at c.if-word-gt0.true))
-
-pub loop-i-preserved : goal.loop-i-preserved
-loop-i-preserved c = loops.look_again c.loop-i.invariant c.loop-i-test.true (rw (c.word.ensures, got_target c.get-t.ensures) at c.if-word-gt0.false)
+pub any-requires-clause-callable : goal.any-requires-clause-callable
+any-requires-clause-callable c =
+    serves_from_Range (λ i q r. search rules) (λ i l u. (
+      λ κ r n e m t s. omega (arith, listed_inside c.requires.listed c.stored_list-list.ensures, u),
+      λ κ r n e m t get s. omega (arith, got_target get.ensures, loops.look_target c.requires c.stored_list-list.ensures i u),
+    ))
 
 pub returns : goal.returns
-returns c = loops.look_post c.requires c.stored_list-list.ensures (loops.look_end c.loop-i.invariant c.loop-i-test.false)
+returns c =
+    let list = c.stored_list-list.result in
+    loops.look_post c.requires c.stored_list-list.ensures
+    (any_from_yields_List (loops.led_at c.args.aut.now.states.words.now c.args.aut.now.transitions.words.now list.start) _ _ c.any.result c.any.ensures.ran (YieldsList-from_range 0 list.count list.count refl (omega arith))
+    (λ i b q k. (search rules, search (rules, loops.led_told))))

@@ -1,14 +1,13 @@
+use Rattle.std.proofs.Common.{rules, refl, sym, ◌∙◌}
+use native.Mathlib.Omega.{arith}
+use Rattle.std.proofs.lemmas.Iterator.{YieldsList-from_range}
+use Rattle.std.proofs.lemmas.Iterator.Search.{all_from_yields_List}
 use Rattle.aut_why_words.proofs.Loops as loops
 use Rattle.aut_why_words.proofs.same_sets.Goals as goal
 
-pub loop-i-init : goal.loop-i-init
-loop-i-init c = loops.same_begin
-
-pub returns-then-moved : goal.returns-then-moved
-returns-then-moved c = loops.same_not c.loop-i.invariant c.loop-i-test.true (rw c.state_at.ensures at c.moved.ensures) c.if-moved.true
-
-pub loop-i-preserved : goal.loop-i-preserved
-loop-i-preserved c = loops.same_again c.loop-i.invariant c.loop-i-test.true (rw c.state_at.ensures at c.moved.ensures) c.if-moved.false
-
 pub returns : goal.returns
-returns c = loops.same_end c.loop-i.invariant c.loop-i-test.false
+returns c =
+    let st = c.args.aut.now.states.words.now in
+    let p = c.args.aut.now.pending.now in
+    loops.same_each st p 0 c.args.n
+    ∙ sym (all_from_yields_List (loops.equal_at st p) _ _ c.all.result c.all.ensures.ran (YieldsList-from_range 0 c.args.n c.args.n refl (omega arith)) (λ x b q k. (search rules, search (rules, loops.equal_told))))
