@@ -44,7 +44,7 @@ use Rattle.aut_st_source.specs.declared.Source.{Source}
 use Rattle.aut_st_source.specs.declared.Span.{Span}
 use Rattle.aut_st_source.specs.Clauses.{stored, Walked, source_of}
 use Rattle.aut_st_source.specs.Stored.{PreFind, PostFind}
-use Rattle.aut_st_ops.specs.Asked.{TwoAsked}
+use Rattle.aut_delta_lists.specs.Asked.{TwoAsked}
 use Rattle.aut_delta_lists.specs.Asked.{OneAsked}
 use Rattle.aut_delta_stage.specs.OnTables.{store_in}
 use Rattle.aut_delta_many.specs.Clauses.{lists_at}

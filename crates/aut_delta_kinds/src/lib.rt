@@ -38,8 +38,8 @@ fn together_two(aut: &mut Aut, config: Config, x: u32) -> Result<usize, Refusal>
     let one = stored_list(aut, a);
     let two = stored_list(aut, b);
     match aut.states.kind(x) {
-        kind::XOR => aut_st_xor::st_xor(aut, config, one, two),
-        kind::DIFFERENCE => aut_st_ops::st_difference(aut, config, one.source(), two.source()),
+        kind::XOR => aut_delta_lists::st_xor(aut, config, one, two),
+        kind::DIFFERENCE => aut_delta_lists::st_difference(aut, config, one.source(), two.source()),
         kind::UNTIL => aut_delta_lists::until_list(aut, config, a, b, one, two),
         _ => {
             let e = aut_epsilon::value(&aut.states, a);

@@ -8,6 +8,7 @@ use Rattle.aut_st_source.specs.declared.Source.{Source}
 use Rattle.aut_st_source.specs.declared.Span.{Span}
 use Rattle.aut_st_source.specs.Clauses.{stored, Walked}
 pub use Rattle.aut_st_each.specs.Asked.{OneAsked}
+pub use Rattle.aut_st_ops.specs.Asked.{TwoAsked}
 
 -- a list that is walked
 abbrev pub Lists : Config → Lent → Source → Type 0

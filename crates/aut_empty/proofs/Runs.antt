@@ -42,8 +42,8 @@ use Rattle.aut_empty_words.proofs.Stacks.{entries_pop, entries_none, entries_put
 use Rattle.aut_empty_turn.specs.Clauses.{search_in}
 use Rattle.aut_empty_turn.specs.Clauses.{Over, SeekingIn, turn_of}
 use Rattle.aut_empty_turn.specs.Clauses.{TurnAsked, Turns}
-use Rattle.aut_empty.specs.declared.Verdict.{Verdict}
-use Rattle.aut_empty.specs.declared.Verdict.TheVariants as verdict
+use Rattle.verdict.specs.declared.Verdict.{Verdict}
+use Rattle.verdict.specs.declared.Verdict.TheVariants as verdict
 use Rattle.aut_empty.specs.Clauses.{verdict_of, Empties}
 use Rattle.aut_empty.specs.Parts.{Searches}
 

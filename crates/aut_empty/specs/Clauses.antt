@@ -1,19 +1,13 @@
 -- 01, "The book and its answers" and demand 3: what the search in code promises.
 use Rattle.std.specs.Prelude.{ℕ, ◌/◌, length, Result}
 use Rattle.refusal.specs.declared.Refusal.{Refusal}
-use Rattle.netkat.specs.Search as Plain
 use Rattle.aut_query_steps.specs.Search.{is_empty}
 use Rattle.aut_query_stage.specs.Lent.{tables_in, GoesQuery}
 use Rattle.aut_states.specs.Clauses.{limits_of}
 use Rattle.aut_states.specs.declared.Config.{Config}
 use Rattle.aut_relations.specs.declared.Aut.{Aut as Lent}
-use Rattle.aut_empty.specs.declared.Verdict.{Verdict}
-use Rattle.aut_empty.specs.declared.Verdict.TheVariants as verdict
-
-abbrev pub verdict_of : Verdict → Plain.Verdict
-verdict_of verdict.Yes = Plain.yes
-verdict_of verdict.No = Plain.no
-verdict_of verdict.Spent = Plain.spent
+use Rattle.verdict.specs.declared.Verdict.{Verdict}
+pub use Rattle.verdict.specs.Verdict.{verdict_of}
 
 -- the search has been done: the verdict and the pairs taken; unless refused, the tables are in order
 abbrev pub Empties : Config → (budget i : ℕ) → Lent → Result (Verdict × ℕ) Refusal → Lent → Type 0

@@ -9,7 +9,7 @@ use Rattle.aut_query_calls.specs.Working.{clear_in}
 use Rattle.aut_empty_words.specs.Words.{entries_of, seen_in}
 use Rattle.aut_empty_turn.specs.Clauses.{search_in}
 use Rattle.aut_empty_turn.specs.Clauses.{Over}
-use Rattle.aut_empty.specs.declared.Verdict.{Verdict}
+use Rattle.verdict.specs.declared.Verdict.{Verdict}
 use Rattle.aut_empty.specs.Clauses.{verdict_of}
 
 -- the verdict, the pairs taken, and the pending entries that are left

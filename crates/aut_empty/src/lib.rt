@@ -13,13 +13,7 @@ use aut_empty_words::Entry;
 use aut_relations::Aut;
 use aut_states::Config;
 use refusal::Refusal;
-
-#[derive(Clone, Copy)]
-pub enum Verdict {
-    Yes,
-    No,
-    Spent,
-}
+pub use verdict::Verdict;
 
 // pairs are taken while there are any and the budget lasts: the verdict, the pairs taken, and the pending entries that are left
 fn search(

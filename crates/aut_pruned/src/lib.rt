@@ -11,6 +11,7 @@ ghost use Rattle.aut_sets.specs.Lent.{OnlyScratch, SameLent};
 ghost use Rattle.aut_query_calls.specs.Working.{RelIn};
 ghost use Rattle.aut_pruned.specs.Clauses.{Prunes, PrunesAll, ViableAsked, PreKeep, PostKeep, PruneAsked};
 
+pub use aut_live::live_packets;
 use aut_relations::Aut;
 use aut_st_edges::Transition;
 use aut_states::{Config, word};

@@ -31,14 +31,14 @@ use Rattle.aut_replay.proofs.Lists.{enter_as}
 -- ---- following a step under two limits
 
 module _ {S A : Type 0} where
-  carry_same : (m : Step S A) → Carried m m
+  pub carry_same : (m : Step S A) → Carried m m
   carry_same m σ = same
 
-  carry_if : (b : Bool) {o o' p p' : Outcome S A} → Carries o p → Carries o' p' → Carries (if b then o else o') (if b then p else p')
+  pub carry_if : (b : Bool) {o o' p p' : Outcome S A} → Carries o p → Carries o' p' → Carries (if b then o else o') (if b then p else p')
   carry_if true y n = y
   carry_if false y n = n
 
-  carry_test : (b : Bool) (m k m' k' : Step S A) → Carried m m' → Carried k k' → Carried (if b then m else k) (if b then m' else k')
+  pub carry_test : (b : Bool) (m k m' k' : Step S A) → Carried m m' → Carried k k' → Carried (if b then m else k) (if b then m' else k')
   carry_test true m k m' k' y n = y
   carry_test false m k m' k' y n = n
 
@@ -58,10 +58,10 @@ module _ {S A B : Type 0} where
   carry_then (refused number) k j f = same
   carry_then (given σ a) k j f = f a σ
 
-  carry_bind : {m m' : Step S A} {k j : A → Step S B} → Carried m m' → ((a : A) → Carried (k a) (j a)) → Carried (m >>= k) (m' >>= j)
+  pub carry_bind : {m m' : Step S A} {k j : A → Step S B} → Carried m m' → ((a : A) → Carried (k a) (j a)) → Carried (m >>= k) (m' >>= j)
   carry_bind {m} {m'} {k} {j} h f σ = carry_after (m σ) (m' σ) k j (h σ) f
 
-carry_placed : {S B A : Type 0} (put : S → B → B) (β : B) (o p : Outcome S A) → Carries o p → Carries (placed put β o) (placed put β p)
+pub carry_placed : {S B A : Type 0} (put : S → B → B) (β : B) (o p : Outcome S A) → Carries o p → Carries (placed put β o) (placed put β p)
 carry_placed put β _ p (lifted n) = lifted n
 carry_placed put β o _ same = same
 
@@ -71,7 +71,7 @@ on_states_lem {c = c} {d = d} h σ = carry_placed put_states σ (c σ.states) (d
 on_exprs_lem : {A : Type 0} {c d : Step Exprs A} → Carried c d → Carried (on_exprs c) (on_exprs d)
 on_exprs_lem {c = c} {d = d} h σ = carry_placed put_exprs σ (c _) (d _) (h _)
 
-on_aut_lem : {A : Type 0} {c d : Step Aut A} → Carried c d → Carried (on_aut c) (on_aut d)
+pub on_aut_lem : {A : Type 0} {c d : Step Aut A} → Carried c d → Carried (on_aut c) (on_aut d)
 on_aut_lem {c = c} {d = d} h σ = carry_placed put_aut σ (c σ.aut) (d σ.aut) (h σ.aut)
 
 ltb_less : (a b e : ℕ) → a ≤ b → ltb b e ≡ true → ltb a e ≡ true

@@ -39,8 +39,8 @@ use Rattle.aut_query_calls.specs.Working.{SetIn}
 use Rattle.aut_query_calls.proofs.Calls.{leaves_sets, leaves_counts}
 use Rattle.aut_pruned.specs.Clauses.{Prunes}
 use Rattle.sp.specs.declared.SP.{SP}
-use Rattle.book_writer.specs.declared.Output.{Output}
-use Rattle.book_writer.specs.Clauses.{Fits, Answers}
+use Rattle.book_writer.specs.declared.output.Output.{Output}
+use Rattle.book_writer.specs.Clauses.{Answers}
 use Rattle.book_writer.proofs.Contracts.{put_take}
 use Rattle.book_memory.specs.declared.Setting.{Setting}
 use Rattle.book_pruned.specs.Clauses.{told, PrePairs, PostPruned}
@@ -55,39 +55,38 @@ module _ (S : Setting) (q : Reader.Query) (name : List ℕ) (x : ℕ) (a : Lent)
   pub ask_refused : {b : Lent} {e : Refusal} → asks ≡ refused (number_of e) → PostAsk S q name x (Err e) a b o o
   ask_refused e = record { is = λ lines. ap (after_asking (setting_with S a o) (place_with lines a o)) e; then = refl }
 
-  module _ (l : Fits o) where
-    size : (bs : List ℕ) → length (take o.at o.bytes.now ++ bs) ≡ o.at + length bs
-    size bs = length-append (take o.at o.bytes.now) bs ∙ ap (λ (k : ℕ). k + length bs) (length-take-le o.at o.bytes.now l)
+  size : (bs : List ℕ) → length (take o.at o.bytes.now ++ bs) ≡ o.at + length bs
+  size bs = length-append (take o.at o.bytes.now) bs ∙ ap (λ (k : ℕ). k + length bs) (length-take-le o.at o.bytes.now o.fits)
 
-    module _ {τ : Tables} {bs : List ℕ} (e : asks ≡ given τ bs) where
-      asking : (lines : List (Option ℕ)) {b : Bool} → leb (length (take o.at o.bytes.now ++ bs)) (length o.bytes.now) ≡ b
-          → after_asking (setting_with S a o) (place_with lines a o) asks ≡ (if b then given (record { tables = τ; lines = lines ++ none ∷ []; output = take o.at o.bytes.now ++ bs }) 0 else refused 27)
-      asking lines f =
-          ap (after_asking (setting_with S a o) (place_with lines a o)) e
-          ∙ ap (λ (b : Bool). if b then given (record { tables = τ; lines = lines ++ none ∷ []; output = take o.at o.bytes.now ++ bs }) 0 else refused 27) f
+  module _ {τ : Tables} {bs : List ℕ} (e : asks ≡ given τ bs) where
+    asking : (lines : List (Option ℕ)) {b : Bool} → leb (length (take o.at o.bytes.now ++ bs)) (length o.bytes.now) ≡ b
+        → after_asking (setting_with S a o) (place_with lines a o) asks ≡ (if b then given (record { tables = τ; lines = lines ++ none ∷ []; output = take o.at o.bytes.now ++ bs }) 0 else refused 27)
+    asking lines f =
+        ap (after_asking (setting_with S a o) (place_with lines a o)) e
+        ∙ ap (λ (b : Bool). if b then given (record { tables = τ; lines = lines ++ none ∷ []; output = take o.at o.bytes.now ++ bs }) 0 else refused 27) f
 
-      pub ask_full : {b : Lent} {o' : Output} {r : Refusal} → (r ≡ refusals.Output) × (length o.bytes.now < o.at + length bs) × (o' ≡ o) → PostAsk S q name x (Err r) a b o o'
-      ask_full {r = r} (k, m, w) = record {
-        is = λ lines. asking lines (lt-leb (length (take o.at o.bytes.now ++ bs)) (length o.bytes.now) (omega (arith, size bs))) ∙ ap (λ (r : Refusal). refused (number_of r)) (sym k);
-        then = w;
-      }
-
-    -- the answer is written, or there is no room for it
-    pub ask_told : {b : Lent} {bs : List ℕ} → asks ≡ given (tables_in b) bs → ExtTables (tables_in a) (tables_in b) → QueryReady S.config.fields S.config.limits (tables_in b) b.scratch.now → Zeroed b.pending.now
-        → {o' : Output} (r : Result Unit Refusal) → Answers bs o r o' → PostAsk S q name x r a b o o'
-    ask_told {b} {bs} e w R z {o'} (Ok t) u = record {
-      is = λ lines. asking e lines (le-leb (length (take o.at o.bytes.now ++ bs)) (length o.bytes.now) (omega (arith, size bs, u.behind, u.room))) ∙ ap (λ (v : List ℕ). given (record { tables = tables_in b; lines = lines ++ none ∷ []; output = v }) 0) (sym (put_take u));
-      then = record {
-        later = w;
-        ready = R;
-        pending = z;
-        from = omega (arith, u.behind);
-        to = u.room;
-        len = u.wrote.len;
-        beyond = λ i m. u.wrote.above i (omega (arith, u.behind));
-      };
+    pub ask_full : {b : Lent} {o' : Output} {r : Refusal} → (r ≡ refusals.Output) × (length o.bytes.now < o.at + length bs) × (o' ≡ o) → PostAsk S q name x (Err r) a b o o'
+    ask_full {r = r} (k, m, w) = record {
+      is = λ lines. asking lines (lt-leb (length (take o.at o.bytes.now ++ bs)) (length o.bytes.now) (omega (arith, size bs))) ∙ ap (λ (r : Refusal). refused (number_of r)) (sym k);
+      then = w;
     }
-    ask_told e w R z (Err r) u = ask_full e u
+
+  -- the answer is written, or there is no room for it
+  pub ask_told : {b : Lent} {bs : List ℕ} → asks ≡ given (tables_in b) bs → ExtTables (tables_in a) (tables_in b) → QueryReady S.config.fields S.config.limits (tables_in b) b.scratch.now → Zeroed b.pending.now
+      → {o' : Output} (r : Result Unit Refusal) → Answers bs o r o' → PostAsk S q name x r a b o o'
+  ask_told {b} {bs} e w R z {o'} (Ok t) u = record {
+    is = λ lines. asking e lines (le-leb (length (take o.at o.bytes.now ++ bs)) (length o.bytes.now) (omega (arith, size bs, u.behind, u.room))) ∙ ap (λ (v : List ℕ). given (record { tables = tables_in b; lines = lines ++ none ∷ []; output = v }) 0) (sym (put_take u));
+    then = record {
+      later = w;
+      ready = R;
+      pending = z;
+      from = omega (arith, u.behind);
+      to = u.room;
+      len = u.wrote.len;
+      beyond = λ i m. u.wrote.above i (omega (arith, u.behind));
+    };
+  }
+  ask_told e w R z (Err r) u = ask_full e u
 
 -- ---- scratch alone was written
 
@@ -102,12 +101,12 @@ module _ {a b : Lent} (k : OnlyScratch a b) where
   pub ready_still : {N : ℕ} {l : Limits} → QueryReady N l (tables_in a) a.scratch.now → Leaves N 0 0 (tables_in a) a.scratch.now b.scratch.now → QueryReady N l (tables_in b) b.scratch.now
   ready_still {N} {l} R p = subst (λ (σ : Tables). QueryReady N l σ b.scratch.now) (sym tables_same) (query_ready R (later_refl (tables_in a)) R.ordered p k.scratch.length)
 
-  module _ (S : Setting) (q : Reader.Query) (name : List ℕ) (x : ℕ) (before : Lent) (o : Output) (l : Fits o) where
+  module _ (S : Setting) (q : Reader.Query) (name : List ℕ) (x : ℕ) (before : Lent) (o : Output) where
     -- a query whose answer was written with scratch alone
     pub ask_beside : {bs : List ℕ} → asks S q name x before o ≡ given (tables_in a) bs → ExtTables (tables_in before) (tables_in a) → QueryReady S.config.fields S.config.limits (tables_in a) a.scratch.now → Zeroed a.pending.now
         → Leaves S.config.fields 0 0 (tables_in a) a.scratch.now b.scratch.now → {o' : Output} (r : Result Unit Refusal) → Answers bs o r o' → PostAsk S q name x r before b o o'
     ask_beside {bs} e w R z p r u =
-        ask_told S q name x before o l (e ∙ ap (λ (σ : Tables). given σ bs) (sym tables_same)) (subst (ExtTables (tables_in before)) (sym tables_same) w) (ready_still R p) (pending_same z) r u
+        ask_told S q name x before o (e ∙ ap (λ (σ : Tables). given σ bs) (sym tables_same)) (subst (ExtTables (tables_in before)) (sym tables_same) w) (ready_still R p) (pending_same z) r u
 
 -- ---- `live`
 
@@ -135,8 +134,8 @@ module _ (S : Setting) (x : ℕ) {a b : Lent} where
       live_is name o = ap (tells_live S.config.fields name) G.post.is ∙ ap (λ (n : ℕ). given (tables_in b) (live_answer S.config.fields name n)) (sym Z.is)
 
     pub live_told : {k : ℕ} {d : Lent} → PostSize S.config.fields (sets_in b) h.0 k b.scratch.now d.scratch.now → OnlyScratch b d → Zeroed b.pending.now
-        → {name : List ℕ} {o : Output} → Fits o → {o' : Output} (r : Result Unit Refusal) → Answers (live_answer S.config.fields name k) o r o' → PostAsk S Reader.live name x r a d o o'
-    live_told Z K z {name} {o} l r u = ask_beside K S Reader.live name x a o l (live_is Z name o) G.post.then.ext G.post.then.ready z (leaves_sets (tables_in b) Z.left) r u
+        → {name : List ℕ} {o o' : Output} (r : Result Unit Refusal) → Answers (live_answer S.config.fields name k) o r o' → PostAsk S Reader.live name x r a d o o'
+    live_told Z K z {name} {o} r u = ask_beside K S Reader.live name x a o (live_is Z name o) G.post.then.ext G.post.then.ready z (leaves_sets (tables_in b) Z.left) r u
 
 -- ---- `pruned`
 
@@ -160,6 +159,6 @@ module _ (S : Setting) (x : ℕ) {a b : Lent} where
           labels = λ i l. (edge_at_lem b.scratch.now RESULT m i l G.post.then.holds.edges).relation;
         }
 
-    pub pruned_told : {d : Lent} → OnlyScratch b d → Zeroed b.pending.now → {name : List ℕ} {o : Output} → Fits o → {o' : Output} (r : Result Unit Refusal) → PostPruned S.config.fields (nodes_in b) name m r b.scratch.now d.scratch.now o o'
+    pub pruned_told : {d : Lent} → OnlyScratch b d → Zeroed b.pending.now → {name : List ℕ} {o o' : Output} (r : Result Unit Refusal) → PostPruned S.config.fields (nodes_in b) name m r b.scratch.now d.scratch.now o o'
         → PostAsk S Reader.pruned name x r a d o o'
-    pruned_told K z {name} {o} l r Z = ask_beside K S Reader.pruned name x a o l (ap (tells_pruned S.config.fields name) G.post.is) G.post.then.ext G.post.then.ready z (leaves_counts (tables_in b) Z.left) r Z.answers
+    pruned_told K z {name} {o} r Z = ask_beside K S Reader.pruned name x a o (ap (tells_pruned S.config.fields name) G.post.is) G.post.then.ext G.post.then.ready z (leaves_counts (tables_in b) Z.left) r Z.answers

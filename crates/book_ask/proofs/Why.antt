@@ -32,8 +32,7 @@ use Rattle.aut_why.specs.Clauses.{as_rounds, WhyAt}
 use Rattle.book_why.specs.Clauses.{AnsweringIn, PreAnswer, WhyAnswered, PostAnswer}
 use Rattle.book_steps.specs.Answers.{why_answer}
 use Rattle.book_steps.specs.Reader as Reader
-use Rattle.book_writer.specs.declared.Output.{Output}
-use Rattle.book_writer.specs.Clauses.{Fits}
+use Rattle.book_writer.specs.declared.output.Output.{Output}
 use Rattle.book_memory.specs.declared.Setting.{Setting}
 use Rattle.book_ask.specs.Clauses.{PostWhy}
 use Rattle.book_ask.proofs.Join.{asks, ask_refused, ask_full, ask_told}
@@ -84,8 +83,8 @@ module _ (S : Setting) (x : ℕ) {a b : Lent} where
       most = subst (λ (f : code.Option ℕ). IfSome f (λ k. k ≤ 2 ^ 55)) (sym A.why.hops) (most (fewest N x 0 A.sets) refl);
     }
 
-    pub why_asks : {o : Output} → Fits o → PreAnswer S.config b o n f x
-    why_asks l = record { rounds = A.sets; answering = why_answering; room = l }
+    pub why_asks : PreAnswer S.config b n f x
+    why_asks = record { rounds = A.sets; answering = why_answering }
 
     -- ---- the answer
 
@@ -102,8 +101,8 @@ module _ (S : Setting) (x : ℕ) {a b : Lent} where
       pub why_keeps : PreKeep c.states.words.now c.pending.now n
       why_keeps = walk_keeps answered.standing.walk
 
-    pub why_full : {o : Output} {e : Refusal} {c : Lent} {o' : Output} → PostAnswer S.config n f x b o (Err e) c o' → Fits o → PostWhy S x (Err e) a c o o'
-    why_full {o} B l name = ask_full S Reader.why name x a o l (why_is name o) (answered B).answers
+    pub why_full : {o : Output} {e : Refusal} {c : Lent} {o' : Output} → PostAnswer S.config n f x b o (Err e) c o' → PostWhy S x (Err e) a c o o'
+    why_full {o} B name = ask_full S Reader.why name x a o (why_is name o) (answered B).answers
 
     module _ {o : Output} {u : Unit} {c : Lent} {o' : Output} (B : PostAnswer S.config n f x b o (Ok u) c o') {d : Lent} (K : OnlyMarks c d) (E : PostClear n c.states.words.now c.pending.now d.states.words.now d.pending.now) where
       cleared : tables_in d ≡ clear_in c
@@ -115,5 +114,5 @@ module _ (S : Setting) (x : ℕ) {a b : Lent} where
       ready : QueryReady N S.config.limits (tables_in d) d.scratch.now
       ready = subst (λ (τ : Tables). QueryReady N S.config.limits τ d.scratch.now) (sym cleared) (rw K.scratch (answered B).standing.walk.working.ready)
 
-      pub why_told : Fits o → PostWhy S x (Ok u) a d o o'
-      why_told l name = ask_told S Reader.why name x a o l (why_is name o ∙ ap (λ (τ : Tables). given τ told) (sym rests)) (subst (ExtTables (tables_in a)) (sym rests) A.post.then.ext) ready (walk_zeroed (answered B).standing.walk E) (Ok u) (answered B).answers
+      pub why_told : PostWhy S x (Ok u) a d o o'
+      why_told name = ask_told S Reader.why name x a o (why_is name o ∙ ap (λ (τ : Tables). given τ told) (sym rests)) (subst (ExtTables (tables_in a)) (sym rests) A.post.then.ext) ready (walk_zeroed (answered B).standing.walk E) (Ok u) (answered B).answers

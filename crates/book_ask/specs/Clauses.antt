@@ -11,16 +11,10 @@ use Rattle.book_steps.specs.Run as Run
 use Rattle.book_steps.specs.Run.{RunState, place, query, after_asking}
 use Rattle.aut_relations.specs.declared.Aut.{Aut as Lent}
 use Rattle.aut_query_stage.specs.Layer.{QueryReady, Zeroed}
-use Rattle.aut_query_stage.specs.Lent.{tables_in, QueryAsked}
-use Rattle.book_writer.specs.declared.Output.{Output}
-use Rattle.book_writer.specs.Clauses.{Fits}
+use Rattle.aut_query_stage.specs.Lent.{tables_in}
+use Rattle.book_writer.specs.declared.output.Output.{Output}
 use Rattle.book_memory.specs.declared.Setting.{Setting}
 use Rattle.book_memory.specs.Place.{setting_of}
-
--- tables, scratch and pending entries as a query finds them, and what is written of the output is lent
-pub record PreAsk (S : Setting) (a : Lent) (o : Output) (x : ℕ) : Type 0 where
-  pub query : QueryAsked S.config a x
-  pub room : Fits o
 
 -- the setting in the words of the steps
 abbrev pub setting_with : Setting → Lent → Output → Run.Setting

@@ -5,7 +5,8 @@ ghost use Rattle.std.specs.Prelude.{◌≡◌};
 ghost use Rattle.slices.specs.Same.{SameSlice};
 ghost use Rattle.book_steps.specs.Reader as Reader;
 ghost use Rattle.aut_sets.specs.Lent.{SameLent};
-ghost use Rattle.book_ask.specs.Clauses.{PreAsk, PostAsk, PostWhy};
+ghost use Rattle.aut_query_stage.specs.Lent.{QueryAsked};
+ghost use Rattle.book_ask.specs.Clauses.{PostAsk, PostWhy};
 
 use aut_relations::Aut;
 use book_memory::Setting;
@@ -19,13 +20,13 @@ pub fn ask_live(
     name: &[u8],
     x: u32,
 ) -> Result<(), Refusal>
-    requires { PreAsk setting aut.old out.old x }
+    requires { QueryAsked setting.config aut.old x }
     ensures keeps { SameLent aut.old aut.new }
     ensures bytes { SameSlice out.old.bytes out.new.bytes }
     ensures asked { PostAsk setting Reader.live name.now x result aut.old aut.new out.old out.new }
 {
     let config = setting.config;
-    let live = aut_live::live_packets(aut, config, x)?;
+    let live = aut_pruned::live_packets(aut, config, x)?;
     let k = aut_sets::size(aut, config, live);
     out.live_answer(name, k, config.fields)
 }
@@ -37,7 +38,7 @@ pub fn ask_pruned(
     name: &[u8],
     x: u32,
 ) -> Result<(), Refusal>
-    requires { PreAsk setting aut.old out.old x }
+    requires { QueryAsked setting.config aut.old x }
     ensures keeps { SameLent aut.old aut.new }
     ensures bytes { SameSlice out.old.bytes out.new.bytes }
     ensures asked { PostAsk setting Reader.pruned name.now x result aut.old aut.new out.old out.new }
@@ -49,7 +50,7 @@ pub fn ask_pruned(
 
 // the answer does not print the name of the line
 pub fn ask_why(aut: &mut Aut, setting: Setting, out: &mut Output, x: u32) -> Result<(), Refusal>
-    requires { PreAsk setting aut.old out.old x }
+    requires { QueryAsked setting.config aut.old x }
     ensures keeps { SameLent aut.old aut.new }
     ensures bytes { SameSlice out.old.bytes out.new.bytes }
     ensures asked { PostWhy setting x result aut.old aut.new out.old out.new }

@@ -30,7 +30,7 @@ use Rattle.book_steps.specs.Reader as Reader
 use Rattle.book_steps.specs.Run as Run
 use Rattle.book_steps.specs.Run.{Lent, zeroed, place}
 use Rattle.book_writer.specs.Clauses.{Answers}
-use Rattle.book_writer.specs.declared.Output.{Output}
+use Rattle.book_writer.specs.declared.output.Output.{Output}
 use Rattle.book_writer.proofs.Contracts.{put_take}
 use Rattle.book_memory.specs.declared.Place.{Place}
 use Rattle.book_memory.specs.Place.{LINES, Standing, lines_in, lengths_of}
@@ -70,7 +70,7 @@ module _ (h : Header) (x : Place) (P : PreBegin h x) where
       ∙ begun_line L (header_of h) (Sp.constants h.fields (table (zeroed L.sp) 0)) (Spp.constants h.fields (table (zeroed L.spp) 0))
       ∙ ap (with_line L h.fields) e
 
-  module _ {y : Place} (K : OnlyNodes x y) where
+  module _ {y : Place} (K : OnlyNodes h.fields x y) where
     pub begin_not : {e : Refusal} → PostConstants h.fields x (code.Err e) y → PostBegin h x (code.Err e) y
     begin_not C = record { is = begin_by C.is; then = K.output }
 
@@ -88,24 +88,23 @@ module _ (h : Header) (x : Place) (P : PreBegin h x) where
       none : lines_in y ≡ []
       none = rw K.lines (no_lines x.lines.words.now P.empty.no_lines)
 
-      standing : o.at ≤ length o.bytes.now → length x.lines.words.now ≡ LINES → LISTS ≤ length x.aut.scratch.now → Standing (setting_for h) z
-      standing fit len room =
+      standing : length x.lines.words.now ≡ LINES → LISTS ≤ length x.aut.scratch.now → Standing (setting_for h) z
+      standing len room =
           let s : Sound (Readable h.fields (tables_in y.aut)) (cached x.aut.scratch.now) = sound_zero (readable_zero h.fields (tables_in y.aut)) (λ i k. get_or-drop LISTS x.aut.scratch.now i 0 ∙ own_zeros P.empty.scratch (LISTS + i)) in
           let w : QueryReady h.fields limits (tables_in y.aut) x.aut.scratch.now = record {
             ready = record { few = P.few; good = C.then.tables.worked.good; room = room; sound = sound_map (λ op x y r v. v.relations) s; list = omega arith; products = omega arith };
             ordered = C.then.tables;
             limit = omega arith;
             sound = s;
-            resting = rw K.states (λ x' w k m. own_zeros P.empty.states (12 * x' + w));
+            resting = rw K.aut.states (λ x' w k m. own_zeros P.empty.states (12 * x' + w));
           } in
           record {
             fields = C.then.fields;
-            ready = rw K.scratch w;
-            pending = rw K.pending (own_zeros P.empty.pending);
+            ready = rw K.aut.scratch w;
+            pending = rw K.aut.pending (own_zeros P.empty.pending);
             table = rw K.lines len;
             lines = let e : y.lines.count ≡ 0 = rw K.lines P.empty.no_lines in omega arith;
             named = rw none (λ i x g. absurd (cc));
-            written = fit;
           }
 
       pub begin_said : (q : code.Result Unit Refusal) → Answers (fields_answer h.fields) y.output q o → PostBegin h x q z
@@ -116,8 +115,8 @@ module _ (h : Header) (x : Place) (P : PreBegin h x) where
                 ∙ ap₂ (λ (ls : List (Option ℕ)) (bs : List ℕ). given (place (tables_in y.aut) ls bs) 0) (sym none)
                 (sym (put_take told ∙ ap (λ (n : ℕ). take n x.output.bytes.now ++ fields_answer h.fields) P.empty.no_output));
             then = record {
-              standing = standing (omega (arith, told.room, told.wrote.len));
-              pending = K.pending;
+              standing = standing;
+              pending = K.aut.pending;
               table = K.lines;
               bytes = told.wrote.len;
               onto = record { from = omega (arith, told.behind); beyond = λ j l. told.wrote.above j (omega (arith, told.behind)) };

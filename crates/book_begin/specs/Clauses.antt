@@ -1,5 +1,5 @@
 -- 01, "Lent tables" ("Every table is zeroed first") and "The book and its answers" (the first line), with the limits of "Who can cause a refusal": what zeroing and the beginning of a run ask and promise.
-use Rattle.std.specs.Prelude.{◌≡◌, ℕ, ◌≤◌, length, Result, Ok, Err}
+use Rattle.std.specs.Prelude.{◌≡◌, Bool, true, false, ℕ, ◌≤◌, length, Result, Ok, Err}
 use Rattle.slices.specs.Same.{SameSlice}
 use Rattle.common.specs.Outcome.{Outcome, refused, given}
 use Rattle.common.specs.Runs.{Table, table}
@@ -15,12 +15,36 @@ use Rattle.book_steps.specs.Run as Run
 use Rattle.book_steps.specs.Run.{Lent, zeroed}
 use Rattle.aut_states.specs.declared.Limits.{Limits}
 use Rattle.aut_relations.specs.Behind.{LISTS}
-use Rattle.aut_relations.specs.Lent.{Unless}
+use Rattle.aut_relations.specs.Lent.{Writes, either, KeepsBut, Unless}
 use Rattle.aut_query_stage.specs.Lent.{tables_in}
 use Rattle.book_memory.specs.declared.Setting.{Setting}
 use Rattle.book_memory.specs.declared.Place.{Place}
 use Rattle.book_memory.specs.Place.{LINES, Empty, Standing, Onto, place_in, lengths_of}
 use Rattle.book_begin.specs.declared.Header.{Header}
+
+-- ---- what is kept: x before, y after
+
+-- of the tables by w; of lines that are written the same words are lent, as many; the output is as it was
+pub record KeepsPlace (w : Writes) (b : Bool) (x y : Place) : Type 0 where
+  pub aut : KeepsBut w x.aut y.aut
+  pub lines : either b (SameSlice x.lines.words y.lines.words) (y.lines ≡ x.lines)
+  pub output : y.output ≡ x.output
+
+-- the tables are written
+abbrev pub OnlyTables : Place → Place → Type 0
+OnlyTables x y = KeepsPlace (record { sp = true; spp = true; states = true; count = true; members = true; transitions = true; pending = false; scratch = false }) false x y
+
+-- pending entries, lines and scratch
+abbrev pub KeepsTables : Place → Place → Type 0
+KeepsTables x y = KeepsPlace (record { sp = false; spp = false; states = false; count = false; members = false; transitions = false; pending = true; scratch = true }) true x y
+
+-- x with N fields
+abbrev pub with_fields : ℕ → Place → Place
+with_fields N x = record x { aut = record x.aut { spp = record x.aut.spp { fields = N } } }
+
+-- the fields are set, and both tables of nodes written
+abbrev pub OnlyNodes : ℕ → Place → Place → Type 0
+OnlyNodes N x y = KeepsPlace (record { sp = true; spp = true; states = false; count = false; members = false; transitions = false; pending = false; scratch = false }) false (with_fields N x) y
 
 -- ---- zeroing
 
@@ -42,24 +66,6 @@ pub record WorkZeroed (y : Place) : Type 0 where
   pub scratch : y.aut.scratch.now ≡ zeroed (length y.aut.scratch.now)
   pub no_lines : y.lines.count ≡ 0
 
--- the rest is as it was, and the lengths are
-pub record TablesOnly (x y : Place) : Type 0 where
-  pub pending : y.aut.pending ≡ x.aut.pending
-  pub scratch : y.aut.scratch ≡ x.aut.scratch
-  pub lines : y.lines ≡ x.lines
-  pub output : y.output ≡ x.output
-  pub lengths : lengths_of y ≡ lengths_of x
-
-pub record WorkOnly (x y : Place) : Type 0 where
-  pub sp : y.aut.sp ≡ x.aut.sp
-  pub spp : y.aut.spp ≡ x.aut.spp
-  pub states : y.aut.states ≡ x.aut.states
-  pub members : y.aut.members ≡ x.aut.members
-  pub transitions : y.aut.transitions ≡ x.aut.transitions
-  pub output : y.output ≡ x.output
-  pub table : length y.lines.words.now ≡ length x.lines.words.now
-  pub lengths : lengths_of y ≡ lengths_of x
-
 -- ---- before the instructions
 
 abbrev pub header_of : Header → Reader.Header
@@ -71,18 +77,6 @@ limits = record { nesting = 256; list = 64; products = 32; transitions = 64 }
 
 abbrev pub setting_for : Header → Setting
 setting_for h = record { config = record { fields = h.fields; limits = limits }; budget = h.budget }
-
--- both tables of nodes are written, and the fields are set: x before, y after
-pub record OnlyNodes (x y : Place) : Type 0 where
-  pub sp : SameSlice x.aut.sp.nodes y.aut.sp.nodes
-  pub spp : SameSlice x.aut.spp.nodes y.aut.spp.nodes
-  pub states : y.aut.states ≡ x.aut.states
-  pub members : y.aut.members ≡ x.aut.members
-  pub transitions : y.aut.transitions ≡ x.aut.transitions
-  pub pending : y.aut.pending ≡ x.aut.pending
-  pub scratch : y.aut.scratch ≡ x.aut.scratch
-  pub lines : y.lines ≡ x.lines
-  pub output : y.output ≡ x.output
 
 -- the tables of a new book, by what the constants of both kinds of nodes have come to
 abbrev pub new_tables : Lent → Outcome Table ℕ → Outcome Table Spp.Constants → Outcome Tables ℕ

@@ -20,8 +20,8 @@ pub struct Header {
 
 // the tables have no records
 pub fn clear_tables(place: &mut Place)
-    ensures keeps { SameSlices place.old place.new }
-    ensures beside { Its.TablesOnly place.old place.new }
+    ensures keeps { Its.OnlyTables place.old place.new }
+    ensures lengths { lengths_of place.new ≡ lengths_of place.old }
     ensures zeroed { Its.TablesZeroed place.new }
 {
     place.aut.sp.nodes.fill(0);
@@ -38,8 +38,8 @@ pub fn clear_tables(place: &mut Place)
 
 // no entries, no lines, nothing in scratch
 pub fn clear_work(place: &mut Place)
-    ensures keeps { SameSlices place.old place.new }
-    ensures beside { Its.WorkOnly place.old place.new }
+    ensures keeps { Its.KeepsTables place.old place.new }
+    ensures lengths { lengths_of place.new ≡ lengths_of place.old }
     ensures zeroed { Its.WorkZeroed place.new }
 {
     place.aut.pending.fill(0);
@@ -86,7 +86,7 @@ impl From<Header> for Setting {
 // the fields are set, and the constants made in zeroed tables
 pub fn constants(place: &mut Place, fields: u32) -> Result<(), Refusal>
     requires { Its.PreConstants fields place.old }
-    ensures keeps { Its.OnlyNodes place.old place.new }
+    ensures keeps { Its.OnlyNodes fields place.old place.new }
     ensures gives { Its.PostConstants fields place.old result place.new }
 {
     place.aut.spp.fields = fields;

@@ -5,7 +5,7 @@ use Rattle.book_steps.specs.Run.{Came, came, failed}
 use Rattle.book_memory.specs.declared.Setting.{Setting}
 use Rattle.book_memory.specs.declared.Place.{Place}
 use Rattle.book_memory.specs.Place.{place_in, setting_in, lengths_of, Standing}
-use Rattle.book_begin.specs.Clauses.{TablesZeroed, WorkZeroed}
+use Rattle.book_begin.specs.Clauses.{KeepsTables, TablesZeroed, WorkZeroed}
 use Rattle.book_finish.specs.declared.Stop.{Stop}
 
 -- ---- where a run has come to: the last place's setting, or why it has stopped
@@ -36,15 +36,8 @@ abbrev pub ran_of : Result Setting Stop → Place → Result ℕ Stop
 ran_of (Ok S) p = Ok p.output.at
 ran_of (Err s) p = Err s
 
-pub record SameTables (x y : Place) : Type 0 where
-  pub sp : y.aut.sp ≡ x.aut.sp
-  pub spp : y.aut.spp ≡ x.aut.spp
-  pub states : y.aut.states ≡ x.aut.states
-  pub members : y.aut.members ≡ x.aut.members
-  pub transitions : y.aut.transitions ≡ x.aut.transitions
-
 abbrev pub TablesBy : Result Setting Stop → Place → Place → Type 0
-TablesBy (Ok S) x y = SameTables x y
+TablesBy (Ok S) x y = KeepsTables x y
 TablesBy (Err s) x y = TablesZeroed y
 
 pub record PostFinish (w : Result Setting Stop) (x : Place) (r : Result ℕ Stop) (y : Place) : Type 0 where

@@ -41,7 +41,7 @@ use Rattle.book_reader.specs.Clauses.{rest, query_of, Says}
 use Rattle.book_reader.specs.declared.Cursor.{Cursor}
 use Rattle.book_reader.specs.declared.Query.{Query}
 use Rattle.book_reader.specs.declared.Said.{Said}
-use Rattle.book_writer.specs.declared.Output.{Output}
+use Rattle.book_writer.specs.declared.output.Output.{Output}
 use Rattle.book_writer.specs.Clauses.{PutAt}
 use Rattle.book_writer.proofs.Contracts.{put_take}
 use Rattle.book_query.specs.Clauses.{PostAsk}
@@ -102,7 +102,6 @@ module _ {S : Setting} {x : Place} (Z : Standing S x) (more : x.lines.count < LI
           table = O.lines.length ∙ Z.table;
           lines = omega (arith, M.count);
           named = subst (Below y.aut.states.count) (sym M.lines) (below_more (lines_in x) Z.named came.then.ext.grown.states.more (some M.state) (λ v e. let f : M.state ≡ v = cc in omega (arith, M.made.ready.1)));
-          written = rw O.output Z.written;
         };
         lines = M.count;
         onto = record { from = omega (arith, ap (λ (o : Output). o.at) O.output); beyond = λ i h. ap (λ (o : Output). code.get_or o.bytes.now i 0) O.output };
@@ -139,7 +138,6 @@ module _ {S : Setting} {z : ℕ} {x : Place} (P : PreAskLine S x z) where
         table = w.length ∙ P.standing.table;
         lines = omega (arith, n, P.more);
         named = subst (Below b.states.count) (sym l) (below_more (lines_in x) P.standing.named A.then.later.grown.states.more none (λ u v. absurd (let k : ◌≡◌ {A = ℕ} 0 1 = cc in omega arith)));
-        written = omega (arith, A.then.to, A.then.len);
       };
       lines = n;
       onto = record { from = A.then.from; beyond = A.then.beyond };
@@ -192,7 +190,6 @@ module _ {S : Setting} (c : Cursor) {x : Place} (P : PreObey S x) {s : code.Opti
         table = rw O.lines P.standing.table;
         lines = rw O.lines P.standing.lines;
         named = rw O.aut.states (rw O.lines P.standing.named);
-        written = rw O.output P.standing.written;
       }
 
       pub obey_perform : PrePerform S y t

@@ -141,7 +141,7 @@ module _ (S : Setting) where
   cut_front go f k p unended = front_refl p.output
   cut_front go f k p (line l rest) = onward_front (go rest) (f rest) k p (step_front (parse (words l)) p)
 
-  run_front : (left : ℕ) (text : List ℕ) (k : ℕ) (p : RunState) → Front p.output (output_of (run S left text k p))
+  pub run_front : (left : ℕ) (text : List ℕ) (k : ℕ) (p : RunState) → Front p.output (output_of (run S left text k p))
   unfolding run
   run_front zero [] k p = front_refl p.output
   run_front zero (b ∷ text) k p = front_refl p.output

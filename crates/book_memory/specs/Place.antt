@@ -126,7 +126,6 @@ pub record Standing (S : Setting) (p : Place) : Type 0 where
   pub table : length p.lines.words.now ≡ LINES
   pub lines : p.lines.count ≤ LINES
   pub named : Below p.aut.states.count (lines_in p)
-  pub written : p.output.at ≤ length p.output.bytes.now
 
 -- no record, no line and no output is there, and every word lent is 0
 pub record Empty (p : Place) : Type 0 where

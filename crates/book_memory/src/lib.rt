@@ -116,17 +116,27 @@ impl<'a> Memory<'a> {
         }
     }
 
-    pub fn put_back(&mut self, place: &mut Place<'a>)
-        ensures { self.new ≡ memory_of place.old }
+    pub fn put_back(&mut self, place: Place<'a>)
+        ensures { self.new ≡ memory_of place.entry }
     {
-        self.sp = std::mem::take(&mut place.aut.sp.nodes);
-        self.spp = std::mem::take(&mut place.aut.spp.nodes);
-        self.states = std::mem::take(&mut place.aut.states.words);
-        self.members = std::mem::take(&mut place.aut.members.words);
-        self.transitions = std::mem::take(&mut place.aut.transitions.words);
-        self.pending = std::mem::take(&mut place.aut.pending);
-        self.lines = std::mem::take(&mut place.lines.words);
-        self.scratch = std::mem::take(&mut place.aut.scratch);
-        self.output = std::mem::take(&mut place.output.bytes);
+        let Place { aut, lines, output } = place;
+        let Aut {
+            sp,
+            spp,
+            states,
+            members,
+            transitions,
+            pending,
+            scratch,
+        } = aut;
+        self.sp = sp.nodes;
+        self.spp = spp.nodes;
+        self.states = states.words;
+        self.members = members.words;
+        self.transitions = transitions.words;
+        self.pending = pending;
+        self.lines = lines.words;
+        self.scratch = scratch;
+        self.output = output.bytes;
     }
 }

@@ -22,7 +22,7 @@ use Rattle.aut_relations.specs.declared.Aut.{Aut as Lent}
 use Rattle.aut_relations.specs.Lent.{nodes_in}
 use Rattle.aut_sets.specs.Lent.{OnlyScratch}
 use Rattle.spp.specs.declared.SPPstore.{SPPstore}
-use Rattle.book_writer.specs.declared.Output.{Output}
+use Rattle.book_writer.specs.declared.output.Output.{Output}
 use Rattle.book_writer.specs.Clauses.{Room, PutAt, Put, pair_line, pruned_head}
 use Rattle.book_writer.proofs.Contracts.{put_append, pairs_are}
 use Rattle.std.specs.Prelude.{Result, Ok, Err}
@@ -119,12 +119,9 @@ module _ (N : ℕ) (t : Table) (m : ℕ) where
   put_none at out l = record { behind = omega arith; room = l; wrote = record { len = refl; is = λ i k. absurd (omega arith); below = λ i k. refl; above = λ i k. refl } }
 
   pub placed_begin : {s : List ℕ} {o : Output} → PrePut N t s o m → Placed s o s o 0
-  placed_begin {s} {o} p = record { pairs = p.pairs; left = notes_none; bytes = []; put = put_none o.at o.bytes.now (omega (arith, p.fits)); is = sym (from_all s) }
+  placed_begin {s} {o} p = record { pairs = p.pairs; left = notes_none; bytes = []; put = put_none o.at o.bytes.now o.fits; is = sym (from_all s) }
 
   module _ {s₀ : List ℕ} {o₀ : Output} {s : List ℕ} {o : Output} {i : ℕ} (p : PrePut N t s₀ o₀ m) (v : Placed s₀ o₀ s o i) where
-    pub line_fits : o.at ≤ length o.bytes.now
-    line_fits = omega (arith, v.put.room, v.put.wrote.len)
-
     module _ (l : i < m) {u n : ℕ} {s' : List ℕ} (P : PostPair N t i u n s s') where
       abbrev row : List ℕ
       row = pair_line u n

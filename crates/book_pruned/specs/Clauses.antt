@@ -12,7 +12,7 @@ use Rattle.book_steps.specs.Answers.{Pairs, pair_lines, pruned_answer}
 use Rattle.aut_relations.specs.Behind.{LISTS, cached}
 use Rattle.aut_sets.specs.Clauses.{NotesBehind}
 use Rattle.refusal.specs.declared.Refusal.{Refusal}
-use Rattle.book_writer.specs.declared.Output.{Output}
+use Rattle.book_writer.specs.declared.output.Output.{Output}
 use Rattle.book_writer.specs.Clauses.{Room, Answers}
 
 -- what the lines of the transitions tell

@@ -8,7 +8,6 @@ ghost use Rattle.netkat_steps.specs.ListSteps.{edge};
 ghost use Rattle.aut_st_edges.specs.Clauses.{edge_of};
 ghost use Rattle.aut_st_insert.specs.Clauses.{RESULT};
 ghost use Rattle.aut_sets.specs.Lent.{OnlyScratch};
-ghost use Rattle.book_writer.specs.Clauses.{Fits};
 ghost use Rattle.book_pruned.specs.Clauses.{PrePairs, PostPair, PostLength, PrePut, PostPairs, PostPruned};
 
 use aut_relations::Aut;
@@ -75,7 +74,7 @@ pub fn pruned_answer(
     name: &[u8],
     m: usize,
 ) -> Result<(), Refusal>
-    requires { PrePairs config.fields (nodes_in aut.old) aut.old.scratch.now m × Fits out.old }
+    requires { PrePairs config.fields (nodes_in aut.old) aut.old.scratch.now m }
     ensures keeps { OnlyScratch aut.old aut.new }
     ensures bytes { SameSlice out.old.bytes out.new.bytes }
     ensures answers { PostPruned config.fields (nodes_in aut.old) name.now m result

@@ -15,7 +15,7 @@ use Rattle.book_steps.specs.Run as Run
 use Rattle.book_steps.specs.Run.{Came, with_line, answered, stopped, came_of}
 use Rattle.book_memory.specs.declared.Setting.{Setting}
 use Rattle.book_memory.specs.declared.Place.{Place}
-use Rattle.book_writer.specs.declared.Output.{Output}
+use Rattle.book_writer.specs.declared.output.Output.{Output}
 use Rattle.book_memory.specs.Place.{LINES, place_in, setting_of, setting_in, SamePlace, Standing}
 use Rattle.book_finish.specs.declared.Stop.{Stop}
 use Rattle.book_finish.specs.Clauses.{Wrote}
@@ -76,7 +76,7 @@ module _ {text : List ℕ} {S : Setting} {x : Place} {first all : ℕ} where
     T = setting_in S y
 
     wrote : Wrote y.output.at x.output.bytes.now y.output.bytes.now
-    wrote = record { fits = omega (arith, v.standing.written, v.same.output.length); beyond = v.beyond }
+    wrote = record { fits = omega (arith, y.output.fits, v.same.output.length); beyond = v.beyond }
 
     pub going_end : {u : Unit {0}} → length rest ≡ 0 → PostGo text S x first all (code.Ok u) y
     going_end l = record {

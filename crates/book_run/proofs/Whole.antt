@@ -32,7 +32,7 @@ use Rattle.book_memory.specs.declared.Setting.{Setting}
 use Rattle.book_memory.specs.declared.Place.{Place}
 use Rattle.book_memory.specs.declared.Memory.{Memory}
 use Rattle.book_memory.specs.Place.{lengths_of, memory_of, Empty}
-use Rattle.book_writer.specs.declared.Output.{Output}
+use Rattle.book_writer.specs.declared.output.Output.{Output}
 use Rattle.book_finish.specs.declared.Stop.{Stop}
 use Rattle.book_finish.specs.Clauses.{Wrote, came_by, written_by, PostFinish, number_of, text_line_of, length_of}
 use Rattle.book_run.specs.Clauses.{ComesTo, went_of, PostGo, PostEnough, Starts, StartsNot, PreOpen, PostOpen, lent_of, slices_in, Table, RunsIn}
@@ -148,11 +148,11 @@ module _ (x y z : Place) (L : Lends (lengths_of x) (slices_at z)) where
         line_is = refl;
         length_is = taken_length L.output b;
         output_is = written_is L.output b;
-        sp_is = ap (λ s. s.nodes.now) F.tables.sp;
-        spp_is = ap (λ s. s.nodes.now) F.tables.spp;
-        states_are = ap (λ s. s.words.now) F.tables.states;
-        members_are = ap (λ s. s.words.now) F.tables.members;
-        transitions_are = ap (λ s. s.words.now) F.tables.transitions;
+        sp_is = ap (λ s. s.nodes.now) F.tables.aut.sp;
+        spp_is = ap (λ s. s.nodes.now) F.tables.aut.spp;
+        states_are = ap (λ s. s.words.now) F.tables.aut.states;
+        members_are = ap (λ s. s.words.now) F.tables.aut.members;
+        transitions_are = ap (λ s. s.words.now) F.tables.aut.transitions;
         pending_is = F.work.pending ∙ ap zeroed L.pending;
         scratch_is = zero_scratch F.work.lines F.work.scratch;
       })

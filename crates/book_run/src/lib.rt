@@ -124,7 +124,7 @@ fn run_in(memory: &mut Memory, book: &[u8]) -> Result<usize, Stop>
     book_begin::clear(&mut place);
     let went = open(book, &mut place);
     let ran = book_finish::finish(&mut place, went);
-    memory.put_back(&mut place);
+    memory.put_back(place);
     ran
 }
 

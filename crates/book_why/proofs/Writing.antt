@@ -31,7 +31,7 @@ use Rattle.book_steps.specs.Text.{bytes}
 use Rattle.book_steps.specs.Answers.{say, sentence, why_answer}
 use Rattle.book_steps.specs.Sentence.{word_length, hops_length, sentence_length}
 use Rattle.book_steps.proofs.Sentence.{sentence_length_lem}
-use Rattle.book_writer.specs.declared.Output.{Output}
+use Rattle.book_writer.specs.declared.output.Output.{Output}
 use Rattle.book_writer.specs.Clauses.{Room, Put, Answers}
 use Rattle.book_writer.proofs.Sentence.{begun, begun_length, put_begun, put_hop, put_end, hop_room}
 use Rattle.book_why.specs.Clauses.{GoingIn, Picks, PicksIn, Unmade, PreStart, Started, PostStart, PreNext, Nexted, PostNext, PreLast, Lasted, PostLast, PreString, Stringed, PostString, AnsweringIn, WhyAnswered}

@@ -28,8 +28,8 @@ use Rattle.aut_why_again.specs.Clauses.{StandingIn}
 use Rattle.aut_why_hop.specs.Clauses.{LeastReady}
 use Rattle.book_steps.specs.Answers.{sentence, why_answer}
 use Rattle.book_steps.specs.Sentence.{word_length, sentence_length}
-use Rattle.book_writer.specs.declared.Output.{Output}
-use Rattle.book_writer.specs.Clauses.{Fits, Room, Put, Answers, start_part, hop_part, end_part}
+use Rattle.book_writer.specs.declared.output.Output.{Output}
+use Rattle.book_writer.specs.Clauses.{Room, Put, Answers, start_part, hop_part, end_part}
 use Rattle.book_why.specs.declared.Spot.{Spot}
 
 -- what follows the packet q at the state x, with k hops, from what stands in the tables (aut_why_steps, Why: pick_at)
@@ -165,10 +165,9 @@ pub record Answering (N : ℕ) (l : Limits) (σ : Tables) (s p : List ℕ) (n : 
 abbrev pub AnsweringIn : Config → Lent → (n : ℕ) → List Sets → code.Option ℕ → (i : ℕ) → Type 0
 AnsweringIn g x n ws f i = Answering g.fields g.limits (tables_in x) x.scratch.now x.pending.now n ws f i
 
-pub record PreAnswer (g : Config) (x : Lent) (o : Output) (n : ℕ) (f : code.Option ℕ) (i : ℕ) : Type 0 where
+pub record PreAnswer (g : Config) (x : Lent) (n : ℕ) (f : code.Option ℕ) (i : ℕ) : Type 0 where
   pub rounds : List Sets
   pub answering : AnsweringIn g x n rounds f i
-  pub room : Fits o
 
 pub record WhyAnswered (g : Config) (n : ℕ) (ws : List Sets) (i : ℕ) (x : Lent) (o : Output) (r : Result Unit Refusal) (y : Lent) (o' : Output) : Type 0 where
   pub unmade : Unmade x y

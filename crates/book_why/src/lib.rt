@@ -113,7 +113,7 @@ pub fn why_answer(
     hops: Option<usize>,
     x: u32,
 ) -> Result<(), Refusal>
-    requires { PreAnswer config aut.old out.old n hops x }
+    requires { PreAnswer config aut.old n hops x }
     ensures keeps { OnlySearch aut.old aut.new }
     ensures pending { aut.new.pending ≡ aut.old.pending }
     ensures bytes { SameSlice out.old.bytes out.new.bytes }

@@ -1,16 +1,14 @@
 -- 01, "The book and its answers" and refusal 27, "output cannot hold the next answer's lines": what the functions that write an answer leave in the output. A whole answer stands in it, or the output is as it was.
 use Rattle.std.specs.Prelude.{◌≡◌, Bool, true, false, List, [], ◌∷◌, ◌++◌, ℕ, zero, suc, ◌+◌, ◌/◌, ◌%◌, ◌≤◌, ◌<◌, ◌^◌, length, get_or, Option, Some, None, Result, Ok, Err}
-use Rattle.netkat.specs.Search as Search
 use Rattle.book_steps.specs.Text.{bytes, decimal}
 use Rattle.book_steps.specs.Answers.{say}
 use Rattle.book_steps.specs.Sentence.{word_bytes}
 use Rattle.refusal.specs.declared.Refusal.{Refusal}
 use Rattle.refusal.specs.declared.Refusal.TheVariants as refusals
-use Rattle.book_writer.specs.declared.Output.{Output}
+use Rattle.book_writer.specs.declared.output.Output.{Output}
 use Rattle.book_writer.specs.declared.Part.{Part}
 use Rattle.book_writer.specs.declared.Part.TheVariants.{Word, Number}
-use Rattle.book_writer.specs.declared.Verdict.{Verdict}
-use Rattle.book_writer.specs.declared.Verdict.TheVariants.{Yes, No, Spent}
+pub use Rattle.verdict.specs.Verdict.{verdict_of}
 
 -- the bytes from `at` on are now bs, and all else is as it was
 pub record Wrote (at : ℕ) (bs s s' : List ℕ) : Type 0 where
@@ -25,11 +23,7 @@ pub record PutAt (at : ℕ) (bs : List ℕ) (r : ℕ) (s s' : List ℕ) : Type 0
   pub room : r ≤ length s
   pub wrote : Wrote at bs s s'
 
--- what is written is lent
-abbrev pub Fits : Output → Type 0
-Fits o = o.at ≤ length o.bytes.now
-
--- .. and there is room for n bytes behind it
+-- there is room for n bytes behind what is written
 abbrev pub Room : ℕ → Output → Type 0
 Room n o = o.at + n ≤ length o.bytes.now
 
@@ -60,11 +54,6 @@ Measures bs None = 2 ^ 64 ≤ length bs
 abbrev pub Answers : List ℕ → Output → Result Unit Refusal → Output → Type 0
 Answers bs o (Ok u) o' = Put bs o o'
 Answers bs o (Err e) o' = (e ≡ refusals.Output) × (length o.bytes.now < o.at + length bs) × (o' ≡ o)
-
-abbrev pub verdict_of : Verdict → Search.Verdict
-verdict_of Yes = Search.yes
-verdict_of No = Search.no
-verdict_of Spent = Search.spent
 
 -- the last k digits of a number in a base
 unfoldable pub last_digits : (base k n : ℕ) → List ℕ

@@ -6,29 +6,19 @@ ghost use Rattle.slices.specs.Same.{SameSlice};
 ghost use Rattle.book_steps.specs.Text.{bytes, decimal};
 ghost use Rattle.book_steps.specs.Answers as Told;
 ghost use Rattle.book_steps.specs.Sentence.{word_bytes, word_length, sentence_length};
-ghost use Rattle.book_writer.specs.Clauses.{Fits, Room, RoomBy, Put, Answers, verdict_of, part_bytes, with_spaces, Measures, last_digits, pair_line, pruned_head, start_part, hop_part, end_part};
+ghost use Rattle.book_writer.specs.Clauses.{Room, RoomBy, Put, Answers, verdict_of, part_bytes, with_spaces, Measures, last_digits, pair_line, pruned_head, start_part, hop_part, end_part};
 
+pub mod output;
+
+pub use output::Output;
 use refusal::Refusal;
-
-#[derive(Clone, Copy)]
-pub enum Verdict {
-    Yes,
-    No,
-    Spent,
-}
+pub use verdict::Verdict;
 
 // a part of a line
 #[derive(Clone, Copy)]
 pub enum Part<'a> {
     Word(&'a [u8]),
     Number(u64),
-}
-
-// what is lent for the output, and how many of its bytes are written
-#[derive(Drop)]
-pub struct Output<'a> {
-    pub bytes: &'a mut [u8],
-    pub at: usize,
 }
 
 // ---- how long it is
@@ -123,7 +113,6 @@ pub fn share(count: u64, total: u64) -> u64
 impl Output<'_> {
     // n bytes more fit
     pub fn room(&self, n: usize) -> Result<(), Refusal>
-        requires { Fits self.now }
         ensures { RoomBy n self.now result }
     {
         if self.bytes.len() - self.at < n {
@@ -188,7 +177,6 @@ impl Output<'_> {
 
     // a line of a word and other parts
     pub fn line(&mut self, word: &[u8], parts: &[Part]) -> Result<(), Refusal>
-        requires { Fits self.old }
         ensures keeps { SameSlice self.old.bytes self.new.bytes }
         ensures answers { Answers (Told.say (word.now ∷ map part_bytes parts.now)) self.old result
             self.new }
@@ -205,7 +193,6 @@ impl Output<'_> {
     }
 
     pub fn fields_answer(&mut self, fields: u32) -> Result<(), Refusal>
-        requires { Fits self.old }
         ensures keeps { SameSlice self.old.bytes self.new.bytes }
         ensures answers { Answers (Told.fields_answer fields) self.old result self.new }
     {
@@ -213,7 +200,6 @@ impl Output<'_> {
     }
 
     pub fn empty_answer(&mut self, name: &[u8], verdict: Verdict, count: u64) -> Result<(), Refusal>
-        requires { Fits self.old }
         ensures keeps { SameSlice self.old.bytes self.new.bytes }
         ensures answers { Answers (Told.empty_answer name.now (verdict_of verdict) count) self.old
             result self.new }
@@ -230,7 +216,7 @@ impl Output<'_> {
     }
 
     pub fn live_answer(&mut self, name: &[u8], count: u64, fields: u32) -> Result<(), Refusal>
-        requires { Fits self.old × (fields ≤ 31) × (count ≤ 2 ^ fields) }
+        requires { (fields ≤ 31) × (count ≤ 2 ^ fields) }
         ensures keeps { SameSlice self.old.bytes self.new.bytes }
         ensures answers { Answers (Told.live_answer fields name.now count) self.old result self.new }
     {
@@ -243,7 +229,6 @@ impl Output<'_> {
 
     // the first line of `pruned`, for k transitions
     pub fn pruned_head(&mut self, name: &[u8], k: usize) -> Result<(), Refusal>
-        requires { Fits self.old }
         ensures keeps { SameSlice self.old.bytes self.new.bytes }
         ensures answers { Answers (pruned_head name.now k) self.old result self.new }
     {
@@ -252,7 +237,6 @@ impl Output<'_> {
 
     // the line of one transition
     pub fn pair_line(&mut self, target: u32, number: u64) -> Result<(), Refusal>
-        requires { Fits self.old }
         ensures keeps { SameSlice self.old.bytes self.new.bytes }
         ensures answers { Answers (pair_line target number) self.old result self.new }
     {
@@ -264,7 +248,6 @@ impl Output<'_> {
 
     // the answer to `why` for a state that is empty
     pub fn none_answer(&mut self) -> Result<(), Refusal>
-        requires { Fits self.old }
         ensures keeps { SameSlice self.old.bytes self.new.bytes }
         ensures answers { Answers (Told.say (bytes "none" ∷ [])) self.old result self.new }
     {

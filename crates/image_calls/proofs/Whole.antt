@@ -27,7 +27,7 @@ use Rattle.book_memory.proofs.Table.{lines_length}
 use Rattle.book_finish.specs.declared.Stop.{Stop}
 use Rattle.book_finish.specs.Clauses as Book
 use Rattle.book_finish.specs.Clauses.{Wrote, written_by, came_by, ran_of, PostFinish}
-use Rattle.book_run.specs.Clauses.{ComesTo, went_of, PostGo}
+use Rattle.book_run.specs.Clauses.{ComesTo, went_of, PreGo, PostGo}
 use Rattle.book_run.proofs.Whole.{slices_at, lends_own, left_is, came_is, wrote_is, comes_to, of_slices}
 use Rattle.image_form.specs.Damage.{Bytes}
 use Rattle.image_steps.specs.Read.{read}
@@ -68,7 +68,7 @@ module _ (image book : List ℕ) (x : Place) where
     bytes_same : y.output.bytes.now ≡ x.output.bytes.now
     bytes_same = ap (λ o. o.bytes.now) B.output
 
-    on_is : {r : Result Unit Refusal} → PostRead image x r y → ran_on (lengths_of x) image book ≡ goes_on (lengths_of x) (Claims.setting_at (lengths_of x) image) book (outcome (λ u. 0) r (place_in y))
+    on_is : {r : Result Setting Refusal} → PostRead image x r y → ran_on (lengths_of x) image book ≡ goes_on (lengths_of x) (Claims.setting_at (lengths_of x) image) book (outcome (λ S. 0) r (place_in y))
     on_is R =
         by_scratch (lengths_of x) image book (le-ltb (length x.lines.words.now + length x.aut.scratch.now) 6144 l)
         ∙ ap (goes_on (lengths_of x) (Claims.setting_at (lengths_of x) image) book) R.is
@@ -80,11 +80,14 @@ module _ (image book : List ℕ) (x : Place) where
     setting_is : setting_in (Image.setting_at image) y ≡ Claims.setting_at (lengths_of x) image
     setting_is = ap₂ (λ (p o : List ℕ). setting_of (Image.setting_at image) (length p / 2) (length o)) (ap (λ b. b.now) B.pending) bytes_same
 
-    module _ {u : Unit {0}} (R : PostRead image x (Ok u) y) {S : Setting} (s : S ≡ Image.setting_at image) where
+    module _ {S : Setting} (R : PostRead image x (Ok S) y) where
+      pub on_ready : PreGo S y 1 (2048 - y.lines.count)
+      on_ready = record { standing = R.then.standing; more = omega (arith, R.then.standing.lines); small = omega arith }
+
       pub on_went : {w : Result Setting Stop} {r : Result Unit Stop} {z : Place} → PostGo book S y 1 (2048 - y.lines.count) r z → w ≡ went_of S r → PostOn image book x w z
       on_went {w} {r} {z} G e = rw e (record {
         is = on_is R
-            ∙ ap₂ (λ (T : Run.Setting) (k : ℕ). came_of T (Run.run T (2048 - k) book 1 (place_in y))) (sym (ap (λ (q : Setting). setting_in q y) s ∙ setting_is)) (lines_length y.lines.words.now y.lines.count)
+            ∙ ap₂ (λ (T : Run.Setting) (k : ℕ). came_of T (Run.run T (2048 - k) book 1 (place_in y))) (sym (ap (λ (q : Setting). setting_in q y) R.then.setting ∙ setting_is)) (lines_length y.lines.words.now y.lines.count)
             ∙ G.comes.is;
         ends = G.comes.ends;
         wrote = subst (λ (o : List ℕ). Wrote (written_by (went_of S r) z) o z.output.bytes.now) bytes_same G.comes.wrote;

@@ -22,12 +22,11 @@ fn go_on_from(image: &[u8], book: &[u8], place: &mut Place) -> Result<Setting, S
     ensures gives { Its.PostOn image.now book.now place.old result place.new }
 {
     book_run::enough(place)?;
-    image_read::read(image, place).map_err(|refusal| Stop {
+    let setting = image_read::read(image, place).map_err(|refusal| Stop {
         refusal,
         line: 0,
         length: 0,
     })?;
-    let setting = image_read::setting_at(image);
     let left = book_run::INSTRUCTIONS - place.lines.count;
     book_run::go_on(book, place, setting, 1, left)?;
     Ok(setting)
@@ -63,7 +62,7 @@ fn save_in(
     book_begin::clear(&mut place);
     let went = run_from(from, book, &mut place);
     let sealed = image_keep::seal(image, &mut place, went);
-    memory.put_back(&mut place);
+    memory.put_back(place);
     sealed
 }
 
@@ -76,7 +75,7 @@ fn resume_in(memory: &mut Memory, image: &[u8], book: &[u8]) -> Result<usize, St
     book_begin::clear(&mut place);
     let went = go_on_from(image, book, &mut place);
     let ran = book_finish::finish(&mut place, went);
-    memory.put_back(&mut place);
+    memory.put_back(place);
     ran
 }
 

@@ -30,7 +30,7 @@ bare_tables lent (given s z) (refused e) = refl
 bare_tables lent (given s z) (given r c) = refl
 
 module _ (N : ℕ) (x : Place) (E : Empty x) where
-  pub fresh_is : (r : Result Unit Refusal) {y : Place} → PostConstants N x r y → OnlyNodes x y → fresh (lengths_of x) N ≡ outcome {A = ℕ} (λ u. 0) r (place_in y)
+  pub fresh_is : (r : Result Unit Refusal) {y : Place} → PostConstants N x r y → OnlyNodes N x y → fresh (lengths_of x) N ≡ outcome {A = ℕ} (λ u. 0) r (place_in y)
   unfolding fresh
   fresh_is r {y} B K = bare_tables (lengths_of x) _ _ ∙ ap bare B.is ∙ go r
     where

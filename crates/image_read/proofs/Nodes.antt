@@ -55,10 +55,10 @@ module _ (image : List ℕ) (h : Head) (x : Place) (fit : Fitting image h) (P : 
   pub constants_ready : PreConstants h.fields x
   constants_ready = record { few = (fits image h fit).fields; empty = P }
 
-  pub no_constants : {e : Refusal} (y z : Place) → PostConstants h.fields x (Err e) y → OnlyNodes x y → PostDiagrams image h x (Err e) z
+  pub no_constants : {e : Refusal} (y z : Place) → PostConstants h.fields x (Err e) y → OnlyNodes h.fields x y → PostDiagrams image h x (Err e) z
   no_constants {e} y z B K = record { is = ap (λ (o : Outcome RunState ℕ). after o (λ _. node_steps image g limits01)) (fresh_is N x P (Err e) B K); then = tt }
 
-  module _ (x₁ : Place) (B : PostConstants h.fields x (Ok tt) x₁) (K : OnlyNodes x x₁) where
+  module _ (x₁ : Place) (B : PostConstants h.fields x (Ok tt) x₁) (K : OnlyNodes h.fields x x₁) where
     pub nodes_ready : PreNode packets h.fields (sets.store_of x₁.aut.sp) 0 × Reaches image (2 * h.sp)
     nodes_ready = (record { wf = B.then.tables.sets; near = omega arith }, reaching image h fit (2 * h.sp) (omega (arith, start_5 (head_of h))))
 

@@ -3,6 +3,7 @@ use Rattle.std.specs.Prelude.{if◌then◌else◌, Result, Ok, Err}
 use mathlib.Core.Path.{◌≡◌, refl, sym, ◌∙◌, ap, ap₂, subst}
 use mathlib.Core.Bool.{Bool, true, false}
 use mathlib.Core.List.{List}
+use denote.Ref.{Bor}
 use Prim.Native.Nat.{ℕ, ◌+◌, ◌*◌, ◌-◌, ◌≤◌}
 use native.Mathlib.Omega.{arith}
 use Rattle.common.specs.Outcome.{Outcome, refused, given, Step, after, ◌>>=◌}
@@ -39,36 +40,36 @@ use Rattle.image_read.proofs.Ending.{fits, reaching}
 use Rattle.image_read.proofs.Lines.{after_both}
 
 -- where members stand
-abbrev lists_in : Head → Lists
-lists_in h = record { first = 2 * h.sp + 4 * h.spp; count = h.members }
+abbrev lists_in : Bor (List ℕ) → Head → Lists
+lists_in b h = record { image = b; first = 2 * h.sp + 4 * h.spp; count = h.members }
 
-module _ (image : List ℕ) (h : Head) (x : Lent) (fit : Fitting image h) (P : PreAutomaton h x) where
+module _ (b : Bor (List ℕ)) (h : Head) (x : Lent) (fit : Fitting b.now h) (P : PreAutomaton h x) where
   abbrev g : Image.Head
   g = head_of h
 
   abbrev from : ℕ
   from = 2 * h.sp + 4 * h.spp
 
-  is_head : HeadIs g h.fields (lists_in h)
+  is_head : HeadIs g h.fields (lists_in b h)
   is_head = record { fields = refl; members = refl; first = start_2 g }
 
-  holds : (n : ℕ) → n ≤ total g → Holds image n
-  holds n l = record { block = λ i m. omega (arith, reaching image h fit n l) }
+  holds : (n : ℕ) → n ≤ total g → Holds b.now n
+  holds n l = record { block = λ i m. omega (arith, reaching b.now h fit n l) }
 
-  pub members_ready : Reaches image (2 * h.sp + 4 * h.spp + h.members)
-  members_ready = reaching image h fit (2 * h.sp + 4 * h.spp + h.members) (omega (arith, start_5 g))
+  pub members_ready : Reaches b.now (2 * h.sp + 4 * h.spp + h.members)
+  members_ready = reaching b.now h fit (2 * h.sp + 4 * h.spp + h.members) (omega (arith, start_5 g))
 
-  by_members : (r : Result Unit Refusal) → PostMembers image (2 * h.sp + 4 * h.spp) h.members r → (p : RunState)
-      → state_steps image g limits01 p ≡ after (entered_by r p) (λ _. Read.records image g limits01 (Read.state image g limits01) 4 0 (start_of 3 (layout g)) h.states)
+  by_members : (r : Result Unit Refusal) → PostMembers b.now (2 * h.sp + 4 * h.spp) h.members r → (p : RunState)
+      → state_steps b.now g limits01 p ≡ after (entered_by r p) (λ _. Read.records b.now g limits01 (Read.state b.now g limits01) 4 0 (start_of 3 (layout g)) h.states)
   by_members r M p =
-      ap (λ (i : ℕ). after (Read.records image g limits01 (Read.member image g limits01) 1 0 i h.members p) (λ _. Read.records image g limits01 (Read.state image g limits01) 4 0 (start_of 3 (layout g)) h.states)) (start_2 g)
-      ∙ ap (λ (o : Outcome RunState ℕ). after o (λ _. Read.records image g limits01 (Read.state image g limits01) 4 0 (start_of 3 (layout g)) h.states)) (M g limits01 p)
+      ap (λ (i : ℕ). after (Read.records b.now g limits01 (Read.member b.now g limits01) 1 0 i h.members p) (λ _. Read.records b.now g limits01 (Read.state b.now g limits01) 4 0 (start_of 3 (layout g)) h.states)) (start_2 g)
+      ∙ ap (λ (o : Outcome RunState ℕ). after o (λ _. Read.records b.now g limits01 (Read.state b.now g limits01) 4 0 (start_of 3 (layout g)) h.states)) (M g limits01 p)
 
   module _ (S : Setting) (u : S ≡ setting_for (record { fields = h.fields; budget = h.budget })) where
-    pub states_ready : StatesAsk image S.config (lists_in h) (2 * h.sp + 4 * h.spp + h.members) h.states x
-    states_ready = subst (λ (S : Setting). StatesAsk image S.config (lists_in h) (from + h.members) h.states x) (sym u) (record {
+    pub states_ready : StatesAsk S.config (lists_in b h) (2 * h.sp + 4 * h.spp + h.members) h.states x
+    states_ready = subst (λ (S : Setting). StatesAsk S.config (lists_in b h) (from + h.members) h.states x) (sym u) (record {
       asks = record {
-        ordered = record { few = (fits image h fit).fields; good = P.good };
+        ordered = record { few = (fits b.now h fit).fields; good = P.good };
         list = omega arith;
         room = P.room;
         members = holds (from + h.members) (omega (arith, start_5 g));
@@ -78,16 +79,16 @@ module _ (image : List ℕ) (h : Head) (x : Lent) (fit : Fitting image h) (P : P
       is_head = is_head;
     })
 
-    pub automaton_read : PostMembers image (2 * h.sp + 4 * h.spp) h.members (Ok tt) → {r : Result Unit Refusal} {y : Lent}
-        → ReadsStates image S.config (lists_in h) (2 * h.sp + 4 * h.spp + h.members) h.states x r y → PostAutomaton image h x r y
+    pub automaton_read : PostMembers b.now (2 * h.sp + 4 * h.spp) h.members (Ok tt) → {r : Result Unit Refusal} {y : Lent}
+        → ReadsStates S.config (lists_in b h) (2 * h.sp + 4 * h.spp + h.members) h.states x r y → PostAutomaton b.now h x r y
     automaton_read M {r} {y} R =
-        let R₀ = subst (λ (S : Setting). ReadsStates image S.config (lists_in h) (from + h.members) h.states x r y) u R in
+        let R₀ = subst (λ (S : Setting). ReadsStates S.config (lists_in b h) (from + h.members) h.states x r y) u R in
         record {
-          is = λ p e. by_members (Ok tt) M p ∙ ap (λ (i : ℕ). Read.records image g limits01 (Read.state image g limits01) 4 0 i h.states p) (start_3 g) ∙ R₀.is g is_head p e;
+          is = λ p e. by_members (Ok tt) M p ∙ ap (λ (i : ℕ). Read.records b.now g limits01 (Read.state b.now g limits01) 4 0 i h.states p) (start_3 g) ∙ R₀.is g is_head p e;
           kept = R₀.kept;
         }
 
-  pub no_members : {e : Refusal} → PostMembers image (2 * h.sp + 4 * h.spp) h.members (Err e) → PostAutomaton image h x (Err e) x
+  pub no_members : {e : Refusal} → PostMembers b.now (2 * h.sp + 4 * h.spp) h.members (Err e) → PostAutomaton b.now h x (Err e) x
   no_members {e} M = record { is = λ p y. by_members (Err e) M p; kept = record { below = λ i l. refl; above = λ i l. refl } }
 
 -- ---- lines, and the end

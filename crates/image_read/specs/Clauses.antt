@@ -1,7 +1,6 @@
 -- 02 (ii), "Reading makes a new book's constants, then each record again by its constructor": what the parts of reading an image ask and promise, in the words of image_steps/specs/Read.
-use Rattle.std.specs.Prelude.{◌≡◌, Bool, true, ◌&&◌, List, [], ◌∷◌, ◌++◌, Result, Ok, Err, ℕ, ◌+◌, ◌*◌, ◌-◌, ◌≤◌, ◌<◌, eqb, length}
+use Rattle.std.specs.Prelude.{◌≡◌, Bool, true, false, ◌&&◌, List, [], ◌∷◌, ◌++◌, Result, Ok, Err, IfOk, ℕ, ◌+◌, ◌*◌, ◌-◌, ◌≤◌, ◌<◌, eqb, length}
 use Rattle.std.specs.Prelude as code
-use Rattle.slices.specs.Same.{SameSlice}
 use Rattle.common.specs.Outcome.{Outcome, refused, given, Step, after, ◌>>=◌}
 use Rattle.refusal.specs.declared.Refusal.{Refusal}
 use Rattle.refusal.specs.Numbers.{number_of, outcome}
@@ -19,7 +18,7 @@ use Rattle.book_memory.specs.declared.Place.{Place}
 use Rattle.book_memory.specs.Place.{LINES, stands_for, lines_at, place_in, lengths_of, Below, Empty, Standing}
 use Rattle.book_memory.specs.Place.{word_of as line_word}
 use Rattle.book_begin.specs.declared.Header.{Header}
-use Rattle.book_begin.specs.Clauses.{setting_for, Ordered}
+use Rattle.book_begin.specs.Clauses.{KeepsPlace, setting_for, Ordered}
 use Rattle.image_steps.specs.Image as Image
 use Rattle.image_steps.specs.Image.{layout, start_of, reach, total}
 use Rattle.image_steps.specs.Read as Read
@@ -63,19 +62,11 @@ pub record PostOpen (image : List ℕ) (r : Result Head Refusal) : Type 0 where
   pub is : (lent : Run.Lent) (L : Limits) → Read.read lent L image ≡ opened_by lent L image r
   pub then : OpensBy image r
 
--- ---- what is kept: x before, y after. The same words are lent; what is not said to be written is as it was
+-- ---- what is kept: x before, y after
 
 -- states, members, scratch and lines are written
-pub record OnlyRecords (x y : Place) : Type 0 where
-  pub sp : y.aut.sp ≡ x.aut.sp
-  pub spp : y.aut.spp ≡ x.aut.spp
-  pub states : SameSlice x.aut.states.words y.aut.states.words
-  pub members : SameSlice x.aut.members.words y.aut.members.words
-  pub transitions : y.aut.transitions ≡ x.aut.transitions
-  pub pending : y.aut.pending ≡ x.aut.pending
-  pub scratch : SameSlice x.aut.scratch y.aut.scratch
-  pub lines : SameSlice x.lines.words y.lines.words
-  pub output : y.output ≡ x.output
+abbrev pub OnlyRecords : Place → Place → Type 0
+OnlyRecords x y = KeepsPlace (record { sp = false; spp = false; states = true; count = true; members = true; transitions = false; pending = false; scratch = true }) true x y
 
 -- transitions, pending entries and output are as they were, and so is the length of the table of lines
 pub record Beside (x y : Place) : Type 0 where
@@ -186,12 +177,13 @@ pub record PreRead (x : Place) : Type 0 where
   pub table : length x.lines.words.now ≡ LINES
   pub room : LISTS ≤ length x.aut.scratch.now
 
--- the place is in order for any line
-pub record Reads (image : List ℕ) (y : Place) : Type 0 where
-  pub standing : Standing (setting_at image) y
+-- the place is in order for any line, with the setting S of block 0
+pub record Reads (image : List ℕ) (y : Place) (S : Setting) : Type 0 where
+  pub setting : S ≡ setting_at image
+  pub standing : Standing S y
   pub silent : y.output.at ≡ 0
   pub some : 512 ≤ length image
 
-pub record PostRead (image : List ℕ) (x : Place) (r : Result Unit Refusal) (y : Place) : Type 0 where
-  pub is : Read.read (lengths_of x) limits01 image ≡ outcome (λ u. 0) r (place_in y)
-  pub then : Unless r (Reads image y)
+pub record PostRead (image : List ℕ) (x : Place) (r : Result Setting Refusal) (y : Place) : Type 0 where
+  pub is : Read.read (lengths_of x) limits01 image ≡ outcome (λ S. 0) r (place_in y)
+  pub then : IfOk r (Reads image y)

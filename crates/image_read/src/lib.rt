@@ -1,7 +1,7 @@
 // 02 (ii), reading an image: block 0, the tables of a new book, then every record again by its constructor, block by block; the place that the image stands for, or why it is refused.
 #![tactic(auto)]
 
-ghost use Rattle.std.specs.Prelude.{◌≡◌, ◌+◌, ◌≤◌, length};
+ghost use Rattle.std.specs.Prelude.{◌≡◌, ◌+◌};
 ghost use Rattle.slices.specs.Same.{SameSlice};
 ghost use Rattle.image_words.specs.Clauses.{Reaches, head_of};
 ghost use Rattle.image_states.specs.Clauses.{OnlyExprs};
@@ -27,14 +27,6 @@ fn setting_of(h: Head) -> Setting
         fields: h.fields,
         budget: h.budget,
     })
-}
-
-// what holds for the book that goes on
-pub fn setting_at(image: &[u8]) -> Setting
-    requires { 512 ≤ length image.now }
-    ensures { result ≡ Its.setting_at image.now }
-{
-    setting_of(image_words::head_at(image))
 }
 
 // an image, and its block 0, which fits it
@@ -66,7 +58,7 @@ fn open(image: &[u8]) -> Result<Head, Refusal>
 // the constants, then the records of both kinds of nodes
 fn read_diagrams(opened: Opened, place: &mut Place) -> Result<(), Refusal>
     requires { Empty place.old }
-    ensures keeps { OnlyNodes place.old place.new }
+    ensures keeps { OnlyNodes opened.entry.head.fields place.old place.new }
     ensures gives { Its.PostDiagrams opened.entry.image.now opened.entry.head place.old result place.new }
 {
     let (image, h) = (opened.image, opened.head);
@@ -149,10 +141,11 @@ fn read_automaton(opened: Opened, aut: &mut Aut) -> Result<(), Refusal>
     read_members(image, first, h.members)?;
     let setting = setting_of(h);
     let at = Lists {
+        image,
         first,
         count: h.members,
     };
-    image_states::read_states(image, aut, setting.config, at, first + h.members, h.states)
+    image_states::read_states(aut, setting.config, at, first + h.members, h.states)
 }
 
 // .. then lines, and the end
@@ -174,8 +167,8 @@ fn read_records(opened: Opened, place: &mut Place) -> Result<(), Refusal>
 
 // ---- an image
 
-// From an empty place: the place that the image stands for.
-pub fn read(image: &[u8], place: &mut Place) -> Result<(), Refusal>
+// From an empty place: the place that the image stands for, and what holds for the book that goes on.
+pub fn read(image: &[u8], place: &mut Place) -> Result<Setting, Refusal>
     requires { Its.PreRead place.old }
     ensures keeps { SameSlices place.old place.new }
     ensures beside { Its.Beside place.old place.new }
@@ -184,5 +177,6 @@ pub fn read(image: &[u8], place: &mut Place) -> Result<(), Refusal>
     let h = open(image)?;
     let opened = Opened { image, head: h };
     read_diagrams(opened, place)?;
-    read_records(opened, place)
+    read_records(opened, place)?;
+    Ok(setting_of(h))
 }

@@ -102,83 +102,83 @@ lim k = limits_of k.limits
 
 -- ---- a record, by its kind
 
-module _ (image : List ℕ) (k : Config) (at : Lists) (w : Words) (x : Lent) where
-  pub reads_plain : listed w.kind ≡ false → {r : Result ℕ Refusal} (y : Lent) → Enters k w [] x r y → y.scratch ≡ x.scratch → Reads image k at w x r y
+module _ (k : Config) (at : Lists) (w : Words) (x : Lent) where
+  pub reads_plain : listed w.kind ≡ false → {r : Result ℕ Refusal} (y : Lent) → Enters k w [] x r y → y.scratch ≡ x.scratch → Reads k at w x r y
   reads_plain p {r} y d s = record {
     is = λ h H.
-        made_plain image h (lim k) w.kind w.first w.second w.nesting (aut_in x) p
+        made_plain at.image.now h (lim k) w.kind w.first w.second w.nesting (aut_in x) p
         ∙ ap (λ (m : ℕ). made m (lim k) [] w.kind w.first w.second w.nesting (aut_in x)) H.fields
         ∙ d;
     kept = rw s (kept_refl 0 64 x.scratch.now);
   }
 
   -- a kind that images do not know
-  pub reads_none : NoKind w.kind → Reads image k at w x (Err Record) x
+  pub reads_none : NoKind w.kind → Reads k at w x (Err Record) x
   reads_none p = record {
     is = λ h H. go h (listed w.kind && ltb h.members (w.first + w.second));
     kept = kept_refl 0 64 x.scratch.now;
   }
     where
-      go : (h : Head) (b : Bool) → (if b then refused 32 else made h.fields (lim k) (Read.list_at image h (lim k) w.kind w.first w.second) w.kind w.first w.second w.nesting (aut_in x)) ≡ refused 32
+      go : (h : Head) (b : Bool) → (if b then refused 32 else made h.fields (lim k) (Read.list_at at.image.now h (lim k) w.kind w.first w.second) w.kind w.first w.second w.nesting (aut_in x)) ≡ refused 32
       go h true = refl
       go h false =
-          let xs : List ℕ = Read.list_at image h (lim k) w.kind w.first w.second in
+          let xs : List ℕ = Read.list_at at.image.now h (lim k) w.kind w.first w.second in
           made_no h.fields (lim k) xs w.kind w.first w.second w.nesting (aut_in x) (p.never h.fields (lim k) (aut_in x) xs w.first w.second w.nesting)
 
   module _ (q : (w.kind ≡ UNION) ⊎ (w.kind ≡ INTERSECT)) where
-    pub list_far : at.count < w.first + w.second → Reads image k at w x (Err Record) x
+    pub list_far : at.count < w.first + w.second → Reads k at w x (Err Record) x
     list_far l = record {
-      is = λ h H. made_far image h (lim k) w.kind w.first w.second w.nesting (aut_in x) (list_kind q) (omega (arith, H.members));
+      is = λ h H. made_far at.image.now h (lim k) w.kind w.first w.second w.nesting (aut_in x) (list_kind q) (omega (arith, H.members));
       kept = kept_refl 0 64 x.scratch.now;
     }
 
     module _ (l : w.first + w.second ≤ at.count) where
-      pub list_long : k.limits.list < w.second → Reads image k at w x (Err Record) x
+      pub list_long : k.limits.list < w.second → Reads k at w x (Err Record) x
       list_long m = record {
         is = λ h H.
-            let xs : List ℕ = Read.words_from image h (lim k) (start_of 2 (layout h) + w.first) w.second in
-            made_list image h (lim k) w.kind w.first w.second w.nesting (aut_in x) (list_kind q) (omega (arith, H.members))
+            let xs : List ℕ = Read.words_from at.image.now h (lim k) (start_of 2 (layout h) + w.first) w.second in
+            made_list at.image.now h (lim k) w.kind w.first w.second w.nesting (aut_in x) (list_kind q) (omega (arith, H.members))
             ∙ made_no h.fields (lim k) xs w.kind w.first w.second w.nesting (aut_in x) (Whole.list_long h.fields (lim k) (aut_in x) xs w.kind w.first w.second w.nesting q m);
         kept = kept_refl 0 64 x.scratch.now;
       }
 
       -- the list is in the first words of scratch
-      pub list_read : (ys : List ℕ) {n : ℕ} → n ≡ w.second → Copies image (at.first + w.first) n ys → w.second ≤ 64 → w.second ≤ length x.scratch.now
+      pub list_read : (ys : List ℕ) {n : ℕ} → n ≡ w.second → Copies at.image.now (at.first + w.first) n ys → w.second ≤ 64 → w.second ≤ length x.scratch.now
           → (st : States) (mem : Members) {r : Result ℕ Refusal} → EntersList k w ys x.states x.members r st mem
-          → {y : Lent} → aut_in y ≡ aut (nodes_in x) (states_of st) (members_of mem) → y.scratch.now ≡ ys ++ drop w.second x.scratch.now → Reads image k at w x r y
+          → {y : Lent} → aut_in y ≡ aut (nodes_in x) (states_of st) (members_of mem) → y.scratch.now ≡ ys ++ drop w.second x.scratch.now → Reads k at w x r y
       list_read ys {n} e v few room st mem {r} d {y} a s = record {
         is = λ h H.
-            made_list image h (lim k) w.kind w.first w.second w.nesting (aut_in x) (list_kind q) (omega (arith, H.members))
-            ∙ ap₂ (λ (m a : ℕ). made m (lim k) (Read.words_from image h (lim k) (a + w.first) w.second) w.kind w.first w.second w.nesting (aut_in x)) H.fields H.first
-            ∙ ap (λ (m : ℕ). made k.fields (lim k) (Read.words_from image h (lim k) (at.first + w.first) m) w.kind w.first w.second w.nesting (aut_in x)) (sym e)
+            made_list at.image.now h (lim k) w.kind w.first w.second w.nesting (aut_in x) (list_kind q) (omega (arith, H.members))
+            ∙ ap₂ (λ (m a : ℕ). made m (lim k) (Read.words_from at.image.now h (lim k) (a + w.first) w.second) w.kind w.first w.second w.nesting (aut_in x)) H.fields H.first
+            ∙ ap (λ (m : ℕ). made k.fields (lim k) (Read.words_from at.image.now h (lim k) (at.first + w.first) m) w.kind w.first w.second w.nesting (aut_in x)) (sym e)
             ∙ ap (λ (ys : List ℕ). made k.fields (lim k) ys w.kind w.first w.second w.nesting (aut_in x)) (v.is h (lim k))
             ∙ d.is (nodes_in x)
             ∙ ap (seen r) (sym a);
-        kept = subst (Kept 0 64 x.scratch.now) (sym s) (copied_kept ys x.scratch.now w.second (ap length (sym (v.is any_head (lim k))) ∙ from_length image any_head (lim k) (at.first + w.first) n ∙ e) few room);
+        kept = subst (Kept 0 64 x.scratch.now) (sym s) (copied_kept ys x.scratch.now w.second (ap length (sym (v.is any_head (lim k))) ∙ from_length at.image.now any_head (lim k) (at.first + w.first) n ∙ e) few room);
       }
 
 -- ---- read_state
 
-module _ (image : List ℕ) (k : Config) (at : Lists) (s : ℕ) (w : Words) (v : WordsAt image s w) (x : Lent) where
-  read_is : (h : Head) {o : Outcome Aut ℕ} → made_at image h (lim k) w.kind w.first w.second w.nesting (aut_in x) ≡ o
-      → Read.state_at image h (lim k) (word_of image s) (word_of image (s + 1)) (word_of image (s + 2)) (word_of image (s + 3)) (aut_in x) ≡ Records.wanted h.fields (lim k) x.states.count o
+module _ (k : Config) (at : Lists) (s : ℕ) (w : Words) (v : WordsAt at.image.now s w) (x : Lent) where
+  read_is : (h : Head) {o : Outcome Aut ℕ} → made_at at.image.now h (lim k) w.kind w.first w.second w.nesting (aut_in x) ≡ o
+      → Read.state_at at.image.now h (lim k) (word_of at.image.now s) (word_of at.image.now (s + 1)) (word_of at.image.now (s + 2)) (word_of at.image.now (s + 3)) (aut_in x) ≡ Records.wanted h.fields (lim k) x.states.count o
   read_is h q =
-      ap₂ (λ (c d : ℕ). Read.state_at image h (lim k) c d (word_of image (s + 2)) (word_of image (s + 3)) (aut_in x)) (sym v.kind) (sym v.first)
-      ∙ ap₂ (λ (y e : ℕ). Read.state_at image h (lim k) w.kind w.first y e (aut_in x)) (sym v.second) (sym v.nesting)
-      ∙ state_is image h (lim k) w.kind w.first w.second w.nesting (aut_in x)
+      ap₂ (λ (c d : ℕ). Read.state_at at.image.now h (lim k) c d (word_of at.image.now (s + 2)) (word_of at.image.now (s + 3)) (aut_in x)) (sym v.kind) (sym v.first)
+      ∙ ap₂ (λ (y e : ℕ). Read.state_at at.image.now h (lim k) w.kind w.first y e (aut_in x)) (sym v.second) (sym v.nesting)
+      ∙ state_is at.image.now h (lim k) w.kind w.first w.second w.nesting (aut_in x)
       ∙ ap (Records.wanted h.fields (lim k) x.states.count) q
 
-  pub not_read : {e : Refusal} {y : Lent} → Reads image k at w x (Err e) y → ReadsState image k at s x (Err e) y
+  pub not_read : {e : Refusal} {y : Lent} → Reads k at w x (Err e) y → ReadsState k at s x (Err e) y
   not_read d = record { is = λ h H. read_is h (d.is h H); kept = d.kept }
 
-  pub state_read : {i : ℕ} {r : Result ℕ Refusal} {y : Lent} → Reads image k at w x (Ok i) y → Wants x.states.count i r → ReadsState image k at s x r y
+  pub state_read : {i : ℕ} {r : Result ℕ Refusal} {y : Lent} → Reads k at w x (Ok i) y → Wants x.states.count i r → ReadsState k at s x r y
   state_read {i} {r} {y} d n = record { is = λ h H. read_is h (d.is h H) ∙ n.is h.fields (lim k) (aut_in y); kept = d.kept }
 
 -- ---- read_at
 
-module _ (image : List ℕ) (k : Config) (at : Lists) (s : ℕ) (x : Lent) where
+module _ (k : Config) (at : Lists) (s : ℕ) (x : Lent) where
   abbrev state_of : Head → Step Aut ℕ
-  state_of h = Read.state_at image h (lim k) (word_of image s) (word_of image (s + 1)) (word_of image (s + 2)) (word_of image (s + 3))
+  state_of h = Read.state_at at.image.now h (lim k) (word_of at.image.now s) (word_of at.image.now (s + 1)) (word_of at.image.now (s + 2)) (word_of at.image.now (s + 3))
 
   abbrev on_place : RunState → Outcome Aut ℕ → Outcome RunState ℕ
   on_place p o = placed (λ (σ : Tables) (p : RunState). place σ p.lines p.output) p (placed put_base p.tables (placed put_aut p.tables.base o))
@@ -189,22 +189,22 @@ module _ (image : List ℕ) (k : Config) (at : Lists) (s : ℕ) (x : Lent) where
 
   since_by : WfAut k.fields (lim k) (aut_in x) → (h₀ : Head) → HeadIs h₀ k.fields at → (r : Result ℕ Refusal) (y : Lent) → state_of h₀ (aut_in x) ≡ seen r (aut_in y) → SinceBy k x r y
   since_by good h₀ H₀ (Ok i) y q =
-      let xs : List ℕ = Read.list_at image h₀ (lim k) (word_of image s) (word_of image (s + 1)) (word_of image (s + 2)) in
-      let z : Records.state h₀.fields (lim k) xs (word_of image s) (word_of image (s + 1)) (word_of image (s + 2)) (word_of image (s + 3)) (aut_in x) ≡ given (aut_in y) i
-      = state_given image h₀ (lim k) (word_of image s) (word_of image (s + 1)) (word_of image (s + 2)) (word_of image (s + 3)) (aut_in x) q in
-      record_goes k.fields (lim k) (aut_in x) (aut_in y) xs (word_of image s) (word_of image (s + 1)) (word_of image (s + 2)) (word_of image (s + 3)) i good
-      (subst (λ (N : ℕ). Records.state N (lim k) xs (word_of image s) (word_of image (s + 1)) (word_of image (s + 2)) (word_of image (s + 3)) (aut_in x) ≡ given (aut_in y) i) H₀.fields z)
+      let xs : List ℕ = Read.list_at at.image.now h₀ (lim k) (word_of at.image.now s) (word_of at.image.now (s + 1)) (word_of at.image.now (s + 2)) in
+      let z : Records.state h₀.fields (lim k) xs (word_of at.image.now s) (word_of at.image.now (s + 1)) (word_of at.image.now (s + 2)) (word_of at.image.now (s + 3)) (aut_in x) ≡ given (aut_in y) i
+      = state_given at.image.now h₀ (lim k) (word_of at.image.now s) (word_of at.image.now (s + 1)) (word_of at.image.now (s + 2)) (word_of at.image.now (s + 3)) (aut_in x) q in
+      record_goes k.fields (lim k) (aut_in x) (aut_in y) xs (word_of at.image.now s) (word_of at.image.now (s + 1)) (word_of at.image.now (s + 2)) (word_of at.image.now (s + 3)) i good
+      (subst (λ (N : ℕ). Records.state N (lim k) xs (word_of at.image.now s) (word_of at.image.now (s + 1)) (word_of at.image.now (s + 2)) (word_of at.image.now (s + 3)) (aut_in x) ≡ given (aut_in y) i) H₀.fields z)
   since_by good h₀ H₀ (Err e) y q = tt
 
-  module _ {lk : Result Unit Refusal} (f : Entered image s 4 lk) where
+  module _ {lk : Result Unit Refusal} (f : Entered at.image.now s 4 lk) where
     entering : (h : Head) (i : ℕ) (p : RunState) {z : Result Unit Refusal} → lk ≡ z
-        → (Read.enter image h (lim k) s 4 >>= λ _. Read.state image h (lim k) i s) p ≡ after (entered_by z p) (λ _. Read.state image h (lim k) i s)
-    entering h i p q = ap (λ (o : Outcome RunState ℕ). after o (λ _. Read.state image h (lim k) i s)) (f h (lim k) p ∙ ap (λ (z : Result Unit Refusal). entered_by z p) q)
+        → (Read.enter at.image.now h (lim k) s 4 >>= λ _. Read.state at.image.now h (lim k) i s) p ≡ after (entered_by z p) (λ _. Read.state at.image.now h (lim k) i s)
+    entering h i p q = ap (λ (o : Outcome RunState ℕ). after o (λ _. Read.state at.image.now h (lim k) i s)) (f h (lim k) p ∙ ap (λ (z : Result Unit Refusal). entered_by z p) q)
 
-    pub turn_refused : {e : Refusal} → lk ≡ Err e → Turns image k at s x (Err e) x
+    pub turn_refused : {e : Refusal} → lk ≡ Err e → Turns k at s x (Err e) x
     turn_refused q = record { is = λ h H i p a. entering h i p q; since = tt; kept = kept_refl 0 64 x.scratch.now }
 
-    pub turn_read : WfAut k.fields (lim k) (aut_in x) → (h₀ : Head) → HeadIs h₀ k.fields at → lk ≡ Ok tt → {r : Result ℕ Refusal} {y : Lent} → ReadsState image k at s x r y → Turns image k at s x r y
+    pub turn_read : WfAut k.fields (lim k) (aut_in x) → (h₀ : Head) → HeadIs h₀ k.fields at → lk ≡ Ok tt → {r : Result ℕ Refusal} {y : Lent} → ReadsState k at s x r y → Turns k at s x r y
     turn_read good h₀ H₀ q {r} {y} d = record {
       is = λ h H i p a. entering h i p q ∙ ap (on_place p) (ap (state_of h) a ∙ d.is h H) ∙ as_placed p r y;
       since = since_by good h₀ H₀ r y (d.is h₀ H₀);
@@ -234,26 +234,26 @@ module _ (image : List ℕ) (h : Head) (L : Bounds) where
   run_end i s p = refl
 
 -- of n records i are read
-pub record Going (image : List ℕ) (k : Config) (at : Lists) (s n : ℕ) (x : Lent) (i : ℕ) (y : Lent) : Type 0 where
+pub record Going (k : Config) (at : Lists) (s n : ℕ) (x : Lent) (i : ℕ) (y : Lent) : Type 0 where
   pub is : (h : Head) → HeadIs h k.fields at → (p : RunState) → p.tables.base.aut ≡ aut_in x
-      → run image h (lim k) 0 s n p ≡ run image h (lim k) i (s + 4 * i) (n - i) (put_in (aut_in y) p)
+      → run at.image.now h (lim k) 0 s n p ≡ run at.image.now h (lim k) i (s + 4 * i) (n - i) (put_in (aut_in y) p)
   pub since : Since k.fields (lim k) (aut_in x) (aut_in y)
   pub kept : Kept 0 64 x.scratch.now y.scratch.now
 
-module _ (image : List ℕ) (k : Config) (at : Lists) (s n : ℕ) (x : Lent) where
-  pub begin : WfAut k.fields (lim k) (aut_in x) → Going image k at s n x 0 x
+module _ (k : Config) (at : Lists) (s n : ℕ) (x : Lent) where
+  pub begin : WfAut k.fields (lim k) (aut_in x) → Going k at s n x 0 x
   begin g = record {
     is = λ h H p a.
-        ap₂ (λ (u v : ℕ). run image h (lim k) 0 u v p) {x = s} {y = s + 4 * 0} {u = n} {v = n - 0} (omega arith) (omega arith)
-        ∙ ap (λ (σ : Aut). run image h (lim k) 0 (s + 4 * 0) (n - 0) (put_in σ p)) a;
+        ap₂ (λ (u v : ℕ). run at.image.now h (lim k) 0 u v p) {x = s} {y = s + 4 * 0} {u = n} {v = n - 0} (omega arith) (omega arith)
+        ∙ ap (λ (σ : Aut). run at.image.now h (lim k) 0 (s + 4 * 0) (n - 0) (put_in σ p)) a;
     since = since_refl g;
     kept = kept_refl 0 64 x.scratch.now;
   }
 
-  module _ {i : ℕ} {y : Lent} (v : Going image k at s n x i y) where
+  module _ {i : ℕ} {y : Lent} (v : Going k at s n x i y) where
     module _ (l : i < n) where
       -- what a turn asks
-      pub turn_asks : StatesAsk image k at s n x → length y.scratch.now ≡ length x.scratch.now → TurnAsks image k at (s + 4 * i) y
+      pub turn_asks : StatesAsk k at s n x → length y.scratch.now ≡ length x.scratch.now → TurnAsks k at (s + 4 * i) y
       turn_asks q len = record {
         asks = record {
           asks = record {
@@ -268,28 +268,28 @@ module _ (image : List ℕ) (k : Config) (at : Lists) (s n : ℕ) (x : Lent) whe
         is_head = q.is_head;
       }
 
-      module _ {r : Result ℕ Refusal} {z : Lent} (w : Turns image k at (s + 4 * i) y r z) where
+      module _ {r : Result ℕ Refusal} {z : Lent} (w : Turns k at (s + 4 * i) y r z) where
         moved : (h : Head) → HeadIs h k.fields at → (p : RunState) → p.tables.base.aut ≡ aut_in x
-            → run image h (lim k) 0 s n p ≡ after (seen r (put_in (aut_in z) p)) (λ _. run image h (lim k) (i + 1) (s + 4 * i + 4) (n - (i + 1)))
+            → run at.image.now h (lim k) 0 s n p ≡ after (seen r (put_in (aut_in z) p)) (λ _. run at.image.now h (lim k) (i + 1) (s + 4 * i + 4) (n - (i + 1)))
         moved h H p a =
             v.is h H p a
-            ∙ ap (λ (m : ℕ). run image h (lim k) i (s + 4 * i) m (put_in (aut_in y) p)) {x = n - i} {y = suc (n - (i + 1))} (omega arith)
-            ∙ run_on image h (lim k) i (s + 4 * i) (n - (i + 1)) (put_in (aut_in y) p) (seen r (put_in (aut_in z) p)) (w.is h H i (put_in (aut_in y) p) refl)
+            ∙ ap (λ (m : ℕ). run at.image.now h (lim k) i (s + 4 * i) m (put_in (aut_in y) p)) {x = n - i} {y = suc (n - (i + 1))} (omega arith)
+            ∙ run_on at.image.now h (lim k) i (s + 4 * i) (n - (i + 1)) (put_in (aut_in y) p) (seen r (put_in (aut_in z) p)) (w.is h H i (put_in (aut_in y) p) refl)
 
-      pub stop : {e : Refusal} {z : Lent} → Turns image k at (s + 4 * i) y (Err e) z → ReadsStates image k at s n x (Err e) z
+      pub stop : {e : Refusal} {z : Lent} → Turns k at (s + 4 * i) y (Err e) z → ReadsStates k at s n x (Err e) z
       stop w = record { is = λ h H p a. moved w h H p a; since = tt; kept = kept_trans v.kept w.kept }
 
-      pub again : {j : ℕ} {z : Lent} → Turns image k at (s + 4 * i) y (Ok j) z → Going image k at s n x (i + 1) z
+      pub again : {j : ℕ} {z : Lent} → Turns k at (s + 4 * i) y (Ok j) z → Going k at s n x (i + 1) z
       again {j} {z} w = record {
-        is = λ h H p a. moved w h H p a ∙ ap (λ (u : ℕ). run image h (lim k) (i + 1) u (n - (i + 1)) (put_in (aut_in z) p)) {x = s + 4 * i + 4} {y = s + 4 * (i + 1)} (omega arith);
+        is = λ h H p a. moved w h H p a ∙ ap (λ (u : ℕ). run at.image.now h (lim k) (i + 1) u (n - (i + 1)) (put_in (aut_in z) p)) {x = s + 4 * i + 4} {y = s + 4 * (i + 1)} (omega arith);
         since = since_trans v.since w.since;
         kept = kept_trans v.kept w.kept;
       }
 
-    pub end : n ≤ i → ReadsStates image k at s n x (Ok tt) y
+    pub end : n ≤ i → ReadsStates k at s n x (Ok tt) y
     end l = record {
       is = λ h H p a.
-          v.is h H p a ∙ ap (λ (m : ℕ). run image h (lim k) i (s + 4 * i) m (put_in (aut_in y) p)) {x = n - i} {y = 0} (omega arith) ∙ run_end image h (lim k) i (s + 4 * i) (put_in (aut_in y) p);
+          v.is h H p a ∙ ap (λ (m : ℕ). run at.image.now h (lim k) i (s + 4 * i) m (put_in (aut_in y) p)) {x = n - i} {y = 0} (omega arith) ∙ run_end at.image.now h (lim k) i (s + 4 * i) (put_in (aut_in y) p);
       since = v.since;
       kept = v.kept;
     }

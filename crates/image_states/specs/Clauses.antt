@@ -81,8 +81,8 @@ pub record EntersList (k : Config) (w : Words) (xs : List ℕ) (st : States) (me
   pub is : (t : Table) → made k.fields (limits_of k.limits) xs w.kind w.first w.second w.nesting (aut t (states_of st) (members_of mem)) ≡ seen r (aut t (states_of st') (members_of mem'))
 
 -- .. whose list, if it has one, is read from the image
-pub record Reads (image : List ℕ) (k : Config) (at : Lists) (w : Words) (x : Lent) (r : Result ℕ Refusal) (y : Lent) : Type 0 where
-  pub is : (h : Head) → HeadIs h k.fields at → made_at image h (limits_of k.limits) w.kind w.first w.second w.nesting (aut_in x) ≡ seen r (aut_in y)
+pub record Reads (k : Config) (at : Lists) (w : Words) (x : Lent) (r : Result ℕ Refusal) (y : Lent) : Type 0 where
+  pub is : (h : Head) → HeadIs h k.fields at → made_at at.image.now h (limits_of k.limits) w.kind w.first w.second w.nesting (aut_in x) ≡ seen r (aut_in y)
   pub kept : Kept 0 64 x.scratch.now y.scratch.now
 
 -- the number n is wanted
@@ -90,9 +90,9 @@ pub record Wants (n i : ℕ) (r : Result ℕ Refusal) : Type 0 where
   pub is : (N : ℕ) (L : Bounds) (σ : Aut) → Records.wanted N L n (given σ i) ≡ seen r σ
 
 -- the record at word s
-pub record ReadsState (image : List ℕ) (k : Config) (at : Lists) (s : ℕ) (x : Lent) (r : Result ℕ Refusal) (y : Lent) : Type 0 where
+pub record ReadsState (k : Config) (at : Lists) (s : ℕ) (x : Lent) (r : Result ℕ Refusal) (y : Lent) : Type 0 where
   pub is : (h : Head) → HeadIs h k.fields at
-      → Read.state_at image h (limits_of k.limits) (word_of image s) (word_of image (s + 1)) (word_of image (s + 2)) (word_of image (s + 3)) (aut_in x) ≡ seen r (aut_in y)
+      → Read.state_at at.image.now h (limits_of k.limits) (word_of at.image.now s) (word_of at.image.now (s + 1)) (word_of at.image.now (s + 2)) (word_of at.image.now (s + 3)) (aut_in x) ≡ seen r (aut_in y)
   pub kept : Kept 0 64 x.scratch.now y.scratch.now
 
 -- ---- on the place of a run
@@ -106,16 +106,16 @@ abbrev pub SinceBy : {V : Type 0} → Config → Lent → Result V Refusal → L
 SinceBy k x r y = Unless r (Since k.fields (limits_of k.limits) (aut_in x) (aut_in y))
 
 -- the block of the record at word s, and the record
-pub record Turns (image : List ℕ) (k : Config) (at : Lists) (s : ℕ) (x : Lent) (r : Result ℕ Refusal) (y : Lent) : Type 0 where
+pub record Turns (k : Config) (at : Lists) (s : ℕ) (x : Lent) (r : Result ℕ Refusal) (y : Lent) : Type 0 where
   pub is : (h : Head) → HeadIs h k.fields at → (i : ℕ) (p : RunState) → p.tables.base.aut ≡ aut_in x
-      → (Read.enter image h (limits_of k.limits) s 4 >>= λ _. Read.state image h (limits_of k.limits) i s) p ≡ seen r (put_in (aut_in y) p)
+      → (Read.enter at.image.now h (limits_of k.limits) s 4 >>= λ _. Read.state at.image.now h (limits_of k.limits) i s) p ≡ seen r (put_in (aut_in y) p)
   pub since : SinceBy k x r y
   pub kept : Kept 0 64 x.scratch.now y.scratch.now
 
 -- n records, the first at word s
-pub record ReadsStates (image : List ℕ) (k : Config) (at : Lists) (s n : ℕ) (x : Lent) (r : Result Unit Refusal) (y : Lent) : Type 0 where
+pub record ReadsStates (k : Config) (at : Lists) (s n : ℕ) (x : Lent) (r : Result Unit Refusal) (y : Lent) : Type 0 where
   pub is : (h : Head) → HeadIs h k.fields at → (p : RunState) → p.tables.base.aut ≡ aut_in x
-      → Read.records image h (limits_of k.limits) (Read.state image h (limits_of k.limits)) 4 0 s n p ≡ outcome (λ u. 0) r (put_in (aut_in y) p)
+      → Read.records at.image.now h (limits_of k.limits) (Read.state at.image.now h (limits_of k.limits)) 4 0 s n p ≡ outcome (λ u. 0) r (put_in (aut_in y) p)
   pub since : SinceBy k x r y
   pub kept : Kept 0 64 x.scratch.now y.scratch.now
 
@@ -134,25 +134,25 @@ pub record ListAsks (k : Config) (w : Words) (xs : List ℕ) (st : States) (mem 
   pub long : length xs ≡ w.second
 
 -- .. and room for a list, and the image's members
-pub record ReadAsks (image : List ℕ) (k : Config) (at : Lists) (x : Lent) : Type 0 where
+pub record ReadAsks (k : Config) (at : Lists) (x : Lent) : Type 0 where
   pub ordered : Ordered k x
   pub list : k.limits.list ≤ 64
   pub room : 64 ≤ length x.scratch.now
-  pub members : Holds image (at.first + at.count)
+  pub members : Holds at.image.now (at.first + at.count)
 
 -- .. and a record at word s
-pub record StateAsks (image : List ℕ) (k : Config) (at : Lists) (s : ℕ) (x : Lent) : Type 0 where
-  pub asks : ReadAsks image k at x
-  pub here : Holds image (s + 4)
+pub record StateAsks (k : Config) (at : Lists) (s : ℕ) (x : Lent) : Type 0 where
+  pub asks : ReadAsks k at x
+  pub here : Holds at.image.now (s + 4)
 
-pub record TurnAsks (image : List ℕ) (k : Config) (at : Lists) (s : ℕ) (x : Lent) : Type 0 where
-  pub asks : StateAsks image k at s x
+pub record TurnAsks (k : Config) (at : Lists) (s : ℕ) (x : Lent) : Type 0 where
+  pub asks : StateAsks k at s x
   pub head : Head
   pub is_head : HeadIs head k.fields at
 
 -- .. and n records, the first at word s
-pub record StatesAsk (image : List ℕ) (k : Config) (at : Lists) (s n : ℕ) (x : Lent) : Type 0 where
-  pub asks : ReadAsks image k at x
-  pub here : Holds image (s + 4 * n)
+pub record StatesAsk (k : Config) (at : Lists) (s n : ℕ) (x : Lent) : Type 0 where
+  pub asks : ReadAsks k at x
+  pub here : Holds at.image.now (s + 4 * n)
   pub head : Head
   pub is_head : HeadIs head k.fields at

@@ -13,9 +13,10 @@ use image_kinds::{Shape, Words};
 use image_words::STATE;
 use refusal::Refusal;
 
-// where the members stand: their first word in the image, and how many there are
+// an image, and where its members stand: their first word, and how many there are
 #[derive(Clone, Copy)]
-pub struct Lists {
+pub struct Lists<'a> {
+    pub image: &'a [u8],
     pub first: usize,
     pub count: usize,
 }
@@ -101,16 +102,10 @@ fn enter_list(
 }
 
 // the list is among the image's members, and no longer than a list may be
-fn read_list(
-    image: &[u8],
-    aut: &mut Aut,
-    config: Config,
-    at: Lists,
-    w: Words,
-) -> Result<u32, Refusal>
-    requires { Its.ReadAsks image.now config at aut.old × ShapeOf w.kind shape.List }
+fn read_list(aut: &mut Aut, config: Config, at: Lists, w: Words) -> Result<u32, Refusal>
+    requires { Its.ReadAsks config at aut.old × ShapeOf w.kind shape.List }
     ensures keeps { Its.OnlyExprs aut.old aut.new }
-    ensures gives { Its.Reads image.now config at w aut.old result aut.new }
+    ensures gives { Its.Reads config at.entry w aut.old result aut.new }
 {
     let x = w.first as usize;
     let k = w.second as usize;
@@ -118,23 +113,23 @@ fn read_list(
         return Err(Refusal::Record);
     }
     let list = &mut aut.scratch[..k];
-    copy_members(image, list, at.first + x);
+    copy_members(at.image, list, at.first + x);
     enter_list(&mut aut.states, &mut aut.members, config, list, w)
 }
 
 // ---- records
 
 // the record with these words
-fn enter(image: &[u8], aut: &mut Aut, config: Config, at: Lists, w: Words) -> Result<u32, Refusal>
-    requires { Its.ReadAsks image.now config at aut.old }
+fn enter(aut: &mut Aut, config: Config, at: Lists, w: Words) -> Result<u32, Refusal>
+    requires { Its.ReadAsks config at aut.old }
     ensures keeps { Its.OnlyExprs aut.old aut.new }
-    ensures gives { Its.Reads image.now config at w aut.old result aut.new }
+    ensures gives { Its.Reads config at.entry w aut.old result aut.new }
 {
     match image_kinds::shape_of(w.kind) {
         Some(Shape::Atom) => enter_atom(aut, config, w),
         Some(Shape::Single) => enter_single(aut, config, w),
         Some(Shape::Pair) => enter_pair(aut, config, w),
-        Some(Shape::List) => read_list(image, aut, config, at, w),
+        Some(Shape::List) => read_list(aut, config, at, w),
         None => Err(Refusal::Record),
     }
 }
@@ -150,48 +145,41 @@ fn want(i: u32, n: usize) -> Result<u32, Refusal>
 }
 
 // the record of a state at word s
-pub fn read_state(
-    image: &[u8],
-    aut: &mut Aut,
-    config: Config,
-    at: Lists,
-    s: usize,
-) -> Result<u32, Refusal>
-    requires { Its.StateAsks image.now config at s aut.old }
+pub fn read_state(aut: &mut Aut, config: Config, at: Lists, s: usize) -> Result<u32, Refusal>
+    requires { Its.StateAsks config at s aut.old }
     ensures keeps { Its.OnlyExprs aut.old aut.new }
-    ensures gives { Its.ReadsState image.now config at s aut.old result aut.new }
+    ensures gives { Its.ReadsState config at.entry s aut.old result aut.new }
 {
-    let w = words_at(image, s);
+    let w = words_at(at.image, s);
     let n = aut.states.count;
-    let i = enter(image, aut, config, at, w)?;
+    let i = enter(aut, config, at, w)?;
     want(i, n)
 }
 
 // the block that it reaches, and the record
-fn read_at(image: &[u8], aut: &mut Aut, config: Config, at: Lists, s: usize) -> Result<u32, Refusal>
-    requires { Its.TurnAsks image.now config at s aut.old }
+fn read_at(aut: &mut Aut, config: Config, at: Lists, s: usize) -> Result<u32, Refusal>
+    requires { Its.TurnAsks config at s aut.old }
     ensures keeps { Its.OnlyExprs aut.old aut.new }
-    ensures gives { Its.Turns image.now config at s aut.old result aut.new }
+    ensures gives { Its.Turns config at.entry s aut.old result aut.new }
 {
-    image_words::enter(image, s, STATE)?;
-    read_state(image, aut, config, at, s)
+    image_words::enter(at.image, s, STATE)?;
+    read_state(aut, config, at, s)
 }
 
 // the records of k states, the first at word s
 pub fn read_states(
-    image: &[u8],
     aut: &mut Aut,
     config: Config,
     at: Lists,
     s: usize,
     k: usize,
 ) -> Result<(), Refusal>
-    requires { Its.StatesAsk image.now config at s k aut.old }
+    requires { Its.StatesAsk config at s k aut.old }
     ensures keeps { Its.OnlyExprs aut.old aut.new }
-    ensures gives { Its.ReadsStates image.now config at s k aut.old result aut.new }
+    ensures gives { Its.ReadsStates config at.entry s k aut.old result aut.new }
 {
     for i in 0..k {
-        read_at(image, aut, config, at, s + STATE * i)?;
+        read_at(aut, config, at, s + STATE * i)?;
     }
     Ok(())
 }

@@ -18,7 +18,7 @@ use Rattle.refusal.specs.declared.Refusal.{Refusal}
 use Rattle.refusal.specs.declared.Refusal.TheVariants as refusals
 use Rattle.refusal.specs.Numbers as refusal
 use Rattle.book_writer.specs.Clauses.{Room, Put, Answers}
-use Rattle.book_writer.specs.declared.Output.{Output}
+use Rattle.book_writer.specs.declared.output.Output.{Output}
 use Rattle.book_writer.proofs.Contracts.{put_take}
 use Rattle.std.specs.Prelude as code
 use Rattle.book_writer.proofs.Rights.{most_digits}
@@ -45,7 +45,7 @@ line_told {number} {n} line e o o' r A l = subst (λ (k : ℕ). code.IsOk r × P
 
 pub stands_put : {bs : List ℕ} (o o' : Output) → o.at ≡ 0 → Put bs o o' → Stands bs o'.at o'.bytes.now
 stands_put {bs} o o' z p = record {
-  counts = counts o'.at o'.bytes.now (omega (arith, p.room, p.wrote.len));
+  counts = counts o'.at o'.bytes.now o'.fits;
   is = put_take p ∙ ap (λ (n : ℕ). take n o.bytes.now ++ bs) z;
 }
 

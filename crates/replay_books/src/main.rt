@@ -76,7 +76,7 @@ fn used(table: &[u32]) -> usize
 
 fn print_table(rt: &impl Print, name: &[u8], table: &[u32]) -> io::Result<()> {
     rt.write_all(name)?;
-    for word in table[..used(table)].iter() {
+    for word in &table[..used(table)] {
         print!(rt; " {word}")?;
     }
     rt.write_all(b"\n")

@@ -5,9 +5,6 @@ use Rattle.book_pruned.proofs.put_pairs.Goals as goal
 pub pair_at-target-requires : goal.pair_at-target-requires
 pair_at-target-requires c = (pairs.pairs_in c.loop-i.invariant.0 c.loop-i.invariant.2.pairs, c.loop-i-test.true)
 
-pub pair_line-requires : goal.pair_line-requires
-pair_line-requires c = pairs.line_fits _ _ _ c.requires c.loop-i.invariant.2
-
 pub loop-i-init : goal.loop-i-init
 loop-i-init c = (search rules, search rules, pairs.placed_begin _ _ _ c.requires)
 

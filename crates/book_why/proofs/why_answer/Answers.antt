@@ -23,7 +23,7 @@ put_string-requires c =
       string = _;
       picks = writing.answer_picks c.args.config c.args.aut.now A c.in-Some.is c.forget.ensures.keeps c.forget.ensures.gives;
       most = writing.most c.args.config c.args.aut.now A c.in-Some.is;
-      room = omega (arith, c.in_ok-room.ensures, c.why_length-long.ensures, c.requires.room);
+      room = omega (arith, c.in_ok-room.ensures, c.why_length-long.ensures);
     }
 
 pub returns-clause-gives : goal.returns-clause-gives

@@ -5,5 +5,5 @@ use Rattle.image_states.proofs.read_states.Given as goal
 abbrev pub invariant-loop-i : goal.invariant-loop-i
 invariant-loop-i l = record {
   keeps : OnlyExprs l.initial.aut l.aut;
-  going : its.Going l.image l.config l.at l.s l.k l.initial.aut l.i l.aut;
+  going : its.Going l.config l.at l.s l.k l.initial.aut l.i l.aut;
 }

@@ -1,5 +1,5 @@
 use Rattle.book_writer.proofs.Rights as rights
-use Rattle.book_writer.proofs.Output.put_digits.Goals as goal
+use Rattle.book_writer.proofs.output.Output.put_digits.Goals as goal
 
 pub loop-i-preserved : goal.loop-i-preserved
 loop-i-preserved c =

@@ -1,7 +1,7 @@
 use native.Mathlib.Omega.{arith}
 use Rattle.book_writer.proofs.Contracts.{put_of}
 use Rattle.book_writer.proofs.Sentence as sentence
-use Rattle.book_writer.proofs.Output.put_packet.Goals as goal
+use Rattle.book_writer.proofs.output.Output.put_packet.Goals as goal
 
 pub put-requires : goal.put-requires
 put-requires c = omega (arith, c.requires, sentence.word_least c.args.fields)

@@ -4,7 +4,7 @@ use native.Mathlib.Omega.{arith}
 use Rattle.book_writer.specs.Clauses.{last_digits}
 use Rattle.book_writer.proofs.Contracts.{put_of}
 use Rattle.book_writer.proofs.Rights.{decimal_are}
-use Rattle.book_writer.proofs.Output.put_decimal.Goals as goal
+use Rattle.book_writer.proofs.output.Output.put_decimal.Goals as goal
 
 pub returns-clause-puts : goal.returns-clause-puts
 returns-clause-puts c =

@@ -2,8 +2,8 @@ use mathlib.Core.Path.{sym, ap}
 use mathlib.Core.Bool.{Bool}
 use Rattle.book_writer.proofs.Contracts.{put_of}
 use Rattle.book_writer.specs.Clauses.{hop_part}
-use Rattle.book_writer.proofs.Output.put_hop.Goals as goal
-use Rattle.book_writer.proofs.Output.put_hop.Goals.{then-first, else-first}
+use Rattle.book_writer.proofs.output.Output.put_hop.Goals as goal
+use Rattle.book_writer.proofs.output.Output.put_hop.Goals.{then-first, else-first}
 
 pub returns-clause-puts : goal.returns-clause-puts
 returns-clause-puts c =

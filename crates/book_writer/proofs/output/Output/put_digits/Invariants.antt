@@ -1,6 +1,6 @@
 use mathlib.Core.Path.{◌≡◌}
 use Rattle.book_writer.proofs.Rights.{Drawn}
-use Rattle.book_writer.proofs.Output.put_digits.Given as goal
+use Rattle.book_writer.proofs.output.Output.put_digits.Given as goal
 
 abbrev pub invariant-loop-i : goal.invariant-loop-i
 invariant-loop-i l =

@@ -1,7 +1,7 @@
 use Rattle.book_steps.proofs.Sentence.{word_length_lem}
 use native.Mathlib.Omega.{arith}
 use Rattle.book_writer.proofs.Contracts.{put_append}
-use Rattle.book_writer.proofs.Output.put_end.Goals as goal
+use Rattle.book_writer.proofs.output.Output.put_end.Goals as goal
 
 pub put_byte-requires : goal.put_byte-requires
 put_byte-requires c =

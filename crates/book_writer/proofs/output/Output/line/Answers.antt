@@ -1,7 +1,7 @@
 use Rattle.std.proofs.Common.{arith}
 use Rattle.slices.proofs.Same.{slice_trans}
 use Rattle.book_writer.proofs.Lines as lines
-use Rattle.book_writer.proofs.Output.line.Goals as goal
+use Rattle.book_writer.proofs.output.Output.line.Goals as goal
 
 pub put-requires : goal.put-requires
 put-requires c = omega (arith, lines.line_room c.args.word.now c.args.parts.now c.args.self.now.at c.in_ok-room.ensures (rw c.in_ok-n.ensures.ok_part at c.line_length.ensures))

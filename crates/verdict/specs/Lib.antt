@@ -1,0 +1,2 @@
+-- The verdict of the search for a string.
+pub mod Verdict
