@@ -29,7 +29,7 @@ fn append(transitions: &mut Transitions, list: &[u32]) -> Result<(), Refusal>
         return Err(Refusal::Transitions);
     }
     let at = 2 * transitions.count;
-    transitions.words[at..at + list.len()].copy_from_slice(list);
+    slices::copy(&mut transitions.words[at..at + list.len()], list);
     transitions.count = end;
     Ok(())
 }

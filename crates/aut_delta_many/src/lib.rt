@@ -37,7 +37,7 @@ fn take(scratch: &mut [u32], transitions: &Transitions, list: Span)
 {
     let at = 2 * RESULT;
     let words = list.words(transitions);
-    scratch[at..at + words.len()].copy_from_slice(words);
+    slices::copy(&mut scratch[at..at + words.len()], words);
 }
 
 // the n transitions at RESULT and the list of y

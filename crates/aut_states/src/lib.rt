@@ -311,7 +311,7 @@ impl Members<'_> {
         if end > self.words.len() || end > MOST_MEMBERS {
             return Err(Refusal::Members);
         }
-        self.words[m..end].copy_from_slice(list);
+        slices::copy(&mut self.words[m..end], list);
         self.count = end;
         Ok(m as u32)
     }

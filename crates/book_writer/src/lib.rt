@@ -128,7 +128,7 @@ impl Output<'_> {
     {
         let at = self.at;
         let end = at + text.len();
-        self.bytes[at..end].copy_from_slice(text);
+        slices::copy(&mut self.bytes[at..end], text);
         self.at = end;
     }
 

@@ -13,4 +13,4 @@ returns-clause-gives c =
     let tr = c.args.transitions.now in
     let list = c.args.list.now in
     keeping.appended tr.words.now list tr.count (length list / 2) c.if-end-transitions.false c.if-end-gt-MOST.false
-    (keeping.copied tr.words.now list (2 * tr.count) c.copy_from_slice.ensures.after c.requires.1 (omega (arith, c.if-end-transitions.false, c.requires.1)))
+    (keeping.copied tr.words.now list (2 * tr.count) c.copy.ensures.after c.requires.1 (omega (arith, c.if-end-transitions.false, c.requires.1)))
