@@ -42,8 +42,7 @@ use Rattle.aut_query_calls.proofs.Ran.{Ran}
 use Rattle.aut_query_calls.proofs.Works.{prepared, asks_epsilon, next_working, clear_written, working_written}
 use Rattle.aut_query_calls.proofs.Calls.{asks_sets, asks_lead, union_ran, has_ran, epsilon_ran}
 use Rattle.aut_empty_words.specs.Words.{entries_of, seen_in}
-use Rattle.aut_sets.proofs.Small.{set_small}
-use Rattle.aut_empty_words.proofs.Stacks.{after_after, stack_later, seen_same, seen_set}
+use Rattle.aut_empty_words.proofs.Stacks.{after_after, stack_later, seen_same, seen_set, set_small}
 use Rattle.aut_empty_walk.specs.Clauses.{search_in, spread_of, SpreadAsked, Spreads}
 pub use Rattle.aut_empty_walk.proofs.Spreads.{none_of}
 use Rattle.aut_empty_pair.specs.Clauses.{ExpandAsked, Expands}
@@ -119,8 +118,8 @@ module _ {k : Config} {x : Lent} {n i fresh : ℕ} (R : ExpandAsked k x n i fres
         V1 : WorkingIn k y1
         V1 = record { fields = rw K1.spp V.fields; working = (united G1).working }
 
-        pub both_small : h.0 + 1 < 4294967296
-        both_small = set_small N h.0 V1.working.ready.ordered.sets (united G1).post.then.holds
+        pub both_small : h.0 < 33554434
+        both_small = set_small V1.working.ready.ordered.sets N h.0 (united G1).post.then.holds
 
         stage1 : Stage (query_layer k.fields k.limits) 0 1088 whole (ending h.0 (clear_in y1)) (clear_in x) (clear_in y1) x.scratch.now y1.scratch.now
         stage1 = next L 0 1088 (united G1).post (none_of 1088) ending stage0

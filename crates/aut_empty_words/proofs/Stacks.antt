@@ -14,6 +14,7 @@ use lib.Seq.{get_or-set_same, get_or-set_other}
 use borrow.Rule.Slice.PartMut.{put_mid, mid_of}
 use borrow.Author.Tests.{eqb-true, eqb-false, ne_eqb}
 use Rattle.common.specs.Outcome.{Outcome, refused, given, Step, after}
+use Rattle.common.specs.Runs.{Table}
 use Rattle.netkat_steps.specs.Handles.{Entry}
 use Rattle.sp_steps.specs.Model as Sp
 use Rattle.sp_steps.specs.Wf as SpLaws
@@ -162,3 +163,8 @@ seen_set N st x h l = fun_ext (λ y. by_test (eqb x y)
 -- the states were not written: all tables are as they were
 pub same_tables : {x y : Lent} → OnlyMarks x y → y.states ≡ x.states → tables_in y ≡ tables_in x
 same_tables K e = rw K.sp (rw K.spp (rw e (rw K.members (rw K.transitions refl))))
+
+-- a set's handle is small
+pub set_small : {N : ℕ} {t : Table} → SpLaws.Wf N t → (d h : ℕ) → SpLaws.ValidAt t d h → h < 33554434
+set_small w zero h a = omega arith
+set_small w (suc d) h a = omega (arith, a.1, w.small)

@@ -10,10 +10,10 @@ use Rattle.std.specs.Fn.{CalledAt}
 use Rattle.std.specs.Iterator.{Yields}
 use Rattle.std.specs.List.{FoldsTo}
 use Rattle.std.proofs.lemmas.Fn.{fronts}
-use Prim.Native.Nat.{ℕ, ◌<◌}
+use Prim.Native.Nat.{ℕ, zero, suc, ◌<◌}
 use native.Mathlib.Omega.{arith}
 use lib.Dec.{eqb}
-use lib.ListN.{length}
+use lib.ListN.{length, get_or}
 use borrow.Author.Tests.{eqb-true, eqb-false}
 use Rattle.spp_steps.proofs.Laws.{by_test}
 use Rattle.aut_steps.specs.Tables.{UNION, INTERSECT, nest, Limits, Aut}
@@ -26,6 +26,11 @@ use Rattle.aut_delta_steps.proofs.EpsilonDown.{first_of, first_open}
 use Rattle.aut_operands.specs.declared.Part.{Part}
 use Rattle.aut_operands.specs.declared.Part.TheVariants as part
 use Rattle.aut_operands.specs.Clauses.{operands_of, Inside, Worked, NotYet, Told, Next, Descends}
+
+pub all_get_d : (P : ℕ → Type 0) (ys : List ℕ) (j : ℕ) → j < length ys → All P ys → P (get_or ys j 0)
+all_get_d P [] j l a = absurd (omega arith)
+all_get_d P (y ∷ ys) zero l a = a.0
+all_get_d P (y ∷ ys) (suc j) l a = all_get_d P ys j (omega arith) a.1
 
 -- ---- operands that an iterator gives
 

@@ -64,6 +64,10 @@ module _ {st : List ℕ} {count : ℕ} (n : Nested st count) {x : ℕ} (l : x < 
   chain_lower top = omega arith
   chain_lower (below {w} p k) = omega (arith, (n.lower w (chain_state p) k).1, chain_lower p)
 
+  pub chain_apart : {u : ℕ} → Chain st x u → (u ≡ x → ⊥) → nest st u < nest st x
+  chain_apart top q = absurd (q refl)
+  chain_apart (below {w} p k) q = omega (arith, (n.lower w (chain_state p) k).1, chain_lower p)
+
   -- a depth that is enough for x is one that is enough for u, and one for each above it
   pub record Depth (es : List ℕ) (u depth : ℕ) : Type 0 where
     pub d : ℕ

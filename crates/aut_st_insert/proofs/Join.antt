@@ -26,6 +26,9 @@ use Rattle.aut_st_insert.specs.Asked.{ListAsked}
 -- ---- lists elsewhere are as they were
 
 module _ {N a n : ℕ} {t : Table} {s s' : List ℕ} (p : Modifies N a n t s s') (b k : ℕ) where
+  pub edges_before : 2 * (b + k) ≤ a → edges s' b k ≡ edges s b k
+  edges_before l = edges_same s s' b k (λ i x y. p.below i (omega arith))
+
   pub edges_behind : a + n ≤ 2 * b → 2 * (b + k) ≤ LISTS → edges s' b k ≡ edges s b k
   edges_behind l r = edges_same s s' b k (λ i x y. p.above i (omega arith) (omega arith))
 

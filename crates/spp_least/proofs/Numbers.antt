@@ -12,7 +12,7 @@ use Rattle.common.specs.Packets.{Packet, end, bit, Set}
 use Rattle.netkat_paths.specs.Order.{value, map, or_else, least}
 use Rattle.netkat_paths.proofs.OrderLaws.{value_small}
 use Rattle.sp_steps.proofs.Make.{false_true}
-use Rattle.spp_least.specs.Clauses.{number_of, word, raised}
+use Rattle.spp_least.specs.Clauses.{number_of, word, word_of, raised}
 
 -- a number is below 2 to the number of bits
 small : {n k : ℕ} (o : Option (Packet n)) → 2 ^ n ≤ k → IfSome (number_of o) (λ m. m < k)
@@ -25,6 +25,15 @@ below {k = k} o e l = subst (λ v. IfSome v (λ m. m < k)) (sym e) (small o l)
 -- a number that has a word
 pub fits : {n : ℕ} {w : std.Option ℕ} (o : Option (Packet n)) → w ≡ number_of o → n ≤ 31 → IfSome w (λ m. m < 4294967295)
 fits o e l = below o e (omega (arith, pow_mono {j = 31} l))
+
+-- what a word says of the packet
+pub word_none : {n : ℕ} (o : Option (Packet n)) → word_of o ≡ 0 → o ≡ none
+word_none none e = refl
+word_none (some p) e = absurd (omega arith)
+
+pub word_some : {n : ℕ} (o : Option (Packet n)) → (word_of o ≡ 0 → ⊥) → (p : Packet n) × (o ≡ some p) × (value p + 1 ≡ word_of o)
+word_some none f = absurd (f refl)
+word_some (some p) f = (p, refl, refl)
 
 -- every number is a packet's
 pub packet_of : (d k : ℕ) → k < 2 ^ d → (p : Packet d) × (value p ≡ k)

@@ -58,7 +58,7 @@ put_set-requires c =
     let e = c.in_ok-ends.ensures in
     let h = c.has_image.ensures in (
       omega (arith, expands.state_in4 c.requires c.seen_at-seen.ensures u.keeps u.gives e.keeps e.gives e.after h.keeps h.has c.if-has_image.false c.in_ok-m.ensures.gives),
-      expands.both_small c.requires c.seen_at-seen.ensures u.keeps u.gives,
+      omega (arith, expands.both_small c.requires c.seen_at-seen.ensures u.keeps u.gives),
     )
 
 pub returns-clause-gives : goal.returns-clause-gives
