@@ -1,7 +1,7 @@
 -- The constants, and the first line of the output.
 use Rattle.std.specs.Prelude.{if◌then◌else◌}
 use Rattle.std.specs.Prelude as code
-use mathlib.Core.Path.{◌≡◌, refl, sym, ◌∙◌, ap, ap₂}
+use mathlib.Core.Path.{◌≡◌, refl, sym, ◌∙◌, ap, ap₂, subst}
 use mathlib.Core.Bool.{Bool}
 use mathlib.Core.Logic.{⊎_elim}
 use mathlib.Core.List.{List, [], ◌++◌}
@@ -12,6 +12,7 @@ use lib.Dec.{leb}
 use lib.ListN.{length, take}
 use lib.Seq.{get_or-drop}
 use borrow.Author.Tests.{le-ltb, le-leb, lt-leb}
+use Rattle.slices.specs.Same.{SameSlice}
 use Rattle.common.specs.Outcome.{Outcome, refused, given}
 use Rattle.common.specs.Runs.{Table, table}
 use Rattle.refusal.specs.declared.Refusal.{Refusal}
@@ -35,7 +36,7 @@ use Rattle.book_writer.proofs.Contracts.{put_take}
 use Rattle.book_memory.specs.declared.Place.{Place}
 use Rattle.book_memory.specs.Place.{LINES, Standing, lines_in, lengths_of}
 use Rattle.book_begin.specs.declared.Header.{Header}
-use Rattle.book_begin.specs.Clauses.{header_of, limits, setting_for, OnlyNodes, new_tables, constants, PostConstants, PreBegin, PostBegin}
+use Rattle.book_begin.specs.Clauses.{header_of, limits, setting_for, OnlyNodes, OnlyBegun, new_tables, constants, PostConstants, PreBegin, PostBegin}
 use Rattle.book_begin.proofs.Zero.{own_zeros, no_lines}
 
 -- ---- an empty cache
@@ -46,6 +47,14 @@ readable_zero N σ = record {
   images = record { sets = valid_not (λ c. ⊎_elim (λ e. omega arith) (λ e. omega arith) (code_range c)); images = λ l h. absurd (omega arith) };
   numbers = λ l h. absurd (omega arith);
 }
+
+-- ---- what else is as it was
+
+pub only_nodes : {N : ℕ} {x y : Place} → OnlyNodes N x y → OnlyBegun N x y
+only_nodes K = record { aut = K.aut; lines = K.lines; output = rw K.output (record { lent = refl; length = refl }) }
+
+pub only_line : {N : ℕ} {x y : Place} → OnlyNodes N x y → (o : Output) → SameSlice y.output.bytes o.bytes → OnlyBegun N x (record { aut = y.aut; lines = y.lines; output = o })
+only_line K o s = record { aut = K.aut; lines = K.lines; output = subst (λ (q : Output). SameSlice q.bytes o.bytes) K.output s }
 
 -- ---- the first line
 

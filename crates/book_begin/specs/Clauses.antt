@@ -42,9 +42,19 @@ KeepsTables x y = KeepsPlace (record { sp = false; spp = false; states = false; 
 abbrev pub with_fields : ℕ → Place → Place
 with_fields N x = record x { aut = record x.aut { spp = record x.aut.spp { fields = N } } }
 
+-- both tables of nodes
+abbrev pub nodes_alone : Writes
+nodes_alone = record { sp = true; spp = true; states = false; count = false; members = false; transitions = false; pending = false; scratch = false }
+
 -- the fields are set, and both tables of nodes written
 abbrev pub OnlyNodes : ℕ → Place → Place → Type 0
-OnlyNodes N x y = KeepsPlace (record { sp = true; spp = true; states = false; count = false; members = false; transitions = false; pending = false; scratch = false }) false (with_fields N x) y
+OnlyNodes N x y = KeepsPlace nodes_alone false (with_fields N x) y
+
+-- .. and of the output bytes, in the same slice
+pub record OnlyBegun (N : ℕ) (x y : Place) : Type 0 where
+  pub aut : KeepsBut nodes_alone (with_fields N x).aut y.aut
+  pub lines : y.lines ≡ x.lines
+  pub output : SameSlice x.output.bytes y.output.bytes
 
 -- ---- zeroing
 

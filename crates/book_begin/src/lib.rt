@@ -99,6 +99,7 @@ pub fn constants(place: &mut Place, fields: u32) -> Result<(), Refusal>
 pub fn begin(place: &mut Place, h: Header) -> Result<(), Refusal>
     requires { Its.PreBegin h place.old }
     ensures keeps { SameSlices place.old place.new }
+    ensures only { Its.OnlyBegun h.fields place.old place.new }
     ensures gives { Its.PostBegin h place.old result place.new }
 {
     constants(place, h.fields)?;
