@@ -53,18 +53,18 @@ pub fn shape_of(kind: u32) -> Option<Shape>
 // ---- relations and constants
 
 #[tactic(auto, unfolding(image_steps::specs::Records::leaf_fits))]
-fn leaf_fits(relations: &SPPstore, fields: u32, w: Words) -> bool
-    requires { Nodes (store_of relations.now) }
-    ensures { (L : Bounds) (s m : Table) → Records.leaf_fits fields L (aut (store_of relations.now) s m)
+pub fn leaf_fits(nodes: &[u32], count: usize, fields: u32, w: Words) -> bool
+    requires { Nodes (table nodes.now count) }
+    ensures { (L : Bounds) (s m : Table) → Records.leaf_fits fields L (aut (table nodes.now count) s m)
         w.first w.second w.nesting ≡ result }
 {
-    (w.first as usize) < relations.count + 2
-        && image_nodes::relation_depth(relations, fields, w.first) == fields
+    (w.first as usize) < count + 2
+        && image_nodes::relation_depth(nodes, fields, w.first) == fields
         && w.second == 0
         && w.nesting == 0
 }
 
-fn constant_fits(w: Words) -> bool
+pub fn constant_fits(w: Words) -> bool
     ensures { (N : ℕ) (L : Bounds) → Records.constant_fits N L w.first w.second w.nesting ≡ result }
 {
     w.first == 0 && w.second == 0 && w.nesting == 0
@@ -78,7 +78,7 @@ pub fn atom_fits(relations: &SPPstore, fields: u32, w: Words) -> bool
 {
     match w.kind {
         kind::DUP | kind::TOP => constant_fits(w),
-        _ => leaf_fits(relations, fields, w),
+        _ => leaf_fits(relations.nodes, relations.count, fields, w),
     }
 }
 

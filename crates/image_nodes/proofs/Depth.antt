@@ -6,11 +6,11 @@ use Prim.Native.Nat.{ℕ, suc, ◌+◌, ◌*◌, ◌-◌, ◌/◌, ◌≤◌, �
 use native.Mathlib.Omega.{arith}
 use lib.ListN.{get_or}
 use borrow.Author.Tests.{lt-ltb, le-ltb}
+use Rattle.common.specs.Runs.{Table}
 use Rattle.sp_steps.specs.Model as Sp
-use Rattle.sp_steps.specs.Wf as SpWf
 use Rattle.spp_steps.specs.Model as Spp
-use Rattle.spp_steps.specs.Wf as SppWf
 use Rattle.image_steps.specs.Records.{depth_of, depth_of_r}
+use Rattle.image_nodes.specs.Clauses.{relations, Inside, InsideR, PreNode}
 
 -- 0 at 0 and 1, and one more than at the first child
 pub record ByFirst (depth : ℕ → ℕ → ℕ) (first : ℕ → ℕ) : Type 0 where
@@ -27,13 +27,17 @@ unfolding depth_of_r Spp.kid
 of_relations t = record { none = λ h. refl; low = λ n h l. simp (lt-ltb h 2 l); high = λ n h l. simp (le-ltb h 2 l) }
 
 -- the first child is within the nodes too
-pub within_sets : (t : List ℕ) {n x : ℕ} → SpWf.Rising t n → 2 ≤ x → x / 2 ≤ n → get_or t (2 * (x / 2 - 1)) 0 / 2 ≤ n
+pub inside_sets : {t : List ℕ} {x : ℕ} → Inside t x → 2 ≤ x → Inside t (get_or t (2 * (x / 2 - 1)) 0)
 unfolding Sp.kid
-within_sets t {x = x} r l m = omega (arith, r false (x / 2 - 1) (omega arith))
+inside_sets {x = x} v l = record { count = v.count; fits = v.fits; rising = v.rising; within = omega (arith, v.within, v.rising false (x / 2 - 1) (omega (arith, v.within))) }
 
-pub within_relations : (t : List ℕ) {n x : ℕ} → SppWf.Rising t n → 2 ≤ x → x < n + 2 → get_or t (4 * (x - 2)) 0 < n + 2
+pub inside_relations : {t : List ℕ} {x : ℕ} → InsideR t x → 2 ≤ x → InsideR t (get_or t (4 * (x - 2)) 0)
 unfolding Spp.kid
-within_relations t {x = x} r l m = omega (arith, r (x - 2) (omega arith) false false)
+inside_relations {x = x} v l = record { count = v.count; fits = v.fits; rising = v.rising; within = omega (arith, v.within, v.rising (x - 2) (omega (arith, v.within)) false false) }
+
+-- a child before i is a handle of a node
+pub inside_r : {N : ℕ} {σ : Table} {i x : ℕ} → PreNode relations N σ i → x < i + 2 → InsideR σ.words x
+inside_r {σ = σ} v l = record { count = σ.count; fits = v.wf.nodes.fits; rising = v.wf.nodes.rising; within = omega (arith, v.near) }
 
 -- d turns of n are done from h, and x is the handle reached
 pub record DepthAt (depth : ℕ → ℕ → ℕ) (n h d x : ℕ) : Type 0 where

@@ -1,6 +1,6 @@
 -- 02 (ii), "each record again by its constructor .. and wants the same number": what reading nodes asks of the table and of the image, and what it promises: the steps of image_steps, and a table that is well formed and
 -- has all that was there.
-use Rattle.std.specs.Prelude.{◌≡◌, Bool, true, false, ◌&&◌, List, ℕ, Result, OnOk, ◌+◌, ◌*◌, ◌/◌, ◌%◌, ◌≤◌, max, eqb, ltb, leb}
+use Rattle.std.specs.Prelude.{◌≡◌, Bool, true, false, ◌&&◌, List, ℕ, Result, OnOk, ◌+◌, ◌*◌, ◌/◌, ◌%◌, ◌≤◌, ◌<◌, max, eqb, ltb, leb, length}
 use Rattle.common.specs.Outcome.{Step, ◌>>=◌}
 use Rattle.common.specs.Runs.{Table}
 use Rattle.sp_steps.specs.Wf as SpWf
@@ -53,6 +53,19 @@ relations = record {
 }
 
 -- ---- what is asked
+
+-- h is 0 or 1, or a handle of a node
+pub record Inside (t : List ℕ) (h : ℕ) : Type 0 where
+  pub count : ℕ
+  pub fits : 2 * count ≤ length t
+  pub rising : SpWf.Rising t count
+  pub within : h / 2 ≤ count
+
+pub record InsideR (t : List ℕ) (h : ℕ) : Type 0 where
+  pub count : ℕ
+  pub fits : 4 * count ≤ length t
+  pub rising : SppWf.Rising t count
+  pub within : h < count + 2
 
 -- the nodes before i are there
 pub record PreNode (k : Kind) (N : ℕ) (σ : Table) (i : ℕ) : Type 0 where

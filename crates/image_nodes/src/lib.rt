@@ -1,12 +1,10 @@
 // 02 (ii), "each record again by its constructor .. and wants the same number": packet nodes and relation nodes read from an image.
 #![tactic(auto)]
 
-ghost use Rattle.std.specs.Prelude.{◌≡◌, ◌+◌, ◌*◌, ◌/◌, ◌≤◌, ◌<◌, length};
+ghost use Rattle.std.specs.Prelude.{◌≡◌, ◌+◌, ◌*◌};
 ghost use Rattle.slices.specs.Same.{SameSlice};
 ghost use Rattle.sp.specs.Clauses as Sp;
-ghost use Rattle.sp_steps.specs.Wf as SpWf;
 ghost use Rattle.spp.specs.Clauses as Spp;
-ghost use Rattle.spp_steps.specs.Wf as SppWf;
 ghost use Rattle.image_steps.specs.Records as Records;
 ghost use Rattle.image_words.specs.Clauses.{Reaches};
 ghost use Rattle.image_nodes.specs.Clauses as Its;
@@ -19,18 +17,16 @@ use spp::{SPP, SPPnode, SPPstore};
 // ---- packet nodes
 
 // the depth of a handle, by first children, as far as n
-pub fn depth_of(sets: &SPstore, n: u32, h: u32) -> u32
-    requires fits { 2 * sets.now.count ≤ length sets.now.nodes.now }
-    requires rising { SpWf.Rising sets.now.nodes.now sets.now.count }
-    requires within { h / 2 ≤ sets.now.count }
-    ensures { result ≡ Records.depth_of sets.now.nodes.now n h }
+pub fn depth_of(sp: &[u32], n: u32, h: u32) -> u32
+    requires { Its.Inside sp.now h }
+    ensures { result ≡ Records.depth_of sp.now n h }
 {
     let mut x = h;
     for d in 0..n {
         if x < 2 {
             return d;
         }
-        x = sets.nodes[2 * (x / 2 - 1) as usize];
+        x = sp[2 * (x / 2 - 1) as usize];
     }
     n
 }
@@ -43,8 +39,8 @@ fn children_fit(sets: &SPstore, fields: u32, i: usize, x0: u32, x1: u32) -> bool
     if i < (x0 / 2) as usize || i < (x1 / 2) as usize || x0 % 2 != 0 {
         return false;
     }
-    let d = depth_of(sets, fields, x0);
-    let e = depth_of(sets, fields, x1);
+    let d = depth_of(sets.nodes, fields, x0);
+    let e = depth_of(sets.nodes, fields, x1);
     d < fields && d == e
 }
 
@@ -99,18 +95,16 @@ pub fn read_nodes(image: &[u8], sets: &mut SPstore, fields: u32, k: usize) -> Re
 
 // ---- relation nodes
 
-pub fn relation_depth(relations: &SPPstore, n: u32, h: u32) -> u32
-    requires fits { 4 * relations.now.count ≤ length relations.now.nodes.now }
-    requires rising { SppWf.Rising relations.now.nodes.now relations.now.count }
-    requires within { h < relations.now.count + 2 }
-    ensures { result ≡ Records.depth_of_r relations.now.nodes.now n h }
+pub fn relation_depth(nodes: &[u32], n: u32, h: u32) -> u32
+    requires { Its.InsideR nodes.now h }
+    ensures { result ≡ Records.depth_of_r nodes.now n h }
 {
     let mut x = h;
     for d in 0..n {
         if x < 2 {
             return d;
         }
-        x = relations.nodes[4 * (x - 2) as usize];
+        x = nodes[4 * (x - 2) as usize];
     }
     n
 }
@@ -120,7 +114,7 @@ fn kid_fits(relations: &SPPstore, i: usize, d: u32, x: SPP) -> bool
     requires { Its.PreNode Its.relations relations.now.fields (Spp.store_of relations.now) i }
     ensures { Records.kid_fits relations.now.fields relations.now.nodes.now i d x.0 ≡ result }
 {
-    (x.0 as usize) < i + 2 && relation_depth(relations, relations.fields, x.0) == d
+    (x.0 as usize) < i + 2 && relation_depth(relations.nodes, relations.fields, x.0) == d
 }
 
 // children of nodes before i (or 0, 1), of one depth below the fields
@@ -131,7 +125,7 @@ fn quad_fits(relations: &SPPstore, i: usize, x: SPPnode) -> bool
     if x.x00.0 as usize >= i + 2 {
         return false;
     }
-    let d = relation_depth(relations, relations.fields, x.x00.0);
+    let d = relation_depth(relations.nodes, relations.fields, x.x00.0);
     d < relations.fields
         && kid_fits(relations, i, d, x.x01)
         && kid_fits(relations, i, d, x.x10)

@@ -36,7 +36,7 @@ fn words_at(image: &[u8], s: usize) -> Words
 }
 
 // the words from `at` on go to the list
-fn copy_members(image: &[u8], list: &mut [u32], at: usize)
+pub fn copy_members(image: &[u8], list: &mut [u32], at: usize)
     requires { Its.Holds image.now (at + length list.old) }
     ensures { Its.Copies image.now at (length list.old) list.new }
 {

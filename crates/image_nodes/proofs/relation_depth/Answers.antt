@@ -2,14 +2,14 @@ use Rattle.image_nodes.proofs.Depth as its
 use Rattle.image_nodes.proofs.relation_depth.Goals as goal
 
 pub returns-then-x-lt2 : goal.returns-then-x-lt2
-returns-then-x-lt2 c = its.depth_leaf (its.of_relations c.args.relations.now.nodes.now) c.loop-d.invariant.depth c.loop-d-test.true c.if-x-lt2.true
+returns-then-x-lt2 c = its.depth_leaf (its.of_relations c.args.nodes.now) c.loop-d.invariant.depth c.loop-d-test.true c.if-x-lt2.true
 
 pub loop-d-preserved : goal.loop-d-preserved
 loop-d-preserved c =
     record {
-      depth = its.depth_again (its.of_relations c.args.relations.now.nodes.now) c.loop-d.invariant.depth c.loop-d-test.true c.if-x-lt2.false;
-      within = its.within_relations c.args.relations.now.nodes.now c.requires.rising c.if-x-lt2.false c.loop-d.invariant.within;
+      depth = its.depth_again (its.of_relations c.args.nodes.now) c.loop-d.invariant.depth c.loop-d-test.true c.if-x-lt2.false;
+      inside = its.inside_relations c.loop-d.invariant.inside c.if-x-lt2.false;
     }
 
 pub returns : goal.returns
-returns c = its.depth_end (its.of_relations c.args.relations.now.nodes.now) c.loop-d.invariant.depth c.loop-d-test.false c.loop-d.auto.d-end
+returns c = its.depth_end (its.of_relations c.args.nodes.now) c.loop-d.invariant.depth c.loop-d-test.false c.loop-d.auto.d-end
