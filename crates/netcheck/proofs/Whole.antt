@@ -105,16 +105,16 @@ report_by false out line = refl
 report_is : (r : Result) → r.output ++ closing r.number r.line ≡ report r
 report_is r = report_by (eqb r.number 0) r.output (refused_line r.number r.line)
 
-pub writes_over : {output s : List ℕ} {n : ℕ} → Stands too_long n s → Prepared code.None (record { output = 0; closing = n }) output s
-writes_over {output = output} t = record { output_counts = counts 0 output (omega arith); closing_counts = t.counts; is = t.is }
+pub writes_over : {over : Bool} {book output s : List ℕ} {n : ℕ} → over ≡ true → Stands too_long n s → Prepared over book (record { output = 0; closing = n }) output s
+writes_over {output = output} e t = record { output_counts = counts 0 output (omega arith); closing_counts = t.counts; is = t.is ∙ simp e }
 
 -- the closing line is lent as `last`
-pub writes_told : {book last : List ℕ} {m m' : Slices} (number line len : ℕ) (s : List ℕ) {n : ℕ} → Lends netcheck_lent m → EntrySpec (lent_of m) book m number line len m' → Stands (closing number line) n s
-    → last ≡ s → Prepared (code.Some book) (record { output = len; closing = n }) m'.output last
-writes_told {book} {last} {m} {m'} number line len s {n} l e t same = rw same (record {
+pub writes_told : {over : Bool} {book last : List ℕ} {m m' : Slices} (number line len : ℕ) (s : List ℕ) {n : ℕ} → over ≡ false → Lends netcheck_lent m → EntrySpec (lent_of m) book m number line len m' → Stands (closing number line) n s
+    → last ≡ s → Prepared over book (record { output = len; closing = n }) m'.output last
+writes_told {over} {book} {last} {m} {m'} number line len s {n} o l e t same = rw same (record {
   output_counts = counts len m'.output (omega (arith, e.refines.length_is, e.refines.output_is.fits, e.refines.output_is.len));
   closing_counts = t.counts;
-  is = both ∙ ap (λ (k : Lent). report (outcome k book)) (lent_is l);
+  is = both ∙ ap (λ (k : Lent). report (outcome k book)) (lent_is l) ∙ simp o;
 })
   where
     start : take len m'.output ≡ (outcome (lent_of m) book).output
@@ -127,8 +127,8 @@ writes_told {book} {last} {m} {m'} number line len s {n} l e t same = rw same (r
     both = ap (λ (a : List ℕ). a ++ take n s) start ∙ ap (λ (a : List ℕ). (outcome (lent_of m) book).output ++ a) end ∙ report_is (outcome (lent_of m) book)
 
 -- The book is all of standard input, or its first 4,096 bytes: what is written is what 01 says of the whole.
-pub whole_short : (book : List ℕ) → length book ≤ 4096 → writes (code.Some book) ≡ netcheck_output book
+pub whole_short : (book : List ℕ) → length book ≤ 4096 → writes false book ≡ netcheck_output book
 whole_short book l = sym (simp (le-ltb 4096 (length book) l))
 
-pub whole_long : (book rest : List ℕ) → length book ≡ 4096 → 0 < length rest → writes code.None ≡ netcheck_output (book ++ rest)
+pub whole_long : (book rest : List ℕ) → length book ≡ 4096 → 0 < length rest → writes true book ≡ netcheck_output (book ++ rest)
 whole_long book rest e l = sym (simp (lt-ltb 4096 (length (book ++ rest)) (omega (arith, length-append book rest))))

@@ -1,5 +1,5 @@
 -- 01: "The program `netcheck` reads the book on standard input, runs it and writes the output, and after a refusal a line `refused`, number, text line. For a book over 4,096 bytes it writes only `too long`."
-use Rattle.std.specs.Prelude.{◌≡◌, List, [], ◌∷◌, ◌++◌, ℕ, ◌≤◌, eqb, length, take, if◌then◌else◌, Option, None, Some}
+use Rattle.std.specs.Prelude.{◌≡◌, Bool, List, [], ◌∷◌, ◌++◌, ℕ, ◌≤◌, eqb, length, take, if◌then◌else◌}
 use Rattle.book_steps.specs.Text.{bytes, decimal}
 use Rattle.book_steps.specs.Answers.{say}
 use Rattle.book_steps.specs.Run.{outcome}
@@ -20,10 +20,9 @@ too_long = say (bytes "too long" ∷ [])
 abbrev pub slices_of : Tables → Slices
 slices_of t = slices t.sp.now t.spp.now t.states.now t.members.now t.transitions.now t.pending.now t.scratch.now t.output.now
 
--- what is written for the bytes read: none where more stand behind them
-abbrev pub writes : Option (List ℕ) → List ℕ
-writes None = too_long
-writes (Some book) = report (outcome netcheck_lent book)
+-- what is written for the bytes read, where `over` says that more stand behind them
+abbrev pub writes : Bool → List ℕ → List ℕ
+writes over book = if over then too_long else report (outcome netcheck_lent book)
 
 -- the line behind the output, if there is one
 abbrev pub closing : (number line : ℕ) → List ℕ
@@ -39,7 +38,7 @@ pub record Stands (bs : List ℕ) (n : ℕ) (s : List ℕ) : Type 0 where
   pub is : take n s ≡ bs
 
 -- the output and then the closing line are what is to be written
-pub record Prepared (book : Option (List ℕ)) (w : Written) (output line : List ℕ) : Type 0 where
+pub record Prepared (over : Bool) (book : List ℕ) (w : Written) (output line : List ℕ) : Type 0 where
   pub output_counts : IsPrefixLen w.output output
   pub closing_counts : IsPrefixLen w.closing line
-  pub is : take w.output output ++ take w.closing line ≡ writes book
+  pub is : take w.output output ++ take w.closing line ≡ writes over book

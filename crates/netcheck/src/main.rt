@@ -2,7 +2,7 @@
 // bytes it writes only `too long`.
 #![tactic(auto)]
 
-ghost use Rattle.std.specs.Prelude.{◌≡◌, ◌≤◌, length, option_copied};
+ghost use Rattle.std.specs.Prelude.{◌≡◌, ◌≤◌, length};
 ghost use Rattle.slices.specs.Same.{SameSlice};
 ghost use Rattle.book_steps.specs.Claim.{Lends, netcheck_lent};
 ghost use Rattle.book_finish.specs.Clauses.{number_of, text_line_of, length_of};
@@ -63,22 +63,22 @@ fn too_long(line: &mut Output)
 
 // ---- a book
 
-// what is to be written, in the output and the closing line; there is no book where it is too long
-fn answer(book: Option<&[u8]>, tables: &mut Tables, closing: &mut [u8]) -> Written
+// what is to be written, in the output and the closing line
+fn answer(over: bool, book: &[u8], tables: &mut Tables, closing: &mut [u8]) -> Written
     requires { Lends netcheck_lent (slices_of tables.old) × (64 ≤ length closing.old) }
-    ensures { Prepared (option_copied book.entry) result tables.new.output.now closing.new }
+    ensures { Prepared over book.now result tables.new.output.now closing.new }
 {
     let mut line = Output {
         bytes: closing,
         at: 0,
     };
-    let Some(book) = book else {
+    if over {
         too_long(&mut line);
         return Written {
             output: 0,
             closing: line.at,
         };
-    };
+    }
     let ran = book_run::run(
         book,
         tables.sp,
@@ -120,7 +120,7 @@ fn main(rt: HostRuntime) -> io::Result<()> {
     let mut output = [0u8; 4096];
     let mut closing = [0u8; 64];
     let got = reading::read_full(&mut input, &mut book)?;
-    let book = (!is_over(&mut input, got)?).then_some(&book[..got]);
+    let over = is_over(&mut input, got)?;
     let mut tables = Tables {
         sp: &mut sp,
         spp: &mut spp,
@@ -131,7 +131,7 @@ fn main(rt: HostRuntime) -> io::Result<()> {
         scratch: &mut scratch,
         output: &mut output,
     };
-    let w = answer(book, &mut tables, &mut closing);
+    let w = answer(over, &book[..got], &mut tables, &mut closing);
     rt.write_all(&tables.output[..w.output])?;
     rt.write_all(&closing[..w.closing])
 }
