@@ -9,6 +9,9 @@ ghost use Rattle.std.specs.Prelude.{◌-◌, ◌≤◌, IfOk, length};
 use netcheck_entry::{Outcome, Tables};
 use std::io;
 
+// the most cases of a text
+const CASES: usize = 100000;
+
 #[derive(Clone, Copy)]
 struct Lent {
     sp: usize,
@@ -130,9 +133,13 @@ fn replay_case<'a>(rt: &impl Print, text: &'a [u8], tables: &mut Tables) -> io::
     Ok(&text[end..])
 }
 
+// case by case, to the text's end or to the most cases
 fn replay_all(rt: &impl Print, text: &[u8], tables: &mut Tables) -> io::Result<()> {
     let mut rest = text;
-    while !rest.is_empty() {
+    for _ in 0..CASES {
+        if rest.is_empty() {
+            break;
+        }
         rest = replay_case(rt, rest, tables)?;
     }
     Ok(())
