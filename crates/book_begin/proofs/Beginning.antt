@@ -6,7 +6,7 @@ use mathlib.Core.Bool.{Bool}
 use mathlib.Core.Logic.{⊎_elim}
 use mathlib.Core.List.{List, [], ◌++◌}
 use mathlib.Core.Option.{Option}
-use Prim.Native.Nat.{ℕ, ◌+◌, ◌*◌, ◌≤◌}
+use Prim.Native.Nat.{ℕ, ◌+◌, ◌*◌, ◌≤◌, ◌<◌}
 use native.Mathlib.Omega.{arith}
 use lib.Dec.{leb}
 use lib.ListN.{length, take}
@@ -34,10 +34,11 @@ use Rattle.book_writer.specs.Clauses.{Answers}
 use Rattle.book_writer.specs.declared.output.Output.{Output}
 use Rattle.book_writer.proofs.Contracts.{put_take}
 use Rattle.book_memory.specs.declared.Place.{Place}
-use Rattle.book_memory.specs.Place.{LINES, Standing, lines_in, lengths_of}
+use Rattle.book_memory.specs.Place.{LINES, Empty, Standing, lines_in, lengths_of}
 use Rattle.book_begin.specs.declared.Header.{Header}
-use Rattle.book_begin.specs.Clauses.{header_of, limits, setting_for, OnlyNodes, OnlyBegun, new_tables, constants, PostConstants, PreBegin, PostBegin}
+use Rattle.book_begin.specs.Clauses.{header_of, limits, setting_for, OnlyNodes, OnlyBegun, new_tables, constants, Fresh, Ordered, PostConstants, PreBegin, begun_of, Begins, PostBegin}
 use Rattle.book_begin.proofs.Zero.{own_zeros, no_lines}
+use Rattle.book_begin.proofs.Made.{fresh_itself}
 
 -- ---- an empty cache
 
@@ -69,62 +70,64 @@ begun_line lent h (given s z) (refused e) = refl
 begun_line lent h (given s z) (given r c) = refl
 
 module _ (h : Header) (x : Place) (P : PreBegin h x) where
-  abbrev L : Lent
-  L = lengths_of x
-
-  begin_by : {o : Outcome Tables ℕ} → constants L h.fields ≡ o → Run.begin L (header_of h) ≡ with_line L h.fields o
+  begin_by : (L : Lent) {o : Outcome Tables ℕ} → constants L h.fields ≡ o → Run.begin L (header_of h) ≡ with_line L h.fields o
   unfolding Run.begin
-  begin_by e =
+  begin_by L e =
       ap (λ (b : Bool). if b then refused 2 else Run.begun L (header_of h) (Sp.constants h.fields (table (zeroed L.sp) 0)) (Spp.constants h.fields (table (zeroed L.spp) 0))) (le-ltb 31 h.fields P.few)
       ∙ begun_line L (header_of h) (Sp.constants h.fields (table (zeroed L.sp) 0)) (Spp.constants h.fields (table (zeroed L.spp) 0))
       ∙ ap (with_line L h.fields) e
 
   module _ {y : Place} (K : OnlyNodes h.fields x y) where
-    pub begin_not : {e : Refusal} → PostConstants h.fields x (code.Err e) y → PostBegin h x (code.Err e) y
-    begin_not C = record { is = begin_by C.is; then = K.output }
+    pub begin_not : {e : Refusal} → PostConstants h.fields (code.Err e) y → PostBegin h x (code.Err e) y
+    begin_not C = record { is = λ at z F u. begin_by (lengths_of z) (C.is z F); then = K.output }
 
-    module _ (C : PostConstants h.fields x (code.Ok tt) y) (o : Output) where
+    module _ (C : PostConstants h.fields (code.Ok tt) y) (o : Output) where
       -- the place behind the first line, if the output is o
-      abbrev z : Place
-      z = record { aut = y.aut; lines = y.lines; output = o }
+      abbrev w : Place
+      w = record { aut = y.aut; lines = y.lines; output = o }
 
-      both_by : {t : Bool} → leb (length (fields_answer h.fields)) L.output ≡ t → Run.begin L (header_of h) ≡ (if t then given (place (tables_in y.aut) [] (fields_answer h.fields)) 0 else refused 27)
-      both_by w = begin_by C.is ∙ ap (λ (t : Bool). if t then given (place (tables_in y.aut) [] (fields_answer h.fields)) 0 else refused 27) w
+      module _ (z : Place) (F : Fresh w z) where
+        -- .. is as fresh behind the constants
+        constants_fresh : Fresh y z
+        constants_fresh = record { sp = F.sp; spp = F.spp; states = F.states; members = F.members; transitions = F.transitions; pending = F.pending; lines = F.lines; scratch = F.scratch; no_states = F.no_states; no_members = F.no_members; no_transitions = F.no_transitions; no_lines = F.no_lines }
 
-      at_start : y.output.at ≡ 0
-      at_start = rw K.output P.empty.no_output
+        both_by : {t : Bool} → leb (length (fields_answer h.fields)) (length z.output.bytes.now) ≡ t → Run.begin (lengths_of z) (header_of h) ≡ (if t then given (place (tables_in z.aut) [] (fields_answer h.fields)) 0 else refused 27)
+        both_by u = begin_by (lengths_of z) (C.is z constants_fresh) ∙ ap (λ (t : Bool). if t then given (place (tables_in z.aut) [] (fields_answer h.fields)) 0 else refused 27) u
 
-      none : lines_in y ≡ []
-      none = rw K.lines (no_lines x.lines.words.now P.empty.no_lines)
+        none : lines_in z ≡ []
+        none = no_lines z.lines.words.now F.no_lines
 
-      standing : length x.lines.words.now ≡ LINES → LISTS ≤ length x.aut.scratch.now → Standing (setting_for h) z
-      standing len room =
-          let s : Sound (Readable h.fields (tables_in y.aut)) (cached x.aut.scratch.now) = sound_zero (readable_zero h.fields (tables_in y.aut)) (λ i k. get_or-drop LISTS x.aut.scratch.now i 0 ∙ own_zeros P.empty.scratch (LISTS + i)) in
-          let w : QueryReady h.fields limits (tables_in y.aut) x.aut.scratch.now = record {
-            ready = record { few = P.few; good = C.then.tables.worked.good; room = room; sound = sound_map (λ op x y r v. v.relations) s; list = omega arith; products = omega arith };
-            ordered = C.then.tables;
-            limit = omega arith;
-            sound = s;
-            resting = rw K.aut.states (λ x' w k m. own_zeros P.empty.states (12 * x' + w));
-          } in
-          record {
-            fields = C.then.fields;
-            ready = rw K.aut.scratch w;
-            pending = rw K.aut.pending (own_zeros P.empty.pending);
-            table = rw K.lines len;
-            lines = let e : y.lines.count ≡ 0 = rw K.lines P.empty.no_lines in omega arith;
-            named = rw none (λ i x g. absurd (cc));
-          }
+        standing : length z.lines.words.now ≡ LINES → LISTS ≤ length z.aut.scratch.now → Standing (setting_for h) z
+        standing len room =
+            let B : Ordered h.fields z = C.then z constants_fresh in
+            let s : Sound (Readable h.fields (tables_in z.aut)) (cached z.aut.scratch.now) = sound_zero (readable_zero h.fields (tables_in z.aut)) (λ i k. get_or-drop LISTS z.aut.scratch.now i 0 ∙ own_zeros F.scratch (LISTS + i)) in
+            let q : QueryReady h.fields limits (tables_in z.aut) z.aut.scratch.now = record {
+              ready = record { few = P.few; good = B.tables.worked.good; room = room; sound = sound_map (λ op x y r v. v.relations) s; list = omega arith; products = omega arith };
+              ordered = B.tables;
+              limit = omega arith;
+              sound = s;
+              resting = λ x' w k m. own_zeros F.states (12 * x' + w);
+            } in
+            record {
+              fields = B.fields;
+              ready = q;
+              pending = own_zeros F.pending;
+              table = len;
+              lines = let e : z.lines.count ≡ 0 = F.no_lines in omega arith;
+              named = rw none (λ i x g. absurd (cc));
+            }
 
-      pub begin_said : (q : code.Result Unit Refusal) → Answers (fields_answer h.fields) y.output q o → PostBegin h x q z
+      pub begin_said : (q : code.Result Unit Refusal) → Answers (fields_answer h.fields) y.output q o → PostBegin h x q w
       begin_said (code.Ok u) told =
           let told : Answers (fields_answer h.fields) x.output (code.Ok u) o = rw K.output at told in
           record {
-            is = both_by (le-leb (length (fields_answer h.fields)) L.output (omega (arith, told.behind, told.room, told.wrote.len)))
-                ∙ ap₂ (λ (ls : List (Option ℕ)) (bs : List ℕ). given (place (tables_in y.aut) ls bs) 0) (sym none)
-                (sym (put_take told ∙ ap (λ (n : ℕ). take n x.output.bytes.now ++ fields_answer h.fields) P.empty.no_output));
+            is = λ at z F e.
+                let room : length (fields_answer h.fields) ≤ length z.output.bytes.now = let m : length z.output.bytes.now ≡ length o.bytes.now = ap (λ (p : Output). length p.bytes.now) e in omega (arith, told.behind, told.room, told.wrote.len) in
+                both_by z F (le-leb (length (fields_answer h.fields)) (length z.output.bytes.now) room)
+                ∙ ap₂ (λ (ls : List (Option ℕ)) (bs : List ℕ). given (place (tables_in z.aut) ls bs) 0) (sym (none z F))
+                (sym (ap (λ (p : Output). take p.at p.bytes.now) e ∙ put_take told ∙ ap (λ (n : ℕ). take n x.output.bytes.now ++ fields_answer h.fields) at));
             then = record {
-              standing = standing;
+              standing = λ z F. standing z F;
               pending = K.aut.pending;
               table = K.lines;
               bytes = told.wrote.len;
@@ -132,6 +135,23 @@ module _ (h : Header) (x : Place) (P : PreBegin h x) where
             };
           }
       begin_said (code.Err e) told = record {
-        is = both_by (lt-leb (length (fields_answer h.fields)) L.output (let m : length y.output.bytes.now ≡ L.output = rw K.output refl in omega (arith, told.1, at_start))) ∙ ap (λ (x : Refusal). refused (number_of x)) (sym told.0);
+        is = λ at z F u.
+            let full : length z.output.bytes.now < length (fields_answer h.fields) =
+            let m : length z.output.bytes.now ≡ length y.output.bytes.now = ap (λ (p : Output). length p.bytes.now) (u ∙ told.2) in
+            let n : y.output.at ≡ 0 = ap (λ (p : Output). p.at) K.output ∙ at in
+            omega (arith, told.1, m, n) in
+            both_by z F (lt-leb (length (fields_answer h.fields)) (length z.output.bytes.now) full) ∙ ap (λ (x : Refusal). refused (number_of x)) (sym told.0);
         then = told.2 ∙ K.output;
       }
+
+-- ---- of a place that was empty, the promise is of the place itself
+
+module _ (h : Header) {x y : Place} (E : Empty x) (K : OnlyBegun h.fields x y) where
+  pub begin_itself : {r : code.Result Unit Refusal} → PostBegin h x r y → Run.begin (lengths_of x) (header_of h) ≡ begun_of r y
+  begin_itself B = ap (λ (l : Lent). Run.begin l (header_of h)) (sym lengths) ∙ B.is E.no_output y (fresh_itself E K.aut K.lines) refl
+    where
+      lengths : lengths_of y ≡ lengths_of x
+      lengths = rw (K.aut.sp.length, K.aut.spp.nodes.length, K.aut.states, K.aut.members, K.aut.transitions, K.aut.pending, K.aut.scratch, K.lines, K.output.length) refl
+
+  pub standing_itself : Begins h x y → length x.lines.words.now ≡ LINES → LISTS ≤ length x.aut.scratch.now → Standing (setting_for h) y
+  standing_itself B len room = B.standing y (fresh_itself E K.aut K.lines) (rw K.lines len) (rw K.aut.scratch room)

@@ -19,7 +19,7 @@ use Rattle.aut_relations.specs.Lent.{Writes, either, KeepsBut, Unless}
 use Rattle.aut_query_stage.specs.Lent.{tables_in}
 use Rattle.book_memory.specs.declared.Setting.{Setting}
 use Rattle.book_memory.specs.declared.Place.{Place}
-use Rattle.book_memory.specs.Place.{LINES, Empty, Standing, Onto, place_in, lengths_of}
+use Rattle.book_memory.specs.Place.{LINES, Standing, Onto, place_in, lengths_of}
 use Rattle.book_begin.specs.declared.Header.{Header}
 
 -- ---- what is kept: x before, y after
@@ -97,30 +97,47 @@ new_tables lent (given s z) (given r c) = given (tables s (store (aut r (table (
 abbrev pub constants : Lent → ℕ → Outcome Tables ℕ
 constants lent N = new_tables lent (Sp.constants N (table (zeroed lent.sp) 0)) (Spp.constants N (table (zeroed lent.spp) 0))
 
+-- z has the nodes of y, and whatever else is lent there is zeroed, but for the output: no states, members, transitions or lines
+pub record Fresh (y z : Place) : Type 0 where
+  pub sp : z.aut.sp ≡ y.aut.sp
+  pub spp : z.aut.spp ≡ y.aut.spp
+  pub states : z.aut.states.words.now ≡ zeroed (length z.aut.states.words.now)
+  pub members : z.aut.members.words.now ≡ zeroed (length z.aut.members.words.now)
+  pub transitions : z.aut.transitions.words.now ≡ zeroed (length z.aut.transitions.words.now)
+  pub pending : z.aut.pending.now ≡ zeroed (length z.aut.pending.now)
+  pub lines : z.lines.words.now ≡ zeroed (length z.lines.words.now)
+  pub scratch : z.aut.scratch.now ≡ zeroed (length z.aut.scratch.now)
+  pub no_states : z.aut.states.count ≡ 0
+  pub no_members : z.aut.members.count ≡ 0
+  pub no_transitions : z.aut.transitions.count ≡ 0
+  pub no_lines : z.lines.count ≡ 0
+
 -- the tables are in order, for N fields
 pub record Ordered (N : ℕ) (y : Place) : Type 0 where
   pub fields : y.aut.spp.fields ≡ N
   pub tables : WfTables N limits01 (tables_in y.aut)
 
+-- both tables of nodes are zeroed; nothing is asked of what else is lent
 pub record PreConstants (N : ℕ) (x : Place) : Type 0 where
   pub few : N ≤ 31
-  pub empty : Empty x
+  pub sp : x.aut.sp.nodes.now ≡ zeroed (length x.aut.sp.nodes.now)
+  pub spp : x.aut.spp.nodes.now ≡ zeroed (length x.aut.spp.nodes.now)
 
-pub record PostConstants (N : ℕ) (x : Place) (r : Result Unit Refusal) (y : Place) : Type 0 where
-  pub is : constants (lengths_of x) N ≡ outcome (λ u. 0) r (tables_in y.aut)
-  pub then : Unless r (Ordered N y)
+-- .. and promised of any place where it is zeroed: of y, if that is one
+pub record PostConstants (N : ℕ) (r : Result Unit Refusal) (y : Place) : Type 0 where
+  pub is : (z : Place) → Fresh y z → constants (lengths_of z) N ≡ outcome (λ u. 0) r (tables_in z.aut)
+  pub then : Unless r ((z : Place) → Fresh y z → Ordered N z)
 
-pub record PreBegin (h : Header) (x : Place) : Type 0 where
-  pub few : h.fields ≤ 31
-  pub empty : Empty x
+abbrev pub PreBegin : Header → Place → Type 0
+PreBegin h = PreConstants h.fields
 
 abbrev pub begun_of : Result Unit Refusal → Place → Outcome Run.RunState ℕ
-begun_of (Ok u) y = given (place_in y) 0
-begun_of (Err e) y = refused (number_of e)
+begun_of (Ok u) z = given (place_in z) 0
+begun_of (Err e) z = refused (number_of e)
 
 -- where scratch is as a book needs it, the place is in order for any line
 pub record Begins (h : Header) (x y : Place) : Type 0 where
-  pub standing : length x.lines.words.now ≡ LINES → LISTS ≤ length x.aut.scratch.now → Standing (setting_for h) y
+  pub standing : (z : Place) → Fresh y z → length z.lines.words.now ≡ LINES → LISTS ≤ length z.aut.scratch.now → Standing (setting_for h) z
   pub pending : y.aut.pending ≡ x.aut.pending
   pub table : y.lines ≡ x.lines
   pub bytes : length y.output.bytes.now ≡ length x.output.bytes.now
@@ -130,6 +147,7 @@ abbrev pub BeginsBy : Header → Place → Result Unit Refusal → Place → Typ
 BeginsBy h x (Ok u) y = Begins h x y
 BeginsBy h x (Err e) y = y.output ≡ x.output
 
+-- where the output begins at its first byte
 pub record PostBegin (h : Header) (x : Place) (r : Result Unit Refusal) (y : Place) : Type 0 where
-  pub is : Run.begin (lengths_of x) (header_of h) ≡ begun_of r y
+  pub is : x.output.at ≡ 0 → (z : Place) → Fresh y z → z.output ≡ y.output → Run.begin (lengths_of z) (header_of h) ≡ begun_of r z
   pub then : BeginsBy h x r y

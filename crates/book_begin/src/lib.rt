@@ -83,11 +83,11 @@ impl From<Header> for Setting {
     }
 }
 
-// the fields are set, and the constants made in zeroed tables
+// the fields are set, and the constants made in zeroed tables of nodes
 pub fn constants(place: &mut Place, fields: u32) -> Result<(), Refusal>
     requires { Its.PreConstants fields place.old }
     ensures keeps { Its.OnlyNodes fields place.old place.new }
-    ensures gives { Its.PostConstants fields place.old result place.new }
+    ensures gives { Its.PostConstants fields result place.new }
 {
     place.aut.spp.fields = fields;
     place.aut.sp.start(fields)?;

@@ -22,7 +22,7 @@ use Rattle.book_steps.proofs.Claim.{claim as claim-of}
 use Rattle.book_memory.specs.declared.Setting.{Setting}
 use Rattle.book_memory.specs.declared.Place.{Place}
 use Rattle.book_memory.specs.declared.Memory.{Memory}
-use Rattle.book_memory.specs.Place.{setting_of, setting_in, place_in, lengths_of, memory_of}
+use Rattle.book_memory.specs.Place.{setting_of, setting_in, place_in, lengths_of, memory_of, SameSlices, Standing, Empty}
 use Rattle.book_memory.proofs.Table.{lines_length}
 use Rattle.book_finish.specs.declared.Stop.{Stop}
 use Rattle.book_finish.specs.Clauses as Book
@@ -37,6 +37,7 @@ use Rattle.image_steps.specs.Claims as Claims
 use Rattle.image_steps.proofs.Claims.{reads_right, unread, damage_refused, resume_claim, save_claim, resume_save_claim, own_read}
 use Rattle.image_continued.proofs.Answers.{answers_kept}
 use Rattle.image_read.specs.Clauses.{Beside, PostRead}
+use Rattle.image_read.proofs.Whole.{read_itself, stands_itself}
 use Rattle.image_read.specs.Clauses as Image
 use Rattle.image_keep.specs.Clauses.{with_image, image_length, Keeps, sealed_of, PostSeal, number_of, text_line_of, length_of, image_length_of}
 use Rattle.image_calls.specs.Entries.{ImagesSpec, LinesSpec, ResumeEntry, SavedAs, SaveEntry, ResumeSaveEntry}
@@ -64,14 +65,14 @@ module _ (image book : List ℕ) (x : Place) where
   pub on_short : {s : Stop} → (length x.lines.words.now + length x.aut.scratch.now < 6144) × (s ≡ record { refusal = Scratch; line = 0; length = 0 }) → PostOn image book x (Err s) x
   on_short (l, q) = subst (λ (t : Stop). PostOn image book x (Err t) x) (sym q) (record { is = by_scratch (lengths_of x) image book (lt-ltb (length x.lines.words.now + length x.aut.scratch.now) 6144 l); ends = tt; wrote = unwritten refl })
 
-  module _ (l : 6144 ≤ length x.lines.words.now + length x.aut.scratch.now) {y : Place} (B : Beside x y) where
+  module _ (E : Empty x) (l : 6144 ≤ length x.lines.words.now + length x.aut.scratch.now) {y : Place} (K : SameSlices x y) (B : Beside x y) where
     bytes_same : y.output.bytes.now ≡ x.output.bytes.now
     bytes_same = ap (λ o. o.bytes.now) B.output
 
     on_is : {r : Result Setting Refusal} → PostRead image x r y → ran_on (lengths_of x) image book ≡ goes_on (lengths_of x) (Claims.setting_at (lengths_of x) image) book (outcome (λ S. 0) r (place_in y))
     on_is R =
         by_scratch (lengths_of x) image book (le-ltb (length x.lines.words.now + length x.aut.scratch.now) 6144 l)
-        ∙ ap (goes_on (lengths_of x) (Claims.setting_at (lengths_of x) image) book) R.is
+        ∙ ap (goes_on (lengths_of x) (Claims.setting_at (lengths_of x) image) book) (read_itself E K B R)
 
     pub on_refused : {e : Refusal} {s : Stop} → s ≡ record { refusal = e; line = 0; length = 0 } → PostRead image x (Err e) y → PostOn image book x (Err s) y
     on_refused q R = rw q (record { is = on_is R; ends = tt; wrote = unwritten bytes_same })
@@ -81,8 +82,11 @@ module _ (image book : List ℕ) (x : Place) where
     setting_is = ap₂ (λ (p o : List ℕ). setting_of (Image.setting_at image) (length p / 2) (length o)) (ap (λ b. b.now) B.pending) bytes_same
 
     module _ {S : Setting} (R : PostRead image x (Ok S) y) where
+      stands : Standing S y
+      stands = stands_itself E K B R
+
       pub on_ready : PreGo S y 1 (2048 - y.lines.count)
-      on_ready = record { standing = R.then.standing; more = omega (arith, R.then.standing.lines); small = omega arith }
+      on_ready = record { standing = stands; more = omega (arith, stands.lines); small = omega arith }
 
       pub on_went : {w : Result Setting Stop} {r : Result Unit Stop} {z : Place} → PostGo book S y 1 (2048 - y.lines.count) r z → w ≡ went_of S r → PostOn image book x w z
       on_went {w} {r} {z} G e = rw e (record {

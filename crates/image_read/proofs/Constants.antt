@@ -14,8 +14,8 @@ use Rattle.aut_query_steps.specs.Tables.{Tables}
 use Rattle.aut_query_stage.specs.Lent.{tables_in}
 use Rattle.book_steps.specs.Run.{Lent, RunState, place}
 use Rattle.book_memory.specs.declared.Place.{Place}
-use Rattle.book_memory.specs.Place.{lines_at, place_in, lengths_of, Empty}
-use Rattle.book_begin.specs.Clauses.{OnlyNodes, new_tables, PostConstants}
+use Rattle.book_memory.specs.Place.{place_in, lengths_of}
+use Rattle.book_begin.specs.Clauses.{Fresh, new_tables, PostConstants}
 use Rattle.book_begin.proofs.Zero.{no_lines}
 use Rattle.image_steps.specs.Read.{constants_in, fresh}
 
@@ -29,13 +29,11 @@ bare_tables lent (refused e) r = refl
 bare_tables lent (given s z) (refused e) = refl
 bare_tables lent (given s z) (given r c) = refl
 
-module _ (N : ℕ) (x : Place) (E : Empty x) where
-  pub fresh_is : (r : Result Unit Refusal) {y : Place} → PostConstants N x r y → OnlyNodes N x y → fresh (lengths_of x) N ≡ outcome {A = ℕ} (λ u. 0) r (place_in y)
+module _ (N : ℕ) where
+  pub fresh_is : (r : Result Unit Refusal) {y : Place} → PostConstants N r y → (z : Place) → Fresh y z → z.output.at ≡ 0 → fresh (lengths_of z) N ≡ outcome {A = ℕ} (λ u. 0) r (place_in z)
   unfolding fresh
-  fresh_is r {y} B K = bare_tables (lengths_of x) _ _ ∙ ap bare B.is ∙ go r
+  fresh_is r B z F at = bare_tables (lengths_of z) _ _ ∙ ap bare (B.is z F) ∙ go r
     where
-      go : (r : Result Unit Refusal) → bare (outcome {A = ℕ} (λ u. 0) r (tables_in y.aut)) ≡ outcome {A = ℕ} (λ u. 0) r (place_in y)
+      go : (r : Result Unit Refusal) → bare (outcome {A = ℕ} (λ u. 0) r (tables_in z.aut)) ≡ outcome {A = ℕ} (λ u. 0) r (place_in z)
       go (Err e) = refl
-      go (Ok u) =
-          ap₂ (λ (ls : List (Option ℕ)) (n : ℕ). given (place (tables_in y.aut) ls (take n x.output.bytes.now)) 0) (sym (no_lines x.lines.words.now E.no_lines)) (sym E.no_output)
-          ∙ ap₂ (λ l o. given (place (tables_in y.aut) (lines_at l) (take o.at o.bytes.now)) 0) (sym K.lines) (sym K.output)
+      go (Ok u) = ap₂ (λ (ls : List (Option ℕ)) (n : ℕ). given (place (tables_in z.aut) ls (take n z.output.bytes.now)) 0) (sym (no_lines z.lines.words.now F.no_lines)) (sym at)

@@ -8,7 +8,8 @@ use mathlib.Core.Option.{Option, none, some}
 use Prim.Native.Nat.{ℕ, zero, suc, ◌+◌, ◌-◌, ◌≤◌, ◌<◌}
 use native.Mathlib.Omega.{arith}
 use lib.Dec.{leb}
-use lib.ListN.{get_or}
+use lib.ListN.{get_or, set}
+use lib.Seq.{get_or-set_other}
 use borrow.Author.Tests.{le-leb, lt-leb}
 use Rattle.common.specs.Outcome.{Outcome, refused, given, Step, after, ◌>>=◌}
 use Rattle.aut_steps.specs.Tables.{Limits}
@@ -111,6 +112,7 @@ pub record LinesAt (image : List ℕ) (s k states : ℕ) (x : Lines) (i : ℕ) (
   pub count : y.count ≡ i
   pub is : (h : Image.Head) (L : Limits) (p : RunState) → p.tables.base.aut.states.count ≡ states → p.lines ≡ []
       → records image h L (Read.line image h L) 1 0 s k p ≡ records image h L (Read.line image h L) 1 i (s + i) (k - i) (place p.tables (lines_at y) p.output)
+  pub kept : (a : ℕ) → k ≤ a → get_or y.words.now a 0 ≡ get_or x.words.now a 0
   pub named : Below states (lines_at y)
 
 module _ (image : List ℕ) (s k states : ℕ) (x : Lines) (P : PreLines image x s k) where
@@ -121,6 +123,7 @@ module _ (image : List ℕ) (s k states : ℕ) (x : Lines) (P : PreLines image x
         ap (λ (m : ℕ). records image h L (Read.line image h L) 1 0 s m p) {x = k} {y = k - 0} (omega arith)
         ∙ ap (λ (m : ℕ). records image h L (Read.line image h L) 1 0 m (k - 0) p) {x = s} {y = s + 0} (omega arith)
         ∙ ap (λ (ls : List (Option ℕ)). records image h L (Read.line image h L) 1 0 (s + 0) (k - 0) (place p.tables ls p.output)) (z ∙ sym (no_lines x.words.now P.none));
+    kept = λ a m. refl;
     named = λ a x' e. absurd (let q = sym (ap (λ (ls : List (Option ℕ)). get_or ls a none) (no_lines x.words.now P.none)) ∙ e in let z : ◌≡◌ {A = ℕ} 0 1 = cc in omega arith);
   }
 
@@ -129,27 +132,30 @@ module _ (image : List ℕ) (s k states : ℕ) (x : Lines) (P : PreLines image x
     at p = place p.tables (lines_at y) p.output
 
     module _ (l : i < k) where
-      pub lines_stop : {e : Refusal} → PostLine image (s + i) states (Err e) → PostLines image s k states (Err e) y
+      pub lines_stop : {e : Refusal} → PostLine image (s + i) states (Err e) → PostLines image s k states x (Err e) y
       unfolding at
       lines_stop {e} post = record {
         is = λ h L p u z. v.is h L p u z ∙ records_stop image h L (Read.line image h L) 1 i (s + i) k (at p) (number_of e) l (post.is h L i (at p) u);
+        kept = v.kept;
         then = tt;
       }
 
-      pub lines_again : {w : code.Option ℕ} → PostLine image (s + i) states (Ok w) → {z : Lines} → z.count ≡ y.count + 1 → lines_at z ≡ lines_at y ++ stands_for (line_word w) ∷ [] → LinesAt image s k states x (i + 1) z
+      pub lines_again : {w : code.Option ℕ} → PostLine image (s + i) states (Ok w) → {z : Lines} → z.words.now ≡ set y.words.now y.count (line_word w) → z.count ≡ y.count + 1 → lines_at z ≡ lines_at y ++ stands_for (line_word w) ∷ [] → LinesAt image s k states x (i + 1) z
       unfolding at
-      lines_again {w} post {z} f more =
+      lines_again {w} post {z} put f more =
           let low : line_word w ≤ states = post.within.0 in
           record {
             count = omega (arith, f, v.count);
             is = λ h L p u t. v.is h L p u t
                 ∙ records_more image h L (Read.line image h L) 1 i (s + i) (s + (i + 1)) k (at p) (place p.tables (lines_at y ++ stands_for (line_word w) ∷ []) p.output) 0 l (omega arith) (post.is h L i (at p) u)
                 ∙ ap (λ (ls : List (Option ℕ)). records image h L (Read.line image h L) 1 (i + 1) (s + (i + 1)) (k - (i + 1)) (place p.tables ls p.output)) (sym more);
+            kept = λ a m. ap (λ (t : List ℕ). get_or t a 0) put ∙ get_or-set_other y.words.now y.count a (line_word w) 0 (λ e. omega (arith, v.count)) ∙ v.kept a m;
             named = subst (Below states) (sym more) (below_more (lines_at y) v.named (omega arith) (stands_for (line_word w)) (λ x e. stands_below (line_word w) states x low e));
           }
 
-    pub lines_end : i ≡ k → PostLines image s k states (Ok tt) y
+    pub lines_end : i ≡ k → PostLines image s k states x (Ok tt) y
     lines_end e = record {
       is = λ h L p u z. v.is h L p u z ∙ records_end image h L (Read.line image h L) 1 i (s + i) k (place p.tables (lines_at y) p.output) (omega arith);
+      kept = v.kept;
       then = record { count = v.count ∙ e; named = v.named };
     }

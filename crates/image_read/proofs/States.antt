@@ -1,29 +1,22 @@
 -- Members, states, lines, and the end.
 use Rattle.std.specs.Prelude.{if◌then◌else◌, Result, Ok, Err}
-use mathlib.Core.Path.{◌≡◌, refl, sym, ◌∙◌, ap, ap₂, subst}
+use mathlib.Core.Path.{◌≡◌, refl, sym, ◌∙◌, ap, subst}
 use mathlib.Core.Bool.{Bool, true, false}
-use mathlib.Core.List.{List}
+use mathlib.Core.List.{List, []}
 use denote.Ref.{Bor}
 use Prim.Native.Nat.{ℕ, ◌+◌, ◌*◌, ◌-◌, ◌≤◌}
 use native.Mathlib.Omega.{arith}
 use Rattle.common.specs.Outcome.{Outcome, refused, given, Step, after, ◌>>=◌}
-use Rattle.common.specs.Runs.{table}
 use Rattle.refusal.specs.declared.Refusal.{Refusal}
 use Rattle.refusal.specs.declared.Refusal.TheVariants.{Record}
 use Rattle.refusal.specs.Numbers.{outcome}
-use Rattle.sp.specs.declared.SPstore.{SPstore}
 use Rattle.aut_steps.specs.Tables.{limits01}
-use Rattle.aut_delta_steps.specs.Delta.{store}
-use Rattle.aut_query_steps.specs.Tables.{Tables, tables}
 use Rattle.aut_relations.specs.declared.Aut.{Aut as Lent}
-use Rattle.aut_relations.specs.declared.Transitions.{Transitions}
 use Rattle.aut_relations.specs.Lent.{aut_in}
-use Rattle.aut_query_stage.specs.Lent.{tables_in}
 use Rattle.book_steps.specs.Run.{RunState, place}
 use Rattle.book_memory.specs.declared.Setting.{Setting}
 use Rattle.book_memory.specs.declared.Lines.{Lines}
 use Rattle.book_memory.specs.declared.Place.{Place}
-use Rattle.book_memory.specs.Place.{place_in, written_in}
 use Rattle.book_begin.specs.Clauses.{setting_for}
 use Rattle.image_steps.specs.Image as Image
 use Rattle.image_steps.specs.Image.{layout, start_of, total}
@@ -32,9 +25,8 @@ use Rattle.image_words.specs.declared.Head.{Head}
 use Rattle.image_words.specs.Clauses.{head_of, entered_by, Reaches}
 use Rattle.image_words.proofs.Words.{start_2, start_3, start_4, start_5}
 use Rattle.image_states.specs.declared.Lists.{Lists}
-use Rattle.image_states.specs.Clauses.{Holds, HeadIs, OnlyExprs, put_in, ReadsStates, StatesAsk}
+use Rattle.image_states.specs.Clauses.{Holds, HeadIs, put_in, ReadsStates, StatesAsk}
 use Rattle.book_memory.specs.Place.{lines_at}
-use Rattle.book_begin.proofs.Zero.{no_lines}
 use Rattle.image_read.specs.Clauses.{Fitting, PostMembers, PreLines, PostLines, ended_by, PreAutomaton, state_steps, PostAutomaton, PreRecords, rest_steps, PostRecords}
 use Rattle.image_read.proofs.Ending.{fits, reaching}
 use Rattle.image_read.proofs.Lines.{after_both}
@@ -108,11 +100,12 @@ module _ (image : List ℕ) (h : Head) (x : Place) (fit : Fitting image h) (P : 
   by_states p = after_both (Read.records image g₁ limits01 (Read.member image g₁ limits01) 1 0 (start_of 2 (layout g₁)) h.members p)
       (Read.records image g₁ limits01 (Read.state image g₁ limits01) 4 0 (start_of 3 (layout g₁)) h.states) line_steps
 
-  with_states : {r : Result Unit Refusal} {y : Lent} → PostAutomaton image h x.aut r y → rest_steps image g₁ limits01 (place_in x) ≡ after (outcome {A = ℕ} (λ u. 0) r (put_in (aut_in y) (place_in x))) (λ _. line_steps)
-  with_states A = by_states (place_in x) ∙ ap (λ (o : Outcome RunState ℕ). after o (λ _. line_steps)) (A.is (place_in x) refl)
+  with_states : {r : Result Unit Refusal} {y : Lent} → PostAutomaton image h x.aut r y → (p : RunState) → p.tables.base.aut ≡ aut_in x.aut
+      → rest_steps image g₁ limits01 p ≡ after (outcome {A = ℕ} (λ u. 0) r (put_in (aut_in y) p)) (λ _. line_steps)
+  with_states A p a = by_states p ∙ ap (λ (o : Outcome RunState ℕ). after o (λ _. line_steps)) (A.is p a)
 
   pub no_states : {e : Refusal} {y : Lent} → PostAutomaton image h x.aut (Err e) y → (z : Place) → PostRecords image h x (Err e) z
-  no_states A z = record { is = with_states A; then = tt }
+  no_states A z = record { is = λ p a n. with_states A p a; then = tt }
 
   -- .. from word t - lines on
   module _ {t : ℕ} (e : t ≡ total g₁) where
@@ -133,33 +126,28 @@ module _ (image : List ℕ) (h : Head) (x : Place) (fit : Fitting image h) (P : 
     }
 
     module _ (y : Lent) (A : PostAutomaton image h x.aut (Ok tt) y) where
-      abbrev p₁ : RunState
-      p₁ = put_in (aut_in y) (place_in x)
+      module _ (p : RunState) (a : p.tables.base.aut ≡ aut_in x.aut) (n : p.lines ≡ []) where
+        abbrev p₁ : RunState
+        p₁ = put_in (aut_in y) p
 
-      with_lines : {r : Result Unit Refusal} {m : Lines} → PostLines image start h.lines y.states.count r m
-          → rest_steps image g₁ limits01 (place_in x) ≡ after (outcome {A = ℕ} (λ u. 0) r (place p₁.tables (lines_at m) (written_in x))) (λ _. Read.ended image g₁ limits01)
-      with_lines R =
-          with_states A
-          ∙ ap (λ (i : ℕ). after (Read.records image g₁ limits01 (Read.line image g₁ limits01) 1 0 i h.lines p₁) (λ _. Read.ended image g₁ limits01)) lines_from
-          ∙ ap (λ (o : Outcome RunState ℕ). after o (λ _. Read.ended image g₁ limits01)) (R.is g₁ limits01 p₁ refl (no_lines x.lines.words.now P.no_lines))
+        with_lines : {r : Result Unit Refusal} {m : Lines} → PostLines image start h.lines y.states.count x.lines r m
+            → rest_steps image g₁ limits01 p ≡ after (outcome {A = ℕ} (λ u. 0) r (place p₁.tables (lines_at m) p.output)) (λ _. Read.ended image g₁ limits01)
+        with_lines R =
+            with_states A p a
+            ∙ ap (λ (i : ℕ). after (Read.records image g₁ limits01 (Read.line image g₁ limits01) 1 0 i h.lines p₁) (λ _. Read.ended image g₁ limits01)) lines_from
+            ∙ ap (λ (o : Outcome RunState ℕ). after o (λ _. Read.ended image g₁ limits01)) (R.is g₁ limits01 p₁ refl n)
 
-      pub lines_stopped : {e : Refusal} {m : Lines} → PostLines image start h.lines y.states.count (Err e) m → (z : Place) → PostRecords image h x (Err e) z
-      lines_stopped R z = record { is = with_lines R; then = tt }
+        module _ (m : Lines) (R : PostLines image start h.lines y.states.count x.lines (Ok tt) m) {b : Bool} (E : ended_by image (head_of h) y.members.count ≡ b) where
+          with_end : {v : Bool} → b ≡ v → rest_steps image g₁ limits01 p ≡ (if v then given (place p₁.tables (lines_at m) p.output) 0 else refused 32)
+          unfolding Read.ended
+          with_end f = with_lines R ∙ ap (λ (v : Bool). if v then given (place p₁.tables (lines_at m) p.output) 0 else refused 32) (E ∙ f)
 
-      module _ (m : Lines) (R : PostLines image start h.lines y.states.count (Ok tt) m) {b : Bool} (E : ended_by image (head_of h) y.members.count ≡ b) where
-        with_end : {v : Bool} → b ≡ v → rest_steps image g₁ limits01 (place_in x) ≡ (if v then given (place p₁.tables (lines_at m) (written_in x)) 0 else refused 32)
-        unfolding Read.ended
-        with_end f = with_lines R ∙ ap (λ (v : Bool). if v then given (place p₁.tables (lines_at m) (written_in x)) 0 else refused 32) (E ∙ f)
+      pub lines_stopped : {e : Refusal} {m : Lines} → PostLines image start h.lines y.states.count x.lines (Err e) m → (z : Place) → PostRecords image h x (Err e) z
+      lines_stopped R z = record { is = λ p a n. with_lines p a n R; then = tt }
 
+      module _ (m : Lines) (R : PostLines image start h.lines y.states.count x.lines (Ok tt) m) {b : Bool} (E : ended_by image (head_of h) y.members.count ≡ b) where
         pub no_end : b ≡ false → (z : Place) → PostRecords image h x (Err Record) z
-        no_end f z = record { is = with_end f; then = tt }
+        no_end f z = record { is = λ p a n. with_end p a n m R E f; then = tt }
 
-        -- packet nodes and transitions are as they were
-        put_tables : OnlyExprs x.aut y → p₁.tables ≡ tables_in y
-        put_tables K = ap₂ (λ (s : SPstore) (t : Transitions). tables (table s.nodes.now s.count) (store (aut_in y) (table t.words.now t.count))) (sym K.sp) (sym K.transitions)
-
-        pub records_given : b ≡ true → OnlyExprs x.aut y → PostRecords image h x (Ok tt) (records_at x y m)
-        records_given f K = record {
-          is = with_end f ∙ ap (λ (τ : Tables). given (place τ (lines_at m) (written_in x)) 0) (put_tables K);
-          then = record { lined = R.then; kept = A.kept };
-        }
+        pub records_given : b ≡ true → PostRecords image h x (Ok tt) (records_at x y m)
+        records_given f = record { is = λ p a n. with_end p a n m R E f; then = record { lined = R.then; kept = A.kept } }

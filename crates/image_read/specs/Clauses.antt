@@ -1,5 +1,5 @@
 -- 02 (ii), "Reading makes a new book's constants, then each record again by its constructor": what the parts of reading an image ask and promise, in the words of image_steps/specs/Read.
-use Rattle.std.specs.Prelude.{◌≡◌, Bool, true, false, ◌&&◌, List, [], ◌∷◌, ◌++◌, Result, Ok, Err, IfOk, ℕ, ◌+◌, ◌*◌, ◌-◌, ◌≤◌, ◌<◌, eqb, length}
+use Rattle.std.specs.Prelude.{◌≡◌, Bool, true, false, ◌&&◌, List, [], ◌∷◌, ◌++◌, Result, Ok, Err, IfOk, ℕ, ◌+◌, ◌*◌, ◌-◌, ◌≤◌, ◌<◌, eqb, length, get_or}
 use Rattle.std.specs.Prelude as code
 use Rattle.common.specs.Outcome.{Outcome, refused, given, Step, after, ◌>>=◌}
 use Rattle.refusal.specs.declared.Refusal.{Refusal}
@@ -11,14 +11,14 @@ use Rattle.aut_relations.specs.declared.Aut.{Aut as Lent}
 use Rattle.aut_relations.specs.Behind.{LISTS}
 use Rattle.aut_relations.specs.Lent.{aut_in, Unless}
 use Rattle.book_steps.specs.Run as Run
-use Rattle.book_steps.specs.Run.{RunState, place}
+use Rattle.book_steps.specs.Run.{RunState, place, zeroed}
 use Rattle.book_memory.specs.declared.Setting.{Setting}
 use Rattle.book_memory.specs.declared.Lines.{Lines}
 use Rattle.book_memory.specs.declared.Place.{Place}
-use Rattle.book_memory.specs.Place.{LINES, stands_for, lines_at, place_in, lengths_of, Below, Empty, Standing}
+use Rattle.book_memory.specs.Place.{LINES, stands_for, lines_at, lines_in, place_in, lengths_of, Below, Standing}
 use Rattle.book_memory.specs.Place.{word_of as line_word}
 use Rattle.book_begin.specs.declared.Header.{Header}
-use Rattle.book_begin.specs.Clauses.{KeepsPlace, setting_for, Ordered}
+use Rattle.book_begin.specs.Clauses.{KeepsPlace, setting_for, Fresh, Ordered}
 use Rattle.image_steps.specs.Image as Image
 use Rattle.image_steps.specs.Image.{layout, start_of, reach, total}
 use Rattle.image_steps.specs.Read as Read
@@ -83,9 +83,15 @@ node_steps image h L =
     Read.records image h L (Read.node image h L) 2 0 0 h.sp
     >>= λ _. Read.records image h L (Read.relation image h L) 4 0 (start_of 1 (layout h)) h.spp
 
-pub record PostDiagrams (image : List ℕ) (h : Head) (x : Place) (r : Result Unit Refusal) (y : Place) : Type 0 where
-  pub is : after (Read.fresh (lengths_of x) h.fields) (λ _. node_steps image (head_of h) limits01) ≡ outcome (λ u. 0) r (place_in y)
-  pub then : Unless r (Ordered h.fields y)
+-- both tables of nodes are zeroed
+pub record PreDiagrams (x : Place) : Type 0 where
+  pub sp : x.aut.sp.nodes.now ≡ zeroed (length x.aut.sp.nodes.now)
+  pub spp : x.aut.spp.nodes.now ≡ zeroed (length x.aut.spp.nodes.now)
+
+-- .. with any tables beside them that are zeroed
+pub record PostDiagrams (image : List ℕ) (h : Head) (r : Result Unit Refusal) (y : Place) : Type 0 where
+  pub is : (z : Place) → Fresh y z → z.output.at ≡ 0 → (L : Limits) → after (Read.fresh (lengths_of z) h.fields) (λ _. node_steps image (head_of h) L) ≡ outcome (λ u. 0) r (place_in z)
+  pub then : Unless r ((z : Place) → Fresh y z → Ordered h.fields z)
 
 -- ---- members and lines
 
@@ -119,9 +125,11 @@ pub record Lined (states k : ℕ) (y : Lines) : Type 0 where
   pub count : y.count ≡ k
   pub named : Below states (lines_at y)
 
-pub record PostLines (image : List ℕ) (s k states : ℕ) (r : Result Unit Refusal) (y : Lines) : Type 0 where
+-- the words of the table behind k lines are as they were
+pub record PostLines (image : List ℕ) (s k states : ℕ) (x : Lines) (r : Result Unit Refusal) (y : Lines) : Type 0 where
   pub is : (h : Image.Head) (L : Limits) (p : RunState) → p.tables.base.aut.states.count ≡ states → p.lines ≡ []
       → Read.records image h L (Read.line image h L) 1 0 s k p ≡ outcome (λ u. 0) r (place p.tables (lines_at y) p.output)
+  pub kept : (i : ℕ) → k ≤ i → get_or y.words.now i 0 ≡ get_or x.words.now i 0
   pub then : Unless r (Lined states k y)
 
 -- spare members and unused words (image_steps: Read.ended)
@@ -166,24 +174,46 @@ pub record Rests (h : Head) (x y : Place) : Type 0 where
   pub kept : Kept 0 64 x.aut.scratch.now y.aut.scratch.now
 
 pub record PostRecords (image : List ℕ) (h : Head) (x : Place) (r : Result Unit Refusal) (y : Place) : Type 0 where
-  pub is : rest_steps image (head_of h) limits01 (place_in x) ≡ outcome (λ u. 0) r (place_in y)
+  pub is : (p : RunState) → p.tables.base.aut ≡ aut_in x.aut → p.lines ≡ []
+      → rest_steps image (head_of h) limits01 p ≡ outcome (λ u. 0) r (place (put_in (aut_in y.aut) p).tables (lines_in y) p.output)
   pub then : Unless r (Rests h x y)
 
 -- ---- an image
 
--- everything is zeroed, and scratch as a book needs it
+-- What is read into is zeroed, with no records, and scratch as a book needs it; nothing is asked of transitions, pending entries and output.
 pub record PreRead (x : Place) : Type 0 where
-  pub empty : Empty x
+  pub sp : x.aut.sp.nodes.now ≡ zeroed (length x.aut.sp.nodes.now)
+  pub spp : x.aut.spp.nodes.now ≡ zeroed (length x.aut.spp.nodes.now)
+  pub states : x.aut.states.words.now ≡ zeroed (length x.aut.states.words.now)
+  pub members : x.aut.members.words.now ≡ zeroed (length x.aut.members.words.now)
+  pub lines : x.lines.words.now ≡ zeroed (length x.lines.words.now)
+  pub scratch : x.aut.scratch.now ≡ zeroed (length x.aut.scratch.now)
+  pub no_states : x.aut.states.count ≡ 0
+  pub no_members : x.aut.members.count ≡ 0
+  pub no_lines : x.lines.count ≡ 0
   pub table : length x.lines.words.now ≡ LINES
   pub room : LISTS ≤ length x.aut.scratch.now
 
+-- z has what is read into y; its transitions and pending entries are zeroed, however long, and nothing is written
+pub record Alike (y z : Place) : Type 0 where
+  pub sp : z.aut.sp ≡ y.aut.sp
+  pub spp : z.aut.spp ≡ y.aut.spp
+  pub states : z.aut.states ≡ y.aut.states
+  pub members : z.aut.members ≡ y.aut.members
+  pub scratch : z.aut.scratch ≡ y.aut.scratch
+  pub lines : z.lines ≡ y.lines
+  pub transitions : z.aut.transitions.words.now ≡ zeroed (length z.aut.transitions.words.now)
+  pub no_transitions : z.aut.transitions.count ≡ 0
+  pub pending : z.aut.pending.now ≡ zeroed (length z.aut.pending.now)
+  pub silent : z.output.at ≡ 0
+
 -- the place is in order for any line, with the setting S of block 0
-pub record Reads (image : List ℕ) (y : Place) (S : Setting) : Type 0 where
+pub record Reads (image : List ℕ) (x y : Place) (S : Setting) : Type 0 where
   pub setting : S ≡ setting_at image
-  pub standing : Standing S y
-  pub silent : y.output.at ≡ 0
+  pub standing : (z : Place) → Alike y z → Standing S z
+  pub silent : x.output.at ≡ 0 → y.output.at ≡ 0
   pub some : 512 ≤ length image
 
 pub record PostRead (image : List ℕ) (x : Place) (r : Result Setting Refusal) (y : Place) : Type 0 where
-  pub is : Read.read (lengths_of x) limits01 image ≡ outcome (λ S. 0) r (place_in y)
-  pub then : IfOk r (Reads image y)
+  pub is : (z : Place) → Alike y z → Read.read (lengths_of z) limits01 image ≡ outcome (λ S. 0) r (place_in z)
+  pub then : IfOk r (Reads image x y)

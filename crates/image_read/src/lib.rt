@@ -5,7 +5,7 @@ ghost use Rattle.std.specs.Prelude.{◌≡◌, ◌+◌};
 ghost use Rattle.slices.specs.Same.{SameSlice};
 ghost use Rattle.image_words.specs.Clauses.{Reaches, head_of};
 ghost use Rattle.image_states.specs.Clauses.{OnlyExprs};
-ghost use Rattle.book_memory.specs.Place.{SameSlices, Empty};
+ghost use Rattle.book_memory.specs.Place.{SameSlices};
 ghost use Rattle.book_begin.specs.Clauses.{OnlyNodes};
 ghost use Rattle.image_read.specs.Clauses as Its;
 
@@ -57,9 +57,9 @@ fn open(image: &[u8]) -> Result<Head, Refusal>
 
 // the constants, then the records of both kinds of nodes
 fn read_diagrams(opened: Opened, place: &mut Place) -> Result<(), Refusal>
-    requires { Empty place.old }
+    requires { Its.PreDiagrams place.old }
     ensures keeps { OnlyNodes opened.entry.head.fields place.old place.new }
-    ensures gives { Its.PostDiagrams opened.entry.image.now opened.entry.head place.old result place.new }
+    ensures gives { Its.PostDiagrams opened.entry.image.now opened.entry.head result place.new }
 {
     let (image, h) = (opened.image, opened.head);
     book_begin::constants(place, h.fields)?;
@@ -103,7 +103,7 @@ fn read_lines(
 ) -> Result<(), Refusal>
     requires { Its.PreLines image.now lines.old s k }
     ensures keeps { SameSlice lines.old.words lines.new.words }
-    ensures gives { Its.PostLines image.now s k states result lines.new }
+    ensures gives { Its.PostLines image.now s k states lines.old result lines.new }
 {
     for i in 0..k {
         let line = line_at(image, s + i, states)?;
@@ -167,7 +167,7 @@ fn read_records(opened: Opened, place: &mut Place) -> Result<(), Refusal>
 
 // ---- an image
 
-// From an empty place: the place that the image stands for, and what holds for the book that goes on.
+// From tables that are zeroed: what the image stands for, and what holds for the book that goes on.
 pub fn read(image: &[u8], place: &mut Place) -> Result<Setting, Refusal>
     requires { Its.PreRead place.old }
     ensures keeps { SameSlices place.old place.new }

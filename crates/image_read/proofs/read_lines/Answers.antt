@@ -20,7 +20,7 @@ returns-in_err-line-clause-gives c =
 pub loop-i-preserved : goal.loop-i-preserved
 loop-i-preserved c = record {
   keeps = search rules;
-  at = lines.lines_again _ _ _ _ c.args.lines.now c.requires c.loop-i.lines c.loop-i.i c.loop-i.invariant.at c.loop-i-test.true c.in_ok-line.ensures c.add.ensures.count c.add.ensures.lines;
+  at = lines.lines_again _ _ _ _ c.args.lines.now c.requires c.loop-i.lines c.loop-i.i c.loop-i.invariant.at c.loop-i-test.true c.in_ok-line.ensures c.add.ensures.words c.add.ensures.count c.add.ensures.lines;
 }
 
 pub returns-clause-gives : goal.returns-clause-gives

@@ -22,4 +22,4 @@ returns-in_err-read_lines-clause-gives c =
 
 pub returns-clause-gives : goal.returns-clause-gives
 returns-clause-gives c =
-    states.records_given c.args.opened.image.now c.args.opened.head c.args.place.now c.args.opened.fitting c.requires c.total.ensures c.read_automaton.new.aut c.in_ok-read_automaton.ensures.gives c.read_lines.new.lines c.in_ok-read_lines.ensures.gives c.ended.ensures c.if-not-ended.false c.in_ok-read_automaton.ensures.keeps
+    states.records_given c.args.opened.image.now c.args.opened.head c.args.place.now c.args.opened.fitting c.requires c.total.ensures c.read_automaton.new.aut c.in_ok-read_automaton.ensures.gives c.read_lines.new.lines c.in_ok-read_lines.ensures.gives c.ended.ensures c.if-not-ended.false
