@@ -7,12 +7,12 @@ use native.Mathlib.Omega.{arith}
 use lib.ListN.{length}
 use Rattle.std.specs.Prelude.{Result, Ok, Err}
 use Rattle.common.specs.Outcome.{Outcome, after, ◌>>=◌}
+use Rattle.common.specs.Runs.{Table}
 use Rattle.refusal.specs.declared.Refusal.{Refusal}
 use Rattle.refusal.specs.Numbers.{outcome}
 use Rattle.netkat.specs.Rules.{Join}
 use Rattle.aut_steps.specs.Tables.{SEQUENCE, kind_of, op1, op2, nest, Limits, Aut}
 use Rattle.aut_steps.specs.Kinds.{form}
-use Rattle.aut_steps.specs.Ascending.{All}
 use Rattle.aut_steps.specs.Constructors.{sequence_by, mk_sequence}
 use Rattle.aut_steps.specs.Wf.{Two, ExtAut}
 use Rattle.aut_steps.proofs.Wf.{ok_as, grown_refl, grown_trans, kind_grown, first_grown, second_grown, state_grown}
@@ -25,27 +25,28 @@ use Rattle.aut_states.specs.Clauses.{limits_of}
 use Rattle.aut_states.specs.declared.Config.{Config}
 use Rattle.aut_relations.specs.declared.Aut.{Aut as Lent}
 use Rattle.aut_relations.specs.Behind.{Modifies}
-use Rattle.aut_relations.specs.Lent.{nodes_in, aut_in, Keeps, Does, Unless, Asked}
+use Rattle.aut_relations.specs.Clauses.{Ready}
+use Rattle.aut_relations.specs.Lent.{nodes_in, Keeps, Unless}
 use Rattle.aut_relations.proofs.Behind.{left_refl, left_trans}
 use Rattle.aut_relations.proofs.Order.{ready_after}
-use Rattle.aut_sequence.specs.Clauses.{regroups, joined_of, Enough, Chain, top, below, Nested, Walks, Ends, Links}
+use Rattle.aut_sequence.specs.Clauses.{aut_with, SomeAsked, Makes, regroups, joined_of, Enough, Chain, top, below, Nested, Walks, Ends, Links}
 use Rattle.aut_sequence.proofs.Ways.{at_any_depth, regrouped, no_sequence}
 use Rattle.aut_sequence.proofs.Chain.{firsts, deeper, join_by, sequence_chain, chain_state, chain_lower, depth_at, nested_of, chain_grown, chain_back}
 
 abbrev pub AskedOf : Config → Lent → ℕ → ℕ → Type 0
-AskedOf k l x y = Asked k l × All (λ i. i < l.states.count) (x ∷ y ∷ [])
+AskedOf k l x y = SomeAsked k l (x ∷ y ∷ [])
 
 -- ---- a step that is not regrouped
 
 module _ (k : Config) (x y : ℕ) {l m : Lent} {r : Result ℕ Refusal} where
   -- at any depth, and so at the nesting of x
-  pub enough : regroups k.fields l.states.words.now x y ≡ false → Does k.fields 0 0 aut_in (λ i. i) (joined_of k.fields (limits_of k.limits) x y) l r m → Enough k x y l r m
-  enough e D depth le = at_any_depth k.fields (limits_of k.limits) x y (aut_in l) e depth ∙ D.is
+  pub enough : regroups k.fields l.states.words.now x y ≡ false → Makes k.fields (joined_of k.fields (limits_of k.limits) x y) l r m → Enough k x y l r m
+  enough e D depth le mem = at_any_depth k.fields (limits_of k.limits) x y (aut_with mem l) e depth ∙ (D mem).is
 
 module _ (k : Config) (x y : ℕ) (l m : Lent) (r : Result ℕ Refusal) where
-  pub as_mk : Enough k x y l r m → Unless r (Modifies k.fields 0 0 (nodes_in m) l.scratch.now m.scratch.now) → Does k.fields 0 0 aut_in (λ i. i) (mk_sequence k.fields (limits_of k.limits) x y) l r m
+  pub as_mk : Enough k x y l r m → Unless r (Modifies k.fields 0 0 (nodes_in m) l.scratch.now m.scratch.now) → Makes k.fields (mk_sequence k.fields (limits_of k.limits) x y) l r m
   unfolding mk_sequence
-  as_mk f p = record { is = f (nest l.states.words.now x) (omega arith); left = p }
+  as_mk f p mem = record { is = f (nest l.states.words.now x) (omega arith) mem; left = p }
 
 -- ---- the loop: what comes after u on x's chain is joined, e is to be joined in front of z
 
@@ -53,8 +54,8 @@ pub record Turn (k : Config) (x y : ℕ) (l₀ l : Lent) (u e z : ℕ) : Type 0 
   pub from : AskedOf k l₀ x y
   pub keeps : Keeps l₀ l
   pub same : l.members ≡ l₀.members
-  pub asked : Asked k l
-  pub grown : ExtAut (aut_in l₀) (aut_in l)
+  pub ready : Ready k.fields k.limits (aut_with from.members l) l.scratch.now
+  pub grown : ExtAut (aut_with from.members l₀) (aut_with from.members l)
   pub left : Modifies k.fields 0 0 (nodes_in l) l₀.scratch.now l.scratch.now
   pub chain : Chain l₀.states.words.now x u
   pub has_e : e < l₀.states.count
@@ -62,11 +63,11 @@ pub record Turn (k : Config) (x y : ℕ) (l₀ l : Lent) (u e z : ℕ) : Type 0 
   pub has_z : z < l.states.count
   -- e is joined, and then what stands above u, as deep as it stands above it
   pub run : (p : Chain l₀.states.words.now x u) (at : ℕ) → nest l₀.states.words.now u ≤ at
-      → sequence_by k.fields (limits_of k.limits) (deeper at (firsts p)) x y (aut_in l₀) ≡ (joined_of k.fields (limits_of k.limits) e z >>= join_by k.fields (limits_of k.limits) at (firsts p)) (aut_in l)
+      → (mem : Table) → sequence_by k.fields (limits_of k.limits) (deeper at (firsts p)) x y (aut_with mem l₀) ≡ (joined_of k.fields (limits_of k.limits) e z >>= join_by k.fields (limits_of k.limits) at (firsts p)) (aut_with mem l)
 
 module _ {k : Config} {l : Lent} {x y : ℕ} (a : AskedOf k l x y) where
   pub walks : Walks l.states.words.now x
-  walks = record { count = l.states.count; nested = nested_of a.0.ready.good; has = a.1.0 }
+  walks = record { count = l.states.count; nested = nested_of a.ready.good; has = a.has.0 }
 
   pub begin : regroups k.fields l.states.words.now x y ≡ true → {e : ℕ} → Ends l.states.words.now x e → Keeps l l → Turn k x y l l e e y
   begin q {e} f keeps =
@@ -75,15 +76,15 @@ module _ {k : Config} {l : Lent} {x y : ℕ} (a : AskedOf k l x y) where
         from = a;
         keeps = keeps;
         same = refl;
-        asked = a.0;
-        grown = grown_refl (aut_in l);
+        ready = a.ready;
+        grown = grown_refl (aut_with a.members l);
         left = left_refl 0 0 (nodes_in l) l.scratch.now;
         chain = f.chain;
-        has_e = chain_state (nested_of a.0.ready.good) a.1.0 f.chain;
+        has_e = chain_state (nested_of a.ready.good) a.has.0 f.chain;
         last = f.last;
-        has_z = a.1.1.0;
-        run = λ p at le. sequence_chain k.fields (limits_of k.limits) (aut_in l) x y i.no_one i.no_zero p at
-            ∙ ap (λ (o : Outcome Aut ℕ). after o (join_by k.fields (limits_of k.limits) at (firsts p))) (at_any_depth k.fields (limits_of k.limits) e y (aut_in l) (no_sequence k.fields l.states.words.now e y f.last) at);
+        has_z = a.has.1.0;
+        run = λ p at le mem. sequence_chain k.fields (limits_of k.limits) (aut_with mem l) x y i.no_one i.no_zero p at
+            ∙ ap (λ (o : Outcome Aut ℕ). after o (join_by k.fields (limits_of k.limits) at (firsts p))) (at_any_depth k.fields (limits_of k.limits) e y (aut_with mem l) (no_sequence k.fields l.states.words.now e y f.last) at);
       }
 
 module _ {k : Config} {x y : ℕ} {l₀ l : Lent} {u e z : ℕ} (v : Turn k x y l₀ l u e z) where
@@ -96,51 +97,60 @@ module _ {k : Config} {x y : ℕ} {l₀ l : Lent} {u e z : ℕ} (v : Turn k x y 
   abbrev st₀ : List ℕ
   st₀ = l₀.states.words.now
 
+  abbrev mem₀ : Table
+  mem₀ = v.from.members
+
   nested : Nested st₀ l₀.states.count
-  nested = nested_of v.from.0.ready.good
+  nested = nested_of v.from.ready.good
 
   has : x < l₀.states.count
-  has = v.from.1.0
+  has = v.from.has.0
 
   has_e : e < l.states.count
   has_e = state_grown v.grown v.has_e
 
   pub joined_ready : AskedOf k l e z
-  joined_ready = (v.asked, (has_e, (v.has_z, tt)))
+  joined_ready = record { members = mem₀; fields = v.keeps.spp.fields ∙ v.from.fields; ready = v.ready; has = (has_e, (v.has_z, tt)) }
 
   -- what is joined is not regrouped, so it calls nothing
   pub call_last : regroups N l.states.words.now e z ≡ false
   call_last = no_sequence N l.states.words.now e z (λ q. v.last (sym (kind_grown v.grown e v.has_e) ∙ q))
 
-  module _ {l1 : Lent} {r : Result ℕ Refusal} (D : Does N 0 0 aut_in (λ i. i) (joined_of N L e z) l r l1) where
-    called : (at : ℕ) (es : List ℕ) → (joined_of N L e z >>= join_by N L at es) (aut_in l) ≡ after (outcome (λ i. i) r (aut_in l1)) (join_by N L at es)
-    called at es = ap (λ (o : Outcome Aut ℕ). after o (join_by N L at es)) D.is
+  module _ {l1 : Lent} {r : Result ℕ Refusal} (D : Makes N (joined_of N L e z) l r l1) where
+    called : (at : ℕ) (es : List ℕ) (mem : Table) → (joined_of N L e z >>= join_by N L at es) (aut_with mem l) ≡ after (outcome (λ i. i) r (aut_with mem l1)) (join_by N L at es)
+    called at es mem = ap (λ (o : Outcome Aut ℕ). after o (join_by N L at es)) (D mem).is
 
-  module _ {l1 : Lent} {n : Refusal} (D : Does N 0 0 aut_in (λ i. i) (joined_of N L e z) l (Err n) l1) where
+  module _ {l1 : Lent} {n : Refusal} (D : Makes N (joined_of N L e z) l (Err n) l1) where
     pub stuck : {r : Result ℕ Refusal} → r ≡ Err n → Enough k x y l₀ r l1
-    stuck q depth le =
+    stuck q depth le mem =
         let i = depth_at nested has v.chain depth le in
-        ap (λ (d : ℕ). sequence_by N L d x y (aut_in l₀)) (sym i.is) ∙ v.run v.chain i.d i.enough ∙ called D i.d (firsts v.chain) ∙ ap (λ (r : Result ℕ Refusal). outcome (λ i. i) r (aut_in l1)) (sym q)
+        ap (λ (d : ℕ). sequence_by N L d x y (aut_with mem l₀)) (sym i.is) ∙ v.run v.chain i.d i.enough mem ∙ called D i.d (firsts v.chain) mem ∙ ap (λ (r : Result ℕ Refusal). outcome (λ i. i) r (aut_with mem l1)) (sym q)
 
-    pub stuck_all : {r : Result ℕ Refusal} → r ≡ Err n → Does N 0 0 aut_in (λ i. i) (mk_sequence N L x y) l₀ r l1
+    pub stuck_all : {r : Result ℕ Refusal} → r ≡ Err n → Makes N (mk_sequence N L x y) l₀ r l1
     stuck_all {r} q = as_mk k x y l₀ l1 r (stuck q) (subst (λ (r : Result ℕ Refusal). Unless r (Modifies N 0 0 (nodes_in l1) l₀.scratch.now l1.scratch.now)) (sym q) tt)
 
-  module _ {l1 : Lent} {z1 : ℕ} (D : Does N 0 0 aut_in (λ i. i) (joined_of N L e z) l (Ok z1) l1) where
-    gone : Gone N L (Meaning.Is N (Join (Holds N (aut_in l) e) (Holds N (aut_in l) z))) (aut_in l) (aut_in l1) z1
-    gone = came (subst (StepSpec N L (Meaning.Is N (Join (Holds N (aut_in l) e) (Holds N (aut_in l) z))) (aut_in l)) (as_mk k e z l l1 (Ok z1) (enough k e z call_last D) D.left).is (mk_sequence_goes v.asked.ready.good has_e v.has_z))
+  module _ {l1 : Lent} {z1 : ℕ} (D : Makes N (joined_of N L e z) l (Ok z1) l1) where
+    abbrev σ : Aut
+    σ = aut_with mem₀ l
+
+    abbrev τ : Aut
+    τ = aut_with mem₀ l1
+
+    gone : Gone N L (Meaning.Is N (Join (Holds N σ e) (Holds N σ z))) σ τ z1
+    gone = came (subst (StepSpec N L (Meaning.Is N (Join (Holds N σ e) (Holds N σ z))) σ) (as_mk k e z l l1 (Ok z1) (enough k e z call_last D) (D mem₀).left mem₀).is (mk_sequence_goes v.ready.good has_e v.has_z))
 
     left_1 : Modifies N 0 0 (nodes_in l1) l₀.scratch.now l1.scratch.now
-    left_1 = left_trans gone.grown.nodes v.left D.left
+    left_1 = left_trans gone.grown.nodes v.left (D mem₀).left
 
     pub done : u ≡ x → Enough k x y l₀ (Ok z1) l1
-    done q depth le =
-        subst (λ (u : ℕ). (p : Chain st₀ x u) (at : ℕ) → nest st₀ u ≤ at → sequence_by N L (deeper at (firsts p)) x y (aut_in l₀) ≡ (joined_of N L e z >>= join_by N L at (firsts p)) (aut_in l)) q v.run top depth le
-        ∙ called D depth []
+    done q depth le mem =
+        subst (λ (u : ℕ). (p : Chain st₀ x u) (at : ℕ) → nest st₀ u ≤ at → (mem : Table) → sequence_by N L (deeper at (firsts p)) x y (aut_with mem l₀) ≡ (joined_of N L e z >>= join_by N L at (firsts p)) (aut_with mem l)) q v.run top depth le mem
+        ∙ called D depth [] mem
 
-    pub done_all : u ≡ x → Does N 0 0 aut_in (λ i. i) (mk_sequence N L x y) l₀ (Ok z1) l1
+    pub done_all : u ≡ x → Makes N (mk_sequence N L x y) l₀ (Ok z1) l1
     done_all q = as_mk k x y l₀ l1 (Ok z1) (done q) left_1
 
-    grown_1 : ExtAut (aut_in l₀) (aut_in l1)
+    grown_1 : ExtAut (aut_with mem₀ l₀) τ
     grown_1 = grown_trans v.grown gone.grown
 
     walks_1 : Walks l1.states.words.now x
@@ -166,9 +176,9 @@ module _ {k : Config} {x y : ℕ} {l₀ l : Lent} {u e z : ℕ} (v : Turn k x y 
         next_w : u ≡ op2 st₀ w
         next_w = sym i.next ∙ second_grown grown_1 w has_w
 
-        two : Two (aut_in l₀) w
+        two : Two (aut_with mem₀ l₀) w
         unfolding form
-        two = ok_as v.from.0.ready.good SEQUENCE has_w kind_w
+        two = ok_as v.from.ready.good SEQUENCE has_w kind_w
 
         pub fewer : nest st₀ u < nest st₀ w × nest st₀ w ≤ nest st₀ x
         fewer = (omega (arith, two.nested, ap (nest st₀) next_w), chain_lower nested has chain_1)
@@ -178,26 +188,26 @@ module _ {k : Config} {x y : ℕ} {l₀ l : Lent} {u e z : ℕ} (v : Turn k x y 
           first_w = sym (first_grown grown_1 w has_w) ∙ sym j
 
           last_f : kind_of st₀ f ≡ SEQUENCE → ⊥
-          last_f q = ((v.from.0.ready.good.made w has_w).sequence kind_w).regrouped (ap (kind_of st₀) first_w ∙ q)
+          last_f q = ((v.from.ready.good.made w has_w).sequence kind_w).regrouped (ap (kind_of st₀) first_w ∙ q)
 
           has_f : f < l₀.states.count
           has_f = omega (arith, two.earlier1, first_w, has_w)
 
-          rest : (p : Chain st₀ x w) (at : ℕ) → nest st₀ w ≤ at → sequence_by N L (deeper at (firsts p)) x y (aut_in l₀) ≡ (joined_of N L f z1 >>= join_by N L at (firsts p)) (aut_in l1)
-          rest p zero le = absurd (omega (arith, two.nested))
-          rest p (suc at) le =
-              subst (λ (u : ℕ). (p : Chain st₀ x u) (at : ℕ) → nest st₀ u ≤ at → sequence_by N L (deeper at (firsts p)) x y (aut_in l₀) ≡ (joined_of N L e z >>= join_by N L at (firsts p)) (aut_in l)) next_w v.run (below p kind_w) at (omega (arith, two.nested))
-              ∙ called D at (op1 st₀ w ∷ firsts p)
-              ∙ ap (λ (f : ℕ). (sequence_by N L at f z1 >>= join_by N L (suc at) (firsts p)) (aut_in l1)) first_w
+          rest : (p : Chain st₀ x w) (at : ℕ) → nest st₀ w ≤ at → (mem : Table) → sequence_by N L (deeper at (firsts p)) x y (aut_with mem l₀) ≡ (joined_of N L f z1 >>= join_by N L at (firsts p)) (aut_with mem l1)
+          rest p zero le mem = absurd (omega (arith, two.nested))
+          rest p (suc at) le mem =
+              subst (λ (u : ℕ). (p : Chain st₀ x u) (at : ℕ) → nest st₀ u ≤ at → (mem : Table) → sequence_by N L (deeper at (firsts p)) x y (aut_with mem l₀) ≡ (joined_of N L e z >>= join_by N L at (firsts p)) (aut_with mem l)) next_w v.run (below p kind_w) at (omega (arith, two.nested)) mem
+              ∙ called D at (op1 st₀ w ∷ firsts p) mem
+              ∙ ap (λ (f : ℕ). (sequence_by N L at f z1 >>= join_by N L (suc at) (firsts p)) (aut_with mem l1)) first_w
               ∙ ap (λ (o : Outcome Aut ℕ). after o (join_by N L (suc at) (firsts p)))
-              (at_any_depth N L f z1 (aut_in l1) (no_sequence N l1.states.words.now f z1 (λ q. last_f (sym (kind_grown grown_1 f has_f) ∙ q))) at)
+              (at_any_depth N L f z1 (aut_with mem l1) (no_sequence N l1.states.words.now f z1 (λ q. last_f (sym (kind_grown grown_1 f has_f) ∙ q))) at)
 
           pub again : Keeps l₀ l1 → l1.members ≡ l₀.members → Keeps l l1 → Turn k x y l₀ l1 w f z1
           again keeps same keep = record {
             from = v.from;
             keeps = keeps;
             same = same;
-            asked = record { fields = keep.spp.fields ∙ v.asked.fields; ready = ready_after v.asked.ready gone.grown gone.good D.left keep.scratch.length };
+            ready = ready_after v.ready gone.grown gone.good (D mem₀).left keep.scratch.length;
             grown = grown_1;
             left = left_1;
             chain = chain_1;

@@ -1,4 +1,4 @@
--- What the answers say in the words of the steps, and the chain of a Sequence.
+-- What is asked, what the answers say in the words of the steps, and the chain of a Sequence. The members are not read: they are any in what is said, and some with which the tables are in order in what is asked.
 use Rattle.std.specs.Prelude.{◌≡◌, Bool, not, ◌&&◌, List, ℕ, ◌+◌, ◌*◌, ◌≤◌, ◌<◌, length, if◌then◌else◌, eqb, Result}
 use Rattle.common.specs.Outcome.{given, Step}
 use Rattle.common.specs.Runs.{Table}
@@ -6,15 +6,33 @@ use Rattle.refusal.specs.declared.Refusal.{Refusal}
 use Rattle.refusal.specs.Numbers.{outcome}
 use Rattle.aut_steps.specs.Relations as Rel
 use Rattle.aut_steps.specs.Tables as M
-use Rattle.aut_steps.specs.Tables.{SEQUENCE, TOP, kind_of, op1, op2, nest, Aut, on_states}
+use Rattle.aut_steps.specs.Tables.{SEQUENCE, TOP, kind_of, op1, op2, nest, Aut, aut, on_states}
+use Rattle.aut_steps.specs.Ascending.{All}
 use Rattle.aut_steps.specs.Intern.{intern2}
 use Rattle.aut_steps.specs.Constructors.{relations, spp_of, mk_spp, mk_top, is_relation, sequence_by}
 use Rattle.aut_states.specs.Clauses.{limits_of}
 use Rattle.aut_states.specs.declared.Config.{Config}
 use Rattle.aut_relations.specs.declared.Aut.{Aut as Lent}
-use Rattle.aut_relations.specs.Lent.{aut_in}
+use Rattle.aut_relations.specs.Clauses.{Ready}
+use Rattle.aut_relations.specs.Lent.{nodes_in, states_in, Does}
 use Rattle.aut_sequence.specs.declared.Task.{Task}
 use Rattle.aut_sequence.specs.declared.Task.TheVariants.{Sequence, Star}
+
+-- ---- tables whose members are not those that are lent
+
+abbrev pub aut_with : Table → Lent → Aut
+aut_with mem x = aut (nodes_in x) (states_in x) mem
+
+-- with some members the tables are in order, and the operands are states
+pub record SomeAsked (k : Config) (x : Lent) (operands : List ℕ) : Type 0 where
+  pub members : Table
+  pub fields : x.spp.fields ≡ k.fields
+  pub ready : Ready k.fields k.limits (aut_with members x) x.scratch.now
+  pub has : All (λ i. i < x.states.count) operands
+
+-- with any members the step o comes to the answer
+abbrev pub Makes : ℕ → Step Aut ℕ → Lent → Result ℕ Refusal → Lent → Type 0
+Makes N o x r y = (mem : Table) → Does N 0 0 (aut_with mem) (λ i. i) o x r y
 
 -- ---- sequence and star of relations
 
@@ -42,7 +60,7 @@ joined_of N L x y σ =
 
 -- every depth from the nesting of x on is enough
 abbrev pub Enough : Config → ℕ → ℕ → Lent → Result ℕ Refusal → Lent → Type 0
-Enough k x y l r m = (depth : ℕ) → nest l.states.words.now x ≤ depth → sequence_by k.fields (limits_of k.limits) depth x y (aut_in l) ≡ outcome (λ i. i) r (aut_in m)
+Enough k x y l r m = (depth : ℕ) → nest l.states.words.now x ≤ depth → (mem : Table) → sequence_by k.fields (limits_of k.limits) depth x y (aut_with mem l) ≡ outcome (λ i. i) r (aut_with mem m)
 
 -- ---- the chain of a Sequence
 

@@ -1,2 +1,2 @@
--- Constructors that write no members: what the answers say in the words of the steps, and the chain of a Sequence.
+-- Constructors that read and write no members: what is asked, what the answers say in the words of the steps, and the chain of a Sequence.
 pub mod Clauses

@@ -1,14 +1,13 @@
-// mk_xor, mk_difference, mk_star and mk_sequence of aut.rs. They write no members and no lists: scratch lends its cache.
+// mk_xor, mk_difference, mk_star and mk_sequence of aut.rs. They read and write no members, so those that are lent need not be in order; and they write no lists: scratch lends its cache.
 #![tactic(auto)]
 
 ghost use Rattle.std.specs.Prelude.{◌≡◌, [], ◌∷◌, ◌+◌, ◌*◌, ◌≤◌, ◌<◌, length};
 ghost use Rattle.refusal.specs.declared.Refusal.TheVariants.{Spp};
 ghost use Rattle.aut_steps.specs.Tables.{op1};
-ghost use Rattle.aut_steps.specs.Ascending.{All};
 ghost use Rattle.aut_steps.specs.Constructors as C;
 ghost use Rattle.aut_states.specs.Clauses.{limits_of};
-ghost use Rattle.aut_relations.specs.Lent.{nodes_in, aut_in, Keeps, KeepsExprs, Does, Only, Asked, Handles, Relations};
-ghost use Rattle.aut_sequence.specs.Clauses.{task_of, regroups, joined_of, Enough, Walks, Chain, Ends, Links};
+ghost use Rattle.aut_relations.specs.Lent.{nodes_in, aut_in, Keeps, KeepsExprs, Does, Only, Handles, Relations};
+ghost use Rattle.aut_sequence.specs.Clauses.{SomeAsked, Makes, task_of, regroups, joined_of, Enough, Walks, Chain, Ends, Links};
 
 use aut_relations::Aut;
 use aut_states::{Config, States, kind};
@@ -19,11 +18,10 @@ use spp::{Op, SPP};
 
 #[tactic(auto, unfolding(aut_steps::specs::Constructors::mk_xor), using(crate::proofs::Tables::entered, crate::proofs::Tables::told))]
 pub fn mk_xor(aut: &mut Aut, config: Config, x: u32, y: u32) -> Result<u32, Refusal>
-    requires { Asked config aut.old × All (λ i. i < aut.old.states.count) (x ∷ y ∷ []) }
+    requires { SomeAsked config aut.old (x ∷ y ∷ []) }
     ensures keeps { Keeps aut.old aut.new }
     ensures members { aut.new.members ≡ aut.old.members }
-    ensures gives { Does config.fields 0 0 aut_in (λ i. i)
-        (C.mk_xor config.fields (limits_of config.limits) x y) aut.old result aut.new }
+    ensures gives { Makes config.fields (C.mk_xor config.fields (limits_of config.limits) x y) aut.old result aut.new }
 {
     if x == y {
         return aut.states.mk_spp(config.zero());
@@ -37,11 +35,10 @@ pub fn mk_xor(aut: &mut Aut, config: Config, x: u32, y: u32) -> Result<u32, Refu
 
 #[tactic(auto, unfolding(aut_steps::specs::Constructors::mk_difference), using(crate::proofs::Tables::entered, crate::proofs::Tables::told))]
 pub fn mk_difference(aut: &mut Aut, config: Config, x: u32, y: u32) -> Result<u32, Refusal>
-    requires { Asked config aut.old × All (λ i. i < aut.old.states.count) (x ∷ y ∷ []) }
+    requires { SomeAsked config aut.old (x ∷ y ∷ []) }
     ensures keeps { Keeps aut.old aut.new }
     ensures members { aut.new.members ≡ aut.old.members }
-    ensures gives { Does config.fields 0 0 aut_in (λ i. i)
-        (C.mk_difference config.fields (limits_of config.limits) x y) aut.old result aut.new }
+    ensures gives { Makes config.fields (C.mk_difference config.fields (limits_of config.limits) x y) aut.old result aut.new }
 {
     if x == y {
         return aut.states.mk_spp(config.zero());
@@ -94,11 +91,10 @@ fn spp_by(aut: &mut Aut, config: Config, task: Task, x: u32, y: u32) -> Result<u
 
 #[tactic(auto, unfolding(aut_steps::specs::Constructors::mk_star), using(crate::proofs::Tables::entered, crate::proofs::Tables::told, crate::proofs::Tables::stays))]
 pub fn mk_star(aut: &mut Aut, config: Config, x: u32) -> Result<u32, Refusal>
-    requires { Asked config aut.old × All (λ i. i < aut.old.states.count) (x ∷ []) }
+    requires { SomeAsked config aut.old (x ∷ []) }
     ensures keeps { Keeps aut.old aut.new }
     ensures members { aut.new.members ≡ aut.old.members }
-    ensures gives { Does config.fields 0 0 aut_in (λ i. i)
-        (C.mk_star config.fields (limits_of config.limits) x) aut.old result aut.new }
+    ensures gives { Makes config.fields (C.mk_star config.fields (limits_of config.limits) x) aut.old result aut.new }
 {
     match aut.states.kind(x) {
         kind::STAR => Ok(x),
@@ -123,11 +119,10 @@ fn regroups(states: &States, config: Config, x: u32, y: u32) -> bool
 // x; y where it is not regrouped
 #[tactic(auto, unfolding(crate::specs::Clauses::joined_of), using(crate::proofs::Tables::entered, crate::proofs::Tables::told, crate::proofs::Tables::stays))]
 fn joined(aut: &mut Aut, config: Config, x: u32, y: u32) -> Result<u32, Refusal>
-    requires { Asked config aut.old × All (λ i. i < aut.old.states.count) (x ∷ y ∷ []) }
+    requires { SomeAsked config aut.old (x ∷ y ∷ []) }
     ensures keeps { Keeps aut.old aut.new }
     ensures members { aut.new.members ≡ aut.old.members }
-    ensures gives { Does config.fields 0 0 aut_in (λ i. i)
-        (joined_of config.fields (limits_of config.limits) x y) aut.old result aut.new }
+    ensures gives { Makes config.fields (joined_of config.fields (limits_of config.limits) x y) aut.old result aut.new }
 {
     if aut.states.both_relations(x, y) {
         return spp_by(aut, config, Task::Sequence, x, y);
@@ -181,11 +176,10 @@ fn link_to(states: &States, x: u32, u: u32) -> u32
 // (a; b); y is a; (b; y). So y is joined to the end of x's chain, and then each first operand to what there is, from the last to the first. The end is no Sequence, and first operands are none where
 // this function made x: so none of these is regrouped, however x is nested
 pub fn mk_sequence(aut: &mut Aut, config: Config, x: u32, y: u32) -> Result<u32, Refusal>
-    requires { Asked config aut.old × All (λ i. i < aut.old.states.count) (x ∷ y ∷ []) }
+    requires { SomeAsked config aut.old (x ∷ y ∷ []) }
     ensures keeps { Keeps aut.old aut.new }
     ensures members { aut.new.members ≡ aut.old.members }
-    ensures gives { Does config.fields 0 0 aut_in (λ i. i)
-        (C.mk_sequence config.fields (limits_of config.limits) x y) aut.old result aut.new }
+    ensures gives { Makes config.fields (C.mk_sequence config.fields (limits_of config.limits) x y) aut.old result aut.new }
     ensures by { Enough config x y aut.old result aut.new }
 {
     if !regroups(&aut.states, config, x, y) {

@@ -7,7 +7,7 @@ use Rattle.aut_sequence.proofs.mk_sequence.Goals as goal
 
 pub returns-then-not-regroups-clause-gives : goal.returns-then-not-regroups-clause-gives
 returns-then-not-regroups-clause-gives c =
-    regroup.as_mk c.args.config c.args.x c.args.y c.args.aut.now c.joined.new.aut c.joined.result (regroup.enough c.args.config c.args.x c.args.y (sym c.regroups.ensures ∙ c.if-not-regroups.true) c.joined.ensures.gives) c.joined.ensures.gives.left
+    regroup.as_mk c.args.config c.args.x c.args.y c.args.aut.now c.joined.new.aut c.joined.result (regroup.enough c.args.config c.args.x c.args.y (sym c.regroups.ensures ∙ c.if-not-regroups.true) c.joined.ensures.gives) (c.joined.ensures.gives c.requires.members).left
 
 pub returns-then-not-regroups-clause-by : goal.returns-then-not-regroups-clause-by
 returns-then-not-regroups-clause-by c = regroup.enough c.args.config c.args.x c.args.y (sym c.regroups.ensures ∙ c.if-not-regroups.true) c.joined.ensures.gives

@@ -1,4 +1,6 @@
 use mathlib.Core.Path.{◌∙◌}
+use borrow.Author.Tests.{ne_eqb}
+use Rattle.aut_steps.specs.Constructors as C
 use Rattle.aut_sequence.proofs.Tables as tables
 use Rattle.aut_sequence.proofs.mk_xor.Goals as goal
 
@@ -7,3 +9,7 @@ spp_of-requires c = tables.relations_ready c.requires (c.both_relations.ensures 
 
 pub intern2-requires : goal.intern2-requires
 intern2-requires c = tables.xor_ready c.requires c.min.ensures c.max.ensures
+
+pub returns-then-both_relations-clause-gives : goal.returns-then-both_relations-clause-gives
+unfolding C.mk_xor
+returns-then-both_relations-clause-gives c mem = tables.told (simp (ne_eqb c.args.x c.args.y c.if-x-y.false, c.both_relations.ensures ∙ c.if-both_relations.true)) (tables.related _ c.spp_of.ensures.gives mem)

@@ -3,6 +3,7 @@ use native.Mathlib.Omega.{arith}
 use Rattle.aut_steps.specs.Constructors as C
 use Rattle.aut_states.specs.Clauses.{limits_of}
 use Rattle.aut_relations.proofs.Order.{ready_complement}
+use Rattle.aut_sequence.proofs.Tables.{lent_made}
 use Rattle.aut_st_each.proofs.Join.{by_target, by_states, by_label}
 use Rattle.aut_st_each.proofs.make_edge.Goals as goal
 
@@ -12,7 +13,7 @@ mk_complement-requires c = (ready_complement c.requires.asked.ready.good c.requi
 pub returns-in_ok-target-in-Sequence-clause-gives :
     goal.returns-in_ok-target-in-Sequence-clause-gives
 returns-in_ok-target-in-Sequence-clause-gives c =
-    by_target c.in-Sequence.is c.requires c.mk_sequence.ensures.keeps.scratch.length c.in_ok-target-in-Sequence.ensures.gives (omega arith) refl
+    by_target c.in-Sequence.is c.requires c.mk_sequence.ensures.keeps.scratch.length (lent_made c.mk_sequence.ensures.members c.in_ok-target-in-Sequence.ensures.gives) (omega arith) refl
 
 pub returns-in_ok-label-in-After-clause-gives : goal.returns-in_ok-label-in-After-clause-gives
 returns-in_ok-label-in-After-clause-gives c =
