@@ -51,6 +51,7 @@ use Rattle.aut_delta_many.specs.Clauses.{lists_at}
 use Rattle.aut_delta_many.specs.Asked.{ManyAsked}
 use Rattle.aut_delta_many.proofs.Lists.{found_is}
 use Rattle.aut_delta_lists.specs.Asked.{SequenceAsked, StarAsked, UntilAsked, AloneAsked}
+use Rattle.aut_delta_lists.proofs.Alone.{lent_asked}
 use Rattle.aut_delta_kinds.specs.Clauses.{TogetherAsked, together_of, Two}
 use Rattle.aut_delta_kinds.proofs.Operands as operands
 
@@ -92,6 +93,9 @@ module _ {k : Config} {x : Lent} {i : ℕ} (R : TogetherAsked k x i) where
   pub asked : Asked k x
   asked = record { fields = R.fields; ready = R.ready.prepared.ready }
 
+  pub alone_ready : AloneAsked k x
+  alone_ready = lent_asked asked R.ready.prepared.worked.lists.some
+
   -- the whole is one call
   gives : {n : ℕ} (o : Step Aut (List Edge)) → Inside 0 1088 0 n → whole σ ≡ o σ → {r : Result ℕ Refusal} {y : Lent} → Gives n o r y → Gives 1088 whole r y
   gives o j e {r} g = record { post = finish W 0 1088 (begin W 0 1088 asked.ready e) r g.post j }
@@ -114,9 +118,6 @@ module _ {k : Config} {x : Lent} {i : ℕ} (R : TogetherAsked k x i) where
       post = done W 0 1088 {see = λ (m : ℕ). edges x.scratch.now RESULT m} {v = 0} (begin W 0 1088 asked.ready (at_kind SPP e ∙ ap (given σ) (sym (none_at x.scratch.now))))
           (subst (ListAt N (limits_of k.limits) σ) (sym (none_at x.scratch.now)) (list_empty σ));
     }
-
-    pub alone_ready : AloneAsked k x
-    alone_ready = record { asked = asked; some = R.ready.prepared.worked.lists.some }
 
     module _ {r : Result ℕ Refusal} {y : Lent} where
       pub of_dup : kind_of st i ≡ DUP → Gives 832 (dup_list N (limits_of k.limits)) r y → Gives 1088 whole r y

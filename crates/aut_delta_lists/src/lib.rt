@@ -14,7 +14,7 @@ ghost use Rattle.aut_st_edges.specs.Clauses.{edge_of};
 ghost use Rattle.aut_st_insert.specs.Clauses.{GoesInsert, GoesList};
 ghost use Rattle.aut_st_source.specs.Clauses.{source_of};
 ghost use Rattle.aut_st_each.specs.Asked.{OneAsked};
-ghost use Rattle.aut_delta_lists.specs.Asked.{SequenceAsked, StarAsked, UntilAsked, AloneAsked};
+ghost use Rattle.aut_delta_lists.specs.Asked.{SequenceAsked, StarAsked, UntilAsked, AloneAsked, GoesAlone, Anything};
 
 use aut_relations::Aut;
 use aut_st_each::Each;
@@ -86,7 +86,8 @@ pub fn st_singleton(aut: &mut Aut, config: Config, t: Transition) -> Result<usiz
     ensures keeps { Keeps aut.old aut.new }
     ensures spp { aut.new.spp ≡ aut.old.spp }
     ensures members { aut.new.members ≡ aut.old.members }
-    ensures gives { EdgeAt config.fields (aut_in aut.old) (edge_of t) → GoesInsert config (St.st_singleton (ops config.fields (limits_of config.limits)) t.label.0 t.target)
+    ensures gives { GoesAlone config (λ σ. EdgeAt config.fields σ (edge_of t))
+        (St.st_singleton (ops config.fields (limits_of config.limits)) t.label.0 t.target)
         aut.old result aut.new }
 {
     let zero = config.zero();
@@ -169,7 +170,7 @@ pub fn dup_list(aut: &mut Aut, config: Config) -> Result<usize, Refusal>
     ensures keeps { Keeps aut.old aut.new }
     ensures spp { aut.new.spp ≡ aut.old.spp }
     ensures members { aut.new.members ≡ aut.old.members }
-    ensures gives { GoesInsert config (Delta.dup_list config.fields (limits_of config.limits)) aut.old result aut.new }
+    ensures gives { GoesAlone config Anything (Delta.dup_list config.fields (limits_of config.limits)) aut.old result aut.new }
 {
     let label = config.one();
     let target = aut.states.mk_spp(label)?;
@@ -182,7 +183,8 @@ pub fn next_list(aut: &mut Aut, config: Config, a: u32) -> Result<usize, Refusal
     ensures keeps { Keeps aut.old aut.new }
     ensures spp { aut.new.spp ≡ aut.old.spp }
     ensures members { aut.new.members ≡ aut.old.members }
-    ensures gives { State (aut_in aut.old) a → GoesInsert config (St.st_singleton (ops config.fields (limits_of config.limits)) (top_at config.fields) a)
+    ensures gives { GoesAlone config (λ σ. State σ a)
+        (St.st_singleton (ops config.fields (limits_of config.limits)) (top_at config.fields) a)
         aut.old result aut.new }
 {
     let label = config.top();
@@ -194,7 +196,7 @@ pub fn top_list(aut: &mut Aut, config: Config) -> Result<usize, Refusal>
     ensures keeps { Keeps aut.old aut.new }
     ensures spp { aut.new.spp ≡ aut.old.spp }
     ensures members { aut.new.members ≡ aut.old.members }
-    ensures gives { GoesInsert config (Delta.top_list config.fields (limits_of config.limits)) aut.old result aut.new }
+    ensures gives { GoesAlone config Anything (Delta.top_list config.fields (limits_of config.limits)) aut.old result aut.new }
 {
     let target = aut.states.mk_top()?;
     let label = config.top();

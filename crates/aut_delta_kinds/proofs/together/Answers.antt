@@ -1,5 +1,6 @@
 use native.Mathlib.Omega.{arith}
 use mathlib.Core.Path.{sym, ◌∙◌}
+use Rattle.aut_delta_lists.proofs.Alone as alone
 use Rattle.aut_delta_kinds.proofs.Operands as operands
 use Rattle.aut_delta_kinds.proofs.ByKind as kinds
 use Rattle.aut_delta_kinds.proofs.together.Goals as goal
@@ -28,17 +29,23 @@ st_complement-requires c = kinds.complement_ready c.requires c.first-a.ensures c
 pub returns-in-6-clause-gives : goal.returns-in-6-clause-gives
 returns-in-6-clause-gives c = kinds.of_complement c.requires c.first-a.ensures c.second-b.ensures c.stored_list-one.ensures (sym c.kind.ensures ∙ c.in-6.is) c.source.ensures c.st_complement.ensures.gives
 
+pub dup_list-requires : goal.dup_list-requires
+dup_list-requires c = kinds.alone_ready c.requires
+
 pub returns-in-9-clause-gives : goal.returns-in-9-clause-gives
-returns-in-9-clause-gives c = kinds.of_dup c.requires c.first-a.ensures c.second-b.ensures (sym c.kind.ensures ∙ c.in-9.is) c.dup_list.ensures.gives
+returns-in-9-clause-gives c = kinds.of_dup c.requires c.first-a.ensures c.second-b.ensures (sym c.kind.ensures ∙ c.in-9.is) (alone.lent_gives (kinds.asked c.requires) c.dup_list.ensures.spp c.dup_list.ensures.members tt c.dup_list.ensures.gives)
 
 pub next_list-requires : goal.next_list-requires
 next_list-requires c = (kinds.next_ready c.requires c.first-a.ensures c.second-b.ensures (sym c.kind.ensures ∙ c.in-10.is)).0
 
 pub returns-in-10-clause-gives : goal.returns-in-10-clause-gives
-returns-in-10-clause-gives c = kinds.of_next c.requires c.first-a.ensures c.second-b.ensures (sym c.kind.ensures ∙ c.in-10.is) (c.next_list.ensures.gives (kinds.next_ready c.requires c.first-a.ensures c.second-b.ensures (sym c.kind.ensures ∙ c.in-10.is)).1)
+returns-in-10-clause-gives c = kinds.of_next c.requires c.first-a.ensures c.second-b.ensures (sym c.kind.ensures ∙ c.in-10.is) (alone.lent_gives (kinds.asked c.requires) c.next_list.ensures.spp c.next_list.ensures.members (kinds.next_ready c.requires c.first-a.ensures c.second-b.ensures (sym c.kind.ensures ∙ c.in-10.is)).1 c.next_list.ensures.gives)
+
+pub top_list-requires : goal.top_list-requires
+top_list-requires c = kinds.alone_ready c.requires
 
 pub returns-in-12-clause-gives : goal.returns-in-12-clause-gives
-returns-in-12-clause-gives c = kinds.of_top c.requires c.first-a.ensures c.second-b.ensures (sym c.kind.ensures ∙ c.in-12.is) c.top_list.ensures.gives
+returns-in-12-clause-gives c = kinds.of_top c.requires c.first-a.ensures c.second-b.ensures (sym c.kind.ensures ∙ c.in-12.is) (alone.lent_gives (kinds.asked c.requires) c.top_list.ensures.spp c.top_list.ensures.members tt c.top_list.ensures.gives)
 
 pub together_two-requires : goal.together_two-requires
 together_two-requires c =
