@@ -59,7 +59,7 @@ use Rattle.aut_live_words.proofs.Words.{seconds_same, seconds_split, seconds_one
 use Rattle.aut_live_words.proofs.Held.{live_reached, live_fresh, held_fits, held_reached, held_listed, held_second, held_there, reverse_behind, seconds_new, tables_marked, Moved, reach_moved}
 use Rattle.aut_query_calls.specs.Working.{with_words}
 use Rattle.aut_live_reach.specs.Clauses.{ExploreAsked, exploring, Explores}
-use Rattle.aut_live_pull.specs.Clauses.{work_in, SettleAsked, settling, Settles}
+use Rattle.aut_live_pull.specs.Clauses.{work_in, SettleReady, settling, Settled}
 use Rattle.aut_live.specs.Clauses.{SetsAt}
 
 -- ---- entries
@@ -202,7 +202,7 @@ module _ {k : Config} {x : Lent} {i : ℕ} (Q : QueryAsked k x i) where
         lent_is : length z.pending.now ≡ length p₀
         lent_is = S.pending.length ∙ K.pending.length
 
-        pub sets_settle : SettleAsked k z m
+        pub sets_settle : SettleReady k z m
         sets_settle = record {
           held = X.held;
           links = law.links;
@@ -218,10 +218,10 @@ module _ {k : Config} {x : Lent} {i : ℕ} (Q : QueryAsked k x i) where
         whole_2 = instead (query_laws k.fields k.limits) 0 1088 whole_1 settle_is
 
         module _ {u : Lent} where
-          pub sets_unsettled : {e : Refusal} {r : Result ℕ Refusal} → IsErr r × IsErrAnd r (λ a. a ≡ e) → Settles k m z (Err e) u → SetsAt k i x r u
+          pub sets_unsettled : {e : Refusal} {r : Result ℕ Refusal} → IsErr r × IsErrAnd r (λ a. a ≡ e) → Settled k m z (Err e) u → SetsAt k i x r u
           sets_unsettled q Z = subst (λ (r : Result ℕ Refusal). SetsAt k i x r u) (sym (passed q)) (record { post = stuck (query_laws k.fields k.limits) 0 1088 Z.post.post (λ live. return (found ss live)) whole_2; held = tt })
 
-          pub sets_done : Settles k m z (Ok tt) u → SetsAt k i x (Ok m) u
+          pub sets_done : Settled k m z (Ok tt) u → SetsAt k i x (Ok m) u
           sets_done Z = record {
             post = done (query_laws k.fields k.limits) 0 1088
                 (instead (query_laws k.fields k.limits) 0 1088 (next (query_laws k.fields k.limits) 0 1088 Z.post.post (record { from = omega arith; to = omega arith }) (λ live. return (found ss live)) whole_2)

@@ -42,9 +42,10 @@ use Rattle.aut_stage.specs.Rule.{Stage}
 use Rattle.aut_stage.proofs.Rule.{begin, next, stuck, instead, done, all_of}
 use Rattle.aut_sets.specs.Lent.{OnlySearch}
 use Rattle.aut_query_calls.specs.Working.{clear_in}
+use Rattle.aut_query_calls.proofs.Works.{beside_itself}
 use Rattle.aut_relations.proofs.Kept.{keeps_refl, keeps_trans}
 use Rattle.aut_live_words.specs.Work.{work_of, live_by, seconds, stack, Held}
-use Rattle.aut_live_pull.specs.Clauses.{HeldIn, work_in, Source, Pulled, pulling, Target, pulling_all, SettleAsked, settling, Settles}
+use Rattle.aut_live_pull.specs.Clauses.{HeldIn, work_in, Source, Pulled, pulling, Target, pulling_all, SettleReady, settling, Settled, Settles}
 use Rattle.aut_live_pull.proofs.Settling.{capacity_lent, stack_length, stack_below, odd_kept, clear_count}
 use Rattle.aut_live_words.proofs.Words.{seconds_same, seconds_on, seconds_done}
 use Rattle.aut_live_words.proofs.Held.{held_second}
@@ -206,6 +207,9 @@ popped x m = record { sp = x.sp; spp = x.spp; states = x.states; members = x.mem
 popped_keeps : (x : Lent) (m : ℕ) → OnlySearch x (popped x m)
 popped_keeps x m = record { sp = slice_refl x.sp.nodes; spp = refl; states = slice_refl x.states.words; count = refl; members = refl; transitions = refl; pending = record { lent = refl; length = length-set x.pending.now (2 * (m - 1)) 0 }; scratch = slice_refl x.scratch }
 
+pub settle_keeps : {x now then : Lent} (m : ℕ) → OnlySearch x now → OnlySearch (popped now m) then → OnlySearch x then
+settle_keeps {now = now} m K L = keeps_trans K (keeps_trans (popped_keeps now m) L)
+
 -- what is left while m states are on the list
 abbrev left_in : Config → (x : Lent) (n : ℕ) → (now : Lent) (m : ℕ) → ℕ
 left_in k x n now m = left_of k.fields now.sp.nodes.now now.states.words.now (seconds x.pending.now 0 n) m
@@ -216,7 +220,7 @@ settle_by k x n most w = M.settle k.fields (limits_of k.limits) (length x.pendin
 
 -- between two states taken: the tables x, with n states reached, have become `now`, with m states on the list
 pub record Between (k : Config) (x : Lent) (n : ℕ) (now : Lent) (m : ℕ) : Type 0 where
-  pub start : SettleAsked k x n
+  pub start : SettleReady k x n
   pub keeps : OnlySearch x now
   pub stage : Stage (query_layer k.fields k.limits) 0 0 (settling k x n (clear_in x)) (settle_by k x n (left_in k x n now m) (work_in k now m) (clear_in now)) (clear_in x) (clear_in now) x.scratch.now now.scratch.now
   pub pulls : Pulls (clear_in x).base start.held.working.ready.ordered.worked (seconds x.pending.now 0 n) start.links (left_in k x n now m) [] (clear_in now) (work_in k now m)
@@ -225,7 +229,7 @@ pub record Between (k : Config) (x : Lent) (n : ℕ) (now : Lent) (m : ℕ) : Ty
   pub lists : (u : ℕ) → count_of now.states.words.now u ≡ count_of x.states.words.now u
 
 module _ {k : Config} {x : Lent} {n : ℕ} where
-  pub settle_begin : SettleAsked k x n → Between k x n x n
+  pub settle_begin : SettleReady k x n → Between k x n x n
   settle_begin S =
       let Q = pulls_left (clear_in x).base S.held.working.ready.ordered.worked (seconds x.pending.now 0 n) S.links x.states.words.now (stack_length x.pending.now n) S.pulls in
       record {
@@ -258,7 +262,10 @@ module _ {k : Config} {x : Lent} {n : ℕ} where
     abbrev left : ℕ
     left = left_in k x n now m
 
-    pub settle_end : m ≤ 0 → Settles k n x (Ok tt) now
+    pub settle_high : 2 * m ≤ length now.pending.now
+    settle_high = omega (arith, v.held.high, capacity_lent (length now.pending.now / 2))
+
+    pub settle_end : m ≤ 0 → Settled k n x (Ok tt) now
     unfolding stack
     settle_end le = record {
       post = record {
@@ -331,8 +338,8 @@ module _ {k : Config} {x : Lent} {n : ℕ} where
           ∙ ap (λ (o : Outcome Tables Work). after o (settle_by k x n (left - 1))) step_is)
 
       module _ {then : Lent} where
-        pub settle_stuck : {e : Refusal} {r : Result (Unit {0}) Refusal} → IsErr r × IsErrAnd r (λ a. a ≡ e) → Pulled k n step cut (Err e) then → Settles k n x r then
-        settle_stuck q G = subst (λ (r : Result (Unit {0}) Refusal). Settles k n x r then) (sym (passed q))
+        pub settle_stuck : {e : Refusal} {r : Result (Unit {0}) Refusal} → IsErr r × IsErrAnd r (λ a. a ≡ e) → Pulled k n step cut (Err e) then → Settled k n x r then
+        settle_stuck q G = subst (λ (r : Result (Unit {0}) Refusal). Settled k n x r then) (sym (passed q))
             (record { post = record { post = stuck (query_laws k.fields k.limits) 0 0 G.post.post (settle_by k x n (left - 1)) taken }; held = tt; second = tt })
 
         module _ {m2 : ℕ} (G : Pulled k n step cut (Ok m2) then) where
@@ -356,3 +363,7 @@ module _ {k : Config} {x : Lent} {n : ℕ} where
 
           pub settle_less : left_in k x n then m2 < left
           settle_less = omega (arith, more_left, left_most b W ss v.start.links then.states.words.now (stack_length then.pending.now m2) pulls_2)
+
+-- .. with the members that are lent
+pub settled_itself : {k : Config} {x : Lent} {n : ℕ} {r : Result (Unit {0}) Refusal} {y : Lent} → OnlySearch x y → SettleReady k x n → Settles k n x r y → Settled k n x r y
+settled_itself {k} {x} {n} {r} {y} K S G = subst (λ (z : Lent). Settled k n x r z) (beside_itself x y K.members) (G.gives x.members S)

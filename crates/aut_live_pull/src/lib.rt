@@ -2,7 +2,7 @@
 #![tactic(auto)]
 
 ghost use Rattle.aut_sets.specs.Lent.{OnlySearch};
-ghost use Rattle.aut_live_pull.specs.Clauses.{PullAsked, PullsFrom, Target, pulling_all, Pulled, SettleAsked, Settles};
+ghost use Rattle.aut_live_pull.specs.Clauses.{PullAsked, PullsFrom, TargetAsked, PullsAll, SettleAsked, Settles};
 
 use aut_live_words::{enlarge, label_to, set_at, state_at};
 use aut_relations::Aut;
@@ -27,9 +27,9 @@ fn pull_from(aut: &mut Aut, config: Config, t: u32, s: u32, m: usize) -> Result<
 
 // the predecessors of t among the n states, in the order of their visits
 fn pull_all(aut: &mut Aut, config: Config, t: u32, n: usize, m: usize) -> Result<usize, Refusal>
-    requires { Target config aut.old n m t }
+    requires { TargetAsked config aut.old n m t }
     ensures keeps { OnlySearch aut.old aut.new }
-    ensures gives { Pulled config n (pulling_all config aut.old t n m) aut.old result aut.new }
+    ensures gives { PullsAll config t n m aut.old result aut.new }
 {
     let mut m = m;
     for i in 0..n {

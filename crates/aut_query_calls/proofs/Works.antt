@@ -1,5 +1,6 @@
 -- Tables while a query runs: from its beginning, when a word 8 to 11 of a state is written, and to its end; what epsilon and delta ask of them.
 use mathlib.Core.Path.{◌≡◌, refl, sym, ◌∙◌, ap, subst}
+use mathlib.Core.Bool.{Bool, false}
 use mathlib.Core.List.{List}
 use Prim.Native.Nat.{ℕ, ◌+◌, ◌*◌, ◌≤◌, ◌<◌}
 use native.Mathlib.Omega.{arith}
@@ -26,17 +27,30 @@ use Rattle.aut_query_stage.proofs.Lent.{query_ready}
 use Rattle.aut_states.specs.Clauses.{limits_of}
 use Rattle.aut_states.specs.declared.Config.{Config}
 use Rattle.aut_states.specs.declared.Limits.{Limits}
+use Rattle.aut_states.specs.declared.Members.{Members}
 use Rattle.aut_stage.specs.Rule.{Post}
 use Rattle.aut_relations.specs.declared.Aut.{Aut as Lent}
-use Rattle.aut_relations.specs.Lent.{nodes_in, aut_in, members_in}
+use Rattle.aut_relations.specs.Lent.{nodes_in, aut_in, members_in, KeepsBut}
 use Rattle.aut_sets.specs.Lent.{OnlyScratch, OnlyMarks}
 use Rattle.aut_query_stage.specs.Asked.{EpsilonAsked}
 use Rattle.aut_free.specs.Clear.{clear, clear_tables}
 use Rattle.aut_free.proofs.Clear.{clear_aut, clear_store, AtRest}
 use Rattle.aut_free.proofs.Clearing.{clear_length, clear_kept, clear_set}
 use Rattle.aut_free.proofs.Free.{clear_tables_rest}
-use Rattle.aut_query_calls.specs.Working.{clear_in, with_words, Working, WorkingIn}
+use Rattle.aut_query_calls.specs.Working.{clear_in, with_words, with_members, Working, WorkingIn}
 use Rattle.aut_query_calls.proofs.Ran.{Ran}
+
+-- ---- other members
+
+-- a call that writes none keeps the rest
+pub keeps_beside : (mem : Members) {sp spp states count transitions pending scratch : Bool} {x y : Lent}
+    → KeepsBut (record { sp = sp; spp = spp; states = states; count = count; members = false; transitions = transitions; pending = pending; scratch = scratch }) x y
+    → KeepsBut (record { sp = sp; spp = spp; states = states; count = count; members = false; transitions = transitions; pending = pending; scratch = scratch }) (with_members mem x) (with_members mem y)
+keeps_beside mem K = record { sp = K.sp; spp = K.spp; states = K.states; count = K.count; members = refl; transitions = K.transitions; pending = K.pending; scratch = K.scratch }
+
+-- .. and with the members that are lent, what is promised of any is promised of the tables
+pub beside_itself : (x y : Lent) → y.members ≡ x.members → with_members x.members y ≡ y
+beside_itself x y q = ap (λ (m : Members). with_members m y) (sym q)
 
 -- ---- from the beginning, to the end
 

@@ -12,6 +12,7 @@ use Rattle.aut_query_steps.specs.Tables.{Tables}
 use Rattle.aut_query_stage.specs.Layer.{QueryReady}
 use Rattle.aut_states.specs.declared.Config.{Config}
 use Rattle.aut_states.specs.declared.Limits.{Limits}
+use Rattle.aut_states.specs.declared.Members.{Members}
 use Rattle.aut_free.specs.Clear.{in_tables, clear_tables}
 use Rattle.aut_relations.specs.declared.Aut.{Aut as Lent}
 use Rattle.aut_query_stage.specs.Lent.{tables_in}
@@ -60,6 +61,12 @@ words_in σ = σ.base.aut.states.words
 
 abbrev pub with_words : List ℕ → Tables → Tables
 with_words st σ = in_tables (λ u. st) σ
+
+-- ---- all tables that are lent, but for the members
+
+-- of a function that reads no member: what it asks is asked of x with some members, and what it promises is promised of x and y with any
+abbrev pub with_members : Members → Lent → Lent
+with_members mem x = record x { members = mem }
 
 -- ---- a set in a word
 

@@ -27,16 +27,16 @@ use Rattle.aut_states.specs.declared.Limits.{Limits}
 use Rattle.aut_stage.specs.Rule.{Stage}
 use Rattle.aut_stage.proofs.Rule.{begin, next, instead, stuck, done, all_of}
 use Rattle.aut_relations.specs.declared.Aut.{Aut as Lent}
-use Rattle.aut_sets.specs.Lent.{sets_in, OnlySets, OnlyMarks}
+use Rattle.aut_sets.specs.Lent.{sets_in, OnlySets, OnlyMarks, OnlySearch}
 use Rattle.aut_query_calls.specs.Working.{clear_in}
 use Rattle.aut_sets.proofs.Small.{set_small}
 use Rattle.aut_live_words.specs.Work.{seconds}
 use Rattle.aut_live_words.proofs.Words.{seconds_on, seconds_done, seconds_all, second_in}
 use Rattle.aut_why_words.specs.Walk.{Walk}
-use Rattle.aut_query_calls.proofs.Works.{tables_put, clear_written}
+use Rattle.aut_query_calls.proofs.Works.{beside_itself, tables_put, clear_written}
 use Rattle.aut_why_words.proofs.Walks.{walk_there, walk_made, walk_written}
 use Rattle.aut_why_words.proofs.Lent.{sets_base}
-use Rattle.aut_why_rounds.specs.Clauses.{GivesSet, Visited, Turning, step_of, start_of, SetsOn, Rounding, RoundingIn, Stepped, round_of, Rounded}
+use Rattle.aut_why_rounds.specs.Clauses.{GivesSet, Visited, Turning, step_of, start_of, SetsOn, Rounding, RoundingIn, round_of, Rounded, RoundAsked, RoundGives}
 use Rattle.aut_why_rounds.proofs.Turns.{sets_working}
 
 -- ---- one state
@@ -123,8 +123,8 @@ module _ (k : Config) (x : Lent) {first : Bool} {n : ℕ} {before : Sets} (R : R
       pass_there = walk_there v.walk y pass_in
 
       -- .. of the state that stands in the entry
-      pub pass_given : z.pending ≡ x.pending → {s : ℕ} → s ≡ get_or z.pending.now (2 * i + 1) 0 → {r : Result SP Refusal} {w : Lent} → Stepped k first s z r w → GivesSet k (f y) z r w
-      pass_given q {s} e {r} {w} G = subst (λ (t : ℕ). GivesSet k (f t) z r w) same (G.gives n before (pass_asks q) here)
+      pub pass_given : z.pending ≡ x.pending → {s : ℕ} → s ≡ get_or z.pending.now (2 * i + 1) 0 → {r : Result SP Refusal} {w : Lent} → (RoundingIn k first z n before → Memᴰ s (seconds z.pending.now 0 n) → GivesSet k (f s) z r w) → GivesSet k (f y) z r w
+      pass_given q {s} e {r} {w} G = subst (λ (t : ℕ). GivesSet k (f t) z r w) same (G (pass_asks q) here)
         where
           same : s ≡ y
           same = e ∙ rw q refl
@@ -205,3 +205,10 @@ module _ (k : Config) (x : Lent) {first : Bool} {n : ℕ} {before : Sets} (R : R
         others = v.others;
       });
     }
+
+-- .. with the members that are lent
+pub round_asks : {k : Config} {first : Bool} {x : Lent} {n : ℕ} (before : Sets) → RoundingIn k first x n before → RoundAsked k first x n
+round_asks {x = x} before R = record { members = x.members; before = before; rounding = R }
+
+pub rounded_itself : {k : Config} {first : Bool} {n : ℕ} {x : Lent} {r : Result Unit Refusal} {y : Lent} → OnlySearch x y → RoundGives k first n x r y → (before : Sets) → RoundingIn k first x n before → Rounded k first before n x r y
+rounded_itself {k} {first} {n} {x} {r} {y} K G before R = subst (λ (z : Lent). Rounded k first before n x r z) (beside_itself x y K.members) (G.gives x.members before R)

@@ -158,14 +158,14 @@ module _ (k : Config) {x z : Lent} (A : OnlySets x z) where
   pub sets_working : Working k.fields k.limits (tables_in x) x.scratch.now → QueryReady k.fields k.limits (clear_in z) z.scratch.now → Working k.fields k.limits (tables_in z) z.scratch.now
   sets_working W R = record { ready = R; fresh = subst (λ (b : Store). (j : ℕ) → 12 * states b.aut ≤ j → get_or b.aut.states.words j 0 ≡ 0) (sym (sets_base A)) W.fresh }
 
-  module _ {n : ℕ} {before : Sets} {i : ℕ} (T : TurningIn k x n before i) where
-    pub turn_made : QueryReady k.fields k.limits (clear_in z) z.scratch.now → SpLaws.Ext (sets_in x) (sets_in z) → TurningIn k z n before i
-    turn_made R e = rw A.pending (record {
+  module _ {p : List ℕ} {n : ℕ} {before : Sets} {i : ℕ} (T : TurningIn k x p n before i) where
+    pub turn_made : QueryReady k.fields k.limits (clear_in z) z.scratch.now → SpLaws.Ext (sets_in x) (sets_in z) → TurningIn k z p n before i
+    turn_made R e = record {
       walk = walk_made T.walk (sets_base A) (sets_working T.walk.working R);
       sets = record { is = λ y m. ap (λ (b : Store). get_or b.aut.states.words (12 * y + 8) 0) (sets_base A) ∙ T.sets.is y m };
       valid = λ y m. SpLawsProofs.at_ext e k.fields (before y) (T.valid y m);
       among = T.among;
-    })
+    }
 
 module _ {N : ℕ} {l : Limits} {σ : Tables} {s p : List ℕ} {n : ℕ} {before : Sets} {x : ℕ} (T : Turning N l σ s p n before x) where
   abbrev sw : List ℕ
@@ -184,7 +184,7 @@ module _ {N : ℕ} {l : Limits} {σ : Tables} {s p : List ℕ} {n : ℕ} {before
   pub turn_inside : {list : Span} → PostFind sw x list → 2 * (list.start + list.count) ≤ length σ.base.transitions.words
   turn_inside F = listed_inside (walk_listed T.walk T.among) F
 
-module _ (k : Config) (x : Lent) {n : ℕ} {before : Sets} {s : ℕ} (T : TurningIn k x n before s) where
+module _ (k : Config) (x : Lent) {p : List ℕ} {n : ℕ} {before : Sets} {s : ℕ} (T : TurningIn k x p n before s) where
   abbrev M : ℕ
   M = k.fields
 
@@ -201,7 +201,7 @@ module _ (k : Config) (x : Lent) {n : ℕ} {before : Sets} {s : ℕ} (T : Turnin
     -- i transitions are joined
     pub record Joined (z : Lent) (v i : ℕ) : Type 0 where
       pub stage : Stage (query_layer M k.limits) 0 0 (all κ) (joins M (edges tr (list.start + i) (list.count - i)) before v (clear_in z)) κ (clear_in z) x.scratch.now z.scratch.now
-      pub turning : TurningIn k z n before s
+      pub turning : TurningIn k z p n before s
       pub at : SpLaws.ValidAt (sets_in z) M v
 
     pub join_begin : PostFind x.states.words.now s list → Joined x u 0
@@ -232,22 +232,19 @@ module _ (k : Config) (x : Lent) {n : ℕ} {before : Sets} {s : ℕ} (T : Turnin
         listed : Memᴰ (edge_at tz (list.start + i)) (list_at κ.base s)
         listed = subst (λ (t : List ℕ). Memᴰ (edge_at t (list.start + i)) (list_at κ.base s)) (sym same) (subst (λ (es : List Edge). Memᴰ (edge_at tr (list.start + i)) es) (sym (turn_list T F)) (edge_in tr list.start list.count i lt))
 
-        target_in : Memᴰ y (seconds x.pending.now 0 n)
+        target_in : Memᴰ y (seconds p 0 n)
         target_in = (T.walk.links s T.among).leads (edge_at tz (list.start + i)) listed
 
-        target_on : Memᴰ y (seconds z.pending.now 0 n)
-        target_on = rw A.pending target_in
-
         ahead_is : before y ≡ set
-        ahead_is = omega (arith, g.turning.sets.is y target_on)
+        ahead_is = omega (arith, g.turning.sets.is y target_in)
 
         pub join_asks : Joining M k.limits (tables_in z) z.scratch.now y label v
         unfolding count_of
         join_asks = record {
           working = g.turning.walk.working;
-          there = walk_there g.turning.walk y target_on;
-          some = omega (arith, g.turning.sets.is y target_on);
-          ahead = subst (SpLaws.ValidAt (sets_in z) M) ahead_is (g.turning.valid y target_on);
+          there = walk_there g.turning.walk y target_in;
+          some = omega (arith, g.turning.sets.is y target_in);
+          ahead = subst (SpLaws.ValidAt (sets_in z) M) ahead_is (g.turning.valid y target_in);
           at_label = subst (λ (b : Store). ValidAt b.aut.nodes M label) (sym (sets_base A))
               (edge_at_lem ((T.walk.working.ready.ordered.worked.lists.held s (walk_known T.walk s T.among)).list (T.walk.links s T.among).marked).are listed);
           at = g.at;
@@ -293,7 +290,7 @@ module _ (k : Config) (x : Lent) {n : ℕ} {before : Sets} {s : ℕ} (T : Turnin
   turn_stuck G = record { post = stuck (query_laws M k.limits) 0 0 G.post (joins M (list_at κ.base s) before) at_first }
 
   module _ {h : SP} {z : Lent} (A : OnlySets x z) (G : GivesSet k (ends M s) x (Ok h) z) where
-    pub turn_after : TurningIn k z n before s
+    pub turn_after : TurningIn k z p n before s
     turn_after = turn_made k A T G.post.then.ready G.post.then.ext.sets
 
     pub turn_at : SpLaws.ValidAt (sets_in z) M h.0

@@ -16,11 +16,12 @@ use Rattle.aut_why_steps.specs.Why.{Sets, ends, joins, turn, each}
 use Rattle.aut_query_stage.specs.Lent.{tables_in, GoesQuery}
 use Rattle.aut_states.specs.declared.Config.{Config}
 use Rattle.aut_states.specs.declared.Limits.{Limits}
+use Rattle.aut_states.specs.declared.Members.{Members}
 use Rattle.aut_relations.specs.declared.Aut.{Aut as Lent}
 use Rattle.aut_relations.specs.Lent.{Unless}
 use Rattle.aut_sets.specs.Lent.{sets_in}
 use Rattle.aut_free.specs.Clear.{clear_tables}
-use Rattle.aut_query_calls.specs.Working.{clear_in, Working}
+use Rattle.aut_query_calls.specs.Working.{clear_in, with_members, Working}
 use Rattle.aut_query_calls.specs.Working.{SetIn}
 use Rattle.aut_live_words.specs.Work.{seconds}
 use Rattle.aut_why_words.specs.Walk.{Walk, HasSets}
@@ -37,6 +38,18 @@ pub record Visited (N : ℕ) (l : Limits) (σ : Tables) (s : List ℕ) (x : ℕ)
   pub all : List ℕ
   pub linked : Linked (clear_tables σ).base all x
 
+-- .. of all tables
+abbrev pub VisitedIn : Config → Lent → (i : ℕ) → Type 0
+VisitedIn k x i = Visited k.fields k.limits (tables_in x) x.scratch.now i
+
+-- no member is read: here and below, some members are asked for, and the promise is of any
+pub record EndsAsked (k : Config) (x : Lent) (i : ℕ) : Type 0 where
+  pub members : Members
+  pub visited : VisitedIn k (with_members members x) i
+
+pub record EndsGive (k : Config) (i : ℕ) (x : Lent) (r : Result SP Refusal) (y : Lent) : Type 0 where
+  pub gives : (mem : Members) → VisitedIn k (with_members mem x) i → GivesSet k (ends k.fields i) (with_members mem x) r (with_members mem y)
+
 -- what one transition leads back is joined to u
 abbrev pub join_one : (N label ahead u : ℕ) → Step Tables ℕ
 join_one N label ahead u = making_sets (Images.pull N N label ahead) >>= λ p. on_sets (Sp.union N u p)
@@ -50,6 +63,18 @@ pub record Joining (N : ℕ) (l : Limits) (σ : Tables) (s : List ℕ) (y label 
   pub at_label : ValidAt σ.base.aut.nodes N label
   pub at : SpLaws.ValidAt σ.sets N u
 
+-- .. of all tables
+abbrev pub JoiningIn : Config → Lent → (y label u : ℕ) → Type 0
+JoiningIn k x y label u = Joining k.fields k.limits (tables_in x) x.scratch.now y label u
+
+pub record JoinAsked (k : Config) (x : Lent) (t label u : ℕ) : Type 0 where
+  pub members : Members
+  pub joining : JoiningIn k (with_members members x) t label u
+
+pub record JoinGives (k : Config) (t label u : ℕ) (x : Lent) (r : Result SP Refusal) (y : Lent) : Type 0 where
+  pub gives : (mem : Members) → JoiningIn k (with_members mem x) t label u
+      → GivesSet k (join_one k.fields label (get_or x.states.words.now (12 * t + 8) 0 - 1) u) (with_members mem x) r (with_members mem y)
+
 -- words 8 of the n states have the sets `before`; x is one of them
 pub record Turning (N : ℕ) (l : Limits) (σ : Tables) (s p : List ℕ) (n : ℕ) (before : Sets) (x : ℕ) : Type 0 where
   pub walk : Walk N l σ s p n
@@ -57,17 +82,20 @@ pub record Turning (N : ℕ) (l : Limits) (σ : Tables) (s p : List ℕ) (n : �
   pub valid : (y : ℕ) → Memᴰ y (seconds p 0 n) → SpLaws.ValidAt σ.sets N (before y)
   pub among : Memᴰ x (seconds p 0 n)
 
--- .. of all tables
-abbrev pub TurningIn : Config → Lent → (n : ℕ) → Sets → (i : ℕ) → Type 0
-TurningIn k x n before i = Turning k.fields k.limits (tables_in x) x.scratch.now x.pending.now n before i
+-- .. of all tables, with the entries p
+abbrev pub TurningIn : Config → Lent → List ℕ → (n : ℕ) → Sets → (i : ℕ) → Type 0
+TurningIn k x p n before i = Turning k.fields k.limits (tables_in x) x.scratch.now p n before i
 
+-- no entry is read either
 pub record TurnAsked (k : Config) (x : Lent) (i : ℕ) : Type 0 where
+  pub members : Members
+  pub entries : List ℕ
   pub count : ℕ
   pub before : Sets
-  pub turning : TurningIn k x count before i
+  pub turning : TurningIn k (with_members members x) entries count before i
 
 pub record Turns (k : Config) (i : ℕ) (x : Lent) (r : Result SP Refusal) (y : Lent) : Type 0 where
-  pub gives : (n : ℕ) (before : Sets) → TurningIn k x n before i → GivesSet k (turn k.fields before i) x r y
+  pub gives : (mem : Members) (p : List ℕ) (n : ℕ) (before : Sets) → TurningIn k (with_members mem x) p n before i → GivesSet k (turn k.fields before i) (with_members mem x) r (with_members mem y)
 
 -- .. and u is a set, which each transition of i is joined to
 pub record JoinsAsked (k : Config) (x : Lent) (i u : ℕ) : Type 0 where
@@ -75,7 +103,8 @@ pub record JoinsAsked (k : Config) (x : Lent) (i u : ℕ) : Type 0 where
   pub at : SpLaws.ValidAt (sets_in x) k.fields u
 
 pub record Joins (k : Config) (i u : ℕ) (x : Lent) (r : Result SP Refusal) (y : Lent) : Type 0 where
-  pub gives : (n : ℕ) (before : Sets) → TurningIn k x n before i → SpLaws.ValidAt (sets_in x) k.fields u → GivesSet k (joins k.fields (list_at (clear_in x).base i) before u) x r y
+  pub gives : (mem : Members) (p : List ℕ) (n : ℕ) (before : Sets) → TurningIn k (with_members mem x) p n before i → SpLaws.ValidAt (sets_in x) k.fields u
+      → GivesSet k (joins k.fields (list_at (clear_in (with_members mem x)).base i) before u) (with_members mem x) r (with_members mem y)
 
 -- ---- a round
 
@@ -105,17 +134,20 @@ RoundingIn k first x n before = Rounding k.fields k.limits first (tables_in x) x
 
 -- i is one of the states
 pub record StepAsked (k : Config) (first : Bool) (x : Lent) (i : ℕ) : Type 0 where
+  pub members : Members
   pub count : ℕ
   pub before : Sets
-  pub rounding : RoundingIn k first x count before
+  pub rounding : RoundingIn k first (with_members members x) count before
   pub among : Memᴰ i (seconds x.pending.now 0 count)
 
 pub record Stepped (k : Config) (first : Bool) (i : ℕ) (x : Lent) (r : Result SP Refusal) (y : Lent) : Type 0 where
-  pub gives : (n : ℕ) (before : Sets) → RoundingIn k first x n before → Memᴰ i (seconds x.pending.now 0 n) → GivesSet k (step_of k.fields first before i) x r y
+  pub gives : (mem : Members) (n : ℕ) (before : Sets) → RoundingIn k first (with_members mem x) n before → Memᴰ i (seconds x.pending.now 0 n)
+      → GivesSet k (step_of k.fields first before i) (with_members mem x) r (with_members mem y)
 
 pub record RoundAsked (k : Config) (first : Bool) (x : Lent) (n : ℕ) : Type 0 where
+  pub members : Members
   pub before : Sets
-  pub rounding : RoundingIn k first x n before
+  pub rounding : RoundingIn k first (with_members members x) n before
 
 abbrev pub round_of : ℕ → Bool → List ℕ → Sets → Step Tables Sets
 round_of N first ss before = each (step_of N first before) ss (start_of N first before)
@@ -133,7 +165,7 @@ pub record Rounded (k : Config) (first : Bool) (before : Sets) (n : ℕ) (x : Le
   pub under : Unless r (Under k x y n next)
 
 pub record RoundGives (k : Config) (first : Bool) (n : ℕ) (x : Lent) (r : Result Unit Refusal) (y : Lent) : Type 0 where
-  pub gives : (before : Sets) → RoundingIn k first x n before → Rounded k first before n x r y
+  pub gives : (mem : Members) (before : Sets) → RoundingIn k first (with_members mem x) n before → Rounded k first before n (with_members mem x) r (with_members mem y)
 
 -- ---- the fewest hops
 

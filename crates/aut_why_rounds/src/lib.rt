@@ -1,12 +1,10 @@
 // The rounds of `why`: the starts of strings with at most k hops, k rising from 0 until none changes.
 #![tactic(auto)]
 
-ghost use Rattle.std.specs.Prelude.{◌≡◌, ◌+◌, ◌*◌, ◌-◌, get_or, IfErr};
+ghost use Rattle.std.specs.Prelude.{◌≡◌, IfErr};
 ghost use Rattle.refusal.specs.declared.Refusal.TheVariants.{Sp};
-ghost use Rattle.aut_why_steps.specs.Why.{ends};
 ghost use Rattle.aut_sets.specs.Lent.{OnlySets, OnlySearch};
-ghost use Rattle.aut_query_stage.specs.Lent.{tables_in};
-ghost use Rattle.aut_why_rounds.specs.Clauses.{GivesSet, Visited, join_one, Joining, TurnAsked, Turns, JoinsAsked, Joins, StepAsked, Stepped, RoundAsked, RoundGives};
+ghost use Rattle.aut_why_rounds.specs.Clauses.{EndsAsked, EndsGive, JoinAsked, JoinGives, TurnAsked, Turns, JoinsAsked, Joins, StepAsked, Stepped, RoundAsked, RoundGives};
 
 use aut_relations::Aut;
 use aut_st_edges::Transition;
@@ -17,10 +15,10 @@ use sp::SP;
 
 // the starts of s's strings without hops
 fn ends_at(aut: &mut Aut, config: Config, s: u32) -> Result<SP, Refusal>
-    requires { Visited config.fields config.limits (tables_in aut.old) aut.old.scratch.now s }
+    requires { EndsAsked config aut.old s }
     ensures keeps { OnlySets aut.old aut.new }
     ensures only { IfErr result (λ e. e ≡ Sp) }
-    ensures gives { GivesSet config (ends config.fields s) aut.old result aut.new }
+    ensures gives { EndsGive config s aut.old result aut.new }
 {
     let e = aut_why_words::epsilon_at(aut, s);
     aut_sets::bwd(aut, config, e)
@@ -28,14 +26,10 @@ fn ends_at(aut: &mut Aut, config: Config, s: u32) -> Result<SP, Refusal>
 
 // u joined with what the transition t leads back from the set of the round before
 fn join_one(aut: &mut Aut, config: Config, t: Transition, u: SP) -> Result<SP, Refusal>
-    requires { Joining config.fields config.limits (tables_in aut.old) aut.old.scratch.now t.target
-        t.label.0 u.0 }
+    requires { JoinAsked config aut.old t.target t.label.0 u.0 }
     ensures keeps { OnlySets aut.old aut.new }
     ensures only { IfErr result (λ e. e ≡ Sp) }
-    ensures gives { GivesSet config
-        (join_one config.fields t.label.0
-        (get_or aut.old.states.words.now (12 * t.target + 8) 0 - 1) u.0)
-        aut.old result aut.new }
+    ensures gives { JoinGives config t.target t.label.0 u.0 aut.old result aut.new }
 {
     let ahead = aut_live_words::set_at(aut, t.target, word::BEFORE);
     let back = aut_sets::pull(aut, config, t.label, ahead)?;

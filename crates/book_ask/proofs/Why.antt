@@ -18,7 +18,7 @@ use Rattle.aut_why_steps.proofs.WhyLaws.{Whyed, why_sets_ends, hops_known, fewes
 use Rattle.aut_states.specs.Clauses.{limits_of}
 use Rattle.aut_states.specs.declared.Limits.{Limits}
 use Rattle.aut_relations.specs.declared.Aut.{Aut as Lent}
-use Rattle.aut_sets.specs.Lent.{OnlyMarks}
+use Rattle.aut_sets.specs.Lent.{OnlyMarks, OnlySearch}
 use Rattle.aut_query_stage.specs.Layer.{QueryReady}
 use Rattle.aut_query_stage.specs.Lent.{tables_in, QueryAsked}
 use Rattle.aut_query_calls.specs.Working.{clear_in}
@@ -30,6 +30,7 @@ use Rattle.aut_why_words.proofs.Walks.{walk_keeps, walk_cleared, walk_zeroed}
 use Rattle.aut_why.specs.Clauses.{hops_of}
 use Rattle.aut_why.specs.Clauses.{as_rounds, WhyAt}
 use Rattle.book_why.specs.Clauses.{AnsweringIn, PreAnswer, WhyAnswered, PostAnswer}
+use Rattle.book_why.proofs.Writing.{answered_itself}
 use Rattle.book_steps.specs.Answers.{why_answer}
 use Rattle.book_steps.specs.Reader as Reader
 use Rattle.book_writer.specs.declared.output.Output.{Output}
@@ -84,7 +85,7 @@ module _ (S : Setting) (x : ℕ) {a b : Lent} where
     }
 
     pub why_asks : PreAnswer S.config b n f x
-    why_asks = record { rounds = A.sets; answering = why_answering }
+    why_asks = record { members = b.members; rounds = A.sets; answering = why_answering }
 
     -- ---- the answer
 
@@ -94,25 +95,25 @@ module _ (S : Setting) (x : ℕ) {a b : Lent} where
     why_is : (name : List ℕ) (o : Output) → asks S Reader.why name x a o ≡ given (clear_in b) told
     why_is name o = why_by S name x a o ∙ ap (tells_why N x) A.post.is
 
-    module _ {o : Output} {r : Result Unit Refusal} {c : Lent} {o' : Output} (B : PostAnswer S.config n f x b o r c o') where
+    module _ {o : Output} {r : Result Unit Refusal} {c : Lent} {o' : Output} (C : OnlySearch b c) (B : PostAnswer S.config n f x b o r c o') where
       answered : WhyAnswered S.config n A.sets x b o r c o'
-      answered = B.gives A.sets why_answering
+      answered = answered_itself C B A.sets why_answering
 
       pub why_keeps : PreKeep c.states.words.now c.pending.now n
       why_keeps = walk_keeps answered.standing.walk
 
-    pub why_full : {o : Output} {e : Refusal} {c : Lent} {o' : Output} → PostAnswer S.config n f x b o (Err e) c o' → PostWhy S x (Err e) a c o o'
-    why_full {o} B name = ask_full S Reader.why name x a o (why_is name o) (answered B).answers
+    pub why_full : {o : Output} {e : Refusal} {c : Lent} {o' : Output} → OnlySearch b c → PostAnswer S.config n f x b o (Err e) c o' → PostWhy S x (Err e) a c o o'
+    why_full {o} C B name = ask_full S Reader.why name x a o (why_is name o) (answered C B).answers
 
-    module _ {o : Output} {u : Unit} {c : Lent} {o' : Output} (B : PostAnswer S.config n f x b o (Ok u) c o') {d : Lent} (K : OnlyMarks c d) (E : PostClear n c.states.words.now c.pending.now d.states.words.now d.pending.now) where
+    module _ {o : Output} {u : Unit} {c : Lent} {o' : Output} (C : OnlySearch b c) (B : PostAnswer S.config n f x b o (Ok u) c o') {d : Lent} (K : OnlyMarks c d) (E : PostClear n c.states.words.now c.pending.now d.states.words.now d.pending.now) where
       cleared : tables_in d ≡ clear_in c
-      cleared = tables_marked K ∙ walk_cleared (answered B).standing.walk E
+      cleared = tables_marked K ∙ walk_cleared (answered C B).standing.walk E
 
       rests : tables_in d ≡ clear_in b
-      rests = cleared ∙ (answered B).unmade
+      rests = cleared ∙ (answered C B).unmade
 
       ready : QueryReady N S.config.limits (tables_in d) d.scratch.now
-      ready = subst (λ (τ : Tables). QueryReady N S.config.limits τ d.scratch.now) (sym cleared) (rw K.scratch (answered B).standing.walk.working.ready)
+      ready = subst (λ (τ : Tables). QueryReady N S.config.limits τ d.scratch.now) (sym cleared) (rw K.scratch (answered C B).standing.walk.working.ready)
 
       pub why_told : PostWhy S x (Ok u) a d o o'
-      why_told name = ask_told S Reader.why name x a o (why_is name o ∙ ap (λ (τ : Tables). given τ told) (sym rests)) (subst (ExtTables (tables_in a)) (sym rests) A.post.then.ext) ready (walk_zeroed (answered B).standing.walk E) (Ok u) (answered B).answers
+      why_told name = ask_told S Reader.why name x a o (why_is name o ∙ ap (λ (τ : Tables). given τ told) (sym rests)) (subst (ExtTables (tables_in a)) (sym rests) A.post.then.ext) ready (walk_zeroed (answered C B).standing.walk E) (Ok u) (answered C B).answers

@@ -19,10 +19,12 @@ use Rattle.aut_query_steps.specs.Tables.{Tables}
 use Rattle.aut_query_steps.proofs.Tables.{both_wf}
 use Rattle.aut_query_stage.specs.Lent.{tables_in}
 use Rattle.aut_states.specs.declared.Config.{Config}
+use Rattle.aut_states.specs.declared.Members.{Members}
 use Rattle.aut_relations.specs.declared.Aut.{Aut as Lent}
-use Rattle.aut_sets.specs.Lent.{OnlyScratch}
+use Rattle.aut_sets.specs.Lent.{OnlyScratch, OnlySearch}
 use Rattle.aut_free.specs.Clear.{clear_tables}
-use Rattle.aut_query_calls.specs.Working.{clear_in}
+use Rattle.aut_query_calls.specs.Working.{clear_in, with_members}
+use Rattle.aut_query_calls.proofs.Works.{keeps_beside, beside_itself}
 use Rattle.aut_why_steps.specs.Why.{Sets, fewest, pick_by}
 use Rattle.aut_why_again.specs.Rounds.{hops_of}
 use Rattle.aut_why_least.specs.Clauses.{Forgotten}
@@ -34,7 +36,7 @@ use Rattle.book_steps.proofs.Sentence.{sentence_length_lem}
 use Rattle.book_writer.specs.declared.output.Output.{Output}
 use Rattle.book_writer.specs.Clauses.{Room, Put, Answers}
 use Rattle.book_writer.proofs.Sentence.{begun, begun_length, put_begun, put_hop, put_end, hop_room}
-use Rattle.book_why.specs.Clauses.{GoingIn, Picks, PicksIn, Unmade, PreStart, Started, PostStart, PreNext, Nexted, PostNext, PreLast, Lasted, PostLast, PreString, Stringed, PostString, AnsweringIn, WhyAnswered}
+use Rattle.book_why.specs.Clauses.{GoingIn, Picks, PicksIn, Unmade, PreStart, Started, PostStart, PreNext, Nexted, PostNext, PreLast, Lasted, PostLast, PreString, Stringed, PostString, AnsweringIn, WhyAnswered, PostAnswer}
 use Rattle.book_why.specs.declared.Spot.{Spot}
 use Rattle.book_why.proofs.Picking.{scratch_tables}
 
@@ -116,54 +118,55 @@ module _ {g : Config} {n : ℕ} {ws : List Sets} {k : ℕ} {w : Str g.fields} {o
 
 -- what was begun where the loop begins goes on, whatever was asked
 pub record Hopping (g : Config) (n k : ℕ) (x₀ : Lent) (o₀ : Output) (spot₀ : Spot) (j₀ : ℕ) (x : Lent) (o : Output) (spot : Spot) (j : ℕ) : Type 0 where
-  pub writes : (ws : List Sets) (w : Str g.fields) (before : Output) → Written g n ws k w before j₀ spot₀ x₀ o₀ → Written g n ws k w before j spot x o × Unmade x₀ x
+  pub writes : (mem : Members) (ws : List Sets) (w : Str g.fields) (before : Output) → Written g n ws k w before j₀ spot₀ (with_members mem x₀) o₀
+      → Written g n ws k w before j spot (with_members mem x) o × Unmade (with_members mem x₀) (with_members mem x)
 
 module _ {g : Config} {n k : ℕ} {x₀ : Lent} {o₀ : Output} {spot₀ : Spot} {j₀ : ℕ} where
   pub hopping_begin : Hopping g n k x₀ o₀ spot₀ j₀ x₀ o₀ spot₀ j₀
-  hopping_begin = record { writes = λ ws w before B. (B, refl) }
+  hopping_begin = record { writes = λ mem ws w before B. (B, refl) }
 
   pub hopping_next : {x : Lent} {o : Output} {spot : Spot} {j : ℕ} → Hopping g n k x₀ o₀ spot₀ j₀ x o spot j → 0 < j → {first : Bool} → eqb (j - 1 + 1) k ≡ first → {r : Spot} {y : Lent} {o' : Output} → PostNext g spot.rounds.n (j - 1) first spot x o r y o'
       → Hopping g n k x₀ o₀ spot₀ j₀ y o' r (j - 1)
   hopping_next {x} {o} {spot} {j} I m {first} b {r} {y} {o'} E = record {
-    writes = λ ws w before B.
-        let (i, u) = I.writes ws w before B in
+    writes = λ mem ws w before B.
+        let (i, u) = I.writes mem ws w before B in
         let i' = written_down m i in
-        let X = subst (λ (n : ℕ). Nexted g n ws (j - 1) first i'.way x o r y o') i'.same
-        (E.gives ws i'.packet i'.way i'.number (subst (λ (n : ℕ). GoingIn g x n ws (suc (j - 1)) spot.rounds.mark spot.state i'.packet i'.way) (sym i'.same) i'.going)) in
+        let X = subst (λ (n : ℕ). Nexted g n ws (j - 1) first i'.way (with_members mem x) o r (with_members mem y) o') i'.same
+        (E.gives mem ws i'.packet i'.way i'.number (subst (λ (n : ℕ). GoingIn g (with_members mem x) n ws (suc (j - 1)) spot.rounds.mark spot.state i'.packet i'.way) (sym i'.same) i'.going)) in
         (written_next i' b X, X.unmade ∙ u);
   }
 
 module _ {g : Config} {n k i : ℕ} {x₀ y₀ : Lent} {o₀ p₀ : Output} {spot₀ : Spot} (E : PostStart g n k i x₀ o₀ spot₀ y₀ p₀) {x : Lent} {o : Output} {spot : Spot} {j : ℕ}
     (I : Hopping g n k y₀ p₀ spot₀ k x o spot j) where
-  going_on : {ws : List Sets} {w : Str g.fields} → PicksIn g x₀ n ws k i w → Written g n ws k w o₀ j spot x o × Unmade x₀ x
-  going_on {ws} {w} P =
-      let S = E.gives ws w P in
-      let (i, u) = I.writes ws w o₀ (written_begin S) in
+  going_on : (mem : Members) {ws : List Sets} {w : Str g.fields} → PicksIn g (with_members mem x₀) n ws k i w → Written g n ws k w o₀ j spot (with_members mem x) o × Unmade (with_members mem x₀) (with_members mem x)
+  going_on mem {ws} {w} P =
+      let S = E.gives mem ws w P in
+      let (i, u) = I.writes mem ws w o₀ (written_begin S) in
       (i, u ∙ S.unmade)
 
   pub string_next : 0 < j → PreString g x₀ o₀ n k i → PreNext g x o spot.rounds.n (j - 1) spot
   string_next m P =
-      let i = written_down m (going_on P.picks).0 in
-      subst (λ (n : ℕ). PreNext g x o n (j - 1) spot) (sym i.same) (record { rounds = P.rounds; packet = i.packet; way = i.way; number = i.number; going = i.going; room = next_room i P.room })
+      let i = written_down m (going_on P.members P.picks).0 in
+      subst (λ (n : ℕ). PreNext g x o n (j - 1) spot) (sym i.same) (record { members = P.members; rounds = P.rounds; packet = i.packet; way = i.way; number = i.number; going = i.going; room = next_room i P.room })
 
-  ended : j ≤ 0 → {ws : List Sets} {w : Str g.fields} → Written g n ws k w o₀ j spot x o → Written g n ws k w o₀ 0 spot x o
-  ended m {ws} {w} i = subst (λ (j : ℕ). Written g n ws k w o₀ j spot x o) {x = j} {y = 0} (omega (arith, m)) i
+  ended : j ≤ 0 → {ws : List Sets} {w : Str g.fields} {z : Lent} → Written g n ws k w o₀ j spot z o → Written g n ws k w o₀ 0 spot z o
+  ended m {ws} {w} {z} i = subst (λ (j : ℕ). Written g n ws k w o₀ j spot z o) {x = j} {y = 0} (omega (arith, m)) i
 
   pub string_last : j ≤ 0 → PreString g x₀ o₀ n k i → PreLast g x o spot
   string_last m P =
-      let i = ended m (going_on P.picks).0 in
-      record { count = n; rounds = P.rounds; packet = i.packet; way = i.way; number = i.number; going = i.going; room = last_room i P.room }
+      let i = ended m (going_on P.members P.picks).0 in
+      record { members = P.members; count = n; rounds = P.rounds; packet = i.packet; way = i.way; number = i.number; going = i.going; room = last_room i P.room }
 
   pub string_done : j ≤ 0 → {y : Lent} {o' : Output} → OnlyScratch x y → PostLast g spot x o y o' → PostString g n k i x₀ o₀ y o'
   string_done m K L = record {
-    gives = λ ws w P.
-        let (i₀, u) = going_on P in
+    gives = λ mem ws w P.
+        let (i₀, u) = going_on mem P in
         let i = ended m i₀ in
-        written_last i u K (L.gives n ws i.packet i.way i.number i.going);
+        written_last i u (keeps_beside mem K) (L.gives mem n ws i.packet i.way i.number i.going);
   }
 
 pub string_first : {g : Config} {x : Lent} {o : Output} {n k i : ℕ} → PreString g x o n k i → PreStart g x o n k i
-string_first P = record { rounds = P.rounds; string = P.string; picks = P.picks; most = P.most; room = omega (arith, P.room) }
+string_first P = record { members = P.members; rounds = P.rounds; string = P.string; picks = P.picks; most = P.most; room = omega (arith, P.room) }
 
 -- ---- the answer
 
@@ -230,3 +233,7 @@ module _ (g : Config) (x : Lent) {n : ℕ} {ws : List Sets} {f : code.Option ℕ
         standing = X.standing;
         answers = subst (λ (bs : List ℕ). Put bs o o') (sym told_is) X.put;
       }
+
+-- .. with the members that are lent
+pub answered_itself : {g : Config} {n : ℕ} {f : code.Option ℕ} {i : ℕ} {x : Lent} {o : Output} {r : code.Result Unit Refusal} {y : Lent} {o' : Output} → OnlySearch x y → PostAnswer g n f i x o r y o' → (ws : List Sets) → AnsweringIn g x n ws f i → WhyAnswered g n ws i x o r y o'
+answered_itself {g} {n} {f} {i} {x} {o} {r} {y} {o'} K B ws A = subst (λ (z : Lent). WhyAnswered g n ws i x o r z o') (beside_itself x y K.members) (B.gives x.members ws A)

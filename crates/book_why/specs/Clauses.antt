@@ -17,9 +17,10 @@ use Rattle.aut_query_steps.specs.Tables.{Tables, diagrams}
 use Rattle.aut_query_stage.specs.Lent.{tables_in}
 use Rattle.aut_states.specs.declared.Config.{Config}
 use Rattle.aut_states.specs.declared.Limits.{Limits}
+use Rattle.aut_states.specs.declared.Members.{Members}
 use Rattle.aut_relations.specs.declared.Aut.{Aut as Lent}
 use Rattle.aut_free.specs.Clear.{clear_tables}
-use Rattle.aut_query_calls.specs.Working.{clear_in}
+use Rattle.aut_query_calls.specs.Working.{clear_in, with_members}
 use Rattle.aut_live_words.specs.Work.{seconds}
 use Rattle.aut_why_steps.specs.Why.{Sets, fewest, round_at, pick_at, pick_by}
 use Rattle.aut_why_words.specs.Walk.{HasSets, Standing}
@@ -70,10 +71,12 @@ Unmade x y = clear_in y ≡ clear_in x
 
 -- ---- the start
 
+-- no member is read: here and below, some members are asked for, and the promise is of any
 pub record PreStart (g : Config) (x : Lent) (o : Output) (n hops i : ℕ) : Type 0 where
+  pub members : Members
   pub rounds : List Sets
   pub string : Str g.fields
-  pub picks : PicksIn g x n rounds hops i string
+  pub picks : PicksIn g (with_members members x) n rounds hops i string
   pub most : hops ≤ 2 ^ 55
   pub room : Room (5 + word_length g.fields) o
 
@@ -88,16 +91,17 @@ pub record Started (g : Config) (n : ℕ) (ws : List Sets) (hops : ℕ) (w : Str
   pub put : Put (start_part g.fields r.packet) o o'
 
 pub record PostStart (g : Config) (n hops i : ℕ) (x : Lent) (o : Output) (r : Spot) (y : Lent) (o' : Output) : Type 0 where
-  pub gives : (ws : List Sets) (w : Str g.fields) → PicksIn g x n ws hops i w → Started g n ws hops w x o r y o'
+  pub gives : (mem : Members) (ws : List Sets) (w : Str g.fields) → PicksIn g (with_members mem x) n ws hops i w → Started g n ws hops w (with_members mem x) o r (with_members mem y) o'
 
 -- ---- a hop, j hops before the end
 
 pub record PreNext (g : Config) (x : Lent) (o : Output) (n j : ℕ) (spot : Spot) : Type 0 where
+  pub members : Members
   pub rounds : List Sets
   pub packet : Packet g.fields
   pub way : Way g.fields
   pub number : value packet ≡ spot.packet
-  pub going : GoingIn g x n rounds (suc j) spot.rounds.mark spot.state packet way
+  pub going : GoingIn g (with_members members x) n rounds (suc j) spot.rounds.mark spot.state packet way
   pub room : Room (4 + word_length g.fields) o
 
 pub record Nexted (g : Config) (n : ℕ) (ws : List Sets) (j : ℕ) (first : Bool) (v : Way g.fields) (x : Lent) (o : Output) (r : Spot) (y : Lent) (o' : Output) : Type 0 where
@@ -111,17 +115,19 @@ pub record Nexted (g : Config) (n : ℕ) (ws : List Sets) (j : ℕ) (first : Boo
   pub put : Put (hop_part g.fields first r.packet) o o'
 
 pub record PostNext (g : Config) (n j : ℕ) (first : Bool) (spot : Spot) (x : Lent) (o : Output) (r : Spot) (y : Lent) (o' : Output) : Type 0 where
-  pub gives : (ws : List Sets) (q : Packet g.fields) (v : Way g.fields) → value q ≡ spot.packet → GoingIn g x n ws (suc j) spot.rounds.mark spot.state q v → Nexted g n ws j first v x o r y o'
+  pub gives : (mem : Members) (ws : List Sets) (q : Packet g.fields) (v : Way g.fields) → value q ≡ spot.packet → GoingIn g (with_members mem x) n ws (suc j) spot.rounds.mark spot.state q v
+      → Nexted g n ws j first v (with_members mem x) o r (with_members mem y) o'
 
 -- ---- the end
 
 pub record PreLast (g : Config) (x : Lent) (o : Output) (spot : Spot) : Type 0 where
+  pub members : Members
   pub count : ℕ
   pub rounds : List Sets
   pub packet : Packet g.fields
   pub way : Way g.fields
   pub number : value packet ≡ spot.packet
-  pub going : GoingIn g x count rounds 0 spot.rounds.mark spot.state packet way
+  pub going : GoingIn g (with_members members x) count rounds 0 spot.rounds.mark spot.state packet way
   pub room : Room (5 + word_length g.fields) o
 
 pub record Lasted (g : Config) (n : ℕ) (ws : List Sets) (v : Way g.fields) (o : Output) (y : Lent) (o' : Output) : Type 0 where
@@ -133,14 +139,16 @@ pub record Lasted (g : Config) (n : ℕ) (ws : List Sets) (v : Way g.fields) (o 
   pub put : Put (end_part g.fields number) o o'
 
 pub record PostLast (g : Config) (spot : Spot) (x : Lent) (o : Output) (y : Lent) (o' : Output) : Type 0 where
-  pub gives : (n : ℕ) (ws : List Sets) (q : Packet g.fields) (v : Way g.fields) → value q ≡ spot.packet → GoingIn g x n ws 0 spot.rounds.mark spot.state q v → Lasted g n ws v o y o'
+  pub gives : (mem : Members) (n : ℕ) (ws : List Sets) (q : Packet g.fields) (v : Way g.fields) → value q ≡ spot.packet → GoingIn g (with_members mem x) n ws 0 spot.rounds.mark spot.state q v
+      → Lasted g n ws v o (with_members mem y) o'
 
 -- ---- the whole sentence
 
 pub record PreString (g : Config) (x : Lent) (o : Output) (n hops i : ℕ) : Type 0 where
+  pub members : Members
   pub rounds : List Sets
   pub string : Str g.fields
-  pub picks : PicksIn g x n rounds hops i string
+  pub picks : PicksIn g (with_members members x) n rounds hops i string
   pub most : hops ≤ 2 ^ 55
   pub room : Room (sentence_length g.fields hops) o
 
@@ -150,7 +158,7 @@ pub record Stringed (g : Config) (n : ℕ) (ws : List Sets) (w : Str g.fields) (
   pub put : Put (sentence g.fields w) o o'
 
 pub record PostString (g : Config) (n hops i : ℕ) (x : Lent) (o : Output) (y : Lent) (o' : Output) : Type 0 where
-  pub gives : (ws : List Sets) (w : Str g.fields) → PicksIn g x n ws hops i w → Stringed g n ws w x o y o'
+  pub gives : (mem : Members) (ws : List Sets) (w : Str g.fields) → PicksIn g (with_members mem x) n ws hops i w → Stringed g n ws w (with_members mem x) o (with_members mem y) o'
 
 -- ---- the answer
 
@@ -166,8 +174,9 @@ abbrev pub AnsweringIn : Config → Lent → (n : ℕ) → List Sets → code.Op
 AnsweringIn g x n ws f i = Answering g.fields g.limits (tables_in x) x.scratch.now x.pending.now n ws f i
 
 pub record PreAnswer (g : Config) (x : Lent) (n : ℕ) (f : code.Option ℕ) (i : ℕ) : Type 0 where
+  pub members : Members
   pub rounds : List Sets
-  pub answering : AnsweringIn g x n rounds f i
+  pub answering : AnsweringIn g (with_members members x) n rounds f i
 
 pub record WhyAnswered (g : Config) (n : ℕ) (ws : List Sets) (i : ℕ) (x : Lent) (o : Output) (r : Result Unit Refusal) (y : Lent) (o' : Output) : Type 0 where
   pub unmade : Unmade x y
@@ -175,4 +184,4 @@ pub record WhyAnswered (g : Config) (n : ℕ) (ws : List Sets) (i : ℕ) (x : Le
   pub answers : Answers (why_answer g.fields (pick_by g.fields (clear_in x) ws i (fewest g.fields i 0 ws))) o r o'
 
 pub record PostAnswer (g : Config) (n : ℕ) (f : code.Option ℕ) (i : ℕ) (x : Lent) (o : Output) (r : Result Unit Refusal) (y : Lent) (o' : Output) : Type 0 where
-  pub gives : (ws : List Sets) → AnsweringIn g x n ws f i → WhyAnswered g n ws i x o r y o'
+  pub gives : (mem : Members) (ws : List Sets) → AnsweringIn g (with_members mem x) n ws f i → WhyAnswered g n ws i (with_members mem x) o r (with_members mem y) o'

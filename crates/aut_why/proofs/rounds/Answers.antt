@@ -2,6 +2,7 @@ use mathlib.Core.Path.{refl, ◌∙◌}
 use native.Mathlib.Omega.{arith}
 use Rattle.std.proofs.Common.{rules}
 use Rattle.refusal.proofs.Passed.{passed}
+use Rattle.aut_why_rounds.proofs.Passes.{round_asks}
 use Rattle.aut_why.proofs.Loop as loops
 use Rattle.aut_why.proofs.rounds.Goals as goal
 
@@ -21,7 +22,7 @@ hops_after-f-requires c =
 
 pub next_round-requires : goal.next_round-requires
 next_round-requires c =
-    let v = c.loop-f.invariant.between c.requires.now c.requires.going in record { before = v.now; rounding = v.rounding }
+    let v = c.loop-f.invariant.between c.requires.now c.requires.going in round_asks v.now v.rounding
 
 pub returns-in_err-next_round-clause-gives : goal.returns-in_err-next_round-clause-gives
 returns-in_err-next_round-clause-gives c = record {

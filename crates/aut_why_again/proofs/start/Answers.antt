@@ -1,4 +1,6 @@
 use native.Mathlib.Omega.{arith}
+use Rattle.aut_query_calls.specs.Working.{with_members}
+use Rattle.aut_query_calls.proofs.Works.{keeps_beside}
 use Rattle.aut_why_words.proofs.Walks.{walk_keeps}
 use Rattle.aut_why_words.proofs.Lent.{marks_tables}
 use Rattle.aut_why_marks.proofs.Loops.{keep_on}
@@ -7,11 +9,15 @@ use Rattle.aut_why_again.proofs.Steps as steps
 use Rattle.aut_why_again.proofs.start.Goals as goal
 
 pub round-requires : goal.round-requires
-round-requires c = record { before = λ x. 0; rounding = runs.zero_asks c.args.config c.args.aut.now c.requires.standing (λ x. 0) }
+round-requires c =
+    let Q = c.requires in
+    record { members = Q.members; before = λ x. 0; rounding = runs.zero_asks c.args.config (with_members Q.members c.args.aut.now) Q.standing (λ x. 0) }
 
 pub unwrap-requires : goal.unwrap-requires
 unwrap-requires c =
-    runs.zero_stands c.args.config c.args.aut.now c.requires.standing c.round.result (c.round.ensures.gives.gives (λ x. 0) (runs.zero_asks c.args.config c.args.aut.now c.requires.standing (λ x. 0)))
+    let Q = c.requires in
+    let x = with_members Q.members c.args.aut.now in
+    runs.zero_stands c.args.config x Q.standing c.round.result (c.round.ensures.gives.gives Q.members (λ x. 0) (runs.zero_asks c.args.config x Q.standing (λ x. 0)))
 
 pub restore-requires : goal.restore-requires
 restore-requires c =
@@ -20,6 +26,8 @@ restore-requires c =
 pub returns-clause-gives : goal.returns-clause-gives
 returns-clause-gives c =
     let R = rw c.round.ensures.pending at c.restore.ensures.gives in
-    λ ws S.
-    let D = rw c.unwrap.ensures at c.round.ensures.gives.gives (λ x. 0) (runs.zero_asks c.args.config c.args.aut.now S (λ x. 0)) in
-    rw c.restore.ensures.keeps.scratch (steps.start_end (runs.zero_turned c.args.config c.args.aut.now S D c.round.ensures.keeps c.round.ensures.pending) (marks_tables c.restore.ensures.keeps) R)
+    λ mem ws S.
+    let x = with_members mem c.args.aut.now in
+    let D = rw c.unwrap.ensures at c.round.ensures.gives.gives mem (λ x. 0) (runs.zero_asks c.args.config x S (λ x. 0)) in
+    rw c.restore.ensures.keeps.scratch
+    (steps.start_end (runs.zero_turned c.args.config x S D (keeps_beside mem c.round.ensures.keeps) c.round.ensures.pending) (marks_tables (keeps_beside mem c.restore.ensures.keeps)) R)

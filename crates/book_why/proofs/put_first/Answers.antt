@@ -2,17 +2,17 @@ use Rattle.book_why.proofs.Picking as picking
 use Rattle.book_why.proofs.put_first.Goals as goal
 
 pub sets_for-rounds-requires : goal.sets_for-rounds-requires
-sets_for-rounds-requires c = record { rounds = c.requires.rounds; earlier = picking.start_earlier c.requires.picks }
+sets_for-rounds-requires c = record { members = c.requires.members; rounds = c.requires.rounds; earlier = picking.start_earlier c.requires.picks }
 
 pub unwrap-packet-requires : goal.unwrap-packet-requires
 unwrap-packet-requires c =
-    let S = c.sets_for-rounds.ensures.gives c.requires.rounds (picking.start_earlier c.requires.picks) in
+    let S = c.sets_for-rounds.ensures.gives c.requires.members c.requires.rounds (picking.start_earlier c.requires.picks) in
     picking.there (picking.begun c.requires.picks S (rw c.set_at-starts.ensures at c.first_of.ensures)).number
 
 pub returns-clause-gives : goal.returns-clause-gives
 returns-clause-gives c = record {
-  gives = λ ws w P.
-      let S = c.sets_for-rounds.ensures.gives ws (picking.start_earlier P) in
+  gives = λ mem ws w P.
+      let S = c.sets_for-rounds.ensures.gives mem ws (picking.start_earlier P) in
       let B = picking.begun P S (rw c.set_at-starts.ensures at c.first_of.ensures) in
       record {
         packet = B.packet;

@@ -15,14 +15,14 @@ pub returns-clause-gives : goal.returns-clause-gives
 returns-clause-gives c =
     let K = c.end_of.ensures.keeps in
     record {
-      gives = λ n ws q v e G.
+      gives = λ mem n ws q v e G.
           let A = picking.arrived e G c.epsilon_at-epsilon.ensures c.end_of.ensures.gives K.scratch.length in
           record {
             packet = A.packet;
             number = c.unwrap-packet.result;
             is = picking.same_there A.is c.unwrap-packet.ensures;
             whole = A.whole;
-            standing = rw (K.sp, K.spp, K.states, K.members, K.transitions, K.pending) A.standing;
+            standing = rw (K.sp, K.spp, K.states, K.transitions, K.pending) A.standing;
             put = c.put_end.ensures.puts;
           };
     }
