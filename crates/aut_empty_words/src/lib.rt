@@ -32,7 +32,7 @@ pub fn put(aut: &mut Aut, n: usize, e: Entry) -> Option<usize>
     ensures states { aut.new.states ≡ aut.old.states }
     ensures gives { Puts result aut.old.pending.now n e.state e.packets.0 aut.new.pending.now }
 {
-    if n >= aut_query_calls::capacity(aut) {
+    if n >= aut_query_calls::capacity(aut.pending.len()) {
         return None;
     }
     aut.pending[2 * n] = e.state;

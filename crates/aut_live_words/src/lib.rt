@@ -10,7 +10,7 @@ ghost use Rattle.aut_live_words.specs.Clauses.{PreReach, PreEnqueue, PostEnqueue
 
 pub use aut_query_calls::{find_set, put_set, set_at};
 use aut_relations::Aut;
-use aut_states::{Config, STATE, word};
+use aut_states::{Config, STATE, States, word};
 use sp::SP;
 use spp::SPP;
 
@@ -33,7 +33,7 @@ pub fn reach(aut: &mut Aut, config: Config, n: usize, y: u32) -> Option<usize>
     if find_set(aut, y, word::WORK).is_some() {
         return Some(n);
     }
-    if n < aut_query_calls::capacity(aut) {
+    if n < aut_query_calls::capacity(aut.pending.len()) {
         let zero = sp::zero_at_depth(config.fields);
         put_set(aut, y, word::WORK, zero);
         aut.pending[2 * n] = y;
@@ -83,12 +83,29 @@ pub fn enlarge(aut: &mut Aut, m: usize, s: u32, combined: SP) -> Option<usize>
     if combined == set_at(aut, s, word::WORK) {
         return Some(m);
     }
-    if m < aut_query_calls::capacity(aut) {
+    if m < aut_query_calls::capacity(aut.pending.len()) {
         put_set(aut, s, word::WORK, combined);
         aut.pending[2 * m] = s;
         return Some(m + 1);
     }
     None
+}
+
+// copy_sets on the two tables. `words` is lent before the loop, which would else load the field again for every state.
+fn copy_in(states: &mut States, pending: &mut [u32], n: usize, from: usize, to: usize)
+    requires { PreCopy states.old.words.now pending.old n from to }
+    ensures count { states.new.count ≡ states.old.count }
+    ensures lent { states.new.words.ghost_name ≡ states.old.words.ghost_name }
+    ensures length { length states.new.words.now ≡ length states.old.words.now }
+    ensures pending { pending.new ≡ pending.old }
+    ensures gives { states.new.words.now ≡
+        copy_words from to (seconds pending.old 0 n) states.old.words.now }
+{
+    let words = &mut states.words[..];
+    for i in 0..n {
+        let at = STATE * (pending[2 * i + 1] as usize);
+        words[at + to] = words[at + from];
+    }
 }
 
 // word `to` of the n states gets their word `from`
@@ -99,10 +116,7 @@ pub fn copy_sets(aut: &mut Aut, n: usize, from: usize, to: usize)
     ensures gives { aut.new.states.words.now ≡
         copy_words from to (seconds aut.old.pending.now 0 n) aut.old.states.words.now }
 {
-    for i in 0..n {
-        let at = STATE * (state_at(aut, i) as usize);
-        aut.states.words[at + to] = aut.states.words[at + from];
-    }
+    copy_in(&mut aut.states, aut.pending, n, from, to);
 }
 
 // the sets of the n states are kept

@@ -14,11 +14,11 @@ use sp::SP;
 // 01, "Lent tables": at most 2^24 records
 const ENTRIES: usize = 16777216;
 
-// the entries of the pending table, of two words each
-pub fn capacity(aut: &Aut) -> usize
-    ensures { result ≡ M.capacity (length aut.now.pending.now / 2) }
+// the entries of a pending table of so many words
+pub fn capacity(words: usize) -> usize
+    ensures { result ≡ M.capacity (words / 2) }
 {
-    (aut.pending.len() / 2).min(ENTRIES)
+    (words / 2).min(ENTRIES)
 }
 
 // the set that word w of state x holds

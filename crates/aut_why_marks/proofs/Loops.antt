@@ -1,12 +1,13 @@
 -- Loops that write a column, state by state, and the search of a stored list.
-use Rattle.std.specs.Prelude.{if◌then◌else◌}
+use Rattle.std.specs.Prelude.{not, if◌then◌else◌}
 use Rattle.std.specs.List.{list_any, range_with_len}
+use Rattle.std.specs.Int.{from_bool}
 use mathlib.Core.Path.{◌≡◌, refl, sym, ◌∙◌, ap, ap₂, subst}
 use mathlib.Core.Logic.{inl, inr, ⊎_elim}
-use mathlib.Core.Bool.{Bool, ◌||◌}
+use mathlib.Core.Bool.{Bool, true, false, ◌||◌}
 use mathlib.Core.List.Memᴰ
 use mathlib.Core.List.{List, [], ◌∷◌, Memᴰ}
-use Prim.Native.Nat.{ℕ, zero, suc, ◌+◌, ◌*◌, ◌≤◌, ◌<◌}
+use Prim.Native.Nat.{ℕ, zero, suc, ◌+◌, ◌*◌, ◌-◌, ◌≤◌, ◌<◌}
 use native.Mathlib.Omega.{arith}
 use lib.Dec.{eqb, ltb}
 use lib.ListN.{length, get_or, set}
@@ -96,6 +97,13 @@ copied a b {st} {p} {st1} {n} k l z P q = subst (Fills b (λ x. get_or st (12 * 
 pub moved_on : {n : ℕ} {p st₀ st : List ℕ} {i : ℕ} → Filling 11 (moved_at st₀) n p st₀ st i → (x : ℕ) → moved_at st x ≡ moved_at st₀ x
 moved_on {st₀ = st₀} F x = ap₂ (λ (a b : ℕ). if eqb a b then 0 else 1) (fill_other 11 (moved_at st₀) F x 8 (omega arith) (λ q. omega arith)) (fill_other 11 (moved_at st₀) F x 9 (omega arith) (λ q. omega arith))
 
+pub moved_told : {n : ℕ} {p st₀ st : List ℕ} {i : ℕ} → Filling 11 (moved_at st₀) n p st₀ st i → (x : ℕ) → from_bool (not (eqb (get_or st (12 * x + 8) 0) (get_or st (12 * x + 9) 0))) ≡ moved_at st₀ x
+moved_told {st = st} F x = go (eqb (get_or st (12 * x + 8) 0) (get_or st (12 * x + 9) 0)) ∙ moved_on F x
+  where
+    go : (b : Bool) → from_bool (not b) ≡ (if b then 0 else 1)
+    go true = refl
+    go false = refl
+
 -- ---- renew, restore
 
 pub keep_on : {st st1 p : List ℕ} {n : ℕ} → PreKeep st p n → length st1 ≡ length st → PreKeep st1 p n
@@ -118,25 +126,25 @@ module _ {ss st st1 st2 : List ℕ} where
 
 -- ---- a stored list
 
--- whether the target of record start + i has a word 11
-abbrev pub led_at : List ℕ → List ℕ → ℕ → ℕ → Bool
-led_at st tr start i = ltb 0 (get_or st (12 * get_or tr (2 * (start + i)) 0 + 11) 0)
+-- whether the target of record i has a word 11
+abbrev pub led_at : List ℕ → List ℕ → ℕ → Bool
+led_at st tr i = ltb 0 (get_or st (12 * get_or tr (2 * i) 0 + 11) 0)
 
-pub led_told : (st tr : List ℕ) (start i : ℕ) {t : Transition} (w : ℕ) (b : Bool) → edge_of t ≡ edge_at tr (start + i) → w ≡ get_or st (12 * t.target + 11) 0 → b ≡ ltb 0 w → b ≡ led_at st tr start i
-led_told st tr start i w b e q p = p ∙ ap (ltb 0) q ∙ ap (λ (e : Edge). ltb 0 (get_or st (12 * e.target + 11) 0)) e
+pub led_told : (st tr : List ℕ) (i : ℕ) {t : Transition} (w : ℕ) (b : Bool) → edge_of t ≡ edge_at tr i → w ≡ get_or st (12 * t.target + 11) 0 → b ≡ ltb 0 w → b ≡ led_at st tr i
+led_told st tr i w b e q p = p ∙ ap (ltb 0) q ∙ ap (λ (e : Edge). ltb 0 (get_or st (12 * e.target + 11) 0)) e
 
--- to test k records from start + a on is to test their numbers
-pub look_each : (st tr : List ℕ) (start a k : ℕ) → changed_by st (edges tr (start + a) k) ≡ list_any (led_at st tr start) (range_with_len a k)
+-- to test k records from a on is to test their numbers
+pub look_each : (st tr : List ℕ) (a k : ℕ) → changed_by st (edges tr a k) ≡ list_any (led_at st tr) (range_with_len a k)
 unfolding edges
-look_each st tr start a zero = refl
-look_each st tr start a (suc k) =
-    ap (λ (b : Bool). led_at st tr start a || b) (ap (λ (j : ℕ). changed_by st (edges tr j k)) {x = start + a + 1} {y = start + (a + 1)} (omega arith) ∙ look_each st tr start (a + 1) k)
+look_each st tr a zero = refl
+look_each st tr a (suc k) = ap (λ (b : Bool). led_at st tr a || b) (look_each st tr (a + 1) k)
 
 -- of a state's stored list
 module _ {st tr : List ℕ} {x : ℕ} (P : PreChanged st tr x) {list : Span} (F : PostFind st x list) where
-  pub look_target : (i : ℕ) → i < list.count → 12 * get_or tr (2 * (list.start + i)) 0 + 11 < length st
-  look_target i l = P.targets (edge_at tr (list.start + i)) (subst (λ (es : List Edge). Memᴰ (edge_at tr (list.start + i)) es) (sym (listed_edges P.listed F)) (edge_in tr list.start list.count i l))
+  pub look_target : (i : ℕ) → list.start ≤ i → i < list.start + list.count → 12 * get_or tr (2 * i) 0 + 11 < length st
+  look_target i m l = P.targets (edge_at tr i)
+      (subst (λ (es : List Edge). Memᴰ (edge_at tr i) es) (sym (listed_edges P.listed F))
+      (subst (λ (j : ℕ). Memᴰ (edge_at tr j) (edges tr list.start list.count)) {x = list.start + (i - list.start)} {y = i} (omega arith) (edge_in tr list.start list.count (i - list.start) (omega arith))))
 
-  pub look_post : {b : Bool} → b ≡ list_any (led_at st tr list.start) (range_with_len 0 list.count) → PostChanged st tr x b
-  look_post q = q ∙ sym (look_each st tr list.start 0 list.count)
-      ∙ ap (λ (j : ℕ). changed_by st (edges tr j list.count)) {x = list.start + 0} {y = list.start} (omega arith) ∙ sym (ap (changed_by st) (listed_edges P.listed F))
+  pub look_post : {b : Bool} → b ≡ list_any (led_at st tr) (range_with_len list.start list.count) → PostChanged st tr x b
+  look_post q = q ∙ sym (look_each st tr list.start list.count) ∙ sym (ap (changed_by st) (listed_edges P.listed F))

@@ -10,7 +10,7 @@ ghost use Rattle.aut_why_marks.specs.Columns.{Fills};
 ghost use Rattle.aut_why_marks.specs.Clauses.{PreFill, Renews, PreRestore, Restores, PreChanged, PostChanged};
 
 use aut_relations::Aut;
-use aut_states::STATE;
+use aut_states::{STATE, States};
 use aut_why_words::word;
 
 // words w of the n states are v
@@ -27,17 +27,19 @@ fn fill(aut: &mut Aut, n: usize, w: usize, v: u32)
     }
 }
 
-fn differ(aut: &mut Aut, n: usize)
-    requires { PreKeep aut.old.states.words.now aut.old.pending.now n }
-    ensures keeps { OnlyMarks aut.old aut.new }
-    ensures pending { aut.new.pending ≡ aut.old.pending }
-    ensures gives { Fills 11 (λ x. moved_at aut.old.states.words.now x)
-        (seconds aut.old.pending.now 0 n) aut.old.states.words.now aut.new.states.words.now }
+// Words MOVED of the n states are 1 where words BEFORE and UNDER differ. `words` is lent before the loop, which would else load the field again for every state.
+fn differ(states: &mut States, pending: &mut [u32], n: usize)
+    requires { PreKeep states.old.words.now pending.old n }
+    ensures count { states.new.count ≡ states.old.count }
+    ensures lent { states.new.words.ghost_name ≡ states.old.words.ghost_name }
+    ensures pending { pending.new ≡ pending.old }
+    ensures gives { Fills 11 (λ x. moved_at states.old.words.now x) (seconds pending.old 0 n)
+        states.old.words.now states.new.words.now }
 {
+    let words = &mut states.words[..];
     for i in 0..n {
-        let x = aut_live_words::state_at(aut, i);
-        let v = u32::from(aut_why_words::moved(aut, x));
-        aut.states.words[STATE * (x as usize) + word::MOVED] = v;
+        let at = STATE * (pending[2 * i + 1] as usize);
+        words[at + word::MOVED] = u32::from(words[at + word::BEFORE] != words[at + word::UNDER]);
     }
 }
 
@@ -49,7 +51,7 @@ pub fn renew(aut: &mut Aut, n: usize)
     ensures gives { Renews (seconds aut.old.pending.now 0 n) aut.old.states.words.now
         aut.new.states.words.now }
 {
-    differ(aut, n);
+    differ(&mut aut.states, aut.pending, n);
     aut_why_words::copy_sets(aut, n, word::UNDER, word::BEFORE);
 }
 
@@ -71,5 +73,9 @@ pub fn changed(aut: &Aut, x: u32) -> bool
     ensures { PostChanged aut.now.states.words.now aut.now.transitions.words.now x result }
 {
     let list = aut_st_source::stored_list(aut, x);
-    (0..list.count).any(|i| aut.states.word(list.get(aut, i).target, word::MOVED) > 0)
+    let words = &aut.transitions.words[..];
+    (list.start..list.start + list.count).any(|i| aut
+        .states
+        .word(aut_st_edges::entry(words, i).target, word::MOVED)
+        > 0)
 }
