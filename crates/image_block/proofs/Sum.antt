@@ -9,7 +9,7 @@ use native.Mathlib.Omega.{arith}
 use native.Mathlib.Nat.{mul-le-mul}
 use native.Mathlib.Numerals.{add-one}
 use borrow.Rule.Slice.PartMut.{put_mid, Post-is}
-use lib.ListN.{length, get_or, take, drop}
+use lib.ListN.{length, get_or, take, drop, set}
 use lib.Seq.{take-suc, take_all, length-take-le, sets, sets-eq}
 use lib.Dec.{eqb}
 use borrow.Author.Tests.{eq-eqb, ne_eqb}
@@ -70,10 +70,17 @@ module _ (front : List ℕ) where
   unfolding check
   sum_end sum i v l = v.is ∙ ap (λ (xs : List ℕ). weighed 0 xs % 65521) (take_all i front l)
 
--- a word stored in four bytes
-pub four : (s : List ℕ) (i w : ℕ) {bytes : List ℕ} → w < 4294967296 → i + 3 < length s → bytes ≡ w / 16777216 % 256 ∷ w / 65536 % 256 ∷ w / 256 % 256 ∷ w % 256 ∷ []
+-- four bytes stored
+pub four : (s : List ℕ) (i a b c d : ℕ) → set (set (set (set s i a) (i + 1) b) (i + 2) c) (i + 3) d ≡ sets s i (a ∷ b ∷ c ∷ d ∷ [])
+four s i a b c d =
+    ap (λ (k : ℕ). set (set (set (set s i a) k b) (i + 2) c) (i + 3) d) {x = i + 1} {y = suc i} (omega arith)
+    ∙ ap (λ (k : ℕ). set (set (set (set s i a) (suc i) b) k c) (i + 3) d) {x = i + 2} {y = suc (suc i)} (omega arith)
+    ∙ ap (λ (k : ℕ). set (set (set (set s i a) (suc i) b) (suc (suc i)) c) k d) {x = i + 3} {y = suc (suc (suc i))} (omega arith)
+
+-- a word's four, in one part of a slice
+pub word_stored : (s : List ℕ) (i w : ℕ) {bytes : List ℕ} → w < 4294967296 → i + 3 < length s → bytes ≡ w / 16777216 % 256 ∷ w / 65536 % 256 ∷ w / 256 % 256 ∷ w % 256 ∷ []
     → put_mid i (i + 4 - i) s bytes ≡ sets s i (wide w)
-four s i w small room e =
+word_stored s i w small room e =
     ap (put_mid i (i + 4 - i) s) (e ∙ ap (λ (b : ℕ). b ∷ w / 65536 % 256 ∷ w / 256 % 256 ∷ w % 256 ∷ []) {x = w / 16777216 % 256} {y = w / 16777216} (omega arith))
     ∙ ap (λ (r : List ℕ). take i s ++ (wide w ++ r)) (Post-is i (i + 4) s (omega arith))
     ∙ sym (append_assoc (take i s) (wide w) (drop (i + 4) s))

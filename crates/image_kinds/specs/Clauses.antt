@@ -16,7 +16,8 @@ pub record NoKind (k : ℕ) : Type 0 where
   pub never : (N : ℕ) (L : Limits) (σ : Aut) (xs : List ℕ) (x y e : ℕ) → Records.state_fits N L σ xs k x y e ≡ false
 
 abbrev pub ShapeOf : ℕ → Shape → Type 0
-ShapeOf k shape.Atom = (k ≡ SPP) ⊎ ((k ≡ DUP) ⊎ (k ≡ TOP))
+ShapeOf k shape.Leaf = k ≡ SPP
+ShapeOf k shape.Constant = (k ≡ DUP) ⊎ (k ≡ TOP)
 ShapeOf k shape.Single = (k ≡ COMPLEMENT) ⊎ (k ≡ STAR)
 ShapeOf k shape.Pair = ((k ≡ XOR) ⊎ (k ≡ DIFFERENCE)) ⊎ ((k ≡ SEQUENCE) ⊎ (k ≡ UNTIL))
 ShapeOf k shape.List = (k ≡ UNION) ⊎ (k ≡ INTERSECT)
@@ -24,6 +25,10 @@ ShapeOf k shape.List = (k ≡ UNION) ⊎ (k ≡ INTERSECT)
 abbrev pub Shaped : ℕ → Option Shape → Type 0
 Shaped k None = NoKind k
 Shaped k (Some s) = ShapeOf k s
+
+-- of no other state
+abbrev pub IsAtom : ℕ → Type 0
+IsAtom k = (k ≡ SPP) ⊎ ((k ≡ DUP) ⊎ (k ≡ TOP))
 
 -- ---- what is promised
 

@@ -12,7 +12,7 @@ ghost use Rattle.aut_steps.specs.Ascending.{All};
 ghost use Rattle.aut_steps.specs.Constructors.{is_relation};
 ghost use Rattle.aut_states.specs.Clauses.{limits_of, states_of, Fits};
 ghost use Rattle.image_steps.specs.Records as Records;
-ghost use Rattle.image_kinds.specs.Clauses.{ShapeOf, Shaped, turn_of, met_of, AtomFits, SingleFits, PairFits, ListFits};
+ghost use Rattle.image_kinds.specs.Clauses.{ShapeOf, Shaped, IsAtom, turn_of, met_of, AtomFits, SingleFits, PairFits, ListFits};
 ghost use Rattle.image_kinds.specs.declared.Shape.TheVariants as shape;
 
 use aut_states::{Config, Limits, States, kind};
@@ -27,10 +27,11 @@ pub struct Words {
     pub nesting: u32,
 }
 
-// which states a state's words 1 and 2 are: none, one, two, a list
+// what a state's words 1 and 2 are: a relation, nothing, a state, two states, a list of states
 #[derive(Clone, Copy)]
 pub enum Shape {
-    Atom,
+    Leaf,
+    Constant,
     Single,
     Pair,
     List,
@@ -42,7 +43,8 @@ pub fn shape_of(kind: u32) -> Option<Shape>
     ensures { Shaped kind result }
 {
     match kind {
-        kind::SPP | kind::DUP | kind::TOP => Some(Shape::Atom),
+        kind::SPP => Some(Shape::Leaf),
+        kind::DUP | kind::TOP => Some(Shape::Constant),
         kind::COMPLEMENT | kind::STAR => Some(Shape::Single),
         kind::XOR | kind::DIFFERENCE | kind::SEQUENCE | kind::UNTIL => Some(Shape::Pair),
         kind::UNION | kind::INTERSECT => Some(Shape::List),
@@ -73,7 +75,7 @@ pub fn constant_fits(w: Words) -> bool
 // a relation, a Dup or a Top
 #[tactic(auto, unfolding(image_steps::specs::Records::state_fits))]
 pub fn atom_fits(relations: &SPPstore, fields: u32, w: Words) -> bool
-    requires { Nodes (store_of relations.now) × ShapeOf w.kind shape.Atom }
+    requires { Nodes (store_of relations.now) × IsAtom w.kind }
     ensures { AtomFits fields (store_of relations.now) w result }
 {
     match w.kind {

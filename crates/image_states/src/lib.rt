@@ -3,7 +3,7 @@
 
 ghost use Rattle.std.specs.Prelude.{◌≡◌, [], ◌+◌, ◌*◌, length};
 ghost use Rattle.slices.specs.Same.{SameSlice};
-ghost use Rattle.image_kinds.specs.Clauses.{ShapeOf};
+ghost use Rattle.image_kinds.specs.Clauses.{ShapeOf, IsAtom};
 ghost use Rattle.image_kinds.specs.declared.Shape.TheVariants as shape;
 ghost use Rattle.image_states.specs.Clauses as Its;
 
@@ -48,7 +48,7 @@ pub fn copy_members(image: &[u8], list: &mut [u32], at: usize)
 // ---- a record without a list
 
 fn enter_atom(aut: &mut Aut, config: Config, w: Words) -> Result<u32, Refusal>
-    requires { Its.Ordered config aut.old × ShapeOf w.kind shape.Atom }
+    requires { Its.Ordered config aut.old × IsAtom w.kind }
     ensures keeps { Its.OnlyStates aut.old aut.new }
     ensures gives { Its.Enters config w [] aut.old result aut.new }
 {
@@ -126,7 +126,8 @@ fn enter(aut: &mut Aut, config: Config, at: Lists, w: Words) -> Result<u32, Refu
     ensures gives { Its.Reads config at.entry w aut.old result aut.new }
 {
     match image_kinds::shape_of(w.kind) {
-        Some(Shape::Atom) => enter_atom(aut, config, w),
+        Some(Shape::Leaf) => enter_atom(aut, config, w),
+        Some(Shape::Constant) => enter_atom(aut, config, w),
         Some(Shape::Single) => enter_single(aut, config, w),
         Some(Shape::Pair) => enter_pair(aut, config, w),
         Some(Shape::List) => read_list(aut, config, at, w),
