@@ -156,8 +156,8 @@ module _ {k : Config} {x : Lent} (L : Lone k x) {whole : Step Aut (List Edge)} {
   made_0 = run_begin L.asked (ap (λ (s : Step Aut (List Edge)). s (aut_in x)) M.is)
 
   module _ {st : States} where
-    not_made : (e : Refusal) {r : Result ℕ Refusal} → IsErr r × IsErrAnd r (λ x. x ≡ e) → o (states_in x) ≡ outcome (λ i. i) (Err e) (table st.words.now st.count) → GoesInsert k whole x r (stated x st)
-    not_made e q p = run_stuck then_single made_0 q (goes_stated o {r = Err e} L.asked M.state p)
+    pub made_stuck : (e : Refusal) {r : Result ℕ Refusal} → IsErr r × IsErrAnd r (λ x. x ≡ e) → o (states_in x) ≡ outcome (λ i. i) (Err e) (table st.words.now st.count) → GoesInsert k whole x r (stated x st)
+    made_stuck e q p = run_stuck then_single made_0 q (goes_stated o {r = Err e} L.asked M.state p)
 
     module _ {i : ℕ} (same : SameSlice x.states.words st.words) (p : o (states_in x) ≡ outcome (λ i. i) (Ok i) (table st.words.now st.count)) where
       state_made : Goes k 0 0 State (λ i. i) (on_states o) x (Ok i) (stated x st)
@@ -166,25 +166,29 @@ module _ {k : Config} {x : Lent} (L : Lone k x) {whole : Step Aut (List Edge)} {
       made_1 : Run k 0 832 whole (then_single i) x (stated x st)
       made_1 = run_next then_single made_0 no_list (keeps_stated same) state_made
 
-      edge_made : EdgeAt k.fields (aut_in (stated x st)) (edge i h)
-      edge_made = record { state = state_made.post.then.holds; relation = (M.label (aut_in (stated x st)) made_1.asked.ready.good).at }
+      pub made_ready : Lone k (stated x st) × EdgeAt k.fields (aut_in (stated x st)) (edge i h)
+      made_ready = (record { asked = made_1.asked; some = L.some }, record { state = state_made.post.then.holds; relation = (M.label (aut_in (stated x st)) made_1.asked.ready.good).at })
 
+      pub made_done : {r : Result ℕ Refusal} {y : Lent} → GoesInsert k (then_single i) (stated x st) r y → GoesInsert k whole x r y
+      made_done G = run_finish made_1 (all_of 0 832) G
+
+-- .. with any nodes and members
 module _ {k : Config} {x : Lent} (A : AloneAsked k x) {whole : Step Aut (List Edge)} {o : Step Table ℕ} {h : ℕ} (M : (z : Lent) → Asked k z → Makes k z whole o h) {st : States} where
-  pub made_stuck : (e : Refusal) {r : Result ℕ Refusal} → IsErr r × IsErrAnd r (λ x. x ≡ e) → o (states_in x) ≡ outcome (λ i. i) (Err e) (table st.words.now st.count) → GoesAlone k Anything whole x r (stated x st)
-  made_stuck e q p = every A (λ t m L u. not_made L (M _ L.asked) {st = st} e q p)
+  pub any_stuck : (e : Refusal) {r : Result ℕ Refusal} → IsErr r × IsErrAnd r (λ x. x ≡ e) → o (states_in x) ≡ outcome (λ i. i) (Err e) (table st.words.now st.count) → GoesAlone k Anything whole x r (stated x st)
+  any_stuck e q p = every A (λ t m L u. made_stuck L (M _ L.asked) {st = st} e q p)
 
   module _ {i : ℕ} (same : SameSlice x.states.words st.words) (p : o (states_in x) ≡ outcome (λ i. i) (Ok i) (table st.words.now st.count)) where
-    pub made_ready : AloneAsked k (stated x st)
-    made_ready =
+    pub any_ready : AloneAsked k (stated x st)
+    any_ready =
         let L : Lone k (among k.fields x A.nodes A.members) = lone A A.ready in
-        record { nodes = A.nodes; members = A.members; ready = (made_1 L (M _ L.asked) {st = st} same p).asked.ready; some = A.some }
+        record { nodes = A.nodes; members = A.members; ready = (made_ready L (M _ L.asked) {st = st} same p).0.asked.ready; some = A.some }
 
-    pub made_done : {r : Result ℕ Refusal} {y : Lent} → GoesAlone k (λ σ. EdgeAt k.fields σ (edge i h)) (St.st_singleton (ops k.fields (limits_of k.limits)) h i) (stated x st) r y → GoesAlone k Anything whole x r y
-    made_done {r} {y} G = every A (λ t m L u.
-        let g = made_1 L (M _ L.asked) {st = st} same p in
+    pub any_done : {r : Result ℕ Refusal} {y : Lent} → GoesAlone k (λ σ. EdgeAt k.fields σ (edge i h)) (St.st_singleton (ops k.fields (limits_of k.limits)) h i) (stated x st) r y → GoesAlone k Anything whole x r y
+    any_done {r} {y} G = every A (λ t m L u.
+        let (S, E) = made_ready L (M _ L.asked) {st = st} same p in
         let last : GoesInsert k (St.st_singleton (ops k.fields (limits_of k.limits)) h i) (stated (among k.fields x t m) st) r (among k.fields y t m)
-        = record { post = G.post t m g.asked.ready (edge_made L (M _ L.asked) {st = st} same p) } in
-        run_finish g (all_of 0 832) last)
+        = record { post = G.post t m S.asked.ready E } in
+        made_done L (M _ L.asked) {st = st} same p last)
 
 -- Dup: the identity, and its state
 pub dup : {k : Config} {one : ℕ} → Rel.one_at k.fields ≡ one → (x : Lent) → Asked k x → Makes k x (dup_list k.fields (limits_of k.limits)) (mk_spp one) one

@@ -50,12 +50,17 @@ module _ (k : Config) (x y : ℕ) (l m : Lent) (r : Result ℕ Refusal) where
 
 -- ---- the loop: what comes after u on x's chain is joined, e is to be joined in front of z
 
+-- the tables are in order with the members mem
+abbrev pub InOrder : Config → Table → Lent → Type 0
+InOrder k mem l = Ready k.fields k.limits (aut_with mem l) l.scratch.now
+
 pub record Turn (k : Config) (x y : ℕ) (l₀ l : Lent) (u e z : ℕ) : Type 0 where
   pub from : AskedOf k l₀ x y
   pub keeps : Keeps l₀ l
   pub same : l.members ≡ l₀.members
-  pub ready : Ready k.fields k.limits (aut_with from.members l) l.scratch.now
-  pub grown : ExtAut (aut_with from.members l₀) (aut_with from.members l)
+  -- whatever the members are with which they were in order
+  pub ready : (mem : Table) → InOrder k mem l₀ → InOrder k mem l
+  pub grown : (mem : Table) → InOrder k mem l₀ → ExtAut (aut_with mem l₀) (aut_with mem l)
   pub left : Modifies k.fields 0 0 (nodes_in l) l₀.scratch.now l.scratch.now
   pub chain : Chain l₀.states.words.now x u
   pub has_e : e < l₀.states.count
@@ -76,8 +81,8 @@ module _ {k : Config} {l : Lent} {x y : ℕ} (a : AskedOf k l x y) where
         from = a;
         keeps = keeps;
         same = refl;
-        ready = a.ready;
-        grown = grown_refl (aut_with a.members l);
+        ready = λ mem R. R;
+        grown = λ mem R. grown_refl (aut_with mem l);
         left = left_refl 0 0 (nodes_in l) l.scratch.now;
         chain = f.chain;
         has_e = chain_state (nested_of a.ready.good) a.has.0 f.chain;
@@ -106,15 +111,18 @@ module _ {k : Config} {x y : ℕ} {l₀ l : Lent} {u e z : ℕ} (v : Turn k x y 
   has : x < l₀.states.count
   has = v.from.has.0
 
+  grown₀ : ExtAut (aut_with mem₀ l₀) (aut_with mem₀ l)
+  grown₀ = v.grown mem₀ v.from.ready
+
   has_e : e < l.states.count
-  has_e = state_grown v.grown v.has_e
+  has_e = state_grown grown₀ v.has_e
 
   pub joined_ready : AskedOf k l e z
-  joined_ready = record { members = mem₀; fields = v.keeps.spp.fields ∙ v.from.fields; ready = v.ready; has = (has_e, (v.has_z, tt)) }
+  joined_ready = record { members = mem₀; fields = v.keeps.spp.fields ∙ v.from.fields; ready = v.ready mem₀ v.from.ready; has = (has_e, (v.has_z, tt)) }
 
   -- what is joined is not regrouped, so it calls nothing
   pub call_last : regroups N l.states.words.now e z ≡ false
-  call_last = no_sequence N l.states.words.now e z (λ q. v.last (sym (kind_grown v.grown e v.has_e) ∙ q))
+  call_last = no_sequence N l.states.words.now e z (λ q. v.last (sym (kind_grown grown₀ e v.has_e) ∙ q))
 
   module _ {l1 : Lent} {r : Result ℕ Refusal} (D : Makes N (joined_of N L e z) l r l1) where
     called : (at : ℕ) (es : List ℕ) (mem : Table) → (joined_of N L e z >>= join_by N L at es) (aut_with mem l) ≡ after (outcome (λ i. i) r (aut_with mem l1)) (join_by N L at es)
@@ -130,17 +138,24 @@ module _ {k : Config} {x y : ℕ} {l₀ l : Lent} {u e z : ℕ} (v : Turn k x y 
     stuck_all {r} q = as_mk k x y l₀ l1 r (stuck q) (subst (λ (r : Result ℕ Refusal). Unless r (Modifies N 0 0 (nodes_in l1) l₀.scratch.now l1.scratch.now)) (sym q) tt)
 
   module _ {l1 : Lent} {z1 : ℕ} (D : Makes N (joined_of N L e z) l (Ok z1) l1) where
-    abbrev σ : Aut
-    σ = aut_with mem₀ l
+    module _ (mem : Table) (R : InOrder k mem l₀) where
+      abbrev σ : Aut
+      σ = aut_with mem l
 
-    abbrev τ : Aut
-    τ = aut_with mem₀ l1
+      gone : Gone N L (Meaning.Is N (Join (Holds N σ e) (Holds N σ z))) σ (aut_with mem l1) z1
+      gone = came (subst (StepSpec N L (Meaning.Is N (Join (Holds N σ e) (Holds N σ z))) σ) (as_mk k e z l l1 (Ok z1) (enough k e z call_last D) (D mem).left mem).is (mk_sequence_goes (v.ready mem R).good has_e v.has_z))
 
-    gone : Gone N L (Meaning.Is N (Join (Holds N σ e) (Holds N σ z))) σ τ z1
-    gone = came (subst (StepSpec N L (Meaning.Is N (Join (Holds N σ e) (Holds N σ z))) σ) (as_mk k e z l l1 (Ok z1) (enough k e z call_last D) (D mem₀).left mem₀).is (mk_sequence_goes v.ready.good has_e v.has_z))
+      grown_1 : ExtAut (aut_with mem l₀) (aut_with mem l1)
+      grown_1 = grown_trans (v.grown mem R) gone.grown
+
+      ready_1 : Keeps l l1 → InOrder k mem l1
+      ready_1 keep = ready_after (v.ready mem R) gone.grown gone.good (D mem).left keep.scratch.length
+
+    grown_2 : ExtAut (aut_with mem₀ l₀) (aut_with mem₀ l1)
+    grown_2 = grown_1 mem₀ v.from.ready
 
     left_1 : Modifies N 0 0 (nodes_in l1) l₀.scratch.now l1.scratch.now
-    left_1 = left_trans gone.grown.nodes v.left (D mem₀).left
+    left_1 = left_trans (gone mem₀ v.from.ready).grown.nodes v.left (D mem₀).left
 
     pub done : u ≡ x → Enough k x y l₀ (Ok z1) l1
     done q depth le mem =
@@ -150,31 +165,28 @@ module _ {k : Config} {x y : ℕ} {l₀ l : Lent} {u e z : ℕ} (v : Turn k x y 
     pub done_all : u ≡ x → Makes N (mk_sequence N L x y) l₀ (Ok z1) l1
     done_all q = as_mk k x y l₀ l1 (Ok z1) (done q) left_1
 
-    grown_1 : ExtAut (aut_with mem₀ l₀) τ
-    grown_1 = grown_trans v.grown gone.grown
-
     walks_1 : Walks l1.states.words.now x
-    walks_1 = record { count = l1.states.count; nested = nested_of gone.good; has = state_grown grown_1 has }
+    walks_1 = record { count = l1.states.count; nested = nested_of (gone mem₀ v.from.ready).good; has = state_grown grown_2 has }
 
     module _ (apart : u ≡ x → ⊥) where
       pub link_ready : Walks l1.states.words.now x × Chain l1.states.words.now x u × (x ≡ u → ⊥)
-      link_ready = (walks_1, chain_grown nested grown_1 has v.chain, λ q. apart (sym q))
+      link_ready = (walks_1, chain_grown nested grown_2 has v.chain, λ q. apart (sym q))
 
       module _ {w : ℕ} (i : Links l1.states.words.now x u w) where
         pub first_ready : 12 * w + 11 < length l1.states.words.now
         first_ready = walks_1.nested.inside w (chain_state walks_1.nested walks_1.has i.chain)
 
         chain_1 : Chain st₀ x w
-        chain_1 = chain_back nested grown_1 has i.chain
+        chain_1 = chain_back nested grown_2 has i.chain
 
         has_w : w < l₀.states.count
         has_w = chain_state nested has chain_1
 
         kind_w : kind_of st₀ w ≡ SEQUENCE
-        kind_w = sym (kind_grown grown_1 w has_w) ∙ i.link
+        kind_w = sym (kind_grown grown_2 w has_w) ∙ i.link
 
         next_w : u ≡ op2 st₀ w
-        next_w = sym i.next ∙ second_grown grown_1 w has_w
+        next_w = sym i.next ∙ second_grown grown_2 w has_w
 
         two : Two (aut_with mem₀ l₀) w
         unfolding form
@@ -185,7 +197,7 @@ module _ {k : Config} {x y : ℕ} {l₀ l : Lent} {u e z : ℕ} (v : Turn k x y 
 
         module _ {f : ℕ} (j : f ≡ op1 l1.states.words.now w) where
           first_w : op1 st₀ w ≡ f
-          first_w = sym (first_grown grown_1 w has_w) ∙ sym j
+          first_w = sym (first_grown grown_2 w has_w) ∙ sym j
 
           last_f : kind_of st₀ f ≡ SEQUENCE → ⊥
           last_f q = ((v.from.ready.good.made w has_w).sequence kind_w).regrouped (ap (kind_of st₀) first_w ∙ q)
@@ -200,19 +212,19 @@ module _ {k : Config} {x y : ℕ} {l₀ l : Lent} {u e z : ℕ} (v : Turn k x y 
               ∙ called D at (op1 st₀ w ∷ firsts p) mem
               ∙ ap (λ (f : ℕ). (sequence_by N L at f z1 >>= join_by N L (suc at) (firsts p)) (aut_with mem l1)) first_w
               ∙ ap (λ (o : Outcome Aut ℕ). after o (join_by N L (suc at) (firsts p)))
-              (at_any_depth N L f z1 (aut_with mem l1) (no_sequence N l1.states.words.now f z1 (λ q. last_f (sym (kind_grown grown_1 f has_f) ∙ q))) at)
+              (at_any_depth N L f z1 (aut_with mem l1) (no_sequence N l1.states.words.now f z1 (λ q. last_f (sym (kind_grown grown_2 f has_f) ∙ q))) at)
 
           pub again : Keeps l₀ l1 → l1.members ≡ l₀.members → Keeps l l1 → Turn k x y l₀ l1 w f z1
           again keeps same keep = record {
             from = v.from;
             keeps = keeps;
             same = same;
-            ready = ready_after v.ready gone.grown gone.good (D mem₀).left keep.scratch.length;
+            ready = λ mem R. ready_1 mem R keep;
             grown = grown_1;
             left = left_1;
             chain = chain_1;
             has_e = has_f;
             last = last_f;
-            has_z = gone.holds.state;
+            has_z = (gone mem₀ v.from.ready).holds.state;
             run = rest;
           }

@@ -36,8 +36,9 @@ module _ {N : ℕ} {o : Step Aut ℕ} {x : Lent} {mem : Table} where
   pub stays : (v : ℕ) → o (aut_with mem x) ≡ given (aut_with mem x) v → Does N 0 0 (aut_with mem) (λ i. i) o x (Ok v) x
   stays v q = record { is = q; left = left_refl 0 0 _ x.scratch.now }
 
-  pub told : {a n : ℕ} {p : Step Aut ℕ} {r : Result ℕ Refusal} {y : Lent} → o (aut_with mem x) ≡ p (aut_with mem x) → Does N a n (aut_with mem) (λ i. i) p x r y → Does N a n (aut_with mem) (λ i. i) o x r y
-  told q d = record { is = q ∙ d.is; left = d.left }
+-- however the tables are seen
+pub told : {N : ℕ} {o : Step Aut ℕ} {x : Lent} {view : Lent → Aut} {a n : ℕ} {p : Step Aut ℕ} {r : Result ℕ Refusal} {y : Lent} → o (view x) ≡ p (view x) → Does N a n view (λ i. i) p x r y → Does N a n view (λ i. i) o x r y
+told q d = record { is = q ∙ d.is; left = d.left }
 
 -- ---- the state of a relation is made without the members
 
