@@ -8,7 +8,9 @@ use lib.ListN.{get_or}
 use borrow.Author.Tests.{lt-ltb, le-ltb}
 use Rattle.common.specs.Runs.{Table}
 use Rattle.sp_steps.specs.Model as Sp
+use Rattle.sp_steps.specs.Wf as SpWf
 use Rattle.spp_steps.specs.Model as Spp
+use Rattle.spp_steps.specs.Wf as SppWf
 use Rattle.image_steps.specs.Records.{depth_of, depth_of_r}
 use Rattle.image_nodes.specs.Clauses.{relations, Inside, InsideR, PreNode}
 
@@ -26,14 +28,21 @@ pub of_relations : (t : List ℕ) → ByFirst (depth_of_r t) (λ h. get_or t (4 
 unfolding depth_of_r Spp.kid
 of_relations t = record { none = λ h. refl; low = λ n h l. simp (lt-ltb h 2 l); high = λ n h l. simp (le-ltb h 2 l) }
 
--- the first child is within the nodes too
-pub inside_sets : {t : List ℕ} {x : ℕ} → Inside t x → 2 ≤ x → Inside t (get_or t (2 * (x / 2 - 1)) 0)
+-- the first child is within the nodes too, of which there need not be room for all
+pub within_sets : (t : List ℕ) {n x : ℕ} → SpWf.Rising t n → 2 ≤ x → x / 2 ≤ n → get_or t (2 * (x / 2 - 1)) 0 / 2 ≤ n
 unfolding Sp.kid
-inside_sets {x = x} v l = record { count = v.count; fits = v.fits; rising = v.rising; within = omega (arith, v.within, v.rising false (x / 2 - 1) (omega (arith, v.within))) }
+within_sets t {x = x} r l m = omega (arith, r false (x / 2 - 1) (omega arith))
+
+pub within_relations : (t : List ℕ) {n x : ℕ} → SppWf.Rising t n → 2 ≤ x → x < n + 2 → get_or t (4 * (x - 2)) 0 < n + 2
+unfolding Spp.kid
+within_relations t {x = x} r l m = omega (arith, r (x - 2) (omega arith) false false)
+
+-- .. of which there is room
+pub inside_sets : {t : List ℕ} {x : ℕ} → Inside t x → 2 ≤ x → Inside t (get_or t (2 * (x / 2 - 1)) 0)
+inside_sets {t = t} v l = record { count = v.count; fits = v.fits; rising = v.rising; within = within_sets t v.rising l v.within }
 
 pub inside_relations : {t : List ℕ} {x : ℕ} → InsideR t x → 2 ≤ x → InsideR t (get_or t (4 * (x - 2)) 0)
-unfolding Spp.kid
-inside_relations {x = x} v l = record { count = v.count; fits = v.fits; rising = v.rising; within = omega (arith, v.within, v.rising (x - 2) (omega (arith, v.within)) false false) }
+inside_relations {t = t} v l = record { count = v.count; fits = v.fits; rising = v.rising; within = within_relations t v.rising l v.within }
 
 -- a child before i is a handle of a node
 pub inside_r : {N : ℕ} {σ : Table} {i x : ℕ} → PreNode relations N σ i → x < i + 2 → InsideR σ.words x

@@ -9,6 +9,7 @@ loop-d-preserved c =
     record {
       depth = its.depth_again (its.of_sets c.args.sp.now) c.loop-d.invariant.depth c.loop-d-test.true c.if-x-lt2.false;
       inside = its.inside_sets c.loop-d.invariant.inside c.if-x-lt2.false;
+      within = λ count r l. its.within_sets c.args.sp.now r c.if-x-lt2.false (c.loop-d.invariant.within count r l);
     }
 
 pub returns : goal.returns

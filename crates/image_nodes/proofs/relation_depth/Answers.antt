@@ -9,6 +9,7 @@ loop-d-preserved c =
     record {
       depth = its.depth_again (its.of_relations c.args.nodes.now) c.loop-d.invariant.depth c.loop-d-test.true c.if-x-lt2.false;
       inside = its.inside_relations c.loop-d.invariant.inside c.if-x-lt2.false;
+      within = λ count r l. its.within_relations c.args.nodes.now r c.if-x-lt2.false (c.loop-d.invariant.within count r l);
     }
 
 pub returns : goal.returns
